@@ -1,6 +1,6 @@
 #!/usr/bin/env python3
 """Tests of the service over real stores: `desk/test_altserve.py`, with the program's path in the variable ALTCTL, or else with
-the one that `./altctl` at the top builds. What needs rights or programs that are not there is skipped, with a line that says so."""
+the one that `./altctl` at the top builds. What needs rights or programs that are missing is skipped, with a line that says so."""
 import contextlib
 import grp
 import json
@@ -34,7 +34,12 @@ HAS_TOML = not subprocess.run(
 ).returncode
 HAS_NC = not subprocess.run(["sh", "-c", "nc -h 2>&1 | grep -q -e -U"]).returncode
 # Starts the service with other limits, or without a module.
-CHANGED = "import runpy, sys\nsys.path[:0] = [{path!r}]\n{change}\nsys.argv[0] = {file!r}\nrunpy.run_path({file!r}, run_name='__main__')"
+CHANGED = """import runpy, sys
+sys.path[:0] = [{path!r}]
+{change}
+sys.argv[0] = {file!r}
+runpy.run_path({file!r}, run_name="__main__")
+"""
 LONG = "%00" * 4000
 
 
@@ -272,7 +277,8 @@ class LineTests(ServiceTest):
             self.assertEqual(["planner", name, str(os.getuid())], one.ask("whoami")[0].split()[:3])
             # Each line is committed by itself: a commit has nothing to do, and nothing can be taken back.
             self.assertEqual(["ok"] * 4 + ["value a"], one.ask("put top 1 1 a", "commit", "rollback", "abort", "get top 1 1"))
-            for line in ["whoami I", "backup", "backup a b", "log a", "log record=7", "log last=-1", "log last=a", "begin now", "commit all"]:
+            lines = ["whoami I", "backup", "backup a b", "log a", "log record=7", "log last=-1", "log last=a", "begin now", "commit all"]
+            for line in lines:
                 self.assertEqual(["error 22 BadLine"], one.ask(line), line)
 
     def test_the_alternative_of_the_service_is_its_own(self):
@@ -370,7 +376,8 @@ class BatchTests(ServiceTest):
         with self.planner() as one:
             process = self.program()
             lines = ["begin", "new north top", "put north 7 1 a", "drop south", "commit"]
-            self.assertEqual(["ok", *["error 91 NotDone 3"] * 2, "error 1 NoSuchAlternative", "error 91 NotDone 3"], one.ask(*lines))
+            others = ["error 91 NotDone 3"]
+            self.assertEqual(["ok", *others * 2, "error 1 NoSuchAlternative", *others], one.ask(*lines))
             self.assertEqual(["alternative top ~", "alternative .service top", "end 2"], one.rows("alts"))
             self.assertEqual(["ok"] * 4, one.ask("begin", *lines[1:3], "commit"))
             self.assertEqual("ok", one.ask("backup a")[0].split()[0])
@@ -401,7 +408,8 @@ class BatchTests(ServiceTest):
                 self.assertEqual(due, one.ask("begin", "put top 1 1 a", line, "commit"), line)
             due = ["ok", "error 22 BadLine", "error 91 NotDone 1", "error 91 NotDone 1"]
             self.assertEqual(due, one.ask("begin", "nonsense", "put top 1 1 a", "commit"))
-            self.assertEqual(["ok", "error 90 Denied post .service", "error 91 NotDone 1"], one.ask("begin", "post .service", "commit"))
+            due = ["ok", "error 90 Denied post .service", "error 91 NotDone 1"]
+            self.assertEqual(due, one.ask("begin", "post .service", "commit"))
             self.assertEqual(["end 0"], one.rows("list top"))
 
     def test_how_large_a_batch_may_be(self):
@@ -551,7 +559,7 @@ class JournalTests(ServiceTest):
         self.stop()
         os.unlink(self.journal)
         self.start()
-        self.assertIn("ends at batch 0, and the store holds 2", self.said.read_text())
+        self.assertIn("ends at batch 0, and the store holds batch 2", self.said.read_text())
         with self.planner() as one:
             one.ask("put top 1 3 a")
         self.assertEqual(["3 put top 1 3 a"], self.log())
@@ -625,8 +633,8 @@ class CrashTests(ServiceTest):
         self.assertEqual({0, 2, 4, 5}, shown)
 
     def moments(self):
-        """What store and journal are before and after each step, and how much of the journal is synced, in three commits. Inside a
-        commit of the program they are no others: that a crash there leaves the state before or the one after is proved."""
+        """Store and journal before and after each step of three commits, and how much of the journal is synced. A crash within a
+        commit of the program leaves the store as before or as after it: that is proved."""
         lock = locked(self.file)
         batches = Batches(self.file, ALTCTL, [], lock, self.fail)
         program, journal = batches.program, batches.journal
@@ -808,7 +816,8 @@ class RulesTests(ServiceTest):
             "*" = ["berta"]
         """)
         rules = Rules(f"{self.file}.rules")
-        anna, berta, carl = (Person(n, it, frozenset(groups)) for n, it, groups in [(1, "anna", ["planners"]), (2, "berta", ["north", "operators"]), (3, "carl", [])])
+        anna, carl = Person(1, "anna", frozenset(["planners"])), Person(3, "carl", frozenset())
+        berta = Person(2, "berta", frozenset(["north", "operators"]))
         owner = Person(os.geteuid(), "owner", frozenset())
         due = [
             (anna, "change", b"north", None), (berta, "change", b"north", None), (carl, "change", b"north", ("change", "north")),
@@ -993,15 +1002,15 @@ class HostileTests(ServiceTest):
         self.assertLess(self.memory(), 64 << 20)
 
     def test_a_planner_who_reads_slowly(self):
-        self.start(change="from service import limits, server\nlimits.UNREAD_SECONDS = 1\nserver.TICK = 0.2")
+        self.start(change="from service import limits, server\nlimits.UNREAD_SECONDS = 3\nserver.TICK = 0.2")
         with self.planner() as one:
             one.ask(*(f"put top 1 {n} {LONG}" for n in range(100)))
-            one.send(*["list top"] * 3)
+            one.send(*["list top"] * 4)
             came = b""
-            for _ in range(30):
+            for _ in range(50):
                 time.sleep(0.1)
-                came += one.socket.recv(20_000)
-            self.assertEqual(3, (came + "\n".join(one.rest()).encode()).count(b"end 100"))
+                came += one.socket.recv(60_000)
+            self.assertEqual(4, (came + "\n".join(one.rest()).encode()).count(b"end 100"))
 
     def test_a_planner_who_writes_no_lines_of_a_batch(self):
         self.start_limited(BATCH_LINES=10)

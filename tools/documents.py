@@ -87,7 +87,7 @@ class Run:
         self.compare(where, due, came)
 
 
-def wanting(document):
+def missing(document):
     """What the sessions of a document need and is not installed, or None."""
     how = {"shell": True, "stdout": subprocess.DEVNULL, "stderr": subprocess.DEVNULL}
     tests = NEEDS.get(document.name, {})
@@ -95,7 +95,7 @@ def wanting(document):
 
 
 def end_service(folder):
-    """Ends a service that a document has started, where the document itself has not come to that."""
+    """Ends a service that a document has started, if it still runs."""
     with contextlib.suppress(FileNotFoundError, ProcessLookupError):
         os.kill(int(Path(folder, "altserve.pid").read_text()), signal.SIGTERM)
 
@@ -184,7 +184,7 @@ def main():
     for it in faults:
         print(it)
     count = differences = 0
-    skipped = {it: what for it in DOCUMENTS if (what := wanting(it))}
+    skipped = {it: what for it in DOCUMENTS if (what := missing(it))}
     for document in DOCUMENTS:
         here, different = (0, 0) if document in skipped else run_blocks(document, altctl)
         count, differences = count + here, differences + different

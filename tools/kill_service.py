@@ -1,7 +1,7 @@
 #!/usr/bin/env python3
 """Kills the service and its program at random moments while planners write, and looks each time whether each batch that was
 acknowledged is in the store whole, each other one whole or not at all, and whether the journal agrees:
-`tools/kill_service.py [ALTCTL] [COUNT] [SEED]`. Where it doesn't, the status is 1. It stands beside the gate.
+`tools/kill_service.py [ALTCTL] [COUNT] [SEED]`. If not, the status is 1. It stands beside the gate.
 
 After each kill the lines of the journal are carried out by the model of `kill.py`, and the store has to show what the model has
 then. The journal is read here by a reader of its own."""
@@ -34,7 +34,7 @@ TAG = re.compile(r"put p\d+ 0 0 (p\d+-\d+)")
 
 
 class Connection:
-    """A planner's socket. `ask` gives None where the other end is gone."""
+    """A planner's socket. `ask` returns None if the other end is gone."""
 
     def __init__(self, path):
         self.socket = socket.socket(socket.AF_UNIX)
@@ -69,12 +69,12 @@ class Connection:
 
 
 class Planner:
-    """Sends batches until the service is gone. Each has a put with a value of its own, by which the journal's line is found."""
+    """Sends batches until the service is gone. Each has a put with a unique value, which identifies it in the journal."""
 
     def __init__(self, number, chance):
         self.name, self.chance = f"p{number}", chance
         self.count = 0
-        # What each batch was answered: a list of answers, "refused" or, where the service was gone, None.
+        # How each batch was answered: a list of answers, "refused", or None if the service was gone.
         self.sent = {}
 
     def batch(self, state):
@@ -116,7 +116,7 @@ class Planner:
 
 
 class Journal:
-    """The lines of the journal, read on from where the last look ended."""
+    """The lines of the journal, each look beginning where the last one ended."""
 
     def __init__(self, path):
         self.path, self.at, self.last = path, 0, 0
@@ -167,7 +167,7 @@ class Trial:
                 time.sleep(0.01)
 
     def kill_program(self):
-        """Kills the program. False where there is none at this moment."""
+        """Kills the program. Returns False if there is none at this moment."""
         try:
             children = Path(f"/proc/{self.service.pid}/task/{self.service.pid}/children").read_text().split()
             for it in children:

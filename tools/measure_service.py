@@ -1,10 +1,10 @@
 #!/usr/bin/env python3
 """Measures how many commits and gets a second the service answers to 1, 8 and 64 planners, beside PostgreSQL and SQLite with as
 many writers: `tools/measure_service.py [--seconds N] [--slow MICROSECONDS] [ALTCTL]`. It writes rows of a table. With `--slow`
-each sync of all three takes so much longer, as a disk's does that has no cache of its own. Times are looked at, never tested.
+each sync of all three takes that much longer, as on a slower disk. Times are looked at, never tested.
 
 Each commit changes one record of 10,000, and is durable before it is answered: in PostgreSQL by an UPDATE of one row with fsync
-on, in SQLite by one in WAL mode with synchronous=FULL. What is not installed is left out, with a line that says so."""
+on, in SQLite by one in WAL mode with synchronous=FULL. What is not installed is skipped, with a line that says so."""
 import argparse
 import os
 import random
@@ -26,12 +26,12 @@ ALTSERVE = str(TOP / "desk" / "altserve")
 PLANNERS = (1, 8, 64)
 RECORDS = 10_000
 POSTGRES = sorted(Path("/usr/lib/postgresql").glob("*/bin"))[-1:]
-# Planners are in so many processes.
+# How many processes act as planners.
 LOADERS = 2
 
 
 def in_processes(count, work):
-    """The sum of what so many processes give, each for its own number."""
+    """Runs `work` in `count` processes, each with its number, and returns the sum of the results."""
     reads, writes = os.pipe()
     children = []
     for number in range(count):
@@ -53,7 +53,7 @@ def in_processes(count, work):
 
 
 def load(path, count, seconds, line, due):
-    """Has so many planners each write a line, wait for its answer, and write the next. Gives how many were answered."""
+    """Has `count` planners each write a line, wait for the answer, and write the next. Returns how many were answered."""
     selector = selectors.DefaultSelector()
     for _ in range(count):
         planner = socket.socket(socket.AF_UNIX)
@@ -124,8 +124,9 @@ def measure_postgres(folder, seconds, variables):
     run(*control, "-o", f"-k {data} -c listen_addresses= -c max_connections=100", "start", env=variables)
     try:
         here = ["-h", data, "-d", "postgres"]
-        sql = f"CREATE TABLE map (number int PRIMARY KEY, value text); INSERT INTO map SELECT n, 'value' FROM generate_series(0, {RECORDS - 1}) n"
-        run(str(binaries / "psql"), *here, "-c", sql)
+        run(str(binaries / "psql"), *here, "-c", "CREATE TABLE map (number int PRIMARY KEY, value text)")
+        rows = f"SELECT number, 'value' FROM generate_series(0, {RECORDS - 1}) number"
+        run(str(binaries / "psql"), *here, "-c", f"INSERT INTO map {rows}")
         script = f"{data}/update.sql"
         Path(script).write_text(
             f"\\set number random(0, {RECORDS - 1})\n\\set value random(0, 1000000000)\n"
@@ -188,7 +189,7 @@ def show(what, found):
 def main():
     parser = argparse.ArgumentParser(description=__doc__.split(":")[0])
     parser.add_argument("--seconds", type=float, default=5, help="for each number of planners")
-    parser.add_argument("--slow", type=int, default=0, help="so many microseconds more for each sync")
+    parser.add_argument("--slow", type=int, default=0, help="microseconds added to each sync")
     parser.add_argument("--sqlite", help=argparse.SUPPRESS)
     parser.add_argument("altctl", nargs="?", default=str(TOP / "altctl"))
     said = parser.parse_args()
@@ -198,7 +199,8 @@ def main():
     with tempfile.TemporaryDirectory() as folder:
         variables = preloaded(compiled("slow_calls", folder), slow_sync=said.slow) if said.slow else dict(os.environ)
         processors, busy = os.cpu_count(), os.getloadavg()[0]
-        print(f"{processors} processors, load {busy:.1f}; a sync takes {sync_time(folder):.0f} µs, and here {said.slow} more", flush=True)
+        sync = sync_time(folder)
+        print(f"{processors} processors, load {busy:.1f}; a sync takes {sync:.0f} µs, and here {said.slow} more", flush=True)
         print(f"| A second | {' | '.join(f'{it}' for it in PLANNERS)} | {PLANNERS[-1]} to 1 |\n|---|---|---|---|---|")
         found = measure_service(said.altctl, folder, said.seconds, variables)
         show("altserve: commits", found["commits"])

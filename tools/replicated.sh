@@ -2,7 +2,7 @@
 # Runs the program over a file that GlusterFS keeps three times, and takes copies away while it writes:
 # `tools/replicated.sh [ALTCTL]`. Each commit that was acknowledged has to be there afterwards, with one of three bricks
 # killed; with two gone no commit may be answered `ok`; after healing all three hold the same bytes. The same over a loop
-# device on the volume. Where something of it is not installed or not allowed, it says so and ends with status 0.
+# device on the volume. If something is not installed or not allowed, it says so and ends with status 0.
 #
 # It makes namespaces of its own for network, mounts and processes: nothing of it is left when it ends.
 set -eu
@@ -29,7 +29,7 @@ if [ "${1-}" != --inside ]; then
     unshare --net --mount --pid --fork --mount-proc true 2>/dev/null || skip 'namespaces are not allowed here'
     folder=$(mktemp -d)
     status=0
-    # The shell between them is the first process there: it takes note of those that are killed, as glusterd looks for them.
+    # The shell is process 1 there and reaps killed bricks; otherwise glusterd would take them for running ones.
     unshare --net --mount --pid --fork --kill-child --mount-proc \
         sh -c 'timeout 280 "$0" --inside "$@"; exit $?' "$0" "$altctl" "$folder" || status=$?
     # A loop device belongs to no namespace.
@@ -99,7 +99,7 @@ compare_bricks() {
 }
 
 # The load: batches of 100 puts, a commit after each. `load FILE COUNT [PROCESS ..]` kills these processes in the middle, and
-# writes the numbers of the batches that were acknowledged behind those of earlier loads.
+# appends the numbers of the acknowledged batches to those of earlier loads.
 load() {
     python3 - "$altctl" "$folder/acknowledged" "$@" <<'PYTHON'
 import os, signal, sys, time

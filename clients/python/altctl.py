@@ -1,5 +1,5 @@
-"""A store of Zonegrater from Python: `Store` starts `altctl run FILE`, writes lines to it and reads its answers. `Store("unix:PATH")`
-asks the service at that socket (`desk/altserve`) instead, beside others.
+"""A store of Zonegrater from Python: `Store` starts `altctl run FILE`, writes lines to it and reads its answers.
+`Store("unix:PATH")` asks the service at that socket (`desk/altserve`) instead, together with other planners.
 
     with Store("map.alt") as store:
         store.new("north", "top")
@@ -204,8 +204,8 @@ class Service:
 class Store:
     """An open store. Its file is locked (`flock`) as long as the program runs: a second one raises BlockingIOError.
 
-    With "unix:PATH" it is a store that a service works on, for many planners at once. There each change is committed before its
-    method returns, but for those in a `with store.batch()`."""
+    "unix:PATH" stands for a store that a service works on, for many planners at once. There each change is committed before its
+    method returns, except in a `with store.batch()`."""
 
     def __init__(self, file, program="altctl", cache=None):
         self._rows, self._batch, self._is_open = None, None, False
@@ -235,8 +235,8 @@ class Store:
 
     @contextlib.contextmanager
     def batch(self):
-        """Changes that a service makes together, at the end of the `with`: all of them, or none. An exception in it, or a Refusal
-        of one of them at its end, leaves everything as it was. No query can be asked in it."""
+        """Changes that a service applies together at the end of the `with`: all of them, or none. If an exception leaves the
+        `with`, or one of them is refused at its end, everything stays as it was. Queries are not possible in it."""
         if not isinstance(self._other, Service) or self._batch is not None:
             raise ValueError("a batch is one of a service's store, and not in another one")
         self._batch = ["begin"]

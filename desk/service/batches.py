@@ -1,8 +1,8 @@
-"""Batches of lines over one store: all of one or nothing, durable and in the journal before it is answered.
+"""Batches of lines over one store. Each takes effect as a whole or not at all, and is durable before it is answered.
 
-Between two batches nothing uncommitted is in the store. With each commit goes the number of its last batch, as the name of the
-only checkpoint of the alternative `.service`: that takes no block, so a full store can still be emptied, and the alternative
-is made anew each time, so it holds no version that nobody else needs."""
+Between two batches the store holds nothing uncommitted. Each commit includes the number of its last batch, as the name of the
+only checkpoint of the alternative `.service`. A checkpoint takes no block, so a full store can still be emptied. The alternative
+is made anew each time, so it keeps no old version of `top` in use."""
 import errno
 import os
 import subprocess
@@ -13,17 +13,17 @@ from service.limits import refusal
 from service.lines import OWN, printable
 from service.program import Ended, Program
 
-# So often a batch that the program ended at is tried again, by itself, and a start that was ended by a signal.
+# How often a batch is tried by itself after the program ended at it, and how often a start that a signal ended is tried.
 TRIES = 3
 
 
 class Fatal(Exception):
-    """The store cannot be opened, or the journal cannot be written."""
+    """The store cannot be opened any more, or the journal cannot be written."""
 
 
 class Batch:
-    """Lines of one planner. At the end it has an answer for each of them, or the one that was refused, by its place: behind the
-    last line that is its `commit`."""
+    """Lines of one planner. In the end it has the answers to all of them, or the position and the answer of the one that was
+    refused; the position after the last line stands for `commit`."""
 
     def __init__(self, person, lines=(), is_explicit=False):
         self.person, self.lines, self.is_explicit = person, list(lines), is_explicit
@@ -31,20 +31,21 @@ class Batch:
         self.answers, self.refused = None, None
 
     def hold(self, line):
-        """Takes one more line, which is forgotten where one before it was refused already."""
+        """Adds a line. If an earlier one was refused, the line is only counted."""
         self.count += 1
         if self.refused is None:
             self.lines.append(line)
             self.size += len(line)
 
     def refuse(self, place, answer):
-        """Forgets its lines: this one is refused."""
+        """Notes the refused line, and forgets all lines."""
         if self.refused is None:
             self.refused = place, answer
             self.lines, self.size = [], 0
 
     def take_answers(self, answers, fault):
-        """Takes the program's answers to its lines, and the fault of what was to follow them. Gives how many they are."""
+        """Takes the program's answers to its lines, and the refusal of the lines that the service added, if any. Returns how many
+        answers there were."""
         place = next((n for n, it in enumerate(answers) if it.startswith(b"error ")), None)
         if place is not None:
             self.refuse(place, answers[place])
@@ -58,7 +59,7 @@ class Batch:
         return self.answers is not None or self.refused is not None
 
     def text(self):
-        """What its planner is answered."""
+        """The answer to the planner."""
         if self.refused is None:
             return b"".join([b"%s\n" % it for it in self.answers or []]) + b"ok\n" * self.is_explicit
         place, answer = self.refused
@@ -69,7 +70,7 @@ class Batch:
 
 
 class Batches:
-    """The store of a file whose lock is held, with its program and its journal."""
+    """The store of a file whose lock the service holds, with the program and the journal."""
 
     def __init__(self, file, altctl, options, lock, say):
         self.file, self.altctl, self.lock = file, altctl, lock
@@ -79,13 +80,14 @@ class Batches:
         self.journal = Journal(f"{file}.journal", say)
         self._open()
         if self.kept >= self.journal.next:
-            say(f"{file}.journal ends at batch {self.journal.next - 1}, and the store holds {self.kept}: it goes on behind that")
+            found = self.journal.next - 1
+            say(f"{file}.journal ends at batch {found}, and the store holds batch {self.kept}: it goes on after that")
         self.journal.opened(self.kept)
 
     # --- the program ------------------------------------------------------------------------------
 
     def _open(self):
-        """Starts the program, and finds out which batch is the last one that the store holds."""
+        """Starts the program, and finds out which batch is the last one in the store."""
         for _ in range(TRIES):
             try:
                 self.program = Program(self.words, self.lock)
@@ -122,7 +124,7 @@ class Batches:
         self.parents[OWN] = b"top"
 
     def _reopen(self):
-        """Starts the program again: what was not committed is gone. What the journal has above that is not in the store."""
+        """Starts the program again, which drops everything uncommitted, and journals which batches are in the store."""
         self.program.end(kills=True)
         self._open()
         try:
@@ -131,7 +133,7 @@ class Batches:
             raise Fatal(f"{self.file}.journal: {fault}") from None
 
     def _undo(self):
-        """Takes back all that is not committed."""
+        """Drops everything uncommitted."""
         if self.has_rollback and self.program.ask([b"rollback"]) == [b"ok"]:
             self._look()
         else:
@@ -146,7 +148,7 @@ class Batches:
     # --- queries ----------------------------------------------------------------------------------
 
     def ask(self, lines):
-        """The answers to queries that have one line of answer each."""
+        """The answers to queries that are answered with one line each."""
         for _ in range(TRIES):
             try:
                 return self.program.ask(lines)
@@ -155,7 +157,7 @@ class Batches:
         return [refusal(99)] * len(lines)
 
     def ask_rows(self, line, take):
-        """Hands the answer to a query on. False where the program ended before it was whole."""
+        """Passes the answer to a query on as it comes. Returns False if the program ended in the middle of it."""
         try:
             self.program.ask_rows(line, take)
             return True
@@ -166,10 +168,10 @@ class Batches:
     # --- batches ----------------------------------------------------------------------------------
 
     def carry_out(self, batches):
-        """Has batches carried out, and made durable by one commit. Where they are several, each has one line."""
+        """Carries out batches and commits them together. If there are several, each has one line."""
         self._try(batches)
         for batch in batches:
-            # The program had ended: what was not at fault is carried out now, and each by itself, as any may have been it.
+            # If the program ended, any of them may be the reason: those not settled are tried one by one.
             for _ in range(TRIES):
                 if not batch.is_settled():
                     self._try([batch])
@@ -177,7 +179,7 @@ class Batches:
                 batch.refuse(batch.count, refusal(99))
 
     def _try(self, batches):
-        """Leaves those unsettled that are not done as the program ended."""
+        """Carries out batches. If the program ends, those that have no effect and no refusal stay unsettled."""
         last = self.journal.next + len(batches) - 1
         try:
             self._attempt(batches, last)
@@ -202,7 +204,7 @@ class Batches:
         if done:
             self._commit(done, last)
         elif fault or len(lines) > len(batches):
-            # A refused line has changed nothing, but those before it in its batch have.
+            # A refused line changes nothing, but earlier lines of its batch may have.
             self._undo()
 
     def _commit(self, done, last):
@@ -223,7 +225,7 @@ class Batches:
         self.journal.done(last)
 
     def _entry(self, number, time, batch):
-        """The line of the journal for a batch that has its answers. The tree of alternatives follows it."""
+        """The journal line of a batch that was carried out. It also brings `parents` up to date."""
         touched, records = set(), 0
         for line, answer in zip(batch.lines, batch.answers):
             verb, *words = line.split(b" ")
@@ -244,7 +246,7 @@ class Batches:
     # --- copies -----------------------------------------------------------------------------------
 
     def backup(self, name):
-        """Makes a copy of the store in FILE.backups: durable, and under its name only once it is whole."""
+        """Copies the store into FILE.backups. The copy gets its name only after it has been synced."""
         folder = f"{self.file}.backups"
         part = f"{folder}/.{name}.{os.getpid()}"
         begun = time.monotonic()
@@ -261,7 +263,7 @@ class Batches:
         return b"ok %d %.3f" % (size, time.monotonic() - begun)
 
     def _copy(self, part):
-        """By the program where it can, and else as the file lies there: nothing uncommitted is in it."""
+        """Copies by the program if it can, else the file as it is, which holds nothing uncommitted."""
         if self.has_copy:
             status = quietly([self.altctl, "copy", "--", self.file, part])
             self.has_copy = status != 2
@@ -272,7 +274,7 @@ class Batches:
 
 
 def settle_failed(batches, answers, is_asked):
-    """Refuses those that the program ended at with an answer: a batch of whose lines one was answered so, or all."""
+    """If the program ended after refusing a line, refuses the batch of that line, or all of them if it refused the commit."""
     if not answers or not answers[-1].startswith(b"error "):
         return
     place = len(answers) - 1
@@ -290,7 +292,7 @@ def quietly(words):
 
 
 def synced(path):
-    """Makes a file durable, and gives its size."""
+    """Syncs a file, and returns its size."""
     file = os.open(path, os.O_RDONLY)
     try:
         os.fsync(file)

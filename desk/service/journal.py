@@ -1,8 +1,8 @@
 """The journal of a store: who changed what, and when, in lines of JSON.
 
-A batch has a line before its commit is asked for, synced; `done` follows it. `opened` is written when the program has been
-started: it tells which batch is the last one that the store holds, and none of the lines above it with a higher number is in
-the store. So line and store cannot disagree, wherever a crash came."""
+The line of a batch is synced before its commit is asked for, and `done` follows the commit. `opened` is written whenever the
+program has been started. It names the last batch in the store: of the batches above it, those with higher numbers are not in the
+store. So journal and store agree wherever a crash came."""
 import json
 import mmap
 import os
@@ -17,11 +17,11 @@ def now():
 
 
 class Broken(Exception):
-    """A journal that can be written no longer: what of it is durable isn't known."""
+    """The journal could not be synced, so it is unknown which part of it is durable."""
 
 
 class Journal:
-    """The file, open to be written. Its end is whole: what is written in part is taken away again."""
+    """The file, open for writing. A line that could be written only in part is removed again."""
 
     def __init__(self, path, say):
         self.file = os.open(path, os.O_RDWR | os.O_CREAT | os.O_APPEND | os.O_CLOEXEC, 0o600)
@@ -29,28 +29,28 @@ class Journal:
         whole, last = whole_end(self.file)
         self.end = os.fstat(self.file).st_size
         if whole < self.end:
-            say(f"{path}: its last {self.end - whole} bytes are no whole line, and are cut off")
+            say(f"{path}: its last {self.end - whole} bytes are not a whole line, and are cut off")
             os.ftruncate(self.file, whole)
             self.end = whole
-        # The numbers of batches go on from here.
+        # The number of the next batch.
         self.next = 1 if last is None else next_number(last)
 
     def opened(self, kept):
-        """Tells that the store holds the batches up to this one."""
+        """Notes that of the batches so far the store holds those up to this number."""
         self.next = max(self.next, kept + 1)
         line = {"opened": now(), "last": kept, "next": self.next}
         self._append(json.dumps(line, separators=(",", ":")) + "\n")
         self._sync()
 
     def write(self, entries, last):
-        """Makes the lines of batches durable, which have numbers up to this one. Raises OSError where there is no room for them, and
+        """Makes the lines of batches durable; `last` is their highest number. Raises OSError if there is no space for them, and
         nothing of them stays then."""
         self._append("".join(entries))
         self._sync()
         self.next = last + 1
 
     def done(self, number):
-        """Tells that the store holds this batch. The next sync makes that durable, and a start finds it out without."""
+        """Notes that this batch is committed. The line need not be durable: a start reads the number from the store."""
         try:
             self._append(f'{{"done":{number}}}\n')
         except OSError:
@@ -86,7 +86,7 @@ def entry(number, time, person, touched, records, lines):
 
 
 def sync_folder(path):
-    """Makes the name of a file durable."""
+    """Makes the name of a file durable by syncing its folder."""
     folder = os.open(os.path.dirname(os.path.abspath(path)), os.O_RDONLY | os.O_DIRECTORY)
     try:
         os.fsync(folder)
@@ -95,7 +95,7 @@ def sync_folder(path):
 
 
 def whole_end(file):
-    """Where the last whole line ends, and this line."""
+    """The position after the last whole line, and that line."""
     size = os.fstat(file).st_size
     if not size:
         return 0, None
@@ -111,7 +111,7 @@ def whole_end(file):
 
 
 def parsed(line):
-    """A line of the journal, or None where it is none."""
+    """A line of the journal as a dict, or None if the text is not one."""
     try:
         line = json.loads(line)
     except ValueError:
@@ -127,11 +127,11 @@ def next_number(line):
 
 
 def kept_batches(path):
-    """The batches that the store holds, in order. One whose commit is under way is not among them, nor one that is gone since the
-    file of the store was replaced by an earlier one."""
+    """The batches that the store holds, in order. Left out are a batch whose commit is in progress, and batches that were lost
+    because an earlier copy of the store was put in place."""
     size = os.path.getsize(path)
     opened = [line["last"] for line in lines_of(path, size, b'{"opened"')]
-    # Of the batches before an opening those are there that this one and each later one has found.
+    # A batch is in the store only if the next opening and all later ones found it.
     for at in range(len(opened) - 1, 0, -1):
         opened[at - 1] = min(opened[at - 1 : at + 1])
     opened = deque(opened)
@@ -146,7 +146,7 @@ def kept_batches(path):
 
 
 def lines_of(path, size, begins=b""):
-    """The lines of a journal that end within its first bytes."""
+    """The lines within the first `size` bytes of a journal."""
     with open(path, "rb") as file:
         for text in file:
             size -= len(text)
@@ -156,7 +156,7 @@ def lines_of(path, size, begins=b""):
 
 
 def may_change(line, table, number):
-    """Whether a line may change this record: it names it, or changes an alternative as a whole."""
+    """Whether a line may have changed this record: it names the record, or changes a whole alternative."""
     words = line.split(" ")
     if words[0] in ("put", "remove"):
         return words[2:4] == [table, number]
@@ -181,6 +181,6 @@ def entries(path, planner=None, alternative=None, record=None, last=None):
 
 
 def is_about(line, alternative, batch):
-    """Whether a line of a batch changes an alternative: it names it, or may post into it."""
+    """Whether a line of a batch changes the alternative: it names it, or may post into it."""
     words = line.split(" ")
     return alternative in words[1:2] or (words[0] == "post" and alternative in batch["alternatives"])

@@ -1,29 +1,29 @@
-"""What the service allows a planner, and how it refuses: docs/PLANNERS.md lists both."""
+"""The limits and refusals of the service, as docs/PLANNERS.md lists them."""
 
-# A line of the program has so many bytes at most.
+# The longest line that the program takes.
 LINE_BYTES = 1_048_576
 # A batch between `begin` and `commit`.
 BATCH_LINES = 100_000
 BATCH_BYTES = 64 << 20
-# How long it may be held, in seconds.
+# How many seconds a batch may be held.
 HELD_SECONDS = 600
-# All lines that are held or wait, of all planners together.
+# Held and waiting lines of all planners together.
 HELD_BYTES = 512 << 20
 # Connections, and those of one user.
 PLANNERS = 256
 PLANNERS_OF_ONE = 128
-# Batches of one line that one commit makes durable, and those of one planner among them.
+# Batches in one commit, and how many of them may be of one planner.
 GROUP = 1024
 GROUP_OF_ONE = 64
-# Lines of a planner that may wait before no more of them are read.
+# The service stops reading from a planner who has this many lines waiting.
 WAITING_LINES = 1024
-# Answers that wait in memory for a planner who does not read; what comes after them waits in a temporary file.
+# Unread answers of a planner that are kept in memory; the rest goes to a temporary file.
 UNREAD_BYTES = 1 << 20
-# A planner who has read nothing for so many seconds while answers wait is closed.
+# After so long without progress in reading answers a planner is disconnected.
 UNREAD_SECONDS = 60
 # Processes that read the journal for planners at once.
 LOGS = 4
-# How long a start waits for the lock, since the program of a service that was killed ends a moment after it.
+# How long a start waits for the lock: the program of a service that was killed ends a moment later.
 LOCK_SECONDS = 30
 
 REFUSALS = {

@@ -1,14 +1,14 @@
-"""What a line is: a query of the store, a change with the right that it takes, or a word of the service's own."""
+"""What a line is: a query of the store, a change and the right it requires, or a word of the service."""
 import re
 
 # The alternative whose only checkpoint names the last batch that is in the store.
 OWN = b".service"
 
-# Queries with one line of answer, and those with rows. A program that does not know one of them answers BadLine.
+# Queries answered with one line, and queries answered with rows. A program that does not know one answers BadLine.
 SINGLE = {b"get", b"free"}
 ROWS = {b"list", b"alts", b"checks", b"changes", b"conflicts", b"diff", b"next"}
 
-# Each change, with the right that it takes. The second word of most is the alternative that this right is about.
+# The right that each change requires.
 RIGHTS = {
     b"put": "change",
     b"remove": "change",
@@ -31,14 +31,14 @@ NAME = re.compile(rb"[A-Za-z0-9_.-]{1,32}")
 
 
 def words_of(line):
-    """The words of a line, none for one that has no answer."""
+    """The words of a line; none if the line has no answer."""
     words = [it for it in line.removesuffix(b"\r").split(b" ") if it]
     return [] if words and words[0].startswith(b"#") else words
 
 
 def alternative_of(words):
-    """The alternative that the right of a change is about: None where that is one of the store as a whole, and b"" where the
-    line lacks it."""
+    """The alternative that a change requires its right for: None if the right is one of the store as a whole, b"" if the line
+    does not name one."""
     if RIGHTS[words[0]] in OF_THE_STORE:
         return None
     return words[1] if len(words) > 1 and NAME.fullmatch(words[1]) else b""
@@ -50,5 +50,5 @@ def names_own(words):
 
 
 def printable(line):
-    """A line as text. Bytes that are not printed are written by `%` as in a value, which they can only be part of."""
+    """A line as text. Bytes that are not printable, which only a value can have, are written with `%`."""
     return re.sub(rb"[^ -~]", lambda it: b"%%%02X" % it[0][0], line).decode("ascii")

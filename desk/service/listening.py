@@ -1,4 +1,4 @@
-"""The socket that planners come to: one of the service's own, or the one that systemd has made."""
+"""The socket that planners connect to: the service makes it, or systemd has made it."""
 import contextlib
 import os
 import shutil
@@ -7,17 +7,17 @@ import stat
 
 from service import limits
 
-# The first descriptor that systemd hands over.
+# The first descriptor that systemd passes.
 HANDED_OVER = 3
 
 
 class Occupied(Exception):
-    """Something else is where the socket is to be."""
+    """Something else has the path of the socket."""
 
 
 @contextlib.contextmanager
 def listening(path, group=None):
-    """The listening socket. One that was made is taken away at the end."""
+    """The listening socket. If the service made it, it is removed at the end."""
     if os.environ.get("LISTEN_PID") == str(os.getpid()) and os.environ.get("LISTEN_FDS") == "1":
         with socket.socket(fileno=HANDED_OVER) as listener:
             os.set_inheritable(HANDED_OVER, False)
@@ -25,7 +25,7 @@ def listening(path, group=None):
         return
     make_free(path)
     with socket.socket(socket.AF_UNIX) as listener:
-        # It has its mode from the beginning: there is no moment at which others reach it.
+        # It has its mode from the beginning, so others cannot connect at any moment.
         before = os.umask(0o177)
         try:
             listener.bind(path)
@@ -45,7 +45,7 @@ def listening(path, group=None):
 
 
 def make_free(path):
-    """Takes away the socket of a service that was killed. Anything else stays."""
+    """Removes the socket of a service that was killed, and nothing else."""
     try:
         is_socket = stat.S_ISSOCK(os.lstat(path).st_mode)
     except FileNotFoundError:

@@ -1,4 +1,4 @@
-"""A planner at the other end of a socket: lines that came, answers that wait."""
+"""A connected planner: the lines that arrive, and the answers that wait to be sent."""
 import selectors
 import tempfile
 import time
@@ -9,10 +9,10 @@ from service.batches import Batch
 from service.limits import BAD_LINE, LONG_LINE, refusal
 from service.lines import OWN, OWN_WORDS, RIGHTS, ROWS, SINGLE, alternative_of, names_own, words_of
 
-# So many answers on rights are kept for a planner.
+# How many decisions on rights are remembered for a planner.
 MOST_DENIALS = 1000
 
-# What a planner waits for, in the order of the lines: an answer that is known already (bytes), a Batch, or one of these.
+# A planner waits for these, in the order of the lines: an answer that is known already (bytes), a Batch, a Query or a Word.
 
 
 class Query:
@@ -28,7 +28,7 @@ class Word:
 
 
 class Unread:
-    """Answers that are not sent yet: the first of them in memory, and where they are many the others in a file without a name."""
+    """Answers that are not sent yet: the first in memory, and if there are many, the rest in a temporary file."""
 
     def __init__(self):
         self.memory, self.file, self.begin, self.end = bytearray(), None, 0, 0
@@ -43,7 +43,7 @@ class Unread:
         self.end += self.file.write(text)
 
     def send(self, connection):
-        """Sends what the other end takes now, and gives how many bytes that are."""
+        """Sends what the other end takes now, and returns how many bytes that was."""
         total = 0
         while self.memory:
             try:
@@ -87,7 +87,7 @@ class Planner:
         if events & selectors.EVENT_WRITE or self.has_ended or len(self.requests) >= limits.WAITING_LINES:
             self.send()
 
-    # --- lines that come --------------------------------------------------------------------------
+    # --- lines that arrive ------------------------------------------------------------------------
 
     def receive(self):
         try:
@@ -108,7 +108,7 @@ class Planner:
             self._take(line)
 
     def _receive_long(self, came):
-        """As `receive`, where a line may be too long: what is above the limit is not kept."""
+        """Like `receive`, if a line may be too long: nothing beyond the limit is kept."""
         *lines, rest = came.split(b"\n")
         for line in lines:
             if self.skips or len(self.rest) + len(line) > limits.LINE_BYTES:
@@ -120,7 +120,7 @@ class Planner:
         self.rest = b"" if self.skips else self.rest + rest
 
     def _end(self):
-        """No more lines come. One that lacks its end is not carried out, as it may be the beginning of a longer one."""
+        """The input has ended. An unfinished line is not carried out, as it may be the beginning of a longer one."""
         self.has_ended = True
         if self.rest or self.skips:
             self._refuse(refusal(96))
@@ -142,7 +142,7 @@ class Planner:
             self.batch = Batch(self.person, is_explicit=True)
             self._add(b"ok")
         elif words in ([b"commit"], [b"abort"], [b"rollback"]):
-            # Each line before was a batch of its own: it is committed, and nothing is left to be taken back.
+            # Each earlier line was a batch of its own, so it is committed, and nothing can be taken back.
             self._add(b"ok")
         elif verb in OWN_WORDS:
             self._add(Word(words))
@@ -150,7 +150,7 @@ class Planner:
             self._add(BAD_LINE)
 
     def _hold(self, verb, words):
-        """A line in a batch that is held."""
+        """A line within a batch."""
         batch, line = self.batch, b" ".join(words)
         if words == [b"commit"]:
             self.batch = None
@@ -173,7 +173,7 @@ class Planner:
                 self._count(batch.size)
 
     def _refuse(self, answer):
-        """Refuses a line, and so the batch that it is in."""
+        """Refuses a line, and the batch that it belongs to."""
         if self.batch is None:
             self._add(answer)
             return
@@ -184,20 +184,20 @@ class Planner:
             self.close()
 
     def _forget(self, answer):
-        """Forgets the batch: each of its lines is answered so."""
+        """Forgets the batch, and answers each of its lines."""
         batch, self.batch = self.batch, None
         self._count(-batch.size)
         for _ in range(batch.count):
             self._add(answer)
 
     def forget_if_late(self, now):
-        """Refuses a batch that was held for too long."""
+        """Refuses a batch that has been held too long."""
         if self.batch is not None and now - self.batch.begun > limits.HELD_SECONDS:
             self._count(-self.batch.size)
             self.batch.refuse(self.batch.count, refusal(95))
 
     def _refusal_of(self, words):
-        """Why a change is refused before the program sees it: for its form, its right, or what all planners have waiting."""
+        """Why the service refuses a change: its form, a rule, or too much waiting. None if the program is to decide."""
         right, alternative = RIGHTS[words[0]], alternative_of(words)
         if alternative == b"":
             return BAD_LINE
@@ -221,14 +221,14 @@ class Planner:
     def _count(self, size):
         self.server.held_bytes += size
 
-    # --- answers that go --------------------------------------------------------------------------
+    # --- answers ----------------------------------------------------------------------------------
 
     def is_ready(self):
-        """Whether its next line can be carried out. One who has not read the answers to others has to wait."""
+        """Whether the next line can be carried out. A planner who has many answers to read has to read them first."""
         return bool(self.requests) and self.job is None and self.unread.file is None and not self.is_closed
 
     def next_request(self):
-        """Takes the first of what the planner waits for."""
+        """Takes the first request."""
         request = self.requests.popleft()
         if isinstance(request, Batch):
             self._count(-request.size)
@@ -243,7 +243,7 @@ class Planner:
         self.server.touched[self] = None
 
     def send(self):
-        """Sends what waits, as far as the other end takes it."""
+        """Sends waiting answers, as far as the other end takes them."""
         if self.unread:
             try:
                 if self.unread.send(self.connection):
@@ -254,7 +254,7 @@ class Planner:
         self.watch()
 
     def watch(self):
-        """Has the server look for what can go on: lines, where there is room for them, and answers, where some wait."""
+        """Tells the server which events matter now: lines, if there is space for more, and answers, if some wait."""
         if self.is_closed:
             return
         if self.has_ended and not self.requests and self.job is None and not self.unread:
@@ -265,7 +265,7 @@ class Planner:
         self.server.watch(self, reads | (selectors.EVENT_WRITE if self.unread else 0))
 
     def close_if_late(self, now):
-        """Closes the connection of one who does not read."""
+        """Closes the connection if the planner does not read."""
         if self.unread and now - self.read_last > limits.UNREAD_SECONDS:
             self.close()
 

@@ -1,18 +1,18 @@
-"""The program over the store: lines go in, one after another, and each answer is out before the next line is handled."""
+"""The program as a process: lines go in, and it answers each before it handles the next."""
 import os
 import re
 import subprocess
 
-# Lines that are written before their answers are read: they fit into a pipe, so neither side waits for the other in vain.
+# Bytes of lines that are written before their answers are read. They fit into a pipe, so writing them never blocks.
 PORTION = 32 << 10
 READ = 256 << 10
-# How an answer of rows ends, with the end of the line before it.
+# The end of an answer of rows, including the line feed before its last line.
 LAST_ROW = re.compile(rb"\n(end|error) [^\n]*\n\Z")
 LONGEST_LAST = 256
 
 
 class Ended(Exception):
-    """The program ended before it answered all lines. The answers are those before."""
+    """The program ended before it had answered all lines. `answers` are those that came."""
 
     def __init__(self, answers):
         super().__init__("the program ended")
@@ -20,16 +20,16 @@ class Ended(Exception):
 
 
 class Program:
-    """A process of `altctl run FILE`. It inherits the lock, which so lasts as long as anybody works on the file."""
+    """A process of `altctl run FILE`. It inherits the lock, so the lock lasts until both it and the service have ended."""
 
     def __init__(self, words, lock):
         how = {"stdin": subprocess.PIPE, "stdout": subprocess.PIPE, "pass_fds": [lock], "bufsize": 0}
-        # SIGXFSZ stays ignored in it: a write over a limit on the size of files then fails as any other does.
+        # SIGXFSZ stays ignored in it, so that exceeding a limit on file sizes fails like any other write.
         self.process = subprocess.Popen(words, restore_signals=False, **how)
         self.into, self.out = self.process.stdin.fileno(), self.process.stdout.fileno()
 
     def end(self, kills=False):
-        """Ends it, and gives its status. What was not committed is gone."""
+        """Ends it, and returns its status. Uncommitted changes are lost."""
         if kills:
             self.process.kill()
         self.process.stdin.close()
@@ -37,7 +37,7 @@ class Program:
         return self.process.wait()
 
     def ask(self, lines):
-        """The answers to lines that each have one line of answer."""
+        """The answers to lines that are answered with one line each."""
         answers, at = [], 0
         while at < len(lines):
             end, size = at, 0
@@ -64,7 +64,7 @@ class Program:
         return bytes(read).split(b"\n")[:-1]
 
     def ask_rows(self, line, take):
-        """Hands the answer to a line on as it comes. Its last line begins with `end` or `error`."""
+        """Passes an answer of rows on as it comes. Its last line begins with `end` or `error`."""
         self._write(line + b"\n")
         tail = b"\n"
         while not LAST_ROW.search(tail):
@@ -79,4 +79,4 @@ class Program:
             while text:
                 text = text[os.write(self.into, text) :]
         except BrokenPipeError:
-            pass  # It has ended, which the missing answers tell.
+            pass  # It has ended: the answers will be missing.

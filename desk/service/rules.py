@@ -9,9 +9,9 @@
     [post]
     "*" = ["berta"]
 
-A right is had by the users that stand in its list, by the members of its groups (`@NAME`), and by everybody for `*`. The rights
-`change`, `post` and `drop` are about alternatives: the rule of an exact name goes before patterns, and of patterns (`*`, `?`) any
-one that matches will do. What no rule allows is denied; without the file only the user of the service may change anything."""
+A rule lists users, groups (`@NAME`), or `*` for everybody. Rules for `change`, `post` and `drop` name alternatives: an exact name
+takes precedence over patterns, and otherwise one matching pattern that lists the person is enough. What no rule allows is denied.
+Without the file only the user that the service runs as may change anything."""
 import fnmatch
 import grp
 import os
@@ -26,7 +26,7 @@ OF_ALTERNATIVES = {"change", "post", "drop"}
 
 
 class Person(NamedTuple):
-    """Who is at the other end of a socket, as the kernel tells."""
+    """Who is at the other end of a socket, according to the kernel."""
 
     uid: int
     name: str
@@ -52,7 +52,7 @@ def group_name(gid):
 
 
 class Unreadable(Exception):
-    """A file of rules that is there and cannot be used."""
+    """The file of rules exists and cannot be used."""
 
 
 def toml_of(path):
@@ -71,7 +71,7 @@ def toml_of(path):
 
 
 def checked(path, table):
-    """The rules, where they have their form."""
+    """The rules, if they are well formed."""
     for right, rule in table.items():
         if right in OF_ALTERNATIVES and isinstance(rule, dict):
             lists = rule.values()
@@ -91,7 +91,7 @@ class Rules:
         self.table = checked(path, toml_of(path)) if os.path.lexists(path) else None
 
     def denial(self, person, right, alternative=None):
-        """Which right is wanting and by which rule, or None where the person has it."""
+        """None if the person has the right; else the right, and the rule that denies it."""
         if self.table is None:
             return None if person.uid == self.owner else (right, "~")
         rule = self.table.get(right, {} if right in OF_ALTERNATIVES else [])

@@ -1,6 +1,6 @@
-"""The service: planners' connections, and rounds in which what they wait for is carried out, one after another.
+"""The service: connections of planners, and rounds that carry out their requests one after another.
 
-It is one thread. While the program is at work, lines of other planners wait in their sockets: they are the next group."""
+It is a single thread. While the program is at work, lines of other planners wait in their sockets, and form the next group."""
 import os
 import re
 import selectors
@@ -18,14 +18,14 @@ from service.rules import Rules, Unreadable, person_of
 
 BACKUP = re.compile(rb"[A-Za-z0-9_][A-Za-z0-9_.-]{0,31}")
 FILTER = re.compile(rb"(planner|alternative|record|last)=[!-~]+")
-# How often it is looked who is late.
+# How often planners are checked for timeouts, in seconds.
 TICK = 1.0
-# A group waits for others for this part of the time that the last one took.
+# A group waits for more planners for this fraction of the time that the last group took.
 GATHER, GATHER_STEP = 0.1, 20e-6
 
 
 class Log:
-    """A process that reads the journal for a planner, while others go on. No more than some run at once."""
+    """A process that reads the journal for a planner while the service goes on. Only a few run at the same time."""
 
     def __init__(self, server, planner, filters):
         self.server, self.planner, self.filters = server, planner, filters
@@ -66,16 +66,16 @@ class Server:
         self.listener, self.batches, self.rules, self.say = listener, batches, rules, say
         self.selector = selectors.DefaultSelector()
         self.planners, self.logs, self.held_bytes, self.ends = {}, [], 0, False
-        # Planners in the order in which they came to wait, and those who have something to be sent.
+        # Planners with requests, in the order of their arrival, and planners with answers to be sent.
         self.waiting, self.touched = {}, {}
-        # The next group may wait for so many planners up to this time.
+        # Until this time the next group may wait for this many planners.
         self.expected, self.gathers_until = 0, 0.0
         listener.setblocking(False)
         self.selector.register(listener, selectors.EVENT_READ, self._accept)
         self._catch_signals()
 
     def _catch_signals(self):
-        """TERM and INT end the service, after what is at work. HUP reads the rules anew."""
+        """TERM and INT end the service after the current round. HUP makes it read the rules again."""
         woken, waker = socket.socketpair()
         for it in (woken, waker):
             it.setblocking(False)
@@ -121,7 +121,7 @@ class Server:
         planner.watch()
 
     def watch(self, planner, events):
-        """Looks for these events of a planner's connection from now on."""
+        """Sets the events that are watched on the connection of a planner."""
         if events == planner.watched:
             return
         if not events:
@@ -139,8 +139,8 @@ class Server:
     # --- rounds -----------------------------------------------------------------------------------
 
     def run(self):
-        """Serves until a signal ends it. Raises Fatal where the store is lost to it: who waits for an answer then gets none, since
-        it isn't known whether the last commit was made."""
+        """Serves until a signal ends it. Raises Fatal if the store can no longer be used. Waiting planners then get no answer,
+        because it is unknown whether the last commit was made."""
         looked = time.monotonic()
         while not self.ends:
             for key, events in self.selector.select(0 if any(it.is_ready() for it in self.waiting) else TICK):
@@ -157,7 +157,7 @@ class Server:
                     planner.close_if_late(now)
 
     def _round(self):
-        """Takes each planner who waits one step on: queries, then batches of one line, then others one by one."""
+        """Carries out requests of each waiting planner: queries, then batches of one line together, then others one by one."""
         ready = [it for it in self.waiting if it.is_ready()]
         self._answer_queries(ready)
         self._commit_group(ready)
@@ -168,7 +168,7 @@ class Server:
         self.waiting = {it: None for it in self.waiting if it.requests}
 
     def _gathers(self):
-        """Whether it is worth to wait for more batches before the next commit."""
+        """Whether more planners are likely to join the next group."""
         ready = [it for it in self.waiting if it.is_ready()]
         return 0 < len(ready) < self.expected and all(is_single(it.requests[0]) for it in ready)
 
@@ -189,11 +189,12 @@ class Server:
                 at += 1
 
     def _commit_group(self, ready):
-        """Has batches of one line carried out and committed together."""
+        """Carries out batches of one line and commits them together."""
         group = []
         for planner in ready:
             taken = 0
-            while planner.requests and taken < limits.GROUP_OF_ONE and len(group) < limits.GROUP and is_single(planner.requests[0]):
+            most = min(limits.GROUP_OF_ONE, limits.GROUP - len(group))
+            while planner.requests and taken < most and is_single(planner.requests[0]):
                 group.append((planner, planner.next_request()))
                 taken += 1
         if not group:
@@ -202,13 +203,13 @@ class Server:
         self.batches.carry_out([batch for _, batch in group])
         for planner, batch in group:
             planner.answer(batch.text())
-        # Those who have their answer write their next line at once, if at all: waiting a little for them makes one group of two.
+        # A planner with an answer often sends the next line at once. Waiting a little for it avoids two groups that alternate.
         now = time.monotonic()
         self.expected = len({planner for planner, _ in group} | self.waiting.keys())
         self.gathers_until = now + GATHER * (now - begun)
 
     def _carry_out(self, planner):
-        """Carries out a planner's next line, if it is none of a group."""
+        """Carries out the next request of a planner, if it does not belong in a group."""
         request = planner.requests[0]
         if is_short(request) or is_single(request):
             return
@@ -245,7 +246,7 @@ class Server:
     # --- the end ----------------------------------------------------------------------------------
 
     def refuse_waiting(self):
-        """Refuses what waits, none of which was begun."""
+        """Refuses all waiting requests; none of them was begun."""
         for planner in list(self.planners):
             for request in planner.requests:
                 if isinstance(request, Batch):
@@ -263,7 +264,7 @@ class Server:
 
 
 def is_short(request):
-    """Whether it has one line of answer that is known, or that the program gives at once."""
+    """Whether its answer is one line that is known already, or that the program gives at once."""
     return isinstance(request, bytes) or isinstance(request, Query) and not request.has_rows
 
 
