@@ -1012,6 +1012,19 @@ class HostileTests(ServiceTest):
                 came += one.socket.recv(60_000)
             self.assertEqual(4, (came + "\n".join(one.rest()).encode()).count(b"end 100"))
 
+    def test_no_room_for_answers_that_are_not_read(self):
+        os.unlink(self.file)
+        self.create(480)
+        lines = [f"put top 1 {number} {LONG}" for number in range(350)]
+        text = "".join(f"{it}\n" for it in [*lines, "commit"]).encode()
+        subprocess.run([ALTCTL, "run", self.file], input=text, stdout=subprocess.DEVNULL, check=True)
+        most = 2 << 20
+        self.start(preexec_fn=lambda: resource.setrlimit(resource.RLIMIT_FSIZE, (most, most)))
+        with self.planner() as one, self.planner() as other:
+            one.send("list top")
+            self.assertLess(len(one.rest()), 351)
+            self.assertEqual(["ok", "value a"], other.ask("put top 1 1 a", "get top 1 1"))
+
     def test_a_planner_who_writes_no_lines_of_a_batch(self):
         self.start_limited(BATCH_LINES=10)
         with self.planner() as one:

@@ -1,4 +1,5 @@
 """A connected planner: the lines that arrive, and the answers that wait to be sent."""
+import errno
 import selectors
 import tempfile
 import time
@@ -40,7 +41,10 @@ class Unread:
         if self.file is None:
             self.file, self.begin, self.end = tempfile.TemporaryFile(buffering=0), 0, 0
         self.file.seek(self.end)
-        self.end += self.file.write(text)
+        written = self.file.write(text)
+        self.end += written
+        if written < len(text):
+            raise OSError(errno.ENOSPC, "no space for unread answers")
 
     def send(self, connection):
         """Sends what the other end takes now, and returns how many bytes that was."""
@@ -239,7 +243,12 @@ class Planner:
             return
         if not self.unread:
             self.read_last = time.monotonic()
-        self.unread.add(text)
+        try:
+            self.unread.add(text)
+        except OSError:
+            # Part of an answer would be worse than none.
+            self.close()
+            return
         self.server.touched[self] = None
 
     def send(self):

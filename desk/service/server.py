@@ -44,7 +44,8 @@ class Log:
         if came and not self.planner.is_closed:
             self.planner.answer(came)
             return
-        self.process.kill() if came else None
+        if came:
+            self.process.kill()
         self.server.selector.unregister(self.process.stdout)
         self.process.stdout.close()
         if self.process.wait():
