@@ -54,6 +54,8 @@ else
     try 600 ../desk/test_altgis.py
     try 300 kill_service.py "$tools/../altctl" 20
     try 300 replicated.sh
+    # The first time takes the longest by far: later it tries only what has changed.
+    try 14400 wrong_bodies.py
 fi
 echo "all: $passed scripts passed${names:+, failed:$names}, in $(($(date +%s) - begun)) seconds"
 [ -z "$quick" ] || echo "$((passed + ${2:-0})) passed, $failed failed"
