@@ -1,16 +1,16 @@
 #!/usr/bin/env python3
 """Measures how many commits and gets a second the service answers to 1, 8 and 64 planners, beside PostgreSQL and SQLite with as
-many writers: `tools/measure_service.py [--seconds N] [--slow MICROSECONDS] [ALTCTL]`. It writes rows of a table. With `--slow`
-each sync of all three takes that much longer, as on a slower disk. Times are looked at, never tested.
+many writers: `tools/measure_service.py [--seconds N] [--rounds N] [--slow MICROSECONDS] [ALTCTL]`. It writes a table. With
+`--slow` each sync of all three takes that much longer, as on a slower disk. Times are looked at, never tested.
 
 Each commit changes one record of 10,000, and is durable before it is answered: in PostgreSQL by an UPDATE of one row with fsync
 on, in SQLite by one in WAL mode with synchronous=FULL. What is not installed is skipped, with a line that says so."""
 import argparse
+import contextlib
 import os
 import random
 import selectors
 import shutil
-import signal
 import socket
 import sqlite3
 import subprocess
@@ -18,6 +18,7 @@ import sys
 import tempfile
 import time
 from pathlib import Path
+from statistics import median
 
 from preloaded import compiled, preloaded
 
@@ -78,78 +79,90 @@ def get():
     return b"get top 7 %d\n" % random.randrange(RECORDS)
 
 
-def measure_service(altctl, folder, seconds, variables):
-    """The commits and the gets a second, by how many planners there are."""
+@contextlib.contextmanager
+def service(altctl, folder, variables):
+    """A service over a store with the records. Gives what measures commits, and what measures gets."""
     file = f"{folder}/map.alt"
     subprocess.run([altctl, "create", file, "16384"], check=True, stdout=subprocess.DEVNULL)
     lines = "".join(f"put top 7 {number} value\n" for number in range(RECORDS)) + "commit\n"
     subprocess.run([altctl, "run", "--", file], input=lines.encode(), check=True, stdout=subprocess.DEVNULL)
     with open(f"{folder}/said", "wb") as said:
-        service = subprocess.Popen([sys.executable, ALTSERVE, "--program", altctl, file], stderr=said, env=variables)
+        process = subprocess.Popen([sys.executable, ALTSERVE, "--program", altctl, file], stderr=said, env=variables)
+
+    def measure(line, due):
+        def planners(count, seconds):
+            loaders = min(LOADERS, count)
+            return in_processes(loaders, lambda _: load(f"{file}.sock", count // loaders, seconds, line, due)) / seconds
+
+        return planners
+
     try:
         while b": batches to " not in Path(f"{folder}/said").read_bytes():
             time.sleep(0.05)
-        found = {"commits": [], "gets": []}
-        for what, line, due in ("commits", put, b"ok\n"), ("gets", get, b"value "):
-            for count in PLANNERS:
-                loaders = min(LOADERS, count)
-                answered = in_processes(loaders, lambda _: load(f"{file}.sock", count // loaders, seconds, line, due))
-                found[what].append(answered / seconds)
-        return found
+        yield measure(put, b"ok\n"), measure(get, b"value ")
     finally:
-        service.terminate()
-        service.wait()
+        process.terminate()
+        process.wait()
 
 
-def measure_postgres(folder, seconds, variables):
-    """The commits a second of PostgreSQL, by pgbench."""
-    if not POSTGRES:
-        print("PostgreSQL is not installed (postgresql), and left out")
-        return None
+@contextlib.contextmanager
+def postgres(folder, variables):
+    """A server of PostgreSQL. Gives what measures commits, by pgbench."""
     data = f"{folder}/postgres"
     os.makedirs(data)
     as_user = []
     if os.geteuid() == 0:
         shutil.chown(data, "postgres", "postgres")
-        for it in (folder, str(Path(folder).parent)):
-            os.chmod(it, os.stat(it).st_mode | 0o011)
+        os.chmod(folder, 0o711)
         as_user = ["runuser", "-u", "postgres", "--"]
 
     def run(*words, **how):
-        return subprocess.run([*as_user, *words], check=True, stdout=subprocess.PIPE, stderr=subprocess.DEVNULL, cwd=data, **how)
+        ran = subprocess.run([*as_user, *words], check=True, stdout=subprocess.PIPE, stderr=subprocess.DEVNULL, cwd=data, **how)
+        return ran.stdout.decode()
 
-    binaries = POSTGRES[0]
-    run(str(binaries / "initdb"), "-D", f"{data}/it", "-A", "trust")
-    control = [str(binaries / "pg_ctl"), "-D", f"{data}/it", "-w", "-l", f"{data}/log"]
+    initdb, pg_ctl, psql, pgbench = (str(POSTGRES[0] / it) for it in ("initdb", "pg_ctl", "psql", "pgbench"))
+    run(initdb, "-D", f"{data}/it", "-A", "trust")
+    control = [pg_ctl, "-D", f"{data}/it", "-w", "-l", f"{data}/log"]
     run(*control, "-o", f"-k {data} -c listen_addresses= -c max_connections=100", "start", env=variables)
     try:
-        here = ["-h", data, "-d", "postgres"]
-        run(str(binaries / "psql"), *here, "-c", "CREATE TABLE map (number int PRIMARY KEY, value text)")
-        rows = f"SELECT number, 'value' FROM generate_series(0, {RECORDS - 1}) number"
-        run(str(binaries / "psql"), *here, "-c", f"INSERT INTO map {rows}")
+        for sql in (
+            "CREATE TABLE map (number int PRIMARY KEY, value text)",
+            f"INSERT INTO map SELECT number, 'value' FROM generate_series(0, {RECORDS - 1}) number",
+        ):
+            run(psql, "-h", data, "-d", "postgres", "-c", sql)
         script = f"{data}/update.sql"
         Path(script).write_text(
             f"\\set number random(0, {RECORDS - 1})\n\\set value random(0, 1000000000)\n"
             "UPDATE map SET value = 'value-' || :value WHERE number = :number;\n"
         )
-        found = []
-        for count in PLANNERS:
-            words = [str(binaries / "pgbench"), *here[:2], "-n", "-f", script, "-c", str(count), "-j", str(min(LOADERS, count))]
-            text = run(*words, "-M", "prepared", "-T", str(seconds), "postgres").stdout.decode()
-            found.append(float(text.split("tps = ")[1].split()[0]))
-        return found
+
+        def commits(count, seconds):
+            clients = ["-c", str(count), "-j", str(min(LOADERS, count)), "-T", str(seconds)]
+            text = run(pgbench, "-h", data, "-n", "-M", "prepared", "-f", script, *clients, "postgres")
+            return float(text.split("tps = ")[1].split()[0])
+
+        yield commits
     finally:
         run(*control, "-m", "fast", "stop")
 
 
-def measure_sqlite(folder, seconds):
-    """The commits a second of SQLite in WAL mode."""
+def sqlite(folder, variables):
+    """A file of SQLite. Gives what measures commits: by processes started anew, since syncs are made slow from a start on."""
     file = f"{folder}/sqlite"
-    with sqlite3.connect(file) as store:
+    with contextlib.closing(sqlite3.connect(file)) as store, store:
         store.execute("PRAGMA journal_mode=WAL")
         store.execute("CREATE TABLE map (number INTEGER PRIMARY KEY, value TEXT)")
         store.executemany("INSERT INTO map VALUES (?, 'value')", ((number,) for number in range(RECORDS)))
-    store.close()
+
+    def commits(count, seconds):
+        words = [sys.executable, __file__, "--sqlite", file, str(count), "--seconds", str(seconds)]
+        return float(subprocess.run(words, check=True, stdout=subprocess.PIPE, env=variables).stdout)
+
+    return commits
+
+
+def write_sqlite(file, count, seconds):
+    """The commits a second of so many writers."""
 
     def write(_):
         store = sqlite3.connect(file, isolation_level=None, timeout=60)
@@ -162,13 +175,7 @@ def measure_sqlite(folder, seconds):
             done += 1
         return done
 
-    return [in_processes(count, write) / seconds for count in PLANNERS]
-
-
-def measure_sqlite_slow(folder, seconds, variables):
-    """The same in a process of its own, since its syncs are made slow from its start."""
-    words = [sys.executable, __file__, "--sqlite", folder, "--seconds", str(seconds)]
-    return list(map(float, subprocess.run(words, check=True, stdout=subprocess.PIPE, env=variables).stdout.split()))
+    return in_processes(count, write) / seconds
 
 
 def sync_time(folder):
@@ -181,33 +188,42 @@ def sync_time(folder):
         return (time.monotonic() - begun) / 200 * 1e6
 
 
-def show(what, found):
-    if found is not None:
-        print(f"| {what} | {' | '.join(f'{it:,.0f}' for it in found)} | {found[-1] / found[0]:.1f} |", flush=True)
-
-
 def main():
     parser = argparse.ArgumentParser(description=__doc__.split(":")[0])
-    parser.add_argument("--seconds", type=float, default=5, help="for each number of planners")
+    parser.add_argument("--seconds", type=int, default=2, help="of each measurement")
+    parser.add_argument("--rounds", type=int, default=5, help="how often each is done; the median counts")
     parser.add_argument("--slow", type=int, default=0, help="microseconds added to each sync")
-    parser.add_argument("--sqlite", help=argparse.SUPPRESS)
+    parser.add_argument("--sqlite", nargs=2, help=argparse.SUPPRESS)
     parser.add_argument("altctl", nargs="?", default=str(TOP / "altctl"))
     said = parser.parse_args()
     if said.sqlite:
-        print(*measure_sqlite(said.sqlite, said.seconds))
+        print(write_sqlite(said.sqlite[0], int(said.sqlite[1]), said.seconds))
         return
-    with tempfile.TemporaryDirectory() as folder:
+    with tempfile.TemporaryDirectory() as folder, contextlib.ExitStack() as stack:
         variables = preloaded(compiled("slow_calls", folder), slow_sync=said.slow) if said.slow else dict(os.environ)
-        processors, busy = os.cpu_count(), os.getloadavg()[0]
-        sync = sync_time(folder)
-        print(f"{processors} processors, load {busy:.1f}; a sync takes {sync:.0f} µs, and here {said.slow} more", flush=True)
-        print(f"| A second | {' | '.join(f'{it}' for it in PLANNERS)} | {PLANNERS[-1]} to 1 |\n|---|---|---|---|---|")
-        found = measure_service(said.altctl, folder, said.seconds, variables)
-        show("altserve: commits", found["commits"])
-        show("PostgreSQL: commits", measure_postgres(folder, int(said.seconds), variables))
-        show("SQLite: commits", measure_sqlite_slow(folder, said.seconds, variables))
-        show("altserve: gets", found["gets"])
-        print(f"load at the end {os.getloadavg()[0]:.1f}")
+        commits, gets = stack.enter_context(service(said.altctl, folder, variables))
+        measures = {"altserve: commits": commits}
+        if POSTGRES:
+            measures["PostgreSQL: commits"] = stack.enter_context(postgres(folder, variables))
+        else:
+            print("PostgreSQL is not installed (postgresql), and skipped")
+        measures["SQLite: commits"] = sqlite(folder, variables)
+        measures["altserve: gets"] = gets
+        found = {(what, count): [] for what in measures for count in PLANNERS}
+        syncs, loads = [], []
+        # In turns, so that other work on the machine hits all of them alike.
+        for _ in range(said.rounds):
+            syncs.append(sync_time(folder))
+            loads.append(os.getloadavg()[0])
+            for what, count in found:
+                found[what, count].append(measures[what](count, said.seconds))
+    sync = f"a sync takes {median(syncs):.0f} µs" + (f" and {said.slow} more" if said.slow else "")
+    load_seen = f"load {min(loads):.0f} to {max(loads):.0f}"
+    print(f"{os.cpu_count()} processors, {load_seen}; {sync}; the median of {said.rounds} times {said.seconds} s")
+    print(f"| A second, by planners | {' | '.join(map(str, PLANNERS))} | {PLANNERS[-1]} to 1 |\n|---|---|---|---|---|")
+    for what in measures:
+        rates = [median(found[what, count]) for count in PLANNERS]
+        print(f"| {what} | {' | '.join(f'{it:,.0f}' for it in rates)} | {rates[-1] / rates[0]:.1f} |")
 
 
 if __name__ == "__main__":
