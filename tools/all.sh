@@ -40,6 +40,8 @@ try 300 session.sh
 try 120 ../clients/python/test_altctl.py
 try 300 progress.py
 if [ -n "$quick" ]; then
+    # Behind the gate: the program that it has built is the one that dist/ carries.
+    try 60 dist.sh --check
     try 60 compare.py -n 8
     try 60 kill.py "$tools/../altctl" 8
     try 60 crashes.py -n 1
