@@ -1081,7 +1081,7 @@ class UnreadTests(unittest.TestCase):
                 if number % 3 == 0:
                     unread.send(one)
                 if number % 2 == 0:
-                    with contextlib.suppress(TimeoutError):
+                    with contextlib.suppress(socket.timeout):
                         read += other.recv(70_000)
             self.assertIsNotNone(unread.file)
             while unread:
@@ -1095,4 +1095,7 @@ class UnreadTests(unittest.TestCase):
 
 
 if __name__ == "__main__":
-    unittest.main()
+    result = unittest.main(exit=False).result
+    for test, reason in result.skipped:
+        print(f"skipped: {test.id().split('.')[-1]}: {reason}", file=sys.stderr)
+    sys.exit(not result.wasSuccessful())
