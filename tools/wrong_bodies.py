@@ -23,6 +23,7 @@ import pathlib
 import re
 import resource
 import shutil
+import signal
 import sys
 import tempfile
 import time
@@ -373,6 +374,8 @@ def main(words):
 
 
 if __name__ == "__main__":
+    # So that the copies go when a time limit ends it.
+    signal.signal(signal.SIGTERM, lambda *_: sys.exit(128 + signal.SIGTERM))
     try:
         sys.exit(main(sys.argv[1:]))
     except Stop as why:
