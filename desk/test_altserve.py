@@ -717,6 +717,13 @@ class StoreTests(ServiceTest):
             self.assertEqual(["error 98 NoBackup EISDIR"], one.ask("backup a"))
         self.assertEqual(["a"], os.listdir(f"{self.file}.backups"))
 
+    def test_what_an_interrupted_backup_leaves_is_removed(self):
+        os.makedirs(f"{self.file}.backups")
+        for name in (".a.17", "a"):
+            Path(f"{self.file}.backups/{name}").write_bytes(b"a part")
+        self.start()
+        self.assertEqual(["a"], os.listdir(f"{self.file}.backups"))
+
     def test_a_second_service_is_refused(self):
         self.start()
         first, said = self.service, self.said
@@ -752,6 +759,12 @@ class StoreTests(ServiceTest):
         self.assertEqual(["ok"] * 511, self.altctl(*(f"new a{n} top" for n in range(510)), "commit"))
         status, text = self.failed()
         self.assertEqual((3, True), (status, "12 TooMany" in text), text)
+
+    def test_an_alternative_that_no_service_has_made(self):
+        for lines in (["new .service top"], ["checkpoint .service a"], ["checkpoint .service 1"]):
+            self.assertEqual(["ok", "ok"], self.altctl(*lines, "commit"))
+            status, text = self.failed()
+            self.assertEqual((3, True), (status, "is not one that a service has made" in text), text)
 
     def test_a_store_with_as_many_alternatives_as_it_may_have(self):
         self.start()

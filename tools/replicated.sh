@@ -199,12 +199,15 @@ rm -f "$folder/acknowledged" "$folder/acknowledged.next"
 "$altctl" create "$folder/small" 4096 >/dev/null
 dd if="$folder/small" of="$device" bs=4096 conv=fsync 2>/dev/null
 try_bricks "$device" 'a loop device'
-look "$device" 'of the loop device'
 detach
-heal
 umount "$mount" && mount_volume "$mount"
 attach
-look "$device" 'of the loop device, after healing'
+look "$device" 'on the loop device, after a mount without the brick'
+detach
+heal
+compare_bricks disk
+attach
+look "$device" 'on the loop device, after healing'
 detach
 umount "$mount"
 run_gluster volume stop kept

@@ -4,6 +4,7 @@ Between two batches the store holds nothing uncommitted. Each commit includes th
 only checkpoint of the alternative `.service`. A checkpoint takes no block, so a full store can still be emptied. The alternative
 is made anew each time, so it keeps no old version of `top` in use."""
 import errno
+import glob
 import os
 import subprocess
 import time
@@ -77,6 +78,9 @@ class Batches:
         self.words = [altctl, "run", *options, "--", file]
         self.program, self.parents, self.kept = None, {}, 0
         self.has_rollback, self.has_copy = False, True
+        self.backups = f"{file}.backups"
+        for it in glob.glob(f"{glob.escape(self.backups)}/.*"):
+            os.unlink(it)  # It is part of a backup, and the service was killed meanwhile.
         self.journal = Journal(f"{file}.journal", say)
         self._open()
         if self.kept >= self.journal.next:
@@ -107,13 +111,18 @@ class Batches:
     def _look(self):
         """Reads the alternatives, and the number of the last batch."""
         self.parents = {name: parent for _, name, parent in self.rows(b"alts")}
-        found = self.rows(b"checks " + OWN) if OWN in self.parents else []
-        self.kept = int(found[0][1]) if found else 0
+        if OWN not in self.parents:
+            self.kept = 0
+            return
+        names = [name for _, name in self.rows(b"checks " + OWN)]
+        if len(names) != 1 or not names[0].isdigit():
+            raise Fatal(f"the alternative {OWN.decode()} is not one that a service has made")
+        self.kept = int(names[0])
 
     def rows(self, line):
         text = bytearray()
         self.program.ask_rows(line, text.extend)
-        return [it.split(b" ") for it in bytes(text).split(b"\n")[:-2]]
+        return [tuple(it.split(b" ")) for it in bytes(text).split(b"\n")[:-2]]
 
     def _begin(self):
         """Makes the service's own alternative."""
@@ -247,14 +256,13 @@ class Batches:
 
     def backup(self, name):
         """Copies the store into FILE.backups. The copy gets its name only after it has been synced."""
-        folder = f"{self.file}.backups"
-        part = f"{folder}/.{name}.{os.getpid()}"
+        part = f"{self.backups}/.{name}.{os.getpid()}"
         begun = time.monotonic()
         try:
-            os.makedirs(folder, mode=0o700, exist_ok=True)
+            os.makedirs(self.backups, mode=0o700, exist_ok=True)
             self._copy(part)
             size = synced(part)
-            os.replace(part, f"{folder}/{name}")
+            os.replace(part, f"{self.backups}/{name}")
             sync_folder(part)
         except OSError as fault:
             if os.path.lexists(part):
