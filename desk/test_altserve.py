@@ -5,6 +5,7 @@ import contextlib
 import grp
 import json
 import os
+import re
 import resource
 import signal
 import socket
@@ -1078,6 +1079,25 @@ class HostileTests(ServiceTest):
         with self.planner() as one:
             self.assertEqual(["ok"], one.ask("put top 1 1 b"))
         self.until(lambda: len(os.listdir(f"/proc/{self.service.pid}/fd")) == count)
+
+
+class DocumentTests(unittest.TestCase):
+    def test_the_page_has_the_limits_and_the_refusals(self):
+        text = (HERE.parent / "docs" / "PLANNERS.md").read_text()
+        told = {int(number): name for number, name in re.findall(r"^\| `(\d+) (\w+)", text, re.M)}
+        self.assertEqual(limits.REFUSALS, told)
+        for row in (
+            f"| a line | {limits.LINE_BYTES:,} bytes |",
+            f"| a batch between `begin` and `commit` | {limits.BATCH_LINES:,} lines, {limits.BATCH_BYTES >> 20} MiB |",
+            f"| holding a batch | {limits.HELD_SECONDS // 60} minutes |",
+            f"| held and waiting lines of all planners | {limits.HELD_BYTES >> 20} MiB |",
+            f"| connections | {limits.PLANNERS}, of one user {limits.PLANNERS_OF_ONE} |",
+            f"| waiting lines of one planner | {limits.WAITING_LINES:,};",
+            f"| batches in one commit | {limits.GROUP:,}, of one planner {limits.GROUP_OF_ONE} |",
+            f"| `log` lines answered at the same time | {limits.LOGS};",
+        ):
+            self.assertIn(row, text)
+        self.assertEqual((1 << 20, 60), (limits.UNREAD_BYTES, limits.UNREAD_SECONDS))
 
 
 class UnreadTests(unittest.TestCase):

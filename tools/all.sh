@@ -52,7 +52,7 @@ else
     try 300 space.py
     try 600 failing_device.py
     try 1800 refuse_allocations.sh
-    try 300 ../desk/test_altserve.py
+    try 600 ../desk/test_altserve.py
     try 600 ../desk/test_altgis.py
     try 300 kill_service.py "$tools/../altctl" 20
     try 300 replicated.sh
