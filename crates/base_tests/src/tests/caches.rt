@@ -1,31 +1,28 @@
 //! What a cache of a disk asks the disk for, and what both hold.
-use super::script::{Layers, Row, plays_rows};
-use super::seen::Fails;
+use super::script::{NEVER, Row, on_a_cache};
+use super::seen::{fused, memory_with_room};
 use std::test::Fail;
 
 const ROWS: [Row; 9] = [
     Row {
         name: "drops a forgotten block",
-        layers: Layers::Cache(2),
         blocks: 4,
         room: 4,
-        fails: Fails::Never,
-        torn: 9,
+        fails: None,
+        capacity: 2,
         steps: "
             fill 2 7
             forget 2
             is 2 7 -> no
             dirty 2 -> yes",
         below: "",
-        crashes: &[],
     },
     Row {
         name: "asks for what it does not keep",
-        layers: Layers::Cache(2),
         blocks: 64,
         room: 64,
-        fails: Fails::Once(5),
-        torn: 9,
+        fails: Some(5),
+        capacity: 2,
         steps: "
             holds 34 -> 0
             calls -> 1
@@ -48,15 +45,13 @@ const ROWS: [Row; 9] = [
             sync
             calls -> 8",
         below: "",
-        crashes: &[],
     },
     Row {
         name: "lends what it keeps",
-        layers: Layers::Cache(2),
         blocks: 64,
         room: 64,
-        fails: Fails::Once(3),
-        torn: 9,
+        fails: Some(3),
+        capacity: 2,
         steps: "
             fill 34 7
             calls -> 1
@@ -77,15 +72,13 @@ const ROWS: [Row; 9] = [
             hand 35 -> 0
             calls -> 5",
         below: "",
-        crashes: &[],
     },
     Row {
         name: "keeps no block that is needed once",
-        layers: Layers::Cache(2),
         blocks: 64,
         room: 64,
-        fails: Fails::Once(6),
-        torn: 9,
+        fails: Some(6),
+        capacity: 2,
         steps: "
             holds 34 35 -> 0 0
             calls -> 2
@@ -106,15 +99,13 @@ const ROWS: [Row; 9] = [
             hand 34 36 -> 0 0
             calls -> 9",
         below: "",
-        crashes: &[],
     },
     Row {
         name: "lends each block where it keeps one",
-        layers: Layers::Cache(1),
         blocks: 8,
         room: 8,
-        fails: Fails::Never,
-        torn: 9,
+        fails: Some(NEVER),
+        capacity: 1,
         steps: "
             fill 1 1
             fill 2 2
@@ -125,15 +116,13 @@ const ROWS: [Row; 9] = [
             hand 2 -> 2
             calls -> 8",
         below: "",
-        crashes: &[],
     },
     Row {
         name: "keeps the blocks of a run",
-        layers: Layers::Cache(3),
         blocks: 8,
         room: 8,
-        fails: Fails::Never,
-        torn: 9,
+        fails: Some(NEVER),
+        capacity: 3,
         steps: "
             fill 2 5
             calls -> 1
@@ -148,15 +137,13 @@ const ROWS: [Row; 9] = [
             holds 1 -> 6
             calls -> 6",
         below: "",
-        crashes: &[],
     },
     Row {
         name: "keeps no block of a run that failed",
-        layers: Layers::Cache(4),
         blocks: 8,
         room: 8,
-        fails: Fails::Once(4),
-        torn: 9,
+        fails: Some(4),
+        capacity: 4,
         steps: "
             fill 1 1
             fill 2 2
@@ -167,15 +154,13 @@ const ROWS: [Row; 9] = [
             holds 1 2 3 -> 6 7 9
             calls -> 8",
         below: "",
-        crashes: &[],
     },
     Row {
         name: "gets longer",
-        layers: Layers::Cache(4),
         blocks: 2,
         room: 4,
-        fails: Fails::Never,
-        torn: 9,
+        fails: None,
+        capacity: 4,
         steps: "
             fill 1 7
             grow 4
@@ -184,15 +169,13 @@ const ROWS: [Row; 9] = [
             holds 1 2 3 -> 7 0 8
             grow 5 -> fault",
         below: "blocks -> 4",
-        crashes: &[],
     },
     Row {
         name: "writes through",
-        layers: Layers::Cache(1),
         blocks: 4,
         room: 4,
-        fails: Fails::Never,
-        torn: 9,
+        fails: None,
+        capacity: 1,
         steps: "
             blocks -> 4
             fill 2 7
@@ -203,11 +186,17 @@ const ROWS: [Row; 9] = [
         below: "
             dirty 2 -> no
             holds 2 -> 8",
-        crashes: &[],
     },
 ];
 
 #[test]
 fn cache_holds_what_the_disk_below_does(rt: HostRuntime) -> Result<(), Fail> {
-    plays_rows(&rt, &ROWS)
+    for row in &ROWS {
+        let memory = memory_with_room(rt.alloc(), row.blocks, row.room)?;
+        match row.fails {
+            Some(call) => on_a_cache(&rt, fused(memory, call, [9; 4096])?, row),
+            None => on_a_cache(&rt, memory, row),
+        }
+    }
+    Ok(())
 }

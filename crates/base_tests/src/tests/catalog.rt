@@ -1,6 +1,6 @@
 //! What stands on a disk after a publish, byte by byte, and which slots are refused.
-use super::seen::Fuse;
 use std::alloc::Global;
+use std::process::Abort;
 use std::test::Fail;
 use vm_block::{Entry, Kind, SlotFormat, SlotName, write_header};
 use vm_catalog::{LoadFault, Slot, load, publish, select_slot, slot_in_use, write_slot};
@@ -9,62 +9,71 @@ use vm_types::{MAX_VERSIONS, Name};
 
 /// The name `n` and four digits.
 fn numbered(n: usize) -> Option<Name> {
-    let mut letters = *b"n0000";
-    let mut rest = n;
-    for at in [4, 3, 2, 1] {
-        letters[at] = b'0' + (rest % 10) as u8;
-        rest /= 10;
-    }
-    Name::new(&letters)
+    let digit = |place: usize| b'0' + (n / place % 10) as u8;
+    Name::new(&[b'n', digit(1000), digit(100), digit(10), digit(1)])
 }
 
-/// `top`, and so many entries in all, the others children of `top`.
-fn family(alloc: Global, count: usize) -> Result<Vec<Entry>, Fail> {
-    let top = Entry {
+fn top() -> Option<Entry> {
+    Some(Entry {
         kind: Kind::Alternative,
-        name: Name::new(b"top").ok_or("no name")?,
+        name: Name::new(b"top")?,
         owner: None,
         current: 34,
         base: 0,
-    };
+    })
+}
+
+/// `top`, and so many entries in all, the others children of `top`.
+fn family(alloc: Global, count: usize) -> Option<Vec<Entry>> {
+    let top = top()?;
     let mut entries = Vec::new(alloc);
-    entries.push(top)?;
+    entries.push(top).ok()?;
     for n in 1..count {
         let child = Entry {
-            name: numbered(n).ok_or("no name")?,
+            name: numbered(n)?,
             owner: Some(top.name),
             base: 34,
             ..top
         };
-        entries.push(child)?;
+        entries.push(child).ok()?;
     }
-    Ok(entries)
+    Some(entries)
 }
 
-/// A blank disk of 64 blocks that counts its calls.
-fn blank(alloc: Global) -> Result<Fuse, Fail> {
-    Ok(FuseDisk::once(MemDisk::new(alloc, 64)?, 1000, [9; 4096]))
-}
-
-/// Writes the entries into slot A, or publishes them in slot B.
-fn write(disk: &mut Fuse, slot_name: SlotName, entries: &[Entry]) -> Result<(), DeviceFault> {
+/// The calls under test, on a disk that is large enough.
+fn put<D: Disk>(disk: &mut D, in_use: SlotName, entries: &[Entry]) -> Result<(), DeviceFault> {
     if disk.blocks() < 34 || entries.len() > MAX_VERSIONS {
         return Err(DeviceFault);
     }
-    match slot_name {
-        SlotName::A => write_slot(disk, SlotName::A, SlotFormat::One, 64, entries),
-        SlotName::B => publish(disk, SlotName::A, SlotFormat::One, 64, entries),
-    }
+    publish(disk, in_use, SlotFormat::One, 64, entries)
 }
 
-fn loaded(alloc: Global, disk: &mut Fuse, slot_name: SlotName) -> Result<Slot, LoadFault> {
+fn put_alone<D: Disk>(
+    disk: &mut D,
+    slot_name: SlotName,
+    entries: &[Entry],
+) -> Result<(), DeviceFault> {
+    if disk.blocks() < 34 || entries.len() > MAX_VERSIONS {
+        return Err(DeviceFault);
+    }
+    write_slot(disk, slot_name, SlotFormat::One, 64, entries)
+}
+
+fn get<D: Disk>(alloc: Global, disk: &mut D, slot_name: SlotName) -> Result<Slot, LoadFault> {
     if disk.blocks() < 34 {
         return Err(LoadFault::Device);
     }
     load(alloc, disk, slot_name)
 }
 
-fn bytes_of(disk: &mut Fuse, n: u32) -> Result<[u8; 4096], DeviceFault> {
+fn found<D: Disk>(disk: &mut D) -> Result<Option<SlotName>, DeviceFault> {
+    if disk.blocks() < 2 {
+        return Err(DeviceFault);
+    }
+    slot_in_use(disk)
+}
+
+fn bytes_of<D: Disk>(disk: &mut D, n: u32) -> Result<[u8; 4096], DeviceFault> {
     let mut bytes = [0; 4096];
     if n < disk.blocks() {
         disk.read(n, &mut bytes)?;
@@ -73,72 +82,13 @@ fn bytes_of(disk: &mut Fuse, n: u32) -> Result<[u8; 4096], DeviceFault> {
 }
 
 /// Sets one byte of a block.
-fn set(disk: &mut Fuse, n: u32, at: usize, byte: u8) -> Result<(), DeviceFault> {
+fn set<D: Disk>(disk: &mut D, n: u32, at: usize, byte: u8) -> Result<(), DeviceFault> {
     let mut bytes = bytes_of(disk, n)?;
-    if at >= 4096 || n >= disk.blocks() {
-        return Err(DeviceFault);
+    if at < 4096 {
+        bytes[at] = byte;
     }
-    bytes[at] = byte;
-    disk.write(n, &bytes)
-}
-
-#[test]
-fn what_is_published_is_loaded(rt: HostRuntime) -> Result<(), Fail> {
-    // How many entries there are, and how many blocks of a slot they take.
-    for (count, used) in [(1, 1), (31, 1), (32, 2), (511, 16)] {
-        let entries = family(rt.alloc(), count)?;
-        let mut disk = blank(rt.alloc())?;
-        write(&mut disk, SlotName::B, &entries)?;
-        let writes = disk.calls();
-        let slot = loaded(rt.alloc(), &mut disk, SlotName::B)?;
-        let reads = disk.calls().saturating_sub(writes);
-        for (what, is_so) in [
-            ("writes", writes == used + 3),
-            ("reads", reads == used),
-            ("the format", slot.format == SlotFormat::One),
-            ("the blocks of the store", slot.blocks == 64),
-            ("the entries", slot.entries.as_slice() == entries.as_slice()),
-            ("room for the most", slot.entries.capacity() >= 511),
-        ] {
-            assert!(rt; is_so, "{count} entries: {what}");
-        }
-    }
-
-    let mut disk = blank(rt.alloc())?;
-    write(&mut disk, SlotName::B, &family(rt.alloc(), 1)?)?;
-    let mut due = [0; 4096];
-    due[..16].copy_from_slice(b"SLOT\x01\0\0\0\x40\0\0\0\x01\0\0\0");
-    due[128..133].copy_from_slice(b"\x41\x03top");
-    due[195] = 0x22;
-    assert!(rt; bytes_of(&mut disk, 18)? == due, "slot B");
-    assert!(rt; bytes_of(&mut disk, 1)?[0] == 1, "the selector");
-    Ok(())
-}
-
-fn found(disk: &mut Fuse) -> Result<Option<SlotName>, DeviceFault> {
-    if disk.blocks() < 2 {
-        return Err(DeviceFault);
-    }
-    slot_in_use(disk)
-}
-
-#[test]
-fn selector_behind_a_header_names_a_slot(rt: HostRuntime) -> Result<(), Fail> {
-    let mut disk = blank(rt.alloc())?;
-    let mut header = [0; 4096];
-    write_header(&mut header);
-    let none = found(&mut disk)?;
-    assert!(rt; disk.blocks() > 2, "too few blocks");
-    disk.write(0, &header)?;
-    let first = found(&mut disk)?;
-    assert!(rt; disk.blocks() > 2, "too few blocks");
-    select_slot(&mut disk, SlotName::B)?;
-    for (what, is_so) in [
-        ("no header", none.is_none()),
-        ("a header", first == Some(SlotName::A)),
-        ("a selector", found(&mut disk)? == Some(SlotName::B)),
-    ] {
-        assert!(rt; is_so, "{what}");
+    if n < disk.blocks() {
+        disk.write(n, &bytes)?;
     }
     Ok(())
 }
@@ -151,61 +101,135 @@ fn stands_after(
     at: usize,
     byte: u8,
 ) -> Result<bool, Fail> {
-    let mut disk = blank(alloc)?;
-    write(&mut disk, SlotName::A, entries)?;
+    let mut disk = MemDisk::new(alloc, 64)?;
+    put_alone(&mut disk, SlotName::A, entries)?;
     set(&mut disk, n, at, byte)?;
-    match loaded(alloc, &mut disk, SlotName::A) {
+    match get(alloc, &mut disk, SlotName::A) {
         Ok(_) => Ok(true),
         Err(LoadFault::Damaged) => Ok(false),
         Err(fault) => Err(Fail::from(fault)),
     }
 }
 
+/// These entries are those of slot B.
+fn expect_loaded<R: AllocGlobal + Abort>(rt: &R, disk: &mut FuseDisk<MemDisk>, entries: &[Entry]) {
+    match get(rt.alloc(), disk, SlotName::B) {
+        Ok(slot) => {
+            assert_eq!(rt; slot.format, SlotFormat::One);
+            assert_eq!(rt; slot.blocks, 64);
+            assert_eq!(rt; slot.entries.as_slice(), entries);
+            assert!(rt; slot.entries.capacity() >= 511);
+        }
+        Err(fault) => panic!(rt; "{fault:?}"),
+    }
+}
+
+/// Entries are published over slot A in use, and loaded: so many blocks are written, and read.
+fn expect_published<R: AllocGlobal + Abort>(
+    rt: &R,
+    disk: &mut FuseDisk<MemDisk>,
+    entries: &[Entry],
+    used: u32,
+) {
+    let (count, written) = (entries.len(), used.saturating_add(3));
+    assert!(rt; put(disk, SlotName::A, entries).is_ok(), "{count} entries");
+    assert_eq!(rt; disk.calls(), written, "writes of {count} entries");
+    expect_loaded(rt, disk, entries);
+    let read = written.saturating_add(used);
+    assert_eq!(rt; disk.calls(), read, "reads of {count} entries");
+}
+
+#[test]
+fn what_is_published_is_loaded(rt: HostRuntime) -> Result<(), Fail> {
+    for (count, used) in [(1, 1), (31, 1), (32, 2), (511, 16)] {
+        let entries = family(rt.alloc(), count).ok_or("names")?;
+        let disk = MemDisk::new(rt.alloc(), 64)?;
+        let mut disk = FuseDisk::once(disk, 1000, [9; 4096]);
+        expect_published(&rt, &mut disk, &entries, used);
+    }
+    Ok(())
+}
+
+#[test]
+fn slot_b_has_the_bytes_of_one_entry(rt: HostRuntime) -> Result<(), Fail> {
+    let mut disk = MemDisk::new(rt.alloc(), 64)?;
+    put(&mut disk, SlotName::A, &[top().ok_or("top")?])?;
+    let mut wanted = [0; 4096];
+    wanted[..16].copy_from_slice(b"SLOT\x01\0\0\0\x40\0\0\0\x01\0\0\0");
+    wanted[128..133].copy_from_slice(b"\x41\x03top");
+    wanted[195] = 0x22;
+    assert!(rt; bytes_of(&mut disk, 18)? == wanted);
+    assert_eq!(rt; bytes_of(&mut disk, 1)?[0], 1);
+    Ok(())
+}
+
+/// This is the slot in use.
+fn expect_found(rt: &impl Abort, disk: &mut MemDisk, due: Option<SlotName>) {
+    match found(disk) {
+        Ok(slot) => assert_eq!(rt; slot, due),
+        Err(_) => panic!(rt; "a fault"),
+    }
+}
+
+fn lay_header(rt: &impl Abort, disk: &mut MemDisk) {
+    let mut header = [0; 4096];
+    write_header(&mut header);
+    assert!(rt; disk.blocks() > 0 && disk.write(0, &header).is_ok());
+}
+
+fn select(rt: &impl Abort, disk: &mut MemDisk, slot_name: SlotName) {
+    assert!(rt; disk.blocks() > 2 && select_slot(disk, slot_name).is_ok());
+}
+
+#[test]
+fn selector_behind_a_header_names_a_slot(rt: HostRuntime) -> Result<(), Fail> {
+    let mut disk = MemDisk::new(rt.alloc(), 64)?;
+    expect_found(&rt, &mut disk, None);
+    lay_header(&rt, &mut disk);
+    expect_found(&rt, &mut disk, Some(SlotName::A));
+    select(&rt, &mut disk, SlotName::B);
+    expect_found(&rt, &mut disk, Some(SlotName::B));
+    Ok(())
+}
+
 #[test]
 fn damaged_slots_are_refused(rt: HostRuntime) -> Result<(), Fail> {
     let alloc = rt.alloc();
-    let (one, forty) = (family(alloc, 1)?, family(alloc, 40)?);
+    let one = family(alloc, 1).ok_or("names")?;
+    let forty = family(alloc, 40).ok_or("names")?;
 
-    // A slot whose second entry has the third as its owner; the byte is the one that it has anyhow.
-    let mut early = family(alloc, 3)?;
-    if let [_, second, third] = early.as_mut_slice() {
-        second.owner = Some(third.name);
-    }
-    for (what, entries, n, at, byte, stands) in [
-        ("no entries", &one, 2, 12, 0, false),
-        ("one more than a slot holds", &forty, 2, 13, 2, false),
-        ("format 0", &one, 2, 4, 0, false),
-        ("format 3", &one, 2, 4, 3, false),
-        ("format 2", &forty, 2, 4, 2, true),
-        (
-            "a byte of the head that has to be zero",
-            &one,
-            2,
-            16,
-            1,
-            false,
-        ),
-        (
-            "a tag that is none, in the second block",
-            &forty,
-            3,
-            128,
-            b'B',
-            false,
-        ),
-        ("a byte behind the last entry", &one, 2, 256, 255, true),
-        (
-            "a byte behind the last of forty",
-            &forty,
-            3,
-            4095,
-            255,
-            true,
-        ),
-        ("an owner in a later entry", &early, 2, 0, b'S', false),
+    for (entries, n, at, byte, stands) in [
+        // No entries, and one more than a slot holds.
+        (&one, 2, 12, 0, false),
+        (&forty, 2, 13, 2, false),
+        // Formats: 0 and 3 are none, and 2 is one.
+        (&one, 2, 4, 0, false),
+        (&one, 2, 4, 3, false),
+        (&forty, 2, 4, 2, true),
+        // A byte of the head that has to be zero, and a tag that is none, in the second block.
+        (&one, 2, 16, 1, false),
+        (&forty, 3, 128, b'B', false),
+        // What stands behind the last entry is ignored.
+        (&one, 2, 256, 255, true),
+        (&forty, 3, 4095, 255, true),
     ] {
         let found = stands_after(alloc, entries, n, at, byte)?;
-        assert!(rt; found == stands, "{what}");
+        assert_eq!(rt; found, stands, "byte {at} of block {n}");
     }
+    Ok(())
+}
+
+#[test]
+fn owner_in_a_later_entry_is_refused(rt: HostRuntime) -> Result<(), Fail> {
+    let alloc = rt.alloc();
+    let mut entries = family(alloc, 3).ok_or("names")?;
+    assert_eq!(rt; entries.len(), 3);
+    entries[1].owner = Some(entries[2].name);
+    let mut disk = MemDisk::new(alloc, 64)?;
+    put_alone(&mut disk, SlotName::A, &entries)?;
+    assert_eq!(rt;
+        get(alloc, &mut disk, SlotName::A).err(),
+        Some(LoadFault::Damaged)
+    );
     Ok(())
 }

@@ -1,38 +1,27 @@
 //! Which blocks a disk that writes late has written, by hand.
-use super::script::{Crash, Layers, Row, plays_rows};
-use super::seen::Fails;
+use super::script::{NEVER, Row, on_a_late_disk, plays};
+use super::seen::{cached, fused, late, memory, memory_with_room};
+use std::process::Abort;
 use std::test::Fail;
+use vm_disk::FuseDisk;
 
-/// The write of block 0 or 1 fails once, which go out to make room for block 2.
-const IN_A_WRITE: &str = "
-    fill 0 1
-    fill 1 2
-    fill 2 3 -> fault
-    fill 2 3
-    holds 0 1 2 -> 1 2 3
-    sync";
+/// Plays a row on a late disk over a disk in memory.
+fn plays_row<R: AllocGlobal + Abort>(rt: &R, row: &Row) -> Result<(), Fail> {
+    let memory = memory_with_room(rt.alloc(), row.blocks, row.room)?;
+    match row.fails {
+        Some(call) => on_a_late_disk(rt, fused(memory, call, [99; 4096])?, row),
+        None => on_a_late_disk(rt, memory, row),
+    }
+    Ok(())
+}
 
-/// That of block 2 at the sync, or the sync. Call 2 is the read of block 0, whose room block 2 took.
-const IN_THE_SYNC: &str = "
-    fill 0 1
-    fill 1 2
-    fill 2 3
-    holds 0 1 2 -> 1 2 3
-    sync -> fault
-    sync";
-
-const ALL_WRITTEN: &str = "
-    dirty 0 1 2 -> no no no
-    holds 0 1 2 -> 1 2 3";
-
-const ROWS: [Row; 17] = [
+const ROWS: [Row; 8] = [
     Row {
         name: "a read sees the blocks that wait",
-        layers: Layers::Late(2),
         blocks: 4,
         room: 4,
-        fails: Fails::Never,
-        torn: 99,
+        fails: None,
+        capacity: 2,
         steps: "
             fill 1 7
             fill 1 8
@@ -46,15 +35,13 @@ const ROWS: [Row; 17] = [
             sync
             hand 3 0 2 -> 9 5 0",
         below: "",
-        crashes: &[],
     },
     Row {
         name: "the oldest goes out where too many would wait",
-        layers: Layers::Late(2),
         blocks: 8,
         room: 8,
-        fails: Fails::Never,
-        torn: 99,
+        fails: None,
+        capacity: 2,
         steps: "
             fill 5 1
             fill 2 2
@@ -65,15 +52,13 @@ const ROWS: [Row; 17] = [
             dirty 2 5 7 -> yes no no
             holds 2 5 7 -> 2 3 4",
         below: "",
-        crashes: &[],
     },
     Row {
         name: "neighbours go out with the oldest",
-        layers: Layers::Late(4),
         blocks: 9,
         room: 9,
-        fails: Fails::Never,
-        torn: 99,
+        fails: None,
+        capacity: 4,
         steps: "
             fill 5 1
             fill 1 2
@@ -83,15 +68,13 @@ const ROWS: [Row; 17] = [
             dirty 1 3 4 5 6 7 8 -> no no yes yes yes no no
             holds 1 3 4 5 6 7 8 -> 2 0 4 1 3 0 5",
         below: "",
-        crashes: &[],
     },
     Row {
         name: "a sync writes all, and then syncs",
-        layers: Layers::Late(3),
         blocks: 4,
         room: 4,
-        fails: Fails::Never,
-        torn: 99,
+        fails: Some(NEVER),
+        capacity: 3,
         steps: "
             fill 3 1
             fill 0 2
@@ -104,15 +87,13 @@ const ROWS: [Row; 17] = [
         below: "
             dirty 0 1 2 3 -> no no no no
             holds 0 1 2 3 -> 2 0 3 1",
-        crashes: &[],
     },
     Row {
         name: "a forgotten block is never written",
-        layers: Layers::Late(2),
         blocks: 4,
         room: 4,
-        fails: Fails::Never,
-        torn: 99,
+        fails: Some(NEVER),
+        capacity: 2,
         steps: "
             fill 0 1
             fill 1 2
@@ -125,15 +106,13 @@ const ROWS: [Row; 17] = [
             is 0 1 -> no
             holds 1 2 3 -> 2 3 0",
         below: "",
-        crashes: &[],
     },
     Row {
         name: "what was written out stays while its room is not needed",
-        layers: Layers::Late(2),
         blocks: 8,
         room: 8,
-        fails: Fails::Never,
-        torn: 99,
+        fails: Some(NEVER),
+        capacity: 2,
         steps: "
             fill 3 4
             fill 2 3
@@ -162,15 +141,13 @@ const ROWS: [Row; 17] = [
         below: "
             dirty 2 3 5 -> no no no
             holds 2 3 5 -> 5 7 6",
-        crashes: &[],
     },
     Row {
         name: "a forgotten block is not kept after it was written",
-        layers: Layers::Late(2),
         blocks: 8,
         room: 8,
-        fails: Fails::Never,
-        torn: 99,
+        fails: Some(NEVER),
+        capacity: 2,
         steps: "
             fill 2 3
             sync
@@ -181,15 +158,13 @@ const ROWS: [Row; 17] = [
             is 2 3 -> no
             calls -> 3",
         below: "",
-        crashes: &[],
     },
     Row {
         name: "a late disk grows with the one below",
-        layers: Layers::Late(2),
         blocks: 2,
         room: 4,
-        fails: Fails::Never,
-        torn: 99,
+        fails: None,
+        capacity: 2,
         steps: "
             fill 1 7
             grow 4
@@ -201,15 +176,25 @@ const ROWS: [Row; 17] = [
             sync
             sure -> 4",
         below: "",
-        crashes: &[],
     },
+];
+
+#[test]
+fn late_disk_holds_and_writes_out_what_waits(rt: HostRuntime) -> Result<(), Fail> {
+    for row in &ROWS {
+        plays_row(&rt, row)?;
+    }
+    Ok(())
+}
+
+/// Those over a cache of two blocks.
+const OVER_A_CACHE: [Row; 2] = [
     Row {
         name: "a forgotten block takes no place in a cache below",
-        layers: Layers::LateOverCache(2, 2),
         blocks: 8,
         room: 8,
-        fails: Fails::Never,
-        torn: 0,
+        fails: Some(NEVER),
+        capacity: 2,
         steps: "
             holds 5 6 -> 0 0
             calls -> 2
@@ -226,15 +211,13 @@ const ROWS: [Row; 17] = [
             holds 5 -> 0
             calls -> 5",
         below: "",
-        crashes: &[],
     },
     Row {
         name: "a row goes through a cache, and stays in it",
-        layers: Layers::LateOverCache(2, 2),
         blocks: 8,
         room: 8,
-        fails: Fails::Never,
-        torn: 0,
+        fails: Some(NEVER),
+        capacity: 2,
         steps: "
             fill 2 3
             fill 3 4
@@ -248,59 +231,86 @@ const ROWS: [Row; 17] = [
         below: "
             dirty 2 3 5 7 -> no no no no
             holds 2 3 5 7 -> 3 4 0 0",
-        crashes: &[],
     },
+];
+
+#[test]
+fn late_disk_writes_out_through_a_cache(rt: HostRuntime) -> Result<(), Fail> {
+    for row in &OVER_A_CACHE {
+        let call = row.fails.unwrap_or(NEVER);
+        let memory = memory_with_room(rt.alloc(), row.blocks, row.room)?;
+        let fuse = fused(memory, call, [0; 4096])?;
+        on_a_late_disk(&rt, cached(rt.alloc(), fuse, 2)?, row);
+    }
+    Ok(())
+}
+
+const IN_A_WRITE: &str = "
+    fill 0 1
+    fill 1 2
+    fill 2 3 -> fault
+    fill 2 3
+    holds 0 1 2 -> 1 2 3
+    sync";
+
+const IN_THE_SYNC: &str = "
+    fill 0 1
+    fill 1 2
+    fill 2 3
+    holds 0 1 2 -> 1 2 3
+    sync -> fault
+    sync";
+
+const ALL_WRITTEN: &str = "
+    dirty 0 1 2 -> no no no
+    holds 0 1 2 -> 1 2 3";
+
+/// The write of block 0 or 1, which go out to make room for block 2, that of block 2 at the sync,
+//// or the sync fails once. Call 2 is the read of block 0, whose room block 2 took.
+const FAILING: [Row; 5] = [
     Row {
         name: "what waits outlives a write of block 0 that fails",
-        layers: Layers::Late(2),
         blocks: 4,
         room: 4,
-        fails: Fails::Once(0),
-        torn: 99,
+        fails: Some(0),
+        capacity: 2,
         steps: IN_A_WRITE,
         below: ALL_WRITTEN,
-        crashes: &[],
     },
     Row {
         name: "what waits outlives a write of block 1 that fails",
-        layers: Layers::Late(2),
         blocks: 4,
         room: 4,
-        fails: Fails::Once(1),
-        torn: 99,
+        fails: Some(1),
+        capacity: 2,
         steps: IN_A_WRITE,
         below: ALL_WRITTEN,
-        crashes: &[],
     },
     Row {
         name: "what waits outlives a write of block 2 that fails",
-        layers: Layers::Late(2),
         blocks: 4,
         room: 4,
-        fails: Fails::Once(3),
-        torn: 99,
+        fails: Some(3),
+        capacity: 2,
         steps: IN_THE_SYNC,
         below: ALL_WRITTEN,
-        crashes: &[],
     },
     Row {
         name: "what waits outlives a sync that fails",
-        layers: Layers::Late(2),
         blocks: 4,
         room: 4,
-        fails: Fails::Once(4),
-        torn: 99,
+        fails: Some(4),
+        capacity: 2,
         steps: IN_THE_SYNC,
         below: ALL_WRITTEN,
-        crashes: &[],
     },
     Row {
         name: "nothing is kept over a write that fails below",
-        layers: Layers::Late(2),
         blocks: 8,
         room: 8,
-        fails: Fails::Once(3),
-        torn: 99,
+        fails: Some(3),
+        capacity: 2,
+        // The second write of block 5 fails: what the disk below holds then is asked anew.
         steps: "
             fill 2 3
             fill 5 4
@@ -309,7 +319,6 @@ const ROWS: [Row; 17] = [
             holds 2 5 -> 3 4
             fill 5 6
             calls -> 3
-            # The second write of block 5: what the disk below holds then is asked anew.
             sync -> fault
             calls -> 4
             holds 5 2 -> 6 3
@@ -320,49 +329,44 @@ const ROWS: [Row; 17] = [
         below: "
             dirty 2 5 -> no no
             holds 2 5 -> 3 6",
-        crashes: &[],
-    },
-    Row {
-        name: "a fault below is answered where it is met",
-        layers: Layers::Late(2),
-        blocks: 4,
-        room: 4,
-        fails: Fails::From(0),
-        torn: 99,
-        steps: "
-            fill 0 1
-            fill 1 2
-            fill 2 3 -> fault
-            sync -> fault
-            holds 3 -> fault
-            holds 0 1 -> 1 2",
-        below: "",
-        crashes: &[],
-    },
-    Row {
-        name: "a crash below loses what waits alone",
-        layers: Layers::Late(1),
-        blocks: 4,
-        room: 4,
-        fails: Fails::Never,
-        torn: 99,
-        steps: "
-            fill 0 1
-            fill 1 2
-            sync
-            fill 0 3
-            fill 2 4",
-        below: "",
-        crashes: &[Crash {
-            // Block 0 went out, and was not synced. Block 2 still waits.
-            entries: &[(0, 9), (2, 9)],
-            blocks: None,
-            steps: "holds 0 1 2 3 -> 9 2 0 0",
-        }],
     },
 ];
 
 #[test]
-fn late_disk_writes_out_what_waits(rt: HostRuntime) -> Result<(), Fail> {
-    plays_rows(&rt, &ROWS)
+fn late_disk_loses_nothing_by_a_fault_below(rt: HostRuntime) -> Result<(), Fail> {
+    for row in &FAILING {
+        plays_row(&rt, row)?;
+    }
+    Ok(())
+}
+
+#[test]
+fn a_fault_below_is_answered_where_it_is_met(rt: HostRuntime) -> Result<(), Fail> {
+    let fuse = FuseDisk::stop(memory(rt.alloc(), 4)?, 0, [99; 4096]);
+    let row = "
+        fill 0 1
+        fill 1 2
+        fill 2 3 -> fault
+        sync -> fault
+        holds 3 -> fault
+        holds 0 1 -> 1 2";
+    plays(&rt, "stopped below", &mut late(rt.alloc(), fuse, 2)?, row);
+    Ok(())
+}
+
+#[test]
+fn a_crash_below_loses_what_waits_alone(rt: HostRuntime) -> Result<(), Fail> {
+    let mut disk = late(rt.alloc(), memory(rt.alloc(), 4)?, 1)?;
+    let row = "
+        fill 0 1
+        fill 1 2
+        sync
+        fill 0 3
+        fill 2 4";
+    plays(&rt, "before the crash", &mut disk, row);
+
+    // Block 0 went out, and was not synced. Block 2 still waits.
+    let mut left = disk.into_inner().crash(&[(0, [9; 4096]), (2, [9; 4096])]);
+    plays(&rt, "after it", &mut left, "holds 0 1 2 3 -> 9 2 0 0");
+    Ok(())
 }

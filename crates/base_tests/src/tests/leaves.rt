@@ -1,128 +1,104 @@
-//! Rows that are put in a leaf, taken out of it, and split: its bytes and its letters then.
-use super::spelled::{is_block, key, link};
+//! Leaves: their bytes, bytes that are none, and a row put in one.
+use super::spelled::{is_block, is_leaf, key};
+use std::process::Abort;
 use vm_block::{
-    Placed, Stored, Taken, find_row, lowest_key, put_row, record_key, remove_row, rows_size,
-    split_rows, stored_at, write_leaf,
+    Placed, Stored, find_row, lowest_key, node_size, put_row, read_leaf, read_node, record_key,
+    record_value, rows_size, stored_at, write_leaf,
 };
 
-/// Whether a leaf has just this at table 7 and this number.
-fn has_row(block: &[u8; 4096], number: u64, due: Option<Stored<'_>>) -> bool {
-    find_row(block, key(7, number)) == Some(due)
+#[test]
+fn leaf_is_spelled_and_read(rt: HostRuntime) {
+    let duct = Stored::Short(b"duct");
+    let mut block = [7; 4096];
+    write_leaf(&[(key(7, 1), duct)], &mut block);
+    let due = b"LEAF\0\0\0\0\x01\0\0\0\0\0\0\0\x07\0\x01\0\0\0\0\0\0\0\x04\0duct";
+    assert!(rt; is_block(&block, due));
+    assert!(rt; is_leaf(&block, &[(key(7, 1), duct)]));
+    assert!(rt; read_node(&block).is_none());
+    assert!(rt; rows_size(&block) == Some(1));
+    assert!(rt; node_size(&block).is_none());
+    assert!(rt; record_key(&block, 0) == key(7, 1));
+    assert!(rt; stored_at(&block, 0) == Some(duct));
+    assert!(rt; record_value(&block, 0) == b"duct".as_slice());
+}
+
+/// A leaf of two rows.
+fn two_rows() -> [u8; 4096] {
+    let mut block = [0; 4096];
+    let rows = [
+        (key(7, 1), Stored::Short(b"duct")),
+        (key(7, 2), Stored::Short(b"")),
+    ];
+    write_leaf(&rows, &mut block);
+    block
+}
+
+/// Whether the leaf of two rows is none once this byte is put at this place.
+fn is_refused_with(rt: &impl Abort, at: usize, byte: u8) -> bool {
+    let mut block = two_rows();
+    assert!(rt; at < 4096);
+    block[at] = byte;
+    assert!(rt; rows_size(&block).is_none() == read_leaf(&block).is_none());
+    rows_size(&block).is_none()
+}
+
+#[test]
+fn bytes_that_are_no_leaf_are_refused(rt: HostRuntime) {
+    assert!(rt; !is_refused_with(&rt, 28, b'D'), "another value");
+    for (at, byte, why) in [
+        (0, b'N', "other letters"),
+        (3, b'2', "the letters of a leaf with a long row"),
+        (4, 1, "a level"),
+        (8, 0, "no row"),
+        (8, 1, "a row behind the last"),
+        (8, 17, "too many rows"),
+        (12, 1, "a byte of the head"),
+        (26, 241, "a length"),
+        (32, 1, "a byte behind a value"),
+        (267, 1, "the last byte behind a value"),
+        (270, 1, "a key twice"),
+        (16, 8, "keys that fall"),
+        (520, 1, "a byte behind the rows"),
+        (4095, 1, "the last byte"),
+    ] {
+        assert!(rt; is_refused_with(&rt, at, byte), "{why}");
+    }
+}
+
+/// What comes of a row of table 7 with a value of four bytes, in a leaf of three at most.
+fn put(block: &mut [u8; 4096], number: u64, value: &[u8; 4]) -> Placed {
+    put_row(block, 3, key(7, number), Stored::Short(value))
+}
+
+/// Whether the leaf has this value at table 7 and this number.
+fn is_found(block: &[u8; 4096], number: u64, due: &[u8]) -> bool {
+    find_row(block, key(7, number)) == Some(Some(Stored::Short(due)))
 }
 
 #[test]
 fn row_is_put_where_it_belongs(rt: HostRuntime) {
-    let (duct, pipe) = (Stored::Short(b"duct"), Stored::Short(b"pipe"));
-    let (wall, roof) = (Stored::Short(b"wall"), Stored::Short(b"roof"));
-    let (beam, empty) = (Stored::Short(b"beam"), Stored::Short(b""));
     let mut block = [0; 4096];
-    write_leaf(&[(key(7, 5), duct)], &mut block);
-    let rows = [(key(7, 1), wall), (key(7, 5), beam), (key(7, 9), pipe)];
+    write_leaf(&[(key(7, 5), Stored::Short(b"duct"))], &mut block);
+    for (number, value, due) in [
+        (9, b"pipe", Placed::Put),
+        (1, b"wall", Placed::Put),
+        (7, b"roof", Placed::Full),
+        (5, b"beam", Placed::Put),
+    ] {
+        assert!(rt; put(&mut block, number, value) == due, "{number}");
+    }
     let mut written = [7; 4096];
+    let rows = [
+        (key(7, 1), Stored::Short(b"wall")),
+        (key(7, 5), Stored::Short(b"beam")),
+        (key(7, 9), Stored::Short(b"pipe")),
+    ];
     write_leaf(&rows, &mut written);
-    for (what, is_so) in [
-        (
-            "9, behind",
-            put_row(&mut block, 3, key(7, 9), pipe) == Placed::Put,
-        ),
-        (
-            "1, before",
-            put_row(&mut block, 3, key(7, 1), wall) == Placed::Put,
-        ),
-        (
-            "7, full",
-            put_row(&mut block, 3, key(7, 7), roof) == Placed::Full,
-        ),
-        (
-            "5, over",
-            put_row(&mut block, 3, key(7, 5), beam) == Placed::Put,
-        ),
-        ("the rows", block == written),
-        ("the lowest key", lowest_key(&block) == key(7, 1)),
-        ("a row is found", has_row(&block, 9, Some(pipe))),
-        ("none is found", has_row(&block, 8, None)),
-        (
-            "too many rows",
-            put_row(&mut block, 2, key(7, 5), empty) == Placed::NoLeaf,
-        ),
-        ("a leaf that is none is as it was", block == written),
-    ] {
-        assert!(rt; is_so, "{what}");
-    }
-}
-
-#[test]
-fn letters_follow_the_rows(rt: HostRuntime) {
-    let duct = Stored::Short(b"duct");
-    let due = b"LEAF\0\0\0\0\x01\0\0\0\0\0\0\0\x07\0\x01\0\0\0\0\0\0\0\x04\0duct";
-    let mut block = [0; 4096];
-    write_leaf(&[(key(7, 1), link())], &mut block);
-    for (what, is_so) in [
-        (
-            "over a long row",
-            put_row(&mut block, 3, key(7, 1), duct) == Placed::Put,
-        ),
-        ("the last long row was overwritten", is_block(&block, due)),
-        (
-            "a long row",
-            put_row(&mut block, 3, key(7, 2), link()) == Placed::Put,
-        ),
-        ("its letters", block.starts_with(b"LEF2")),
-        ("two rows", rows_size(&block) == Some(2)),
-        (
-            "full",
-            put_row(&mut block, 2, key(7, 3), duct) == Placed::Full,
-        ),
-        (
-            "absent",
-            remove_row(&mut block, 2, key(7, 3)) == Taken::Absent,
-        ),
-        ("out", remove_row(&mut block, 2, key(7, 2)) == Taken::Out),
-        ("the last long row was removed", is_block(&block, due)),
-        ("last", remove_row(&mut block, 2, key(7, 1)) == Taken::Last),
-        (
-            "long over short",
-            put_row(&mut block, 1, key(7, 1), link()) == Placed::Put,
-        ),
-        ("the first long row", block.starts_with(b"LEF2")),
-    ] {
-        assert!(rt; is_so, "{what}");
-    }
-    block[0] = b'N';
-    assert!(rt;
-        remove_row(&mut block, 2, key(7, 1)) == Taken::NoLeaf,
-        "other letters"
-    );
-}
-
-#[test]
-fn split_gives_each_half_its_letters(rt: HostRuntime) {
-    let (duct, pipe) = (Stored::Short(b"duct"), Stored::Short(b"pipe"));
-    let mut block = [0; 4096];
-    write_leaf(&[(key(7, 1), link())], &mut block);
-    for number in 2..=16_u64 {
-        let placed = put_row(&mut block, 16, key(7, number), duct);
-        assert!(rt; placed == Placed::Put, "{number}");
-    }
-    let mut left = [7; 4096];
-    let mut right = [7; 4096];
-    for (what, is_so) in [
-        (
-            "full",
-            put_row(&mut block, 16, key(7, 17), pipe) == Placed::Full,
-        ),
-        (
-            "split",
-            split_rows(&block, key(7, 17), pipe, &mut left, &mut right),
-        ),
-        ("the left letters", left.starts_with(b"LEF2")),
-        ("the left rows", rows_size(&left) == Some(9)),
-        ("the right letters", right.starts_with(b"LEAF")),
-        ("the right rows", rows_size(&right) == Some(8)),
-        ("the long row", stored_at(&left, 0) == Some(link())),
-        ("the first right key", record_key(&right, 0) == key(7, 10)),
-        ("the last right row", stored_at(&right, 7) == Some(pipe)),
-    ] {
-        assert!(rt; is_so, "{what}");
-    }
+    assert!(rt; block == written);
+    assert!(rt; lowest_key(&block) == key(7, 1));
+    assert!(rt; is_found(&block, 9, b"pipe"));
+    assert!(rt; find_row(&block, key(7, 8)) == Some(None));
+    let empty = Stored::Short(b"");
+    assert!(rt; put_row(&mut block, 2, key(7, 5), empty) == Placed::NoLeaf);
+    assert!(rt; block == written, "a leaf that is none is as it was");
 }

@@ -1,145 +1,172 @@
 //! Packed lists of changes and of conflicts, as they are filled and read.
-ghost use Rattle.std.specs.Prelude.{◌≤◌, length, IfSome};
-ghost use Rattle.vm_types.specs.Bytes.{longest};
-
 use super::spelled::key;
 use std::alloc::{AllocError, Global};
+use std::process::Abort;
 use std::test::Fail;
-use vm_types::{Change, Changes, Conflict, Conflicts, Value};
-
-/// The bytes of a value, or no value.
-type Side = Option<&'static [u8]>;
+use vm_types::{Change, Changes, Conflict, Conflicts, Key, Value};
 
 const LONG: [u8; 4000] = [7; 4000];
 
-const OTHER: [u8; 4000] = [8; 4000];
-
-/// Lists of changes: of each its name, and its changes by table, number, and what was before and is after.
-const CHANGES: [(&str, &[(u16, u64, Side, Side)]); 2] = [
-    ("no change", &[]),
-    (
-        // A record put in, one changed, one taken out, and one that is empty before.
-        "four changes",
-        &[
-            (1, 9, None, Some(b"duct")),
-            (1, 10, Some(&LONG), Some(b"pipe")),
-            (2, 0, Some(b"duct"), None),
-            (2, 3, Some(b""), Some(b"x")),
-        ],
-    ),
-];
-
-/// Lists of conflicts: the same, with what base, parent and alternative have.
-const CONFLICTS: [(&str, &[(u16, u64, Side, Side, Side)]); 2] = [
-    ("no conflict", &[]),
-    (
-        // A record that the alternative took out, one that both put in, and one that both changed, or one of them.
-        "three conflicts",
-        &[
-            (1, 9, Some(b"a"), Some(&LONG), None),
-            (2, 0, None, Some(b"b"), Some(b"")),
-            (2, 3, Some(&LONG), Some(&OTHER), Some(&LONG)),
-        ],
-    ),
-];
-
-/// A side that is no longer than a value may be.
-fn short(side: Side) -> Side
-    ensures { IfSome result (λ value. length value.now ≤ longest) }
-{
-    match side {
-        Some(bytes) if bytes.len() <= Value::MAX_LEN => Some(bytes),
-        _ => None,
-    }
-}
-
-fn packed_changes(alloc: Global, due: &[(u16, u64, Side, Side)]) -> Result<Changes, AllocError> {
+/// A record put in, one changed, one taken out, and one that is empty before.
+fn some_changes(alloc: Global) -> Result<Changes, AllocError> {
     let mut changes = Changes::new(alloc);
-    for (table, number, before, after) in due {
-        changes.push(key(*table, *number), short(*before), short(*after))?;
-    }
+    changes.push(key(1, 9), None, Some(b"duct"))?;
+    changes.push(key(1, 10), Some(&LONG), Some(b"pipe"))?;
+    changes.push(key(2, 0), Some(b"duct"), None)?;
+    changes.push(key(2, 3), Some(b""), Some(b"x"))?;
     Ok(changes)
 }
 
-#[test]
-fn changes_come_back_in_the_order_of_the_pushes(rt: HostRuntime) -> Result<(), Fail> {
-    for (name, due) in &CHANGES {
-        let changes = packed_changes(rt.alloc(), due)?;
-        let list = changes.to_vec(rt.alloc())?;
-        let counts = (changes.len(), list.len(), changes.is_empty());
-        assert!(rt; counts == (due.len(), due.len(), due.is_empty()), "{name}");
-        assert!(rt; changes.at(due.len()).is_none(), "{name}");
-        let mut walk = (&changes).into_iter();
-        for (i, (table, number, before, after)) in due.iter().enumerate() {
-            let key = key(*table, *number);
-            let whole = Change {
-                key,
-                before: before.and_then(Value::new),
-                after: after.and_then(Value::new),
-            };
-            let is_there = i < changes.len();
-            for (what, is_so) in [
-                ("its key", is_there && changes.key(i) == key),
-                ("before", is_there && changes.before(i) == *before),
-                ("after", is_there && changes.after(i) == *after),
-                ("whole", changes.at(i) == Some(whole)),
-                ("in a Vec", list.get(i).copied() == Some(whole)),
-                ("in a walk", walk.next() == Some((key, *before, *after))),
-            ] {
-                assert!(rt; is_so, "{name}, change {i}: {what}");
-            }
-        }
-        assert!(rt; walk.next().is_none(), "{name}: more in a walk");
-    }
-    Ok(())
-}
-
-fn packed_conflicts(
-    alloc: Global,
-    due: &[(u16, u64, Side, Side, Side)],
-) -> Result<Conflicts, AllocError> {
+/// A record that the alternative took out, one that both put in, and one that both changed, or one of them.
+fn some_conflicts(alloc: Global) -> Result<Conflicts, AllocError> {
     let mut conflicts = Conflicts::new(alloc);
-    for (table, number, base, parent, mine) in due {
-        let key = key(*table, *number);
-        conflicts.push(key, short(*base), short(*parent), short(*mine))?;
-    }
+    conflicts.push(key(1, 9), Some(b"a"), Some(&LONG), None)?;
+    conflicts.push(key(2, 0), None, Some(b"b"), Some(b""))?;
+    conflicts.push(key(2, 3), Some(&LONG), Some(&[8; 4000]), Some(&LONG))?;
     Ok(conflicts)
 }
 
-#[test]
-fn conflicts_come_back_in_the_order_of_the_pushes(rt: HostRuntime) -> Result<(), Fail> {
-    for (name, due) in &CONFLICTS {
-        let conflicts = packed_conflicts(rt.alloc(), due)?;
-        let list = conflicts.to_vec(rt.alloc())?;
-        let counts = (conflicts.len(), list.len(), conflicts.is_empty());
-        assert!(rt; counts == (due.len(), due.len(), due.is_empty()), "{name}");
-        assert!(rt; conflicts.at(due.len()).is_none(), "{name}");
-        let mut walk = (&conflicts).into_iter();
-        for (i, (table, number, base, parent, mine)) in due.iter().enumerate() {
-            let key = key(*table, *number);
-            let whole = Conflict {
-                key,
-                base: base.and_then(Value::new),
-                parent: parent.and_then(Value::new),
-                mine: mine.and_then(Value::new),
-            };
-            let is_there = i < conflicts.len();
-            for (what, is_so) in [
-                ("its key", is_there && conflicts.key(i) == key),
-                ("base", is_there && conflicts.base(i) == *base),
-                ("parent", is_there && conflicts.parent(i) == *parent),
-                ("mine", is_there && conflicts.mine(i) == *mine),
-                ("whole", conflicts.at(i) == Some(whole)),
-                ("in a Vec", list.get(i).copied() == Some(whole)),
-                (
-                    "in a walk",
-                    walk.next() == Some((key, *base, *parent, *mine)),
-                ),
-            ] {
-                assert!(rt; is_so, "{name}, conflict {i}: {what}");
-            }
-        }
-        assert!(rt; walk.next().is_none(), "{name}: more in a walk");
+/// The change of these values.
+fn change(key: Key, before: Option<&[u8]>, after: Option<&[u8]>) -> Change {
+    Change {
+        key,
+        before: before.and_then(Value::new),
+        after: after.and_then(Value::new),
     }
+}
+
+/// What the list of changes is to have.
+fn due_changes() -> [Change; 4] {
+    [
+        change(key(1, 9), None, Some(b"duct")),
+        change(key(1, 10), Some(&LONG), Some(b"pipe")),
+        change(key(2, 0), Some(b"duct"), None),
+        change(key(2, 3), Some(b""), Some(b"x")),
+    ]
+}
+
+/// The conflict of these values.
+fn conflict(key: Key, base: Option<&[u8]>, parent: Option<&[u8]>, mine: Option<&[u8]>) -> Conflict {
+    Conflict {
+        key,
+        base: base.and_then(Value::new),
+        parent: parent.and_then(Value::new),
+        mine: mine.and_then(Value::new),
+    }
+}
+
+/// What the list of conflicts is to have.
+fn due_conflicts() -> [Conflict; 3] {
+    [
+        conflict(key(1, 9), Some(b"a"), Some(&LONG), None),
+        conflict(key(2, 0), None, Some(b"b"), Some(b"")),
+        conflict(key(2, 3), Some(&LONG), Some(&[8; 4000]), Some(&LONG)),
+    ]
+}
+
+fn expect_no_changes(rt: &impl Abort, changes: &Changes) {
+    assert!(rt; changes.is_empty());
+    assert_eq!(rt; changes.len(), 0);
+    assert!(rt; changes.at(0).is_none());
+}
+
+fn expect_no_conflicts(rt: &impl Abort, conflicts: &Conflicts) {
+    assert!(rt; conflicts.is_empty());
+    assert_eq!(rt; conflicts.len(), 0);
+    assert!(rt; conflicts.at(0).is_none());
+}
+
+#[test]
+fn new_lists_are_empty(rt: HostRuntime) -> Result<(), Fail> {
+    expect_no_changes(&rt, &Changes::new(rt.alloc()));
+    expect_no_conflicts(&rt, &Conflicts::new(rt.alloc()));
+    assert!(rt; Conflicts::new(rt.alloc()).to_vec(rt.alloc())?.is_empty());
+    Ok(())
+}
+
+/// The change at i is this one, by its parts and whole.
+fn expect_change(rt: &impl Abort, changes: &Changes, i: usize, due: Change) {
+    assert!(rt; i < changes.len(), "no change {i}");
+    let given = change(changes.key(i), changes.before(i), changes.after(i));
+    assert!(rt; given == due, "change {i}");
+    assert!(rt; changes.at(i) == Some(due), "change {i}, whole");
+}
+
+#[test]
+fn changes_are_given_in_the_order_of_the_pushes(rt: HostRuntime) -> Result<(), Fail> {
+    let changes = some_changes(rt.alloc())?;
+    for (i, due) in due_changes().iter().enumerate() {
+        expect_change(&rt, &changes, i, *due);
+    }
+    assert_eq!(rt; changes.len(), 4);
+    assert!(rt; changes.at(4).is_none());
+    Ok(())
+}
+
+/// How many changes are walked until one is another than is due.
+fn walked_changes(changes: &Changes, due: &[Change]) -> usize {
+    let mut walked = 0;
+    for (key, before, after) in changes {
+        if due.get(walked).copied() != Some(change(key, before, after)) {
+            return walked;
+        }
+        walked += 1;
+    }
+    walked
+}
+
+#[test]
+fn changes_are_walked_in_order(rt: HostRuntime) -> Result<(), Fail> {
+    let changes = some_changes(rt.alloc())?;
+    assert_eq!(rt; walked_changes(&changes, &due_changes()), 4);
+    assert_eq!(rt; changes.len(), 4);
+    Ok(())
+}
+
+#[test]
+fn changes_are_the_same_in_a_vec(rt: HostRuntime) -> Result<(), Fail> {
+    let list = some_changes(rt.alloc())?.to_vec(rt.alloc())?;
+    assert!(rt; list.as_slice() == due_changes().as_slice());
+    Ok(())
+}
+
+/// The conflict at i is this one, by its parts and whole.
+fn expect_conflict(rt: &impl Abort, conflicts: &Conflicts, i: usize, due: Conflict) {
+    assert!(rt; i < conflicts.len(), "no conflict {i}");
+    let (base, parent) = (conflicts.base(i), conflicts.parent(i));
+    let given = conflict(conflicts.key(i), base, parent, conflicts.mine(i));
+    assert!(rt; given == due, "conflict {i}");
+    assert!(rt; conflicts.at(i) == Some(due), "conflict {i}, whole");
+}
+
+#[test]
+fn conflicts_are_given_in_the_order_of_the_pushes(rt: HostRuntime) -> Result<(), Fail> {
+    let conflicts = some_conflicts(rt.alloc())?;
+    for (i, due) in due_conflicts().iter().enumerate() {
+        expect_conflict(&rt, &conflicts, i, *due);
+    }
+    assert_eq!(rt; conflicts.len(), 3);
+    assert!(rt; conflicts.at(3).is_none());
+    Ok(())
+}
+
+/// How many conflicts are walked until one is another than is due.
+fn walked_conflicts(conflicts: &Conflicts, due: &[Conflict]) -> usize {
+    let mut walked = 0;
+    for (key, base, parent, mine) in conflicts {
+        if due.get(walked).copied() != Some(conflict(key, base, parent, mine)) {
+            return walked;
+        }
+        walked += 1;
+    }
+    walked
+}
+
+#[test]
+fn conflicts_are_walked_in_order_and_the_same_in_a_vec(rt: HostRuntime) -> Result<(), Fail> {
+    let conflicts = some_conflicts(rt.alloc())?;
+    assert_eq!(rt; walked_conflicts(&conflicts, &due_conflicts()), 3);
+    assert_eq!(rt; conflicts.len(), 3);
+    assert!(rt; conflicts.to_vec(rt.alloc())?.as_slice() == due_conflicts().as_slice());
     Ok(())
 }

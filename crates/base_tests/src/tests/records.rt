@@ -1,59 +1,100 @@
 //! Packed lists of records, as they are filled and read.
 use super::spelled::key;
-use std::alloc::Global;
+use std::alloc::{AllocError, Global};
+use std::process::Abort;
 use std::test::Fail;
-use vm_types::{Records, Value};
+use vm_types::{Key, Records, Value};
 
-const LONG: [u8; 4000] = [7; 4000];
-
-/// Lists: of each its name, and its records by table, number and bytes.
-const LISTS: [(&str, &[(u16, u64, &[u8])]); 3] = [
-    ("no record", &[]),
-    ("an empty value alone", &[(0, 0, b"")]),
-    (
-        // Values of 0, 4,000 and 4 bytes, with an empty one behind them.
-        "four records",
-        &[(1, 9, b""), (1, 10, &LONG), (2, 0, b"duct"), (2, 3, b"")],
-    ),
-];
-
-fn packed(alloc: Global, due: &[(u16, u64, &[u8])]) -> Result<Records, Fail> {
+/// Values of 0, 4,000 and 4 bytes, with an empty one behind them.
+fn some_records(alloc: Global) -> Result<Records, AllocError> {
     let mut records = Records::new(alloc);
-    for (table, number, bytes) in due {
-        if bytes.len() > Value::MAX_LEN {
-            return Err(Fail::new("a value that is too long"));
-        }
-        records.push(key(*table, *number), bytes)?;
-    }
+    records.push(key(1, 9), b"")?;
+    records.push(key(1, 10), &[7; 4000])?;
+    records.push(key(2, 0), b"duct")?;
+    records.push(key(2, 3), b"")?;
     Ok(records)
 }
 
+/// The record of these bytes.
+fn record(key: Key, bytes: &[u8]) -> (Key, Value) {
+    (key, Value::new(bytes).unwrap_or_default())
+}
+
+/// What the list is to have.
+fn due_records() -> [(Key, Value); 4] {
+    [
+        record(key(1, 9), b""),
+        record(key(1, 10), &[7; 4000]),
+        record(key(2, 0), b"duct"),
+        record(key(2, 3), b""),
+    ]
+}
+
+fn expect_no_records(rt: &impl Abort, records: &Records) {
+    assert!(rt; records.is_empty());
+    assert_eq!(rt; records.len(), 0);
+    assert!(rt; records.at(0).is_none());
+}
+
 #[test]
-fn records_come_back_in_the_order_of_the_pushes(rt: HostRuntime) -> Result<(), Fail> {
-    for (name, due) in &LISTS {
-        let records = packed(rt.alloc(), due)?;
-        let list = records.to_vec(rt.alloc())?;
-        let is_none = records.is_empty();
-        let counts = (records.len(), list.len(), is_none, records.at(due.len()));
-        assert!(rt;
-            counts == (due.len(), due.len(), due.is_empty(), None),
-            "{name}"
-        );
-        let mut walk = (&records).into_iter();
-        for (i, (table, number, bytes)) in due.iter().enumerate() {
-            let key = key(*table, *number);
-            let whole = (key, Value::new(bytes).ok_or("a value that is too long")?);
-            for (what, is_so) in [
-                ("its key", i < records.len() && records.key(i) == key),
-                ("its value", i < records.len() && records.value(i) == *bytes),
-                ("whole", records.at(i) == Some(whole)),
-                ("in a Vec", list.get(i).copied() == Some(whole)),
-                ("in a walk", walk.next() == Some((key, *bytes))),
-            ] {
-                assert!(rt; is_so, "{name}, record {i}: {what}");
-            }
-        }
-        assert!(rt; walk.next().is_none(), "{name}: more in a walk");
+fn new_list_is_empty(rt: HostRuntime) -> Result<(), Fail> {
+    expect_no_records(&rt, &Records::new(rt.alloc()));
+    assert!(rt; Records::new(rt.alloc()).to_vec(rt.alloc())?.is_empty());
+    Ok(())
+}
+
+/// The record at i is this one, by its parts and whole.
+fn expect_record(rt: &impl Abort, records: &Records, i: usize, due: (Key, Value)) {
+    assert!(rt; i < records.len(), "no record {i}");
+    assert_eq!(rt; records.key(i), due.0, "record {i}");
+    assert!(rt; records.value(i) == due.1.as_bytes(), "record {i}");
+    assert!(rt; records.at(i) == Some(due), "record {i}, whole");
+}
+
+#[test]
+fn list_of_an_empty_value_is_not_empty(rt: HostRuntime) -> Result<(), Fail> {
+    let mut records = Records::new(rt.alloc());
+    records.push(key(0, 0), b"")?;
+    assert!(rt; !records.is_empty());
+    assert_eq!(rt; records.len(), 1);
+    expect_record(&rt, &records, 0, record(key(0, 0), b""));
+    Ok(())
+}
+
+#[test]
+fn records_are_given_in_the_order_of_the_pushes(rt: HostRuntime) -> Result<(), Fail> {
+    let records = some_records(rt.alloc())?;
+    for (i, due) in due_records().iter().enumerate() {
+        expect_record(&rt, &records, i, *due);
     }
+    assert_eq!(rt; records.len(), 4);
+    assert!(rt; records.at(4).is_none());
+    Ok(())
+}
+
+/// How many records are walked until one is another than is due.
+fn walked(records: &Records, due: &[(Key, Value)]) -> usize {
+    let mut walked = 0;
+    for (key, value) in records {
+        if due.get(walked).copied() != Some(record(key, value)) {
+            return walked;
+        }
+        walked += 1;
+    }
+    walked
+}
+
+#[test]
+fn list_is_walked_in_order(rt: HostRuntime) -> Result<(), Fail> {
+    let records = some_records(rt.alloc())?;
+    assert_eq!(rt; walked(&records, &due_records()), 4);
+    assert_eq!(rt; records.len(), 4);
+    Ok(())
+}
+
+#[test]
+fn list_is_the_same_in_a_vec(rt: HostRuntime) -> Result<(), Fail> {
+    let list = some_records(rt.alloc())?.to_vec(rt.alloc())?;
+    assert!(rt; list.as_slice() == due_records().as_slice());
     Ok(())
 }

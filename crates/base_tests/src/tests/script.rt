@@ -19,15 +19,11 @@
 //! | `dirty 1 2` | `no yes`: which blocks of that disk are not synced |
 //! | `calls` | `5`: how many calls the fuse over it has had |
 //! | `blown` | `no`: whether the fuse has failed one of them |
-ghost use Rattle.std.specs.Prelude.{◌<◌, IfOk};
-
-use super::seen::{Fails, Fuse, Seen, cached, fused, late, mended};
+use super::seen::{OverMemory, Seen, cached, late};
 use std::alloc::{AllocError, Global};
 use std::fmt;
-use std::num::ParseIntError;
 use std::process::Abort;
-use std::test::Fail;
-use vm_disk::{DeviceFault, Disk, MemDisk, Need};
+use vm_disk::{DeviceFault, Disk, Need};
 
 /// Why a step has no answer of its own.
 #[derive(Clone, Copy, Debug, PartialEq, Eq)]
@@ -52,32 +48,31 @@ impl From<fmt::Error> for Wrong {
     }
 }
 
-impl From<ParseIntError> for Wrong {
-    fn from(_: ParseIntError) -> Wrong {
-        Wrong::Unreadable
-    }
-}
-
 impl From<DeviceFault> for Wrong {
     fn from(_: DeviceFault) -> Wrong {
         Wrong::Device
     }
 }
 
-/// The number of a block that the disk has.
-fn block_of<D: Disk>(disk: &D, word: &str) -> Result<u32, Wrong>
-    ensures { IfOk result (λ n. n < (D.state disk.now).blocks) }
-{
-    let n = word.parse::<u32>()?;
-    if n >= disk.blocks() {
-        return Err(Wrong::Unreadable);
-    }
-    Ok(n)
+fn number(word: &str) -> Result<u32, Wrong> {
+    word.parse::<u32>().map_err(|_| Wrong::Unreadable)
+}
+
+fn byte(word: &str) -> Result<u8, Wrong> {
+    word.parse::<u8>().map_err(|_| Wrong::Unreadable)
 }
 
 /// The bytes of a block that this one fills.
-fn filled(word: &str) -> Result<[u8; 4096], Wrong> {
-    Ok([word.parse::<u8>()?; 4096])
+fn block(word: &str) -> Result<[u8; 4096], Wrong> {
+    Ok([byte(word)?; 4096])
+}
+
+fn fill<D: Disk>(disk: &mut D, n: u32, bytes: &[u8; 4096]) -> Result<(), Wrong> {
+    if n >= disk.blocks() {
+        return Err(Wrong::Unreadable);
+    }
+    disk.write(n, bytes)?;
+    Ok(())
 }
 
 /// Fills three blocks in a row, from block n on, in one call.
@@ -86,6 +81,14 @@ fn fill_run<D: Disk>(disk: &mut D, n: u32, bytes: &[[u8; 4096]; 3]) -> Result<()
         return Err(Wrong::Unreadable);
     }
     disk.write_run(n, bytes)?;
+    Ok(())
+}
+
+fn forget<D: Disk>(disk: &mut D, n: u32) -> Result<(), Wrong> {
+    if n >= disk.blocks() {
+        return Err(Wrong::Unreadable);
+    }
+    disk.forget(n);
     Ok(())
 }
 
@@ -100,48 +103,56 @@ fn grow<D: Disk>(disk: &mut D, blocks: u32) -> Result<(), Wrong> {
 /// Carries out a step that changes the disk. Whether these words are one.
 fn change<D: Disk>(disk: &mut D, words: &[&str]) -> Result<bool, Wrong> {
     match words {
-        ["fill", n, byte] => {
-            let n = block_of(disk, n)?;
-            disk.write(n, &filled(byte)?)?;
-        }
+        ["fill", n, byte] => fill(disk, number(n)?, &block(byte)?)?,
         ["run", n, first, second, third] => {
-            let bytes = [filled(first)?, filled(second)?, filled(third)?];
-            fill_run(disk, n.parse::<u32>()?, &bytes)?;
+            let bytes = [block(first)?, block(second)?, block(third)?];
+            fill_run(disk, number(n)?, &bytes)?;
         }
-        ["forget", n] => {
-            let n = block_of(disk, n)?;
-            disk.forget(n);
-        }
-        ["grow", blocks] => grow(disk, blocks.parse::<u32>()?)?,
+        ["forget", n] => forget(disk, number(n)?)?,
+        ["grow", blocks] => grow(disk, number(blocks)?)?,
         ["sync"] => disk.sync()?,
         _ => return Ok(false),
     }
     Ok(true)
 }
 
-/// The byte that fills a block, as it is read or as it is at hand, if it is one byte.
-fn filling<D: Disk>(disk: &mut D, n: &str, at_hand: Option<Need>) -> Result<Option<u8>, Wrong> {
-    let n = block_of(disk, n)?;
-    let mut bytes = [0; 4096];
-    match at_hand {
-        Some(need) => {
-            disk.load(n, need)?;
-            bytes = *disk.at_hand();
-        }
-        None => disk.read(n, &mut bytes)?,
-    }
+/// The byte that fills these, if it is one byte.
+fn byte_in(bytes: &[u8; 4096]) -> Option<u8> {
     let first = bytes[0];
-    Ok((bytes == [first; 4096]).then_some(first))
+    bytes.iter().all(|byte| *byte == first).then_some(first)
 }
 
-fn add_fillings<D: Disk>(
+/// The byte that fills a block, as it is read.
+fn filling<D: Disk>(disk: &mut D, n: u32) -> Result<Option<u8>, Wrong> {
+    let mut bytes = [0; 4096];
+    if n >= disk.blocks() {
+        return Err(Wrong::Unreadable);
+    }
+    disk.read(n, &mut bytes)?;
+    Ok(byte_in(&bytes))
+}
+
+/// The same, as it is at hand.
+fn filling_at_hand<D: Disk>(disk: &mut D, n: u32, need: Need) -> Result<Option<u8>, Wrong> {
+    if n >= disk.blocks() {
+        return Err(Wrong::Unreadable);
+    }
+    disk.load(n, need)?;
+    Ok(byte_in(disk.at_hand()))
+}
+
+fn fillings<D: Disk>(
     disk: &mut D,
     blocks: &[&str],
     at_hand: Option<Need>,
     text: &mut String,
 ) -> Result<(), Wrong> {
     for n in blocks {
-        match filling(disk, n, at_hand)? {
+        let found = match at_hand {
+            Some(need) => filling_at_hand(disk, number(n)?, need)?,
+            None => filling(disk, number(n)?)?,
+        };
+        match found {
             Some(byte) => write!(text, " {byte}")?,
             None => write!(text, " mixed")?,
         }
@@ -153,52 +164,66 @@ fn yes_or_no(is_so: bool) -> &'static str {
     if is_so { "yes" } else { "no" }
 }
 
-/// Adds what is known of the disk in memory below to a text.
-fn look_below(fuse: &Fuse, words: &[&str], text: &mut String) -> Result<(), Wrong> {
-    match words {
-        ["dirty", blocks @ ..] => {
-            for n in blocks {
-                let is_dirty = fuse.inner().is_dirty(n.parse::<u32>()?);
-                write!(text, " {}", yes_or_no(is_dirty))?;
-            }
-        }
-        ["blown"] => text.push_str(yes_or_no(fuse.blown()))?,
-        ["sure"] => write!(text, "{}", fuse.inner().sure())?,
-        ["calls"] => write!(text, "{}", fuse.calls())?,
-        _ => return Err(Wrong::Unreadable),
+fn dirty<D: Seen>(disk: &D, blocks: &[&str], text: &mut String) -> Result<(), Wrong> {
+    let memory = disk.memory().ok_or(Wrong::Unreadable)?;
+    for n in blocks {
+        write!(text, " {}", yes_or_no(memory.is_dirty(number(n)?)))?;
     }
     Ok(())
+}
+
+/// A number that the disk, or one below it, has.
+fn count<D: Seen>(disk: &D, of: &str) -> Option<u32> {
+    match of {
+        "blocks" => Some(disk.blocks()),
+        "sure" => Some(disk.memory()?.sure()),
+        "calls" => Some(disk.fuse()?.0),
+        _ => None,
+    }
 }
 
 /// Adds what the disk holds to a text.
 fn look<D: Seen>(disk: &mut D, words: &[&str], text: &mut String) -> Result<(), Wrong> {
     match words {
-        ["holds", blocks @ ..] => add_fillings(disk, blocks, None, text),
-        ["hand", blocks @ ..] => add_fillings(disk, blocks, Some(Need::Again), text),
-        ["once", blocks @ ..] => add_fillings(disk, blocks, Some(Need::Once), text),
+        ["holds", blocks @ ..] => fillings(disk, blocks, None, text),
+        ["hand", blocks @ ..] => fillings(disk, blocks, Some(Need::Again), text),
+        ["once", blocks @ ..] => fillings(disk, blocks, Some(Need::Once), text),
+        ["dirty", blocks @ ..] => dirty(disk, blocks, text),
         ["is", n, due] => {
-            let found = filling(disk, n, None)?;
-            text.push_str(yes_or_no(found == Some(due.parse::<u8>()?)))?;
+            let found = filling(disk, number(n)?)?;
+            text.push_str(yes_or_no(found == Some(byte(due)?)))?;
             Ok(())
         }
-        ["blocks"] => {
-            write!(text, "{}", disk.blocks())?;
+        ["blown"] => {
+            let (_, blown) = disk.fuse().ok_or(Wrong::Unreadable)?;
+            text.push_str(yes_or_no(blown))?;
             Ok(())
         }
-        _ => look_below(disk.fuse().ok_or(Wrong::Unreadable)?, words, text),
+        [of] => {
+            let count = count(disk, of).ok_or(Wrong::Unreadable)?;
+            write!(text, "{count}")?;
+            Ok(())
+        }
+        _ => Err(Wrong::Unreadable),
     }
 }
 
-/// Plays a step. Its answer.
-fn answer<D: Seen>(alloc: Global, disk: &mut D, step: &str) -> Result<String, Wrong> {
-    let words: Vec<&str> = step.split_whitespace().collect(alloc)?;
-    let mut text = String::new(alloc);
-    if change(disk, &words)? {
+/// Adds what a step is answered to a text.
+fn answer<D: Seen>(disk: &mut D, words: &[&str], text: &mut String) -> Result<(), Wrong> {
+    if change(disk, words)? {
         text.push_str("ok")?;
-    } else {
-        look(disk, &words, &mut text)?;
+        return Ok(());
     }
-    Ok(text)
+    look(disk, words, text)
+}
+
+/// Plays a step. Its answer comes into the text.
+fn play<D: Seen>(alloc: Global, disk: &mut D, step: &str, text: &mut String) -> Result<(), Wrong> {
+    let words: Vec<&str> = step.split_whitespace().collect(alloc)?;
+    match answer(disk, &words, text) {
+        Err(Wrong::Device) => Ok(text.push_str("fault")?),
+        other => other,
+    }
 }
 
 /// Plays the lines of a text, and compares each answer. A failure has the name of the row.
@@ -209,101 +234,49 @@ pub(super) fn plays<D: Seen, R: AllocGlobal + Abort>(rt: &R, name: &str, disk: &
             continue;
         }
         let (step, due) = line.split_once(" -> ").unwrap_or((line, "ok"));
-        let answered = answer(rt.alloc(), disk, step);
-        let given = match &answered {
-            Ok(text) => text.trim(),
-            Err(Wrong::Device) => "fault",
-            Err(Wrong::Memory) => "no memory",
-            Err(Wrong::Unreadable) => "unreadable",
-        };
-        assert_eq!(rt; given, due.trim(), "{name}, line {n}: {line}");
+        let mut text = String::new(rt.alloc());
+        match play(rt.alloc(), disk, step, &mut text) {
+            Ok(()) => assert_eq!(rt; text.trim(), due.trim(), "{name}, line {n}: {line}"),
+            Err(wrong) => panic!(rt; "{name}, line {n}: {line}: {wrong:?}"),
+        }
     }
 }
 
-/// What lies over the disk in memory: so many blocks are kept, or may wait.
-#[derive(Clone, Copy)]
-pub(super) enum Layers {
-    Nothing,
-    Cache(usize),
-    Late(usize),
-    LateOverCache(usize, usize),
-}
+/// More calls than any row makes.
+pub(super) const NEVER: u32 = 99;
 
-/// A crash of the disk in memory, and what is played on what it leaves.
-pub(super) struct Crash {
-    /// Blocks, and the byte that fills each where it is dirty.
-    pub(super) entries: &'static [(u32, u8)],
-    /// How many blocks it leaves, where not all.
-    pub(super) blocks: Option<u32>,
-    pub(super) steps: &'static str,
-}
-
-/// What is played on a disk, then on the disk in memory below, and then on what crashes leave of that.
+/// What is played on a cache of a disk or on a late disk, and then on the disk in memory below.
 pub(super) struct Row {
     pub(super) name: &'static str,
-    pub(super) layers: Layers,
     /// How many blocks the disk in memory has, and has room for.
     pub(super) blocks: u32,
     pub(super) room: u32,
-    /// Which of its calls fail, and the byte that fills a block whose write fails.
-    pub(super) fails: Fails,
-    pub(super) torn: u8,
+    /// Which of its calls fails, by its number from 0 on, where they are counted.
+    pub(super) fails: Option<u32>,
+    /// How many blocks the cache keeps, or may wait.
+    pub(super) capacity: usize,
     pub(super) steps: &'static str,
     pub(super) below: &'static str,
-    pub(super) crashes: &'static [Crash],
 }
 
-/// Plays the first steps of a row. The disk in memory that is below then.
-fn played<R: AllocGlobal + Abort>(rt: &R, row: &Row, mut fuse: Fuse) -> Result<MemDisk, Fail> {
-    let (alloc, name) = (rt.alloc(), row.name);
-    match row.layers {
-        Layers::Nothing => {
-            plays(rt, name, &mut fuse, row.steps);
-            Ok(fuse.into_inner())
+/// Plays a row on a cache of a disk.
+pub(super) fn on_a_cache<D: OverMemory, R: AllocGlobal + Abort>(rt: &R, inner: D, row: &Row) {
+    match cached(rt.alloc(), inner, row.capacity) {
+        Ok(mut disk) => {
+            plays(rt, row.name, &mut disk, row.steps);
+            plays(rt, row.name, &mut disk.into_inner().below(), row.below);
         }
-        Layers::Cache(kept) => {
-            let mut disk = cached(alloc, fuse, kept)?;
-            plays(rt, name, &mut disk, row.steps);
-            Ok(disk.into_inner().into_inner())
-        }
-        Layers::Late(waiting) => {
-            let mut disk = late(alloc, fuse, waiting)?;
-            plays(rt, name, &mut disk, row.steps);
-            Ok(disk.into_inner().into_inner())
-        }
-        Layers::LateOverCache(waiting, kept) => {
-            let mut disk = late(alloc, cached(alloc, fuse, kept)?, waiting)?;
-            plays(rt, name, &mut disk, row.steps);
-            Ok(disk.into_inner().into_inner().into_inner())
-        }
+        Err(_) => panic!(rt; "{}: no cache", row.name),
     }
 }
 
-/// What a crash leaves.
-fn crashed(alloc: Global, memory: MemDisk, crash: &Crash) -> Result<MemDisk, Fail> {
-    let mut entries = Vec::new(alloc);
-    for (n, byte) in crash.entries {
-        entries.push((*n, [*byte; 4096]))?;
-    }
-    match crash.blocks {
-        None => Ok(memory.crash(&entries)),
-        Some(blocks) if memory.sure() <= blocks && blocks <= memory.blocks() => {
-            Ok(memory.crash_short(&entries, blocks))
+/// The same on a late disk over it.
+pub(super) fn on_a_late_disk<D: OverMemory, R: AllocGlobal + Abort>(rt: &R, inner: D, row: &Row) {
+    match late(rt.alloc(), inner, row.capacity) {
+        Ok(mut disk) => {
+            plays(rt, row.name, &mut disk, row.steps);
+            plays(rt, row.name, &mut disk.into_inner().below(), row.below);
         }
-        Some(_) => Err(Fail::new("no crash leaves so many blocks")),
+        Err(_) => panic!(rt; "{}: no late disk", row.name),
     }
-}
-
-/// Plays each row on a disk of its own.
-pub(super) fn plays_rows<R: AllocGlobal + Abort>(rt: &R, rows: &[Row]) -> Result<(), Fail> {
-    for row in rows {
-        let fuse = fused(rt.alloc(), row.blocks, row.room, row.fails, row.torn)?;
-        let mut below = mended(played(rt, row, fuse)?);
-        plays(rt, row.name, &mut below, row.below);
-        for crash in row.crashes {
-            below = mended(crashed(rt.alloc(), below.into_inner(), crash)?);
-            plays(rt, row.name, &mut below, crash.steps);
-        }
-    }
-    Ok(())
 }

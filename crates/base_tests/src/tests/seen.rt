@@ -3,73 +3,112 @@ use std::alloc::Global;
 use std::test::Fail;
 use vm_disk::{CachedDisk, DelayedDisk, Disk, FileDisk, FuseDisk, MemDisk, Positional};
 
-/// A disk in memory that counts its calls, and may fail some.
-pub(super) type Fuse = FuseDisk<MemDisk>;
-
-/// A disk, and the one in memory that may stand below it to be looked at.
+/// A disk, and what may stand below it to be looked at.
 pub(super) trait Seen: Disk {
-    fn fuse(&self) -> Option<&Fuse>;
+    /// The disk in memory below it.
+    fn memory(&self) -> Option<&MemDisk>;
+
+    /// How many calls the fuse below it has had, and whether it has failed one.
+    fn fuse(&self) -> Option<(u32, bool)>;
 }
 
-impl Seen for Fuse {
-    fn fuse(&self) -> Option<&Fuse> {
+impl Seen for MemDisk {
+    fn memory(&self) -> Option<&MemDisk> {
         Some(self)
+    }
+
+    fn fuse(&self) -> Option<(u32, bool)> {
+        None
+    }
+}
+
+impl Seen for FuseDisk<MemDisk> {
+    fn memory(&self) -> Option<&MemDisk> {
+        Some(self.inner())
+    }
+
+    fn fuse(&self) -> Option<(u32, bool)> {
+        Some((self.calls(), self.blown()))
     }
 }
 
 impl<D: Seen> Seen for CachedDisk<D> {
-    fn fuse(&self) -> Option<&Fuse> {
+    fn memory(&self) -> Option<&MemDisk> {
+        self.inner().memory()
+    }
+
+    fn fuse(&self) -> Option<(u32, bool)> {
         self.inner().fuse()
     }
 }
 
 impl<D: Seen> Seen for DelayedDisk<D> {
-    fn fuse(&self) -> Option<&Fuse> {
+    fn memory(&self) -> Option<&MemDisk> {
+        self.inner().memory()
+    }
+
+    fn fuse(&self) -> Option<(u32, bool)> {
         self.inner().fuse()
     }
 }
 
 impl<F: Positional> Seen for FileDisk<F> {
-    fn fuse(&self) -> Option<&Fuse> {
+    fn memory(&self) -> Option<&MemDisk> {
+        None
+    }
+
+    fn fuse(&self) -> Option<(u32, bool)> {
         None
     }
 }
 
-/// Which calls of a disk in memory fail, by their numbers from 0 on.
-#[derive(Clone, Copy)]
-pub(super) enum Fails {
-    Never,
-    Once(u32),
-    From(u32),
+/// A disk that has one in memory below it, to be played on alone.
+pub(super) trait OverMemory: Seen + Drop + Sized {
+    /// The disk in memory.
+    fn below(self) -> MemDisk;
 }
 
-/// A disk in memory of so many blocks, with room for so many, that fails so. A write that fails leaves
-/// blocks of this byte.
-pub(super) fn fused(
-    alloc: Global,
-    blocks: u32,
-    room: u32,
-    fails: Fails,
-    torn: u8,
-) -> Result<Fuse, Fail> {
+impl OverMemory for MemDisk {
+    fn below(self) -> MemDisk {
+        self
+    }
+}
+
+impl OverMemory for FuseDisk<MemDisk> {
+    fn below(self) -> MemDisk {
+        self.into_inner()
+    }
+}
+
+impl OverMemory for CachedDisk<FuseDisk<MemDisk>> {
+    fn below(self) -> MemDisk {
+        self.into_inner().into_inner()
+    }
+}
+
+/// A disk in memory of so many blocks.
+pub(super) fn memory(alloc: Global, blocks: u32) -> Result<MemDisk, Fail> {
+    Ok(MemDisk::new(alloc, blocks)?)
+}
+
+/// The same with room for more.
+pub(super) fn memory_with_room(alloc: Global, blocks: u32, room: u32) -> Result<MemDisk, Fail> {
     if blocks > room {
         return Err(Fail::new("too little room"));
     }
-    let memory = MemDisk::with_room(alloc, blocks, room)?;
-    match fails {
-        Fails::Never => Ok(FuseDisk::once(memory, NEVER, [torn; 4096])),
-        Fails::Once(call) if call < NEVER => Ok(FuseDisk::once(memory, call, [torn; 4096])),
-        Fails::From(call) if call < NEVER => Ok(FuseDisk::stop(memory, call, [torn; 4096])),
-        _ => Err(Fail::new("too many calls")),
-    }
+    Ok(MemDisk::with_room(alloc, blocks, room)?)
 }
 
-/// More calls than any row makes.
-const NEVER: u32 = 99;
-
-/// The same disk, of which no further call fails.
-pub(super) fn mended(memory: MemDisk) -> Fuse {
-    FuseDisk::once(memory, NEVER, [0; 4096])
+/// A disk in memory that counts its calls, and fails one of them, by its number from 0 on.
+pub(super) fn fused(
+    memory: MemDisk,
+    call: u32,
+    torn: [u8; 4096],
+) -> Result<FuseDisk<MemDisk>, Fail> {
+    if call == u32::MAX {
+        return Err(Fail::new("too many calls"));
+    }
+    Ok(FuseDisk::once(memory, call, torn))
 }
 
 /// A cache of so many blocks of a disk.

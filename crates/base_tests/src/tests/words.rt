@@ -3,66 +3,70 @@ use super::spelled::key;
 use std::test::Fail;
 use vm_types::{Key, Name, Refusal, Settled, Side, Value};
 
-/// Whether these bytes are a value, and come back.
-fn is_value(bytes: &[u8]) -> bool {
-    match Value::new(bytes) {
-        Some(value) => value.as_bytes() == bytes,
-        None => false,
-    }
+#[test]
+fn keys_go_by_table_then_number(rt: HostRuntime) {
+    assert!(rt; Key::default() < key(1, 9));
+    assert!(rt; key(1, 9) < key(2, 1));
+    assert!(rt; key(2, 1) < key(2, 3));
+    assert_eq!(rt; key(2, 1).place(), (2 << 64) + 1);
 }
 
 #[test]
-fn keys_and_values_are_made_and_compared(rt: HostRuntime) -> Result<(), Fail> {
+fn key_is_written_with_a_colon(rt: HostRuntime) -> Result<(), Fail> {
+    let text = format!(in rt.alloc(); "{}", key(7, 1))?;
+    assert_eq!(rt; text.as_str(), "7:1");
+    Ok(())
+}
+
+#[test]
+fn value_holds_up_to_4000_bytes(rt: HostRuntime) {
     let bytes = [7; 4001];
-    let duct = Value::new(b"duct").ok_or("refused")?;
-    for (what, is_so) in [
-        ("the least key", Key::default() < key(1, 9)),
-        ("keys go by table", key(1, 9) < key(2, 1)),
-        ("keys of a table go by number", key(2, 1) < key(2, 3)),
-        ("the place of a key", key(2, 1).place() == (2 << 64) + 1),
-        ("a value of 240 bytes", is_value(&bytes[..240])),
-        ("a value of 241 bytes", is_value(&bytes[..241])),
-        ("a value of 4,000 bytes", is_value(&bytes[..4000])),
-        ("4,001 bytes are no value", Value::new(&bytes).is_none()),
-        ("the empty value", Value::new(b"") == Some(Value::default())),
-        (
-            "zeros behind a value",
-            &duct.padded()[..5] == b"duct\0".as_slice(),
-        ),
-        ("the last zero behind it", duct.padded()[3999] == 0),
-        ("another value", Some(duct) != Value::new(b"duc")),
-    ] {
-        assert!(rt; is_so, "{what}");
+    for len in [240, 241, 4000] {
+        let value = Value::new(&bytes[..len]);
+        assert!(rt;
+            value.is_some_and(|v| v.as_bytes() == &bytes[..len]),
+            "{len}"
+        );
     }
+    assert!(rt; Value::new(&bytes).is_none());
+    assert!(rt; Value::new(b"") == Some(Value::default()));
+}
+
+#[test]
+fn value_is_padded_with_zeros(rt: HostRuntime) -> Result<(), Fail> {
+    let value = Value::new(b"duct").ok_or("refused")?;
+    assert!(rt; &value.padded()[..5] == b"duct\0".as_slice());
+    assert_eq!(rt; value.padded()[3999], 0);
+    assert!(rt; Some(value) != Value::new(b"duc"));
     Ok(())
 }
 
 #[test]
-fn names_are_made_and_compared(rt: HostRuntime) -> Result<(), Fail> {
+fn name_has_1_to_32_letters(rt: HostRuntime) {
     let letters = [b'a'; 33];
-    let ring = Name::new(b"ring-2").ok_or("refused")?;
-    let (short, long) = (Name::new(b"a"), Name::new(b"a1"));
-    for (what, is_so) in [
-        ("a name of 32 letters", Name::new(&letters[..32]).is_some()),
-        ("each kind of letter", Name::new(b"Az09_-.").is_some()),
-        ("33 letters are no name", Name::new(&letters).is_none()),
-        ("no letter is no name", Name::new(b"").is_none()),
-        ("a name has no space", Name::new(b"a b").is_none()),
-        (
-            "a name is read back",
-            ring.as_bytes() == b"ring-2".as_slice(),
-        ),
-        (
-            "zeros behind a name",
-            &ring.padded()[..7] == b"ring-2\0".as_slice(),
-        ),
-        ("names go by their bytes", short < long),
-        ("a longer name is another", short != long),
-        ("a greater byte goes before length", Name::new(b"b") > long),
-    ] {
-        assert!(rt; is_so, "{what}");
+    assert!(rt; Name::new(&letters[..32]).is_some());
+    assert!(rt; Name::new(b"Az09_-.").is_some());
+    for refused in [letters.as_slice(), b"", b"a b"] {
+        assert!(rt; Name::new(refused).is_none());
     }
+}
+
+#[test]
+fn name_is_read_back_and_written(rt: HostRuntime) -> Result<(), Fail> {
+    let name = Name::new(b"ring-2").ok_or("refused")?;
+    assert!(rt; name.as_bytes() == b"ring-2".as_slice());
+    assert!(rt; &name.padded()[..7] == b"ring-2\0".as_slice());
+    let text = format!(in rt.alloc(); "{name} {name:?}")?;
+    assert_eq!(rt; text.as_str(), "ring-2 Name(ring-2)");
     Ok(())
+}
+
+#[test]
+fn names_are_ordered_by_their_bytes(rt: HostRuntime) {
+    let (short, long) = (Name::new(b"a"), Name::new(b"a1"));
+    assert!(rt; short < long);
+    assert!(rt; short != long);
+    assert!(rt; Name::new(b"b") > long);
 }
 
 const KEY: Key = Key {
@@ -95,27 +99,20 @@ const REFUSALS: [(Refusal, u32, &str); 21] = [
 ];
 
 #[test]
-fn words_are_written(rt: HostRuntime) -> Result<(), Fail> {
+fn refusal_is_written_with_its_number_and_name(rt: HostRuntime) -> Result<(), Fail> {
     for (refusal, code, due) in &REFUSALS {
+        assert_eq!(rt; refusal.code(), *code);
         let text = format!(in rt.alloc(); "{refusal}")?;
-        let is_so = refusal.code() == *code && text.as_str() == *due;
-        assert!(rt; is_so, "{due}: {text}");
+        assert_eq!(rt; text.as_str(), *due);
     }
-    let name = Name::new(b"ring-2").ok_or("refused")?;
+    Ok(())
+}
+
+#[test]
+fn settlements_come_back_in_their_order(rt: HostRuntime) -> Result<(), Fail> {
     let given = [(key(1, 1), Side::Mine), (key(1, 1), Side::Theirs)];
     let settled = Settled::from_vec(given.to_vec(rt.alloc())?);
-    let key_text = format!(in rt.alloc(); "{}", key(7, 1))?;
-    let name_text = format!(in rt.alloc(); "{name} {name:?}")?;
-    for (what, is_so) in [
-        ("a key with a colon", key_text.as_str() == "7:1"),
-        ("a name", name_text.as_str() == "ring-2 Name(ring-2)"),
-        ("two settlements", settled.as_slice().len() == 2),
-        (
-            "in their order",
-            settled.into_vec().as_slice() == given.as_slice(),
-        ),
-    ] {
-        assert!(rt; is_so, "{what}");
-    }
+    assert_eq!(rt; settled.as_slice().len(), 2);
+    assert!(rt; settled.into_vec().as_slice() == given.as_slice());
     Ok(())
 }
