@@ -1,26 +1,16 @@
 //! Values of more than 240 bytes: each has a block of its own, and its leaf a link to that block.
-mod blocks;
-mod counting;
-mod crashes;
-mod damage;
-mod formats;
-mod merging;
+pub(super) mod blocks;
+pub(super) mod counting;
+pub(super) mod crashes;
+pub(super) mod damage;
+pub(super) mod formats;
+pub(super) mod merging;
 
 use super::script::Row::{Each, Once};
 use super::script::{NEW, On, Row, Table};
 use vm_types::Value;
 
-pub(super) const ALL: &[&[Table]] = &[
-    TABLES,
-    blocks::TABLES,
-    counting::TABLES,
-    crashes::TABLES,
-    damage::TABLES,
-    formats::TABLES,
-    merging::TABLES,
-];
-
-const TABLES: &[Table] = &[(On::Both, ON_BOTH), (On::Both, SIZES), (On::All, SESSIONS)];
+pub(super) const TABLES: &[Table] = &[(On::Both, ON_BOTH), (On::Both, SIZES), (On::All, SESSIONS)];
 
 const ON_BOTH: &[Row] = &[
     Once(

@@ -2,7 +2,7 @@
 use crate::tests::script::Row::{Each, Once};
 use crate::tests::script::{NEW, On, Row, Table};
 
-pub(super) const TABLES: &[Table] = &[
+pub(crate) const TABLES: &[Table] = &[
     (On::Both, ON_BOTH),
     (On::Memory, HALVES),
     (On::Late, FORGOTTEN),

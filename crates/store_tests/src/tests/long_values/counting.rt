@@ -2,7 +2,7 @@
 use crate::tests::script::Row::{Each, Once};
 use crate::tests::script::{NEW, On, Row, Table};
 
-pub(super) const TABLES: &[Table] = &[(On::Memory, CALLS)];
+pub(crate) const TABLES: &[Table] = &[(On::Memory, CALLS)];
 
 /// A long value and a short one in one leaf, which two alternatives have. Opening makes six device
 /// calls: a sync, and a read each of header, selector, slot, leaf and value.

@@ -3,7 +3,7 @@ use super::formats::OLD;
 use crate::tests::script::Row::Each;
 use crate::tests::script::{DUCT, On, Row, Table};
 
-pub(super) const TABLES: &[Table] = &[(On::Memory, CRASHES), (On::Both, FAILURES)];
+pub(crate) const TABLES: &[Table] = &[(On::Memory, CRASHES), (On::Both, FAILURES)];
 
 /// What is shown after a crash: `duct` alone, and then the long value, which is put once more.
 const ONLY_DUCT: &str = "

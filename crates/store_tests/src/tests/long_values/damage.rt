@@ -2,7 +2,7 @@
 use crate::tests::script::Row::Each;
 use crate::tests::script::{NEW, On, Row, Table};
 
-pub(super) const TABLES: &[Table] = &[(On::Memory, DAMAGE)];
+pub(crate) const TABLES: &[Table] = &[(On::Memory, DAMAGE)];
 
 const DAMAGE: &[Row] = &[
     // The leaf is block 35, and the block of the value 34.

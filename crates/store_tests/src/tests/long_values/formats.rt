@@ -2,7 +2,7 @@
 use crate::tests::script::Row::{Each, Once};
 use crate::tests::script::{On, Row, Table};
 
-pub(super) const TABLES: &[Table] = &[(On::Both, ON_BOTH), (On::Memory, IN_MEMORY)];
+pub(crate) const TABLES: &[Table] = &[(On::Both, ON_BOTH), (On::Memory, IN_MEMORY)];
 
 /// A disk as it was left before there were long values: both slots have the format 1. `duct` is committed
 /// in block 34, by slot B.

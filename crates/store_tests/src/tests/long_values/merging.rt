@@ -2,7 +2,7 @@
 use crate::tests::script::Row::Once;
 use crate::tests::script::{NEW, On, Row, Table};
 
-pub(super) const TABLES: &[Table] = &[(On::Both, ON_BOTH), (On::Memory, IN_256_BLOCKS)];
+pub(crate) const TABLES: &[Table] = &[(On::Both, ON_BOTH), (On::Memory, IN_256_BLOCKS)];
 
 const ON_BOTH: &[Row] = &[
     // The base has 34 and 35, `top` 36 and 37, and `a` 38 and 39. The Merge writes the value of `top`
