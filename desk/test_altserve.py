@@ -5,6 +5,7 @@ import contextlib
 import grp
 import json
 import os
+import random
 import re
 import resource
 import signal
@@ -23,7 +24,7 @@ sys.path[:0] = [str(HERE), str(HERE.parent / "clients" / "python")]
 from altctl import locked
 from service import limits
 from service.batches import Batch, Batches
-from service.journal import kept_batches
+from service.journal import entries, kept_batches
 from service.planner import Unread
 from service.rules import Person, Rules
 
@@ -505,6 +506,10 @@ class JournalTests(ServiceTest):
                 "record=07:2 last=3": [all_lines[3], *all_lines[6:]],
                 "last=2": all_lines[-2:],
                 "last=0": [],
+                "after=5": all_lines[5:],
+                "after=6 alternative=top last=9": [all_lines[7]],
+                "after=7": [],
+                "after=99999999999999999999": [],
             }
             for filters, lines in due.items():
                 rows = one.rows(f"log {filters}")
@@ -538,6 +543,25 @@ class JournalTests(ServiceTest):
         with self.planner() as one:
             one.ask("put top 1 2 a")
         self.assertEqual(["1 put top 1 1 a", "3 put top 1 2 a"], self.log())
+
+    def test_the_log_after_a_batch_is_the_end_of_the_whole_one(self):
+        chance = random.Random(7)
+        for _ in range(200):
+            number, lines = 0, ['{"opened":"","last":0,"next":1}']
+            for _ in range(chance.randint(0, 12)):
+                number += 1
+                lines.append(f'{{"batch":{number},"time":"","uid":0,"who":"a","alternatives":["b"],"records":1,"lines":["put b 1 {number} x"]}}')
+                lines += [f'{{"done":{number}}}'] * chance.randint(0, 1)
+                if chance.random() < 0.3:
+                    last = number - chance.choice((0, 0, 1, number))
+                    number += chance.randint(0, 2)
+                    lines.append(f'{{"opened":"","last":{last},"next":{number + 1}}}')
+            text = "\n".join(lines) + "\n"
+            Path(self.journal).write_text(text[: len(text) - chance.choice((0, 0, 1, chance.randint(0, 99)))])
+            whole = entries(self.journal)
+            for after in range(number + 2):
+                due = [it for it in whole if int(it.split()[1]) > after]
+                self.assertEqual(due, list(entries(self.journal, after=after)), (lines, after))
 
     def test_a_store_that_was_replaced_by_a_backup(self):
         self.start()

@@ -54,6 +54,7 @@ else
     try 1800 refuse_allocations.sh
     try 600 ../desk/test_altserve.py
     try 600 ../desk/test_altgis.py
+    try 300 ../desk/test_altdesk.py
     try 300 kill_service.py "$tools/../altctl" 20
     try 300 replicated.sh
     # The first time takes the longest by far: later it tries only what has changed.

@@ -79,6 +79,15 @@ class Alternative(NamedTuple):
     parent: Optional[str]
 
 
+class Entry(NamedTuple):
+    """A line of a service's journal: which batch it is of, when it was made (UTC) and by whom."""
+
+    batch: int
+    time: str
+    planner: str
+    line: str
+
+
 SPELLED = [chr(it) if 0x21 <= it <= 0x7D and it != 0x25 else f"%{it:02X}" for it in range(256)]
 
 
@@ -409,3 +418,13 @@ class Store:
     def checkpoints(self, alt):
         """The names of an alternative's checkpoints."""
         return self._list(lambda words: words[0], "checks", alt)
+
+    def whoami(self):
+        """The name of the planner whom a service sees here."""
+        return self._ask("whoami")[1]
+
+    def log(self, **filters):
+        """Who changed what, and when, as a service's journal tells it: Entry rows, the latest one last. The filters are those of
+        its line `log`, for instance record="7:1" or last=10."""
+        words = [f"{name}={value}" for name, value in filters.items()]
+        return self._list(lambda it: Entry(int(it[0]), it[1], it[2], " ".join(it[3:])), "log", *words)

@@ -410,6 +410,19 @@ class ServiceTests(unittest.TestCase):
                 pass
             self.assertEqual([], list(store.list("top")))
 
+    def test_the_journal_is_read(self):
+        with self.open() as store:
+            store.new("north", "top")
+            store.put("north", 7, 1, b"a b")
+            store.put("top", 7, 2, b"c")
+            found = list(store.log())
+            self.assertEqual([(1, "new north top"), (2, "put north 7 1 a%20b"), (3, "put top 7 2 c")], [(it.batch, it.line) for it in found])
+            self.assertEqual({store.whoami()}, {it.planner for it in found})
+            self.assertEqual(found[:1] + found[1:2], list(store.log(record="7:1")))
+            self.assertEqual(found[1:2], list(store.log(alternative="north", last=1)))
+            with self.assertRaises(Refusal):
+                store.log(nothing="x")
+
     def test_a_service_that_ends_is_an_error(self):
         with self.assertRaises(Ended), self.open() as store:
             store.put("top", 7, 1, b"a")

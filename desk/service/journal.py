@@ -6,9 +6,14 @@ store. So journal and store agree wherever a crash came."""
 import json
 import mmap
 import os
+import re
 import time
 from collections import deque
 from json.encoder import encode_basestring_ascii as quoted
+
+
+# How the line of a batch begins.
+BATCH = re.compile(rb'\{"batch":(\d+),')
 
 
 def now():
@@ -126,28 +131,44 @@ def next_number(line):
 # --- reading it -----------------------------------------------------------------------------------
 
 
-def kept_batches(path):
-    """The batches that the store holds, in order. Left out are a batch whose commit is in progress, and batches that were lost
-    because an earlier copy of the store was put in place."""
+def kept_batches(path, after=0):
+    """The batches above a number that the store holds, in order. Left out are a batch whose commit is in progress, and
+    batches that were lost because an earlier copy of the store was put in place."""
     size = os.path.getsize(path)
-    opened = [line["last"] for line in lines_of(path, size, b'{"opened"')]
+    start = start_of(path, size, after) if after else 0
+    opened = [line["last"] for line in lines_of(path, start, size, b'{"opened"')]
     # A batch is in the store only if the next opening and all later ones found it.
     for at in range(len(opened) - 1, 0, -1):
         opened[at - 1] = min(opened[at - 1 : at + 1])
     opened = deque(opened)
     waiting = []
-    for line in lines_of(path, size):
+    for line in lines_of(path, start, size):
         if "batch" in line:
             waiting.append(line)
             continue
         last = opened.popleft() if "opened" in line else min([line["done"], *list(opened)[:1]])
-        yield from (it for it in waiting if it["batch"] <= last)
+        yield from (it for it in waiting if after < it["batch"] <= last)
         waiting.clear()
 
 
-def lines_of(path, size, begins=b""):
-    """The lines within the first `size` bytes of a journal."""
+def start_of(path, size, after):
+    """The place in a journal before which no batch has a number above this one. Numbers rise, so it is searched from the end."""
+    if not size:
+        return 0
+    with open(path, "rb") as file, mmap.mmap(file.fileno(), size, prot=mmap.PROT_READ) as text:
+        end = size
+        while True:
+            end = text.rfind(b"\n", 0, end)
+            number = BATCH.match(text, end + 1)
+            if end < 0 or number and int(number[1]) <= after:
+                return end + 1
+
+
+def lines_of(path, start, size, begins=b""):
+    """The lines of a journal from a place on, within its first `size` bytes."""
     with open(path, "rb") as file:
+        file.seek(start)
+        size -= start
         for text in file:
             size -= len(text)
             line = parsed(text) if size >= 0 and text.startswith(begins) else None
@@ -163,11 +184,11 @@ def may_change(line, table, number):
     return words[0] in ("merge", "post", "back", "new", "drop")
 
 
-def entries(path, planner=None, alternative=None, record=None, last=None):
+def entries(path, planner=None, alternative=None, record=None, last=None, after=0):
     """The lines of batches that the store holds, as texts: number of the batch, time, planner, line."""
     table, number = record.split(":") if record else (None, None)
     found = deque(maxlen=last)
-    for batch in kept_batches(path):
+    for batch in kept_batches(path, after):
         if planner not in (None, batch["who"], str(batch["uid"])):
             continue
         if alternative is not None and alternative not in batch["alternatives"]:

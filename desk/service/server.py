@@ -17,7 +17,7 @@ from service.planner import Planner, Query, Word
 from service.rules import Rules, Unreadable, person_of
 
 BACKUP = re.compile(rb"[A-Za-z0-9_][A-Za-z0-9_.-]{0,31}")
-FILTER = re.compile(rb"(planner|alternative|record|last)=[!-~]+")
+FILTER = re.compile(rb"(planner|alternative|record|last|after)=[!-~]+")
 # How often planners are checked for timeouts, in seconds.
 TICK = 1.0
 # A group waits for more planners for this fraction of the time that the last group took.

@@ -1,0 +1,824 @@
+#!/usr/bin/env python3
+"""Tests of the desk in a headless Chromium, over real stores and the service: `desk/test_altdesk.py`, with the program's path in
+the variable ALTCTL, or else with the one that `./altctl` at the top builds. `--pictures` writes those of docs/pictures anew.
+Where a browser or a module is not there, a line says that they are skipped."""
+import contextlib
+import http.client
+import json
+import os
+import re
+import shutil
+import signal
+import struct
+import subprocess
+import sys
+import tempfile
+import time
+import unittest
+from pathlib import Path
+
+sys.dont_write_bytecode = True
+HERE = Path(__file__).resolve().parent
+DEBIAN = "/usr/bin/python3"
+PACKAGES = "python3-selenium chromium chromium-driver python3-aiohttp python3-gdal libjs-leaflet"
+try:
+    import aiohttp
+    import numpy
+    from osgeo import gdal
+    from selenium import webdriver
+    from selenium.webdriver.common.action_chains import ActionChains
+    from selenium.webdriver.common.by import By
+    from selenium.webdriver.common.keys import Keys
+    from selenium.webdriver.chrome.service import Service
+except ImportError as fault:
+    if os.path.exists(DEBIAN) and sys.executable != DEBIAN:
+        os.execv(DEBIAN, [DEBIAN, *sys.argv])
+    print(f"test_altdesk: skipped, {fault} (`apt install {PACKAGES}`)")
+    sys.exit(0)
+CHROMIUM, DRIVER = shutil.which("chromium"), shutil.which("chromedriver")
+if not CHROMIUM or not DRIVER or not os.path.exists("/usr/share/javascript/leaflet"):
+    print(f"test_altdesk: skipped, for a browser or Leaflet is not there (`apt install {PACKAGES}`)")
+    sys.exit(0)
+sys.path.insert(0, str(HERE))
+import maps
+from altctl import Refusal, Store
+from designs import Designs, typed
+
+ALTCTL = os.path.abspath(os.environ.get("ALTCTL", HERE.parent / "altctl"))
+PICTURES = HERE.parent / "docs" / "pictures"
+LONGEST_WAIT = 30
+IDLE = []  # Browsers, one for each test that goes on.
+MOST_BYTES = 150_000
+
+
+def course(*points):
+    """A line as WKB."""
+    return struct.pack("<BII", 1, 2, len(points)) + b"".join(struct.pack("<dd", *it) for it in points)
+
+
+def attributes(**values):
+    return maps.to_text(values).encode()
+
+
+def layer(name="ducts", crs="EPSG:2056"):
+    fields = [{"name": "dn", "type": "Integer"}, {"name": "mat", "type": "String"}]
+    return maps.to_text({"name": name, "crs": crs, "geometry": "Line String", "fields": fields, "id": None}).encode()
+
+
+def duct(number, dn=110):
+    """The records of a duct in a row of ducts."""
+    east = 2600000 + 60 * (number % 300)
+    north = 1200000 + 40 * (number // 300)
+    yield 7, number, attributes(dn=dn, mat="PVC")
+    yield 107, number, course((east, north), (east + 25, north + 8), (east + 50, north))
+
+
+def write_small(picture, path):
+    """Writes a picture with its 200 most frequent colours alone, which take a third of the bytes."""
+    gdal.FileFromMemBuffer("/vsimem/full.png", picture)
+    red, green, blue = gdal.Open("/vsimem/full.png").ReadAsArray()[:3].astype(int)
+    packed = red << 16 | green << 8 | blue
+    colours, at, counts = numpy.unique(packed, return_inverse=True, return_counts=True)
+    parts = numpy.stack([colours >> 16, colours >> 8 & 255, colours & 255], axis=1)
+    kept = parts[numpy.argsort(-counts)[:200]]
+    nearest = numpy.abs(parts[:, None] - kept[None]).sum(axis=2).argmin(axis=1)
+    table = gdal.ColorTable()
+    for number, colour in enumerate(kept.tolist()):
+        table.SetColorEntry(number, tuple(colour))
+    made = gdal.GetDriverByName("MEM").Create("", packed.shape[1], packed.shape[0])
+    made.GetRasterBand(1).WriteArray(nearest[at].reshape(packed.shape))
+    made.GetRasterBand(1).SetColorTable(table)
+    gdal.GetDriverByName("PNG").CreateCopy(path, made, options=["ZLEVEL=9"])
+    if os.path.getsize(path) > MOST_BYTES:
+        raise AssertionError(f"{path} has more than {MOST_BYTES} bytes")
+
+
+class Browser:
+    """A browser of one person."""
+
+    def __init__(self):
+        options = webdriver.ChromeOptions()
+        options.binary_location = CHROMIUM
+        words = ["headless=new", "disable-gpu", "disable-dev-shm-usage", "hide-scrollbars", "force-prefers-reduced-motion"]
+        for it in [*words, *(["no-sandbox"] if os.getuid() == 0 else [])]:
+            options.add_argument(f"--{it}")
+        options.set_capability("goog:loggingPrefs", {"browser": "ALL"})
+        self.driver = webdriver.Chrome(service=Service(DRIVER), options=options)
+        self.is_open = True
+
+    def size(self, width, height):
+        how = {"width": width, "height": height, "deviceScaleFactor": 1, "mobile": width < 500}
+        self.driver.execute_cdp_cmd("Emulation.setDeviceMetricsOverride", how)
+
+    def quit(self):
+        self.driver.quit()
+        self.is_open = False
+
+    def give_back(self):
+        """Lets another test have it, with nothing of this one."""
+        if self.is_open:
+            self.driver.delete_all_cookies()
+            self.driver.get("about:blank")
+            self.driver.get_log("browser")
+            IDLE.append(self)
+
+    def open(self, url):
+        self.driver.get(url)
+        self.until(lambda: self.all("#tree button") and self.all("#map path"))
+
+    def until(self, is_so):
+        late = time.monotonic() + LONGEST_WAIT
+        while True:
+            with contextlib.suppress(Exception):  # What it looks at may be shown anew just now.
+                found = is_so()
+                if found:
+                    return found
+            if time.monotonic() > late:
+                raise AssertionError(f"waited in vain; the page says: {self.driver.find_element(By.TAG_NAME, 'body').text}")
+            time.sleep(0.05)
+
+    def all(self, selector):
+        return self.driver.find_elements(By.CSS_SELECTOR, selector)
+
+    def one(self, selector):
+        return self.until(lambda: self.all(selector))[0]
+
+    def click(self, selector):
+        def clicked():
+            self.driver.find_element(By.CSS_SELECTOR, selector).click()
+            return True
+
+        self.until(clicked)
+
+    def text(self, selector):
+        return self.one(selector).text
+
+    def says(self, text, where="#said"):
+        self.until(lambda: text in self.all(where)[0].text)
+
+    def confirm(self, text=None):
+        """Answers the question with yes."""
+        self.until(lambda: self.all("#question-yes")[0].is_displayed())
+        if text is not None:
+            self.one("#question-input").send_keys(text)
+        self.click("#question-yes")
+
+    def choose_design(self, name):
+        self.click(f"#design-{name}")
+        self.until(lambda: self.text("#chosen").startswith(f"{name},"))
+
+    def find(self, number):
+        box = self.one("#find-number")
+        box.clear()
+        box.send_keys(str(number))
+        self.click("#find button")
+        self.until(lambda: f" {number}:" in self.text("#view h3"))
+
+    def edit(self, number, **values):
+        self.find(number)
+        self.click("#edit")
+        for name, value in values.items():
+            box = self.one(f"#view input[name={name}]")
+            box.clear()
+            box.send_keys(str(value))
+        self.click("#save")
+
+    def run(self, script, *words):
+        return self.driver.execute_script(script, *words)
+
+    def picture(self, name):
+        """Takes a picture of the page for a document."""
+        if "--pictures" in WORDS:
+            time.sleep(0.5)
+            write_small(self.driver.get_screenshot_as_png(), str(PICTURES / f"{name}.png"))
+
+    def faults(self):
+        """What the console tells but for answers of the server that are no 200, which tests look for themselves."""
+        said = [it["message"] for it in self.driver.get_log("browser")]
+        return [it for it in said if "Failed to load resource" not in it]
+
+
+def tearDownModule():
+    for browser in IDLE:
+        browser.quit()
+
+
+class DeskTest(unittest.TestCase):
+    """A store with twelve ducts in a layer, a service over it, and desks."""
+
+    def setUp(self):
+        folder = tempfile.TemporaryDirectory()
+        self.addCleanup(folder.cleanup)
+        self.folder, self.file = folder.name, os.path.join(folder.name, "map.alt")
+        self.socket = f"{self.file}.sock"
+        self.fill()
+
+    def fill(self, count=12, blocks=1024):
+        subprocess.run([ALTCTL, "create", self.file, str(blocks)], check=True, stdout=subprocess.DEVNULL)
+        with Store(self.file, ALTCTL) as store:
+            store.put("top", 0, 7, layer())
+            store.put_many("top", (it for number in range(1, count + 1) for it in duct(number)))
+            store.new("north", "top")
+            store.new("south", "top")
+            store.commit()
+
+    def launch(self, words, until, **how):
+        """Starts a program, and gives it and what its standard output says up to a text."""
+        program = subprocess.Popen(words, stdout=subprocess.PIPE, stderr=subprocess.STDOUT, text=True, **how)
+        self.addCleanup(program.stdout.close)
+        self.addCleanup(program.wait)
+        self.addCleanup(program.terminate)
+        said = ""
+        while until not in said:
+            line = program.stdout.readline()
+            self.assertTrue(line, said)
+            said += line
+        return program, said
+
+    def serve(self):
+        return self.launch([sys.executable, str(HERE / "altserve"), "--program", ALTCTL, self.file], ": batches to ")[0]
+
+    def desk(self, file=None, *options):
+        """Starts a desk. Gives its process and its address."""
+        words = [sys.executable, str(HERE / "altdesk"), "--program", ALTCTL, *options, file or self.file]
+        program, said = self.launch(words, "?token=")
+        return program, re.search(r"http://\S+", said)[0]
+
+    def browser(self, width=1120, height=680):
+        """A browser that nobody else has just now."""
+        browser = IDLE.pop() if IDLE else Browser()
+        self.addCleanup(browser.give_back)
+        browser.size(width, height)
+        return browser
+
+    def store(self):
+        store = Store(f"unix:{self.socket}")
+        self.addCleanup(store.close, quietly=True)
+        return store
+
+
+class TwoPeopleTests(DeskTest):
+    def test_they_edit_the_same_duct_settle_and_post(self):
+        _, first = self.desk()
+        _, second = self.desk(self.socket)
+        anna, berta = self.browser(), self.browser()
+        anna.open(first)
+        berta.open(second)
+        anna.choose_design("north")
+        berta.choose_design("south")
+        anna.edit(5, dn=125)
+        anna.confirm()
+        anna.says("Changed ducts 5.")
+        berta.edit(5, dn=160)
+        berta.confirm()
+        berta.edit(6, mat="HDPE")
+        berta.confirm()
+        berta.says("Changed ducts 6.")
+        self.assertEqual([], berta.all("path.is-conflict"))
+
+        # What is posted comes to the other one, who asked for nothing.
+        anna.click("#do-post")
+        anna.confirm()
+        anna.says("Posted north into top.")
+        berta.says("post north", "#news")
+        berta.until(lambda: len(berta.all("path.is-conflict")) == 1 and len(berta.all("path.is-changed")) == 1)
+
+        berta.click("#do-merge")
+        berta.says("1 conflicts have no choice yet.")
+        cells = [it.text for it in berta.all("fieldset tbody tr:first-child td")]
+        self.assertEqual(["110", "125", "160"], cells)
+        berta.click("#view fieldset button")
+        berta.click("input[value=theirs]")
+        berta.click("#undo")
+        self.assertEqual([], [it for it in berta.all("fieldset input") if it.is_selected()])
+        berta.click("input[value=mine]")
+        berta.click("#do-merge")
+        berta.confirm()
+        berta.says("Merged top into south.")
+        berta.until(lambda: not berta.all("path.is-conflict"))
+        berta.click("#do-post")
+        berta.confirm()
+        berta.says("Posted south into top.")
+
+        anna.says("post south", "#news")
+        anna.choose_design("top")
+        anna.find(5)
+        self.assertEqual(["160", "160"], [it.text for it in anna.all("#view tbody tr:first-child td")])
+        anna.click("#who")
+        history = anna.until(lambda: [it.text for it in anna.all("#history li")])
+        due = ["post south", "merge south", "post north", "edited south", "edited north"]
+        self.assertEqual(due, [it.split(": ")[1] for it in history])
+        store = self.store()
+        self.assertEqual(attributes(dn=160, mat="PVC"), store.get("top", 7, 5))
+        self.assertEqual(attributes(dn=110, mat="HDPE"), store.get("top", 7, 6))
+        self.assertEqual([[], []], [anna.faults(), berta.faults()])
+
+    def test_what_somebody_has_changed_meanwhile_is_not_written_over(self):
+        _, url = self.desk()
+        browser, other = self.browser(), self.store()
+        browser.open(url)
+        browser.choose_design("north")
+        browser.edit(5, dn=125)
+        browser.until(lambda: browser.all("#question-yes")[0].is_displayed())
+        other.put("north", 7, 5, attributes(dn=50, mat="PVC"))
+        browser.confirm()
+        browser.says("it has changed meanwhile")
+        self.assertEqual(attributes(dn=50, mat="PVC"), other.get("north", 7, 5))
+
+    def test_both_are_closed_in_the_middle_of_a_batch(self):
+        service = self.serve()
+        desks = [self.desk(), self.desk()]
+        browsers = [self.browser(), self.browser()]
+        # So much that the half of it waits in the socket while the service stands still.
+        for browser, (_, url), alt in zip(browsers, desks, ("north", "south")):
+            browser.open(url)
+            browser.choose_design(alt)
+            browser.find(5)
+            browser.click("#edit")
+            browser.run("document.querySelector('#view input[name=mat]').value = 'x'.repeat(900000)")
+            browser.click("#save")
+            browser.until(lambda: browser.all("#question-yes")[0].is_displayed())
+        before = [(it.table, it.number, it.value) for it in self.store().list("north")]
+        service.send_signal(signal.SIGSTOP)
+        for browser in browsers:
+            browser.click("#question-yes")
+        time.sleep(2)
+        for browser in browsers:
+            browser.quit()
+        desks[0][0].kill()
+        desks[0][0].wait()
+        service.send_signal(signal.SIGCONT)
+        store = self.store()
+        late = time.monotonic() + LONGEST_WAIT
+        while not list(store.changes("south")):
+            self.assertLess(time.monotonic(), late)
+        # The desk that was killed had sent a part: nothing of it is there. The other one's is there as a whole.
+        self.assertEqual(before, [(it.table, it.number, it.value) for it in store.list("north")])
+        records = maps.by_key(store.list("south"))
+        self.assertEqual(attributes(dn=110, mat="x" * 900000), maps.value_at(records, 7, 5))
+        self.assertEqual({"south"}, {it.line.split()[1] for it in store.log()})
+
+
+class DoorTests(DeskTest):
+    """Who gets in, and to what."""
+
+    def setUp(self):
+        super().setUp()
+        self.first, url = self.desk()
+        self.port, self.token = re.fullmatch(r"http://127\.0\.0\.1:(\d+)/\?token=(\S{32})", url).groups()
+
+    def ask(self, path, token=None, body=None, **headers):
+        """The status and the text of an answer. The path is sent as it is."""
+        there = http.client.HTTPConnection("127.0.0.1", int(self.port), timeout=60)
+        with contextlib.closing(there):
+            there.putrequest("GET" if body is None else "POST", path, skip_host=True)
+            given = {"Host": f"127.0.0.1:{self.port}", **({"Cookie": f"altdesk-{self.port}={token}"} if token else {})}
+            if body is not None:
+                given.update({"Content-Type": "application/json", "Content-Length": str(len(body))})
+            for name, value in {**given, **{it.replace("_", "-"): value for it, value in headers.items()}}.items():
+                there.putheader(name, value)
+            there.endheaders(body)
+            answer = there.getresponse()
+            self.headers = answer.headers
+            return answer.status, answer.read().decode()
+
+    def test_the_token_lets_in(self):
+        self.assertEqual(200, self.ask(f"/?token={self.token}")[0])
+        cookie = self.headers["Set-Cookie"]
+        for it in (f"altdesk-{self.port}={self.token}", "HttpOnly", "SameSite=Strict"):
+            self.assertIn(it, cookie)
+        self.assertIn("default-src 'none'", self.headers["Content-Security-Policy"])
+        status, text = self.ask("/api/state", self.token)
+        self.assertEqual((200, ["top", "north", "south"]), (status, [it["name"] for it in json.loads(text)["tree"]]))
+        # One of a desk that was here before doesn't keep out who has this one's address.
+        self.assertEqual(200, self.ask(f"/?token={self.token}", "old")[0])
+
+    def test_without_it_nothing_is_told_or_done(self):
+        for token in (None, "", "x", self.token[:-1], self.token + "x", self.token.swapcase(), "%C3%A4", "\u00e4"):
+            for path in ("/", "/desk.js", "/leaflet.js", "/api/state", "/api/nothing", "/nothing"):
+                self.assertEqual(403, self.ask(path, token)[0], (path, token))
+                self.assertNotIn("north", self.ask(path, token)[1])
+        self.assertEqual(403, self.ask("/?token=x")[0])
+        self.assertEqual(403, self.ask(f"/api/state?token={self.token}")[0])
+        self.assertEqual(403, self.ask("/api/batch", "x", b'{"do":"drop","at":"north","seen":9}')[0])
+        self.assertEqual(["top", "north", "south", ".service"], [it.name for it in self.store().alternatives()])
+
+    def test_pages_from_elsewhere_get_nothing(self):
+        drop = b'{"do":"drop","at":"north","seen":9}'
+        self.assertEqual(403, self.ask("/api/state", self.token, Host="evil.example")[0])
+        self.assertEqual(403, self.ask("/api/state", self.token, Host="127.0.0.1.evil.example:80")[0])
+        self.assertEqual(403, self.ask("/api/state", self.token, Host="")[0])
+        self.assertEqual(200, self.ask("/api/state", self.token, Host="localhost:9000")[0])
+        self.assertEqual(403, self.ask("/api/batch", self.token, drop, Origin="http://evil.example")[0])
+        self.assertEqual(403, self.ask("/api/batch", self.token, drop, Origin="null")[0])
+        self.assertEqual(403, self.ask("/api/batch", self.token, drop, Origin="http://127.0.0.1:1")[0])
+        self.assertEqual(415, self.ask("/api/batch", self.token, drop, Content_Type="text/plain")[0])
+        self.assertEqual(3 + 1, len(list(self.store().alternatives())))
+        self.assertEqual(200, self.ask("/api/batch", self.token, drop, Origin=f"http://127.0.0.1:{self.port}")[0])
+        self.assertEqual(2 + 1, len(list(self.store().alternatives())))
+
+    def test_no_other_file_is_served(self):
+        paths = "/../altdesk", "/%2e%2e/altdesk", "/page/../altdesk", "//etc/passwd", "/desk.js/../../altdesk", "/..%2faltdesk"
+        for path in (*paths, "/altdesk"):
+            self.assertEqual(404, self.ask(path, self.token)[0], path)
+
+    def test_what_is_no_question_is_refused(self):
+        for path in ("feature?at=north&table=7&number=x", "design", "window?at=north&box=1,2", "window?at=north&box=a,b,c,d"):
+            self.assertEqual(400, self.ask(f"/api/{path}", self.token)[0], path)
+        for path in ("design?at=nowhere", "feature?at=north&table=7&number=99"):
+            self.assertEqual(409, self.ask(f"/api/{path}", self.token)[0], path)
+        for body in (b"", b"{", b"[]", b"{}", b'{"do":"x","at":"north"}', b'{"do":"new","at":"north"}'):
+            self.assertEqual(400, self.ask("/api/batch", self.token, body)[0], body)
+        bad = b'{"do":"new","at":"north","name":"a b"}'
+        self.assertIn(self.ask("/api/batch", self.token, bad)[0], (400, 409))
+        self.assertEqual([], list(self.store().log()))
+
+    def test_the_service_may_go_and_come_again(self):
+        self.first.terminate()
+        self.first.wait()
+        service = self.serve()
+        _, url = self.desk(self.socket)
+        self.port, self.token = re.search(r":(\d+)/\?token=(\S+)", url).groups()
+        self.assertEqual(200, self.ask("/api/state", self.token)[0])
+        for sent in (signal.SIGKILL, signal.SIGTERM):
+            service.send_signal(sent)
+            service.wait()
+            status, text = self.ask("/api/state", self.token)
+            self.assertEqual((503, True), (status, "The service is not there." in json.loads(text)["fault"]))
+            service = self.serve()
+            self.assertEqual(200, self.ask("/api/state", self.token)[0])
+
+    def test_what_cannot_be_served_is_told(self):
+        Path(self.folder, "text").write_text("no store")
+        wrong = [(["none"], "No such file"), (["text"], "the service could not be started")]
+        wrong += [(["map.alt", "--port", self.port], "in use")]
+        for words, due in wrong:
+            words = [sys.executable, str(HERE / "altdesk"), "--program", ALTCTL, *words]
+            ran = subprocess.run(words, cwd=self.folder, capture_output=True, text=True, timeout=60)
+            self.assertEqual((1, True), (ran.returncode, due in ran.stderr), ran.stderr)
+
+    def test_a_browser_with_a_wrong_token_sees_nothing(self):
+        browser = self.browser()
+        browser.driver.get(f"http://127.0.0.1:{self.port}/?token=wrong")
+        self.assertEqual("Open the address that altdesk has printed: it has the token.", browser.text("body"))
+
+
+class PageTests(DeskTest):
+    def conflict(self):
+        """Has duct 5 in conflict between north and top, duct 2 changed, 3 removed and 20 added in north, and a checkpoint there."""
+        with Store(self.file, ALTCTL) as store:
+            store.put("north", 7, 5, attributes(dn=125, mat="PVC"))
+            store.put("north", 107, 2, course((2600060, 1200000), (2600085, 1200020), (2600110, 1200000)))
+            store.checkpoint("north", "before")
+            store.remove_many("north", [(7, 3), (107, 3)])
+            store.put_many("north", duct(20))
+            store.put("top", 7, 5, attributes(dn=160, mat="PVC"))
+            store.commit()
+
+    def opened(self, *size):
+        self.conflict()
+        browser = self.browser(*size)
+        browser.open(self.desk()[1])
+        browser.choose_design("north")
+        return browser
+
+    def test_each_state_has_a_colour_and_a_pattern_of_its_own(self):
+        browser = self.opened()
+        browser.click("#whole")
+        browser.until(lambda: browser.all("path.is-added"))
+        script = "return [...document.querySelectorAll('#map path')].map(it => [it.getAttribute('class').match(/is-(\\w+)/)[1], "
+        script += "it.getAttribute('stroke'), it.getAttribute('stroke-width') + ' ' + it.getAttribute('stroke-dasharray')])"
+        found = [tuple(it) for it in browser.run(script)]
+        states = dict.fromkeys(["added", "changed", "removed", "conflict"], 1)
+        self.assertEqual({**states, "same": 13 - 4}, {it: [name for name, *_ in found].count(it) for it, *_ in found})
+        for at in (1, 2):
+            self.assertEqual(5, len({it[at] for it in found}))
+        # Of the colours of Okabe and Ito, and a grey.
+        self.assertEqual({"#009E73", "#0072B2", "#000000", "#D55E00", "#7A828A"}, {it[1] for it in found})
+        legend = [it.get_attribute("stroke") for it in browser.all("#legend line")]
+        self.assertEqual({it[1] for it in found}, set(legend))
+
+    def test_a_click_on_the_map_shows_a_feature(self):
+        browser = self.opened()
+        script = """const path = document.querySelector('path.is-changed'), box = path.getBoundingClientRect();
+            const at = path.getPointAtLength(path.getTotalLength() / 4).matrixTransform(path.getScreenCTM());
+            return [at.x, at.y]"""
+        browser.until(lambda: browser.all("path.is-changed"))
+        x, y = browser.run(script)
+        actions = ActionChains(browser.driver)
+        actions.w3c_actions.pointer_action.move_to_location(round(x), round(y)).click()
+        actions.perform()
+        self.assertEqual("ducts 2: changed", browser.text("#view h3"))
+
+    def test_checkpoints_designs_and_drops(self):
+        browser = self.opened()
+        browser.click("#do-checkpoint")
+        browser.confirm("a b")
+        self.assertTrue(browser.one("#question").get_attribute("open"), "a name with a space is not sent")
+        browser.click("#question-no")
+        browser.click("#do-checkpoint")
+        browser.confirm("after")
+        browser.says("Made the checkpoint after.")
+        browser.click("#do-back")
+        browser.confirm("before")
+        browser.says("north is as at the checkpoint before.")
+        store = self.store()
+        self.assertEqual({(7, 5), (107, 2)}, {(it.table, it.number) for it in store.changes("north")})
+        browser.until(lambda: not browser.all("path.is-added") and not browser.all("path.is-removed"))
+        browser.click("#do-new")
+        browser.confirm("variant")
+        browser.until(lambda: browser.text("#chosen").startswith("variant,"))
+        browser.click("#do-drop")
+        browser.click("#question-no")
+        self.assertIn("variant", [it.name for it in store.alternatives()])
+        browser.click("#do-drop")
+        browser.confirm()
+        browser.says("Dropped variant.")
+        browser.until(lambda: browser.text("#chosen").startswith("top,"))
+        self.assertEqual(["top", "north", "south", ".service"], [it.name for it in store.alternatives()])
+
+    def test_what_was_not_seen_is_not_posted(self):
+        browser = self.opened()
+        browser.choose_design("south")
+        browser.click("#do-merge")
+        browser.until(lambda: browser.all("#question-yes")[0].is_displayed())
+        self.store().put("top", 7, 1, attributes(dn=50, mat="PVC"))
+        browser.confirm()
+        browser.says("south or its parent has changed meanwhile: look at it again")
+        self.assertEqual(attributes(dn=110, mat="PVC"), self.store().get("south", 7, 1))
+
+    def test_more_conflicts_than_are_shown(self):
+        with Store(self.file, ALTCTL) as store:
+            for alt, dn in (("top", 50), ("south", 75)):
+                store.put_many(alt, ((7, number, attributes(dn=dn)) for number in range(200, 303)))
+            store.commit()
+        browser = self.browser()
+        browser.open(self.desk()[1])
+        browser.choose_design("south")
+        browser.click("#view-conflicts")
+        self.assertEqual("3 more conflicts, which are not shown", browser.one("fieldset:last-of-type legend").text)
+        browser.click("#all-mine")
+        browser.run("document.getElementById('theirs-7:201').click(); document.getElementById('theirs-rest').click()")
+        browser.click("#do-merge")
+        browser.confirm()
+        browser.says("Merged top into south.")
+        records = maps.by_key(self.store().list("south"))
+        found = {it: json.loads(records[7, it])["dn"] for it in range(200, 303)}
+        self.assertEqual({it: 50 if it in (201, 300, 301, 302) else 75 for it in range(200, 303)}, found)
+
+    def test_on_a_small_screen(self):
+        browser = self.opened(375, 667)
+        self.assertLessEqual(browser.run("return document.documentElement.scrollWidth"), 375)
+        browser.click("#do-merge")
+        browser.click("input[value=theirs]")
+        self.assertLessEqual(browser.run("return document.documentElement.scrollWidth"), 375)
+        small = "return [...document.querySelectorAll('button')].filter(it => it.offsetHeight && it.offsetHeight < 40).length"
+        self.assertEqual(0, browser.run(small))
+        browser.run("document.querySelector('#panel').scrollIntoView()")
+        browser.picture("desk-small")
+        browser.click("#do-merge")
+        browser.confirm()
+        browser.says("Merged top into north.")
+        self.assertEqual(attributes(dn=160, mat="PVC"), self.store().get("north", 7, 5))
+
+    def test_by_keyboard_alone(self):
+        browser = self.opened()
+
+        def press(*keys):
+            ActionChains(browser.driver).send_keys(*keys).perform()
+
+        def go(name):
+            """Presses the tabulator until the focus is there."""
+            for _ in range(80):
+                if browser.run("return document.activeElement.id") == name:
+                    return
+                press(Keys.TAB)
+            self.fail(f"the tabulator doesn't come to {name}")
+
+        browser.run("document.activeElement.blur()")
+        go("design-north")
+        press(Keys.ENTER)
+        go("find-number")
+        press("6", Keys.ENTER)
+        browser.until(lambda: browser.text("#view h3").startswith("ducts 6:"))
+        go("edit")
+        press(Keys.ENTER)
+        browser.until(lambda: browser.run("return document.activeElement.name") == "dn")
+        ActionChains(browser.driver).key_down(Keys.CONTROL).send_keys("a").key_up(Keys.CONTROL).perform()
+        press("75", Keys.ENTER)
+        browser.until(lambda: browser.all("#question-yes")[0].is_displayed())
+        press(Keys.ENTER)
+        browser.says("Changed ducts 6.")
+        go("view-conflicts")
+        press(Keys.ENTER)
+        browser.one("fieldset")
+        go("mine-7:5")
+        press(Keys.SPACE)
+        browser.until(lambda: browser.one("input[value=mine]").is_selected())
+        go("do-merge")
+        press(Keys.ENTER)
+        browser.until(lambda: browser.all("#question-yes")[0].is_displayed())
+        press(Keys.ENTER)
+        browser.says("Merged top into north.")
+        store = self.store()
+        self.assertEqual(attributes(dn=75, mat="PVC"), store.get("north", 7, 6))
+        self.assertEqual(attributes(dn=125, mat="PVC"), store.get("north", 7, 5))
+        self.assertEqual([], list(store.conflicts("north")))
+        # Escape is a no.
+        go("do-post")
+        press(Keys.ENTER)
+        browser.until(lambda: browser.all("#question-yes")[0].is_displayed())
+        press(Keys.ESCAPE)
+        self.assertEqual(attributes(dn=160, mat="PVC"), store.get("top", 7, 5))
+
+    def test_screen_readers_are_told_what_is_what(self):
+        browser = self.opened()
+        browser.click("#view-conflicts")
+        browser.one("fieldset")
+        for it in browser.all("button, input, select, [role=region], [role=group], section, fieldset"):
+            if it.is_displayed():
+                self.assertTrue(it.accessible_name.strip(), it.get_attribute("outerHTML")[:200])
+        self.assertEqual("status", browser.one("#said").aria_role)
+        self.assertEqual("mine", browser.one("#view input[value=mine]").accessible_name)
+        self.assertEqual("en", browser.one("html").get_attribute("lang"))
+
+    def test_records_that_are_no_map_are_shown(self):
+        with Store(self.file, ALTCTL) as store:
+            store.remove("top", 0, 7)
+            store.put("top", 9, 18446744073709551615, b"\xff<b>")
+            store.put("south", 9, 18446744073709551615, b"pipe")
+            store.commit()
+        browser = self.browser()
+        browser.driver.get(self.desk()[1])
+        browser.choose_design("south")
+        browser.click("#view-conflicts")
+        self.assertEqual("table 9 18446744073709551615: record", browser.text("legend"))
+        self.assertEqual(["removed", "\\xff<b>", "pipe"], [it.text for it in browser.all("fieldset tbody td")])
+        browser.click("#all-mine")
+        browser.click("#do-merge")
+        browser.confirm()
+        browser.says("Merged top into south.")
+        self.assertEqual(b"pipe", self.store().get("south", 9, 18446744073709551615))
+
+
+class CountingStore(Store):
+    """Counts how often all records of a design are read."""
+
+    lists = 0
+
+    def list(self, *words):
+        self.lists += 1
+        return super().list(*words)
+
+
+class DesignsTests(DeskTest):
+    """What the desk knows, without a browser."""
+
+    def setUp(self):
+        super().setUp()
+        self.serve()
+        self.counting = CountingStore(f"unix:{self.socket}")
+        self.addCleanup(self.counting.close, quietly=True)
+        self.designs, self.other = Designs(self.counting), self.store()
+        self.designs.refresh()
+
+    def same_as_read_anew(self, *alts):
+        """Looks whether what is known is what a new desk reads."""
+        self.designs.refresh()
+        anew = Designs(self.other)
+        anew.refresh()
+        for alt in alts:
+            self.assertEqual(anew.about(alt), {**self.designs.about(alt), "stamp": anew.stamp(alt)})
+            self.assertEqual(anew.parent_changes(alt), self.designs.parent_changes(alt))
+            window = anew.design(alt).bounds()
+            known, new = (sorted(map(repr, it.design(alt).window(*window)["features"])) for it in (self.designs, anew))
+            self.assertEqual(new, known)
+            self.assertEqual(anew.design(alt).records, self.designs.design(alt).records)
+        self.assertEqual([{**it, "stamp": 0} for it in anew.tree()], [{**it, "stamp": 0} for it in self.designs.tree()])
+
+    def test_after_a_batch_only_what_it_names_is_read(self):
+        alts = "top", "north", "south"
+        for alt in alts:
+            self.designs.design(alt)
+        with self.other.batch():
+            self.other.put("north", 7, 1, attributes(dn=50))
+            self.other.put("north", 107, 2, course((0, 0), (9, 9)))
+            self.other.remove("north", 107, 3)
+            self.other.remove_many("north", [(7, 4), (107, 4)])
+            self.other.put_many("north", duct(99))
+            self.other.put("top", 7, 1, attributes(dn=60))
+            self.other.remove("top", 107, 6)
+        long = attributes(mat="x" * 9000)
+        records = maps.records_of(7, 5, long)
+        with self.other.batch():
+            self.other.put_many("south", ((*key, value) for key, value in records.items()))
+        self.same_as_read_anew(*alts)
+        self.assertEqual(3, self.counting.lists)
+        side = self.designs.feature("south", (7, 5))["now"]
+        self.assertEqual({"mat": "x" * 9000}, side["attributes"])
+
+    def test_a_merge_a_post_a_back_and_a_drop_are_followed(self):
+        self.other.put("north", 7, 1, attributes(dn=50))
+        self.other.checkpoint("north", "before")
+        self.same_as_read_anew("top", "north")
+        self.other.put("north", 7, 2, attributes(dn=50))
+        self.same_as_read_anew("top", "north")
+        self.other.put("top", 7, 2, attributes(dn=60))
+        self.same_as_read_anew("top", "north")
+        self.assertEqual(["conflict"], [it["status"] for it in self.designs.about("north")["changes"] if it["number"] == "2"])
+        self.other.merge("north", {(7, 2): "theirs"})
+        self.same_as_read_anew("top", "north")
+        self.other.post("north")
+        self.same_as_read_anew("top", "north", "south")
+        self.other.back("north", "before")
+        self.same_as_read_anew("top", "north")
+        self.other.merge("north")
+        self.other.put("north", 7, 4, attributes(dn=80))
+        self.same_as_read_anew("top", "north", "south")
+        self.other.post("north")
+        self.other.drop("north")
+        self.other.new("north", "south")
+        self.same_as_read_anew("top", "north", "south")
+
+    def test_the_layers_of_a_map_may_change(self):
+        self.designs.design("top")
+        self.other.put("top", 0, 7, layer("pipes"))
+        self.other.put("top", 0, 8, layer("elsewhere", "EPSG:4326"))
+        self.same_as_read_anew("top")
+        told = [(it["name"], it["is_on_map"]) for it in self.designs.about("top")["layers"]]
+        self.assertEqual([("pipes", True), ("elsewhere", False)], told)
+
+    def test_what_the_parent_has_changed(self):
+        self.other.put("top", 7, 1, attributes(dn=50))
+        self.other.remove_many("top", [(7, 2), (107, 2)])
+        self.other.put_many("top", duct(20))
+        self.other.put("north", 7, 3, attributes(dn=50))
+        self.designs.refresh()
+        found = [(it["number"], it["status"], it["what"]) for it in self.designs.parent_changes("north")]
+        both = ["attributes", "course"]
+        self.assertEqual([("1", "changed", ["attributes"]), ("2", "removed", both), ("20", "added", both)], found)
+
+    def test_texts_of_a_form(self):
+        fields = {it: {"type": it} for it in ("Integer", "Real", "String", "StringList")}
+        good = [("12", "Integer", 12), ("", "Integer", None), ("-1.5", "Real", -1.5), ("12", "String", "12")]
+        good += [('["a"]', "StringList", ["a"])]
+        for text, kind, value in good:
+            self.assertEqual(value, typed(text, fields[kind], None))
+        for text, kind in (("1.5", "Integer"), ("x", "Integer"), ("NaN", "Real"), ("7", "StringList"), ('"7"', "Real")):
+            with self.assertRaises(maps.Fault):
+                typed(text, fields[kind], None)
+        self.assertEqual(["7", 7], [typed("7", None, "6"), typed("7", None, 6)])
+
+
+class ManyFeaturesTests(DeskTest):
+    COUNT = 20_000
+
+    def fill(self):
+        super().fill(self.COUNT, 16384)
+        with Store(self.file, ALTCTL) as store:
+            store.put("north", 7, 777, attributes(dn=50))
+            store.commit()
+
+    def test_the_window_alone_is_sent(self):
+        browser = self.browser()
+        browser.open(self.desk()[1])
+        browser.choose_design("north")
+        browser.until(lambda: browser.text("#note") == f"3000 of {self.COUNT} features are drawn: zoom in for the others.")
+        browser.until(lambda: browser.all("path.is-changed"))
+        self.assertEqual(3000, len(browser.all("path.leaflet-interactive")))
+        browser.click("#view ul button")
+        browser.until(lambda: browser.text("#view h3") == "ducts 777: changed")
+        browser.until(lambda: len(browser.all("path.leaflet-interactive")) < 300 and not browser.all("#note")[0].text)
+
+
+class DemoTests(DeskTest):
+    """`demo --open`. Pictures of it are taken, too."""
+
+    def fill(self):
+        self.file = os.path.join(self.folder, "demo.alt")
+
+    def test_one_command_starts_it_all(self):
+        words = [sys.executable, str(HERE / "demo"), self.file, "--open", *([] if shutil.which("gmt") else ["--made-up"])]
+        demo, said = self.launch(words, "?token=", env={**os.environ, "ALTCTL": ALTCTL})
+        url = re.search(r"http://\S+", said)[0]
+        browser = self.browser(1120, 640)
+        browser.open(url)
+        browser.choose_design("north")
+        browser.until(lambda: browser.all("path.is-conflict"))
+        browser.run("map.setZoom(map.getZoom() + 0.5, { animate: false })")
+        browser.picture("desk-map")
+        browser.click("#view-conflicts")
+        browser.click("[id^=look-107]")
+        browser.picture("desk-conflict")
+        shown = [it.text.split() for it in browser.all("#tree tr")]
+        demo.terminate()
+        self.assertEqual(0, demo.wait(LONGEST_WAIT))
+        tree = subprocess.run([ALTCTL, "tree", self.file], check=True, capture_output=True, text=True).stdout
+        counts = re.findall(r"^ *(\d+) +\d+ +(\d+) .* (north|south)$", tree, re.M)
+        self.assertEqual([[alt, changed, conflicts] for changed, conflicts, alt in counts], [[it[0], *it[-2:]] for it in shown[1:]])
+        self.assertFalse(os.path.exists(f"{self.file}.sock"), "the service that the desk has started ends with it")
+
+
+if __name__ == "__main__":
+    WORDS = sys.argv[1:]
+    unittest.main(argv=[it for it in sys.argv if it != "--pictures"])
