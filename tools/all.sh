@@ -1,7 +1,8 @@
 #!/bin/sh
 # Runs the scripts that stand beside the gate, one after another, each of a bounded size: `tools/all.sh`. It ends with
 # one line, names in it the scripts that failed, and has the status 1 then. What needs more than is installed is skipped,
-# with a line that says so. `measure.sh` and `measure_service.py` are none of them: times are looked at, never tested.
+# with a line that says so. `measure.sh`, `measure_service.py` and `measure_clients.py` are none of them: times are looked
+# at, never tested.
 #
 # `tools/all.sh --quick [COUNT]` runs what takes few seconds, and the others shorter or not at all, in 4 minutes in all.
 # Its last line counts them with those COUNT that passed before: `N passed, M failed`.
@@ -42,10 +43,12 @@ try 300 progress.py
 if [ -n "$quick" ]; then
     # Behind the gate: the program that it has built is the one that dist/ carries.
     try 60 dist.sh --check
+    try 60 ../clients/c/test.sh --quick
     try 60 compare.py -n 8
     try 60 kill.py "$tools/../altctl" 8
     try 60 crashes.py -n 1
 else
+    try 300 ../clients/c/test.sh
     try 600 compare.py -n 60
     try 300 kill.py "$tools/../altctl" 60
     try 600 crashes.py
@@ -55,6 +58,7 @@ else
     try 600 ../desk/test_altserve.py
     try 600 ../desk/test_altgis.py
     try 300 ../desk/test_altdesk.py
+    try 300 test_package.py
     try 300 kill_service.py "$tools/../altctl" 20
     try 300 replicated.sh
     # The first time takes the longest by far: later it tries only what has changed.

@@ -5,8 +5,9 @@ with status 1.
 
 In a block `console`, a line after `$ ` is a command of the shell; the lines after `> ` below it are its input, and all
 others are what it prints. A block `sh` or `python` is a program as it stands, and the block `text` right below it is
-what it prints. The blocks of one document run in one folder, one after another, with the program as `altctl` and
-`./altctl`, and the service as `altserve`.
+what it prints. A block `c` or `cpp` is the file program.c or program.cpp, which the blocks `console` below it build. The
+blocks of one document run in one folder, one after another, with the program as `altctl` and `./altctl`, the service as
+`altserve`, and the folder `clients`.
 
 A document whose programs need what is not installed is left out, and the last line says so.
 
@@ -28,6 +29,7 @@ TOP = Path(__file__).resolve().parent.parent
 DOCUMENTS = [TOP / "README.md", *sorted((TOP / "docs").glob("*.md"))]
 # What documents need to run, and the commands that succeed where it is there.
 NEEDS = {
+    "EMBEDDING.md": {"a compiler of C and C++": "cc --version && c++ --version"},
     "MAPS.md": {"python3-gdal": f"{TOP}/desk/altgis --help"},
     "PLANNERS.md": {
         "nc -U (netcat-openbsd)": "nc -h 2>&1 | grep -q -e -U",
@@ -36,7 +38,7 @@ NEEDS = {
 }
 BLOCK = re.compile(r"^```(\w+)\n(.*?)^```$", re.M | re.S)
 COUNT = re.compile(r"^(\| `(crates/[\w/.]+)` \| )(\d+)( \|)", re.M)
-LINK = re.compile(r"\]\(([^)#]+)[^)]*\)|^\[.+\]: (\S+)$|`(docs/[A-Z]+\.md|tools/\w+\.\w+|clients/[\w/]+\.py|desk/\w+(?:\.\w+)?)`", re.M)
+LINK = re.compile(r"\]\(([^)#]+)[^)]*\)|^\[.+\]: (\S+)$|`(docs/[A-Z]+\.md|tools/\w+\.\w+|clients/[\w/]+\.\w+|desk/\w+(?:\.\w+)?)`", re.M)
 
 
 class Run:
@@ -49,6 +51,7 @@ class Run:
             os.symlink(altctl, link)
         for it in ("altgis", "altserve"):
             os.symlink(TOP / "desk" / it, f"{folder}/bin/{it}")
+        os.symlink(TOP / "clients", f"{folder}/clients")
         path = f"{folder}/bin{os.pathsep}{os.environ['PATH']}"
         python = {"PYTHONPATH": str(TOP / "clients" / "python"), "PYTHONDONTWRITEBYTECODE": "1"}
         self.environment = {**os.environ, **python, "PATH": path, "LC_ALL": "C.UTF-8"}
@@ -114,6 +117,8 @@ def run_blocks(document, altctl):
             elif kind in ("sh", "python"):
                 shown = n + 1 < len(blocks) and blocks[n + 1][0] == "text" and not text[end : blocks[n + 1][3]].strip()
                 run.program(where, kind, body, blocks[n + 1][1].splitlines() if shown else [])
+            elif kind in ("c", "cpp"):
+                Path(folder, f"program.{kind}").write_text(body)
             elif kind != "text" and not (kind == "rust" and is_tested(body)):
                 run.compare(where, [f"a block that can be run, and no {kind}"], [])
             count += kind in ("console", "sh", "python")

@@ -1,6 +1,7 @@
 #!/bin/sh
-# Builds the program and puts it with its manual page below a folder, /usr/local where none is given: `tools/install.sh
-# [PREFIX]`. With PREFIX=$HOME/.local it needs no rights but one's own. It says what it put where.
+# Builds the program and puts it below a folder, /usr/local if none is given, with its manual page, the completion for bash, the
+# clients for C and Python, and the programs of the desk: `tools/install.sh [PREFIX]`. With PREFIX=$HOME/.local it needs no
+# rights but one's own. It says what it put where; `tools/place.sh` has the list.
 set -eu
 
 usage() {
@@ -13,20 +14,12 @@ prefix=${1-/usr/local}
 case $prefix in
 -* | '') usage ;;
 esac
-top=$(CDPATH='' cd -- "$(dirname -- "$0")/.." && pwd)
-
-# Puts a file in place whole: a program that runs meanwhile keeps the old one.
-put() {
-    mkdir -p "$(dirname -- "$3")"
-    cp -- "$2" "$3.new"
-    chmod "$1" "$3.new"
-    mv -f -- "$3.new" "$3"
-    echo "install: $3"
-}
-
-"$top/altctl" --help >/dev/null
-put 755 "$top/crates/altctl/out/altctl" "$prefix/bin/altctl"
-put 644 "$top/docs/altctl.1" "$prefix/share/man/man1/altctl.1"
+placed=$(mktemp)
+trap 'rm -f "$placed"' EXIT
+"$(dirname -- "$0")/place.sh" "$prefix" >"$placed"
+while read -r target; do
+    echo "install: $prefix/$target"
+done <"$placed"
 case :$PATH: in
 *":$prefix/bin:"*) ;;
 *) echo "install: $prefix/bin is not in PATH yet" ;;

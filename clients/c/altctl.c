@@ -15,6 +15,7 @@
 #include <stdlib.h>
 #include <string.h>
 #include <sys/file.h>
+#include <sys/mman.h>
 #include <sys/socket.h>
 #include <sys/un.h>
 #include <sys/wait.h>
@@ -22,13 +23,13 @@
 
 extern char **environ;
 
-/* Bytes that come at the end and go at the beginning. */
+/* Bytes that are added at the end and taken from the beginning. */
 struct buffer {
     char *bytes;
     size_t begin, end, room;
 };
 
-/* An answer that came before it was taken. */
+/* An answer that came before it was asked for; NULL once it was taken. */
 struct kept {
     alt_ticket ticket;
     char *line;
@@ -41,19 +42,24 @@ struct alt_rows {
     enum kind kind;
     char *waiting; /* a line that was read and is not given yet */
     int is_open, is_whole;
+    int error; /* of the rows that are whole */
 };
 
 struct alt_store {
     pthread_t owner;
+    pid_t process; /* the owner's: a child has threads of the same names */
     int socket, lock, faults;
-    pid_t program; /* 0: a service is behind the socket, or the program has been waited for */
-    int is_deaf;   /* the other end takes no more lines */
-    int end;       /* the error that each call gives once the other end is gone, or 0 */
+    pid_t program;      /* 0: a service is at the other end, or the program has been waited for */
+    int is_service;
+    int is_deaf;        /* the other end takes no more lines */
+    int end;            /* the error of each call once the other end is gone, or 0 */
+    alt_details ending; /* and its details */
     struct buffer out, in;
     alt_ticket sent, answered;
-    struct kept *kept;
-    size_t kept_count, kept_room;
+    struct kept *kept; /* by rising tickets, from kept_begin to kept_end */
+    size_t kept_begin, kept_end, kept_room;
     char *taken; /* the kept answer that was taken last */
+    alt_ticket batch; /* the ticket of the `begin` of a batch, or 0 */
     alt_rows rows;
     alt_details details;
     char text[600];
@@ -61,13 +67,15 @@ struct alt_store {
 
 /* --- bytes ----------------------------------------------------------------------------------------- */
 
-/* Makes room for so many more bytes. */
+/* Makes room for more bytes. Bytes are moved to the front only if that gains as much as it costs. */
 static int reserve(struct buffer *it, size_t more)
 {
-    if (it->begin > 0 && it->end + more > it->room) {
-        memmove(it->bytes, it->bytes + it->begin, it->end - it->begin);
-        it->end -= it->begin;
+    size_t length = it->end - it->begin;
+    if (it->end + more > it->room && it->begin >= length) {
+        if (length > 0)
+            memmove(it->bytes, it->bytes + it->begin, length);
         it->begin = 0;
+        it->end = length;
     }
     if (it->end + more > it->room) {
         size_t room = 2 * (it->end + more);
@@ -92,7 +100,7 @@ static int append(struct buffer *it, const void *bytes, size_t length)
 /* A word of a line has visible ASCII alone. */
 static int append_word(struct buffer *it, const char *word)
 {
-    size_t length = strlen(word);
+    size_t length = word == NULL ? 0 : strlen(word);
     if (length == 0)
         return ALT_BAD_WORD;
     for (size_t at = 0; at < length; at++)
@@ -107,21 +115,25 @@ static int append_number(struct buffer *it, uint64_t number)
     return append(it, digits, (size_t)snprintf(digits, sizeof digits, "%" PRIu64, number));
 }
 
-/* A value as a word: `-` if it is empty, and `%` with two digits for each byte that is not printed as itself. */
+/* A value as a word: `-` if it is empty, and `%` with two digits for each byte that does not stand for itself. */
 static int append_value(struct buffer *it, const unsigned char *bytes, size_t length)
 {
+    static const char digits[] = "0123456789ABCDEF";
     if (length > ALT_LONGEST_VALUE)
         return ALT_BAD_WORD;
     if (length == 0)
         return append(it, "-", 1);
+    if (reserve(it, 3 * length) != ALT_OK)
+        return ALT_SYSTEM;
     int is_dash = length == 1 && bytes[0] == '-';
     for (size_t at = 0; at < length; at++) {
-        char spelled[4] = {(char)bytes[at]};
-        int is_plain = bytes[at] >= 0x21 && bytes[at] <= 0x7D && bytes[at] != '%' && !is_dash;
-        if (!is_plain)
-            snprintf(spelled, sizeof spelled, "%%%02X", bytes[at]);
-        if (append(it, spelled, is_plain ? 1 : 3) != ALT_OK)
-            return ALT_SYSTEM;
+        if (bytes[at] >= 0x21 && bytes[at] <= 0x7D && bytes[at] != '%' && !is_dash) {
+            it->bytes[it->end++] = (char)bytes[at];
+        } else {
+            it->bytes[it->end++] = '%';
+            it->bytes[it->end++] = digits[bytes[at] >> 4];
+            it->bytes[it->end++] = digits[bytes[at] & 15];
+        }
     }
     return ALT_OK;
 }
@@ -131,7 +143,7 @@ static int digit(char it)
     return it <= '9' ? it - '0' : it - 'A' + 10;
 }
 
-/* The value that a word spells, which is written over the word. */
+/* The value that a word spells. It is written over the word. */
 static alt_value decoded(char *word)
 {
     alt_value value = {(unsigned char *)word, 0};
@@ -175,22 +187,20 @@ static void close_all(int *descriptors, int count)
     errno = error;
 }
 
-/* A file without a name, which takes what the program says on its standard error. */
+/* A file in memory, for what the program writes to its standard error. */
 static int nameless(void)
 {
-    char path[] = "/tmp/altctl-XXXXXX";
-    int made = mkostemp(path, O_CLOEXEC);
-    if (made >= 0)
-        unlink(path);
-    return apart(made);
+    return apart(memfd_create("altctl", MFD_CLOEXEC));
 }
 
-/* Starts the program with these descriptors as its standard streams and, where there is a lock, as descriptor 3. It gets a
-   process group of its own, so that an interrupt from the terminal doesn't end it in the middle of the caller's work. */
+/* Starts the program with these descriptors as its standard streams and, if there is a lock, as descriptor 3. It gets a
+   process group of its own, so that an interrupt from the terminal doesn't kill it in the middle of the caller's work, and
+   no signal is blocked in it. */
 static int start(pid_t *program, const char *const *words, int input, int output, int faults, int lock)
 {
     posix_spawn_file_actions_t actions;
     posix_spawnattr_t attributes;
+    sigset_t no_signals;
     posix_spawn_file_actions_init(&actions);
     posix_spawnattr_init(&attributes);
     posix_spawn_file_actions_adddup2(&actions, input, 0);
@@ -198,15 +208,17 @@ static int start(pid_t *program, const char *const *words, int input, int output
     posix_spawn_file_actions_adddup2(&actions, faults, 2);
     if (lock >= 0)
         posix_spawn_file_actions_adddup2(&actions, lock, 3);
-    posix_spawnattr_setflags(&attributes, POSIX_SPAWN_SETPGROUP);
+    sigemptyset(&no_signals);
+    posix_spawnattr_setsigmask(&attributes, &no_signals);
+    posix_spawnattr_setflags(&attributes, POSIX_SPAWN_SETPGROUP | POSIX_SPAWN_SETSIGMASK);
     int error = posix_spawnp(program, words[0], &actions, &attributes, (char *const *)words, environ);
     posix_spawnattr_destroy(&attributes);
     posix_spawn_file_actions_destroy(&actions);
     errno = error;
-    return error == 0 ? ALT_OK : ALT_SYSTEM;
+    return error == 0 ? ALT_OK : ALT_NO_PROGRAM;
 }
 
-/* Waits for the program's end, and notes its status and what it said. */
+/* Waits for the program's end, and notes its status and what it said. The status stays 0 if the caller ignores SIGCHLD. */
 static void note_end(pid_t program, int faults, alt_details *details)
 {
     int status = 0;
@@ -215,13 +227,19 @@ static void note_end(pid_t program, int faults, alt_details *details)
     details->status = WIFEXITED(status) ? WEXITSTATUS(status) : -WTERMSIG(status);
     ssize_t length = pread(faults, details->said, sizeof details->said - 1, 0);
     details->said[length > 0 ? length : 0] = 0;
+    details->said[strcspn(details->said, "\n")] = 0;
 }
 
-/* The refusal that the program told on its standard error, `altctl: 19 NotAStore`, or else ALT_ENDED. */
+/* The error that a program ended by: the refusal that it told on its standard error, `altctl: 19 NotAStore`, or else
+   ALT_ENDED. Status 127 is that of a child that could not become the program. */
 static int end_of(alt_details *details)
 {
     int number = 0;
     char name[40] = "";
+    if (details->status == 127) {
+        errno = ENOENT;
+        return ALT_NO_PROGRAM;
+    }
     if (details->status == 1 && sscanf(details->said, "altctl: %d %39s", &number, name) == 2 && number > 0) {
         memcpy(details->name, name, sizeof name);
         return number;
@@ -229,22 +247,22 @@ static int end_of(alt_details *details)
     return ALT_ENDED;
 }
 
-/* The other end is gone: from now on each call gives the same error. */
+/* The other end is gone: from now on each call returns the same error, once the answers that came before are taken. */
 static int ended(alt_store *store)
 {
     if (store->end == 0) {
-        memset(&store->details, 0, sizeof store->details);
         if (store->program != 0)
-            note_end(store->program, store->faults, &store->details);
+            note_end(store->program, store->faults, &store->ending);
         store->program = 0;
-        store->end = end_of(&store->details);
+        store->end = end_of(&store->ending);
     }
+    store->details = store->ending;
     return store->end;
 }
 
 /* --- lines and answers ----------------------------------------------------------------------------- */
 
-/* Reads what has come, and waits where nothing has. */
+/* Reads what has come, and waits if nothing has. */
 static int fill(alt_store *store)
 {
     if (reserve(&store->in, 1 << 16) != ALT_OK)
@@ -262,26 +280,27 @@ static int fill(alt_store *store)
     }
 }
 
-/* Writes all lines that wait. Where the other end takes none before its answers are read, they are read, so that no two
-   wait for each other. */
+/* Waits until the other end takes lines or has answered. Answers are read, so that no two wait for each other. */
+static int wait_for_other(alt_store *store)
+{
+    struct pollfd both = {store->socket, POLLIN | POLLOUT, 0};
+    if (poll(&both, 1, -1) < 0)
+        return errno == EINTR ? ALT_OK : ALT_SYSTEM;
+    return (both.revents & (POLLIN | POLLHUP)) != 0 ? fill(store) : ALT_OK;
+}
+
+/* Writes all lines that wait. If the other end is gone they are given up, and the reading of their answers tells. */
 static int flush(alt_store *store)
 {
     struct buffer *out = &store->out;
-    while (out->begin < out->end && !store->is_deaf) {
+    while (out->begin < out->end && !store->is_deaf && store->end == 0) {
         ssize_t count = send(store->socket, out->bytes + out->begin, out->end - out->begin, MSG_NOSIGNAL | MSG_DONTWAIT);
         if (count >= 0) {
             out->begin += (size_t)count;
         } else if (errno == EAGAIN || errno == EWOULDBLOCK) {
-            struct pollfd both = {store->socket, POLLIN | POLLOUT, 0};
-            if (poll(&both, 1, -1) < 0 && errno != EINTR)
+            if (wait_for_other(store) == ALT_SYSTEM)
                 return ALT_SYSTEM;
-            if ((both.revents & (POLLIN | POLLHUP)) != 0) {
-                int error = fill(store);
-                if (error != ALT_OK)
-                    return error;
-            }
         } else if (errno == EPIPE || errno == ECONNRESET) {
-            /* What it answered before is still to be read. */
             store->is_deaf = 1;
         } else if (errno != EINTR) {
             return ALT_SYSTEM;
@@ -291,7 +310,7 @@ static int flush(alt_store *store)
     return ALT_OK;
 }
 
-/* The next line that comes, without its LF. It stays where it is up to the next call. */
+/* The next line that comes, without its LF. It stays in place until the next call. */
 static int read_line(alt_store *store, char **line)
 {
     struct buffer *in = &store->in;
@@ -310,13 +329,16 @@ static int read_line(alt_store *store, char **line)
     return error;
 }
 
-/* What each call begins with. */
-static int enter(alt_store *store)
+static int is_owner(const alt_store *store)
 {
-    if (!pthread_equal(store->owner, pthread_self()))
+    return store->process == getpid() && pthread_equal(store->owner, pthread_self());
+}
+
+/* Whether the calling thread may ask something now. */
+static int enter(const alt_store *store)
+{
+    if (!is_owner(store))
         return ALT_WRONG_THREAD;
-    if (store->end != 0)
-        return store->end;
     return store->rows.is_open ? ALT_ROWS_OPEN : ALT_OK;
 }
 
@@ -349,17 +371,16 @@ static int add_words(struct buffer *out, const char *form, va_list words)
     return error;
 }
 
-/* Sends a line ahead. Where a word of it is none, nothing is sent. */
-static int send_line(alt_store *store, alt_ticket *ticket, const char *form, ...)
+/* Sends a line ahead. If one of its words cannot stand in a line, nothing is sent. */
+static int send_words(alt_store *store, alt_ticket *ticket, const char *form, va_list words)
 {
     int error = enter(store);
+    if (error == ALT_OK && store->end != 0)
+        error = ended(store);
     if (error != ALT_OK)
         return error;
     size_t length = store->out.end - store->out.begin;
-    va_list words;
-    va_start(words, form);
     error = add_words(&store->out, form, words);
-    va_end(words);
     if (error == ALT_OK)
         error = append(&store->out, "\n", 1);
     if (error != ALT_OK) {
@@ -370,28 +391,54 @@ static int send_line(alt_store *store, alt_ticket *ticket, const char *form, ...
     return store->out.end - store->out.begin >= 1 << 16 ? flush(store) : ALT_OK;
 }
 
-/* Keeps an answer that another one is taken before. */
-static int keep(alt_store *store, const char *line)
+/* Sends a query, or a line of the caller's ahead: none of a batch. */
+static int send_line(alt_store *store, alt_ticket *ticket, const char *form, ...)
 {
-    if (store->kept_count == store->kept_room) {
-        size_t room = 2 * store->kept_room + 16;
-        struct kept *more = realloc(store->kept, room * sizeof *more);
-        if (more == NULL)
-            return ALT_SYSTEM;
-        store->kept = more;
-        store->kept_room = room;
-    }
-    char *copy = strdup(line);
-    if (copy == NULL)
+    if (enter(store) == ALT_OK && store->batch != 0)
+        return ALT_IN_BATCH;
+    va_list words;
+    va_start(words, form);
+    int error = send_words(store, ticket, form, words);
+    va_end(words);
+    return error;
+}
+
+/* Makes room for one more kept answer: those that were taken give theirs up. */
+static int reserve_kept(alt_store *store)
+{
+    if (store->kept_end < store->kept_room)
+        return ALT_OK;
+    size_t count = 0;
+    for (size_t at = store->kept_begin; at < store->kept_end; at++)
+        if (store->kept[at].line != NULL)
+            store->kept[count++] = store->kept[at];
+    store->kept_begin = 0;
+    store->kept_end = count;
+    if (2 * count < store->kept_room)
+        return ALT_OK;
+    size_t room = 2 * store->kept_room + 16;
+    struct kept *more = realloc(store->kept, room * sizeof *more);
+    if (more == NULL)
         return ALT_SYSTEM;
-    store->kept[store->kept_count++] = (struct kept){store->answered, copy};
+    store->kept = more;
+    store->kept_room = room;
     return ALT_OK;
 }
 
-/* The answer that was kept under a ticket. They are kept in the order of their tickets. */
+/* Keeps an answer that came before the one that is asked for. */
+static int keep(alt_store *store, const char *line)
+{
+    char *copy = reserve_kept(store) == ALT_OK ? strdup(line) : NULL;
+    if (copy == NULL)
+        return ALT_SYSTEM;
+    store->kept[store->kept_end++] = (struct kept){store->answered, copy};
+    return ALT_OK;
+}
+
+/* Takes the answer that was kept under a ticket. */
 static int take_kept(alt_store *store, alt_ticket ticket, char **line)
 {
-    size_t low = 0, high = store->kept_count;
+    size_t low = store->kept_begin, high = store->kept_end;
     while (low < high) {
         size_t middle = low + (high - low) / 2;
         if (store->kept[middle].ticket < ticket)
@@ -399,12 +446,13 @@ static int take_kept(alt_store *store, alt_ticket ticket, char **line)
         else
             high = middle;
     }
-    if (low == store->kept_count || store->kept[low].ticket != ticket)
+    if (low == store->kept_end || store->kept[low].ticket != ticket || store->kept[low].line == NULL)
         return ALT_NO_SUCH_TICKET;
     free(store->taken);
     *line = store->taken = store->kept[low].line;
-    store->kept_count--;
-    memmove(store->kept + low, store->kept + low + 1, (store->kept_count - low) * sizeof *store->kept);
+    store->kept[low].line = NULL;
+    while (store->kept_begin < store->kept_end && store->kept[store->kept_begin].line == NULL)
+        store->kept_begin++;
     return ALT_OK;
 }
 
@@ -436,7 +484,7 @@ static int refusal_of(alt_store *store, const char *line)
     memset(details, 0, sizeof *details);
     if (strncmp(line, "error ", 6) != 0)
         return ALT_OK;
-    if (sscanf(line, "error %d %39s %n", &number, details->name, &length) < 2 || number <= 0)
+    if (sscanf(line, "error %d %39s %n", &number, details->name, &length) != 2 || number <= 0)
         return ALT_BAD_ANSWER;
     const char *rest = length > 0 ? line + length : "";
     snprintf(details->said, sizeof details->said, "%s", rest);
@@ -463,26 +511,33 @@ static int take_answer(alt_store *store, alt_ticket ticket, const char *word, ch
     return ALT_OK;
 }
 
-/* Sends a line whose answer is `ok`, and takes it. */
-#define COMMAND(store, ...)                                          \
-    do {                                                             \
-        alt_ticket ticket_;                                          \
-        int error_ = send_line((store), &ticket_, __VA_ARGS__);      \
-        return error_ == ALT_OK ? alt_take((store), ticket_) : error_; \
-    } while (0)
+/* Sends a command and takes its answer, `ok` and in some a number. In a batch that does not come before its end. */
+static int command(alt_store *store, uint64_t *number, const char *form, ...)
+{
+    alt_ticket ticket;
+    char *rest = "";
+    va_list words;
+    va_start(words, form);
+    int error = send_words(store, &ticket, form, words);
+    va_end(words);
+    if (error == ALT_OK && store->batch == 0)
+        error = take_answer(store, ticket, "ok", &rest);
+    if (error == ALT_OK && number != NULL)
+        *number = strtoull(rest, NULL, 10);
+    return error;
+}
 
 /* --- opening and closing --------------------------------------------------------------------------- */
 
 static const alt_options none;
 
-/* The lock of a file, which is held as long as a process has it open. */
-static int lock_file(const char *file, const alt_options *options, int *lock)
+/* Locks a file. The lock is held as long as a process has this descriptor. */
+static int lock_file(const char *file, int waits, int *lock)
 {
     *lock = apart(open(file, O_RDONLY | O_NONBLOCK | O_CLOEXEC));
     if (*lock < 0)
         return ALT_SYSTEM;
-    int how = (options->read_only ? LOCK_SH : LOCK_EX) | (options->wait ? 0 : LOCK_NB);
-    while (flock(*lock, how) != 0)
+    while (flock(*lock, waits ? LOCK_EX : LOCK_EX | LOCK_NB) != 0)
         if (errno != EINTR) {
             int error = errno == EWOULDBLOCK ? ALT_IN_USE : ALT_SYSTEM;
             close_all(lock, 1);
@@ -492,19 +547,24 @@ static int lock_file(const char *file, const alt_options *options, int *lock)
     return ALT_OK;
 }
 
+/* Adds an option of the program, if it is none that the program has anyway, and gives the number of words then. */
+static int add_option(const char **words, int count, const char *name, int blocks, char digits[16])
+{
+    if (blocks == 0)
+        return count;
+    snprintf(digits, 16, "%d", blocks == ALT_NO_BLOCKS ? 0 : blocks);
+    words[count] = name;
+    words[count + 1] = digits;
+    return count + 2;
+}
+
 /* Starts the program over a file whose lock is held. */
 static int start_store(alt_store *store, const char *file, const alt_options *options)
 {
+    char cache[16], buffer[16];
     const char *words[16] = {options->program != NULL ? options->program : "altctl", "run"};
-    int count = 2;
-    const char *named[][2] = {{"--cache", options->cache}, {"--buffer", options->buffer}, {"--grow", options->grow}};
-    for (size_t at = 0; at < 3; at++)
-        if (named[at][1] != NULL) {
-            words[count++] = named[at][0];
-            words[count++] = named[at][1];
-        }
-    if (options->read_only)
-        words[count++] = "--read-only";
+    int count = add_option(words, 2, "--cache", options->cache, cache);
+    count = add_option(words, count, "--buffer", options->buffer, buffer);
     words[count++] = "--";
     words[count] = file;
     int ends[2] = {-1, -1};
@@ -531,10 +591,24 @@ static int connect_store(alt_store *store, const char *path)
         return ALT_SYSTEM;
     }
     strcpy(at.sun_path, path);
+    store->is_service = 1;
     store->socket = apart(socket(AF_UNIX, SOCK_STREAM | SOCK_CLOEXEC, 0));
-    if (store->socket < 0 || connect(store->socket, (struct sockaddr *)&at, sizeof at) != 0)
+    if (store->socket < 0)
         return ALT_SYSTEM;
+    while (connect(store->socket, (struct sockaddr *)&at, sizeof at) != 0)
+        if (errno != EINTR)
+            return ALT_SYSTEM;
     return ALT_OK;
+}
+
+/* What a `create` of so many blocks that ended with a status gives. */
+static int created(uint32_t blocks, alt_details *details)
+{
+    if (details->status == 0)
+        return ALT_OK;
+    if (details->status == 2 && (blocks < 64 || blocks > 1 << 20))
+        return ALT_BAD_SIZE;
+    return details->status == 1 || details->status == 2 ? ALT_CANNOT_CREATE : end_of(details);
 }
 
 int alt_create(const char *file, uint32_t blocks, const alt_options *options)
@@ -551,8 +625,7 @@ int alt_create(const char *file, uint32_t blocks, const alt_options *options)
     if (error == ALT_OK) {
         alt_details details = {0};
         note_end(started, streams[1], &details);
-        int status = details.status;
-        error = status == 0 ? ALT_OK : status == 1 ? ALT_CANNOT_CREATE : status == 2 ? ALT_BAD_SIZE : ALT_ENDED;
+        error = created(blocks, &details);
     }
     close_all(streams, 2);
     return error;
@@ -563,7 +636,7 @@ static void discard(alt_store *store)
 {
     int descriptors[] = {store->socket, store->lock, store->faults};
     close_all(descriptors, 3);
-    for (size_t at = 0; at < store->kept_count; at++)
+    for (size_t at = store->kept_begin; at < store->kept_end; at++)
         free(store->kept[at].line);
     free(store->kept);
     free(store->taken);
@@ -580,13 +653,13 @@ int alt_open(alt_store **result, const char *file, const alt_options *options)
     alt_store *store = calloc(1, sizeof *store);
     if (store == NULL)
         return ALT_SYSTEM;
-    store->owner = pthread_self();
+    alt_adopt(store);
     store->socket = store->lock = store->faults = -1;
     int error;
     if (strncmp(file, "unix:", 5) == 0) {
         error = connect_store(store, file + 5);
     } else {
-        error = lock_file(file, options, &store->lock);
+        error = lock_file(file, options->wait, &store->lock);
         if (error == ALT_OK)
             error = start_store(store, file, options);
         /* The program has it now. */
@@ -608,18 +681,16 @@ int alt_close(alt_store *store)
 {
     if (store == NULL)
         return ALT_OK;
-    if (!pthread_equal(store->owner, pthread_self()))
+    if (!is_owner(store))
         return ALT_WRONG_THREAD;
-    /* What was sent ahead is carried out; its answers are not looked at. */
-    int error = store->end;
-    if (error == 0)
-        error = flush(store);
+    /* Lines that were sent ahead are carried out, and their answers are not looked at. */
+    int error = store->end != 0 ? store->end : flush(store);
     shutdown(store->socket, SHUT_WR);
     while (store->end == 0 && error == ALT_OK) {
         store->in.begin = store->in.end = 0;
         error = fill(store);
     }
-    int is_well = store->end == ALT_ENDED && store->details.status == 0;
+    int is_well = store->end == ALT_ENDED && store->ending.status == 0;
     discard(store);
     return is_well ? ALT_OK : error;
 }
@@ -627,6 +698,7 @@ int alt_close(alt_store *store)
 void alt_adopt(alt_store *store)
 {
     store->owner = pthread_self();
+    store->process = getpid();
 }
 
 const alt_details *alt_detail(const alt_store *store)
@@ -634,124 +706,195 @@ const alt_details *alt_detail(const alt_store *store)
     return &store->details;
 }
 
+/* The errors of the client, from 0 down: their names, and what they mean. */
+static const char *const own_errors[][2] = {
+    {"ok", "ok"},
+    {"ALT_DONE", "there are no more rows"},
+    {"ALT_SYSTEM", "a system call failed"},
+    {"ALT_IN_USE", "another process has locked the file"},
+    {"ALT_ENDED", "the program has ended"},
+    {"ALT_WRONG_THREAD", "another thread or process owns the store"},
+    {"ALT_ROWS_OPEN", "rows are being read: close them first"},
+    {"ALT_BAD_WORD", "a name that no line may have, or a value that is too long"},
+    {"ALT_SMALL_BUFFER", "the buffer is too small for the value"},
+    {"ALT_NO_SUCH_TICKET", "no answer waits under this ticket"},
+    {"ALT_BAD_ANSWER", "an answer that the client doesn't know, or a row of another kind"},
+    {"ALT_CANNOT_CREATE", "the file exists already, or cannot be made"},
+    {"ALT_NO_PROGRAM", "the program cannot be started"},
+    {"ALT_IN_BATCH", "a query, or a line sent ahead, in a batch"},
+};
+
+/* The names of refusals: those of the store, and those of a service from 90 on. */
+static const char *const refusals[] = {
+    "ok", "NoSuchAlternative", "AlternativeExists", "NoSuchCheckpoint", "CheckpointExists", "NoSuchRecord", "IsTop",
+    "HasChildren", "NotMerged", "Unsettled", "NotInConflict", "SettledTwice", "TooMany", "Full", "Deep", "Device",
+    "Memory", "Failed", "Damaged", "NotAStore", "AlreadyAStore", "BadSize", "BadLine", "LongLine"};
+static const char *const service_refusals[] = {
+    "Denied", "NotDone", "Aborted", "NotInBatch", "TooLarge", "HeldTooLong", "HalfLine", "NotJournaled", "NoBackup",
+    "Stopped", "TooManyPlanners"};
+
+#define COUNT(array) ((int)(sizeof(array) / sizeof *(array)))
+
 const char *alt_error_name(int error)
 {
-    static const char *const refusals[] = {
-        "ok", "NoSuchAlternative", "AlternativeExists", "NoSuchCheckpoint", "CheckpointExists", "NoSuchRecord", "IsTop",
-        "HasChildren", "NotMerged", "Unsettled", "NotInConflict", "SettledTwice", "TooMany", "Full", "Deep", "Device",
-        "Memory", "Failed", "Damaged", "NotAStore", "AlreadyAStore", "BadSize", "BadLine", "LongLine"};
-    static const char *const own[] = {
-        "ok", "ALT_DONE", "ALT_SYSTEM", "ALT_IN_USE", "ALT_ENDED", "ALT_WRONG_THREAD", "ALT_ROWS_OPEN", "ALT_BAD_WORD",
-        "ALT_SMALL_BUFFER", "ALT_NO_SUCH_TICKET", "ALT_BAD_ANSWER", "ALT_CANNOT_CREATE"};
-    if (error >= 0 && error < (int)(sizeof refusals / sizeof *refusals))
+    if (error >= 0 && error < COUNT(refusals))
         return refusals[error];
-    if (error < 0 && -error < (int)(sizeof own / sizeof *own))
-        return own[-error];
-    return "unknown";
+    if (error >= 90 && error < 90 + COUNT(service_refusals))
+        return service_refusals[error - 90];
+    return error < 0 && error > -COUNT(own_errors) ? own_errors[-error][0] : "unknown";
 }
 
+/* Only errors with details write into the store, which a thread that isn't its owner never gets. */
 const char *alt_error_text(alt_store *store, int error)
 {
-    if (store == NULL)
+    if (error == ALT_SYSTEM)
+        return strerror(errno);
+    if (error < 0 && error > -COUNT(own_errors) && (error != ALT_ENDED || store == NULL))
+        return own_errors[-error][1];
+    if (store == NULL || error == ALT_OK)
         return alt_error_name(error);
     const alt_details *it = &store->details;
-    if (error == ALT_ENDED)
-        snprintf(store->text, sizeof store->text, "the program ended with status %d: %s", it->status, it->said);
-    else if (error == ALT_SYSTEM)
-        snprintf(store->text, sizeof store->text, "%s", strerror(errno));
-    else if (error > 0)
+    if (error > 0)
         snprintf(store->text, sizeof store->text, "%d %s%s%s", error, it->name[0] != 0 ? it->name : alt_error_name(error),
                  it->said[0] != 0 ? " " : "", it->said);
+    else if (store->is_service)
+        return "the service has closed the connection";
     else
-        snprintf(store->text, sizeof store->text, "%s", alt_error_name(error));
+        snprintf(store->text, sizeof store->text, "the program ended with status %d%s%s", it->status,
+                 it->said[0] != 0 ? ": " : "", it->said);
     return store->text;
 }
 
 /* --- commands -------------------------------------------------------------------------------------- */
 
+/* Ends a batch by a word, and takes the answers to all its lines. Of a refused batch one line has the refusal, and the others
+   say that they were not done. */
+static int end_batch(alt_store *store, const char *word)
+{
+    alt_ticket begin = store->batch, end;
+    alt_details details;
+    int refused = ALT_OK;
+    store->batch = 0;
+    int error = send_line(store, &end, "%w", word);
+    for (alt_ticket ticket = begin + 1; error == ALT_OK && ticket <= end; ticket++) {
+        char *line;
+        error = take_line(store, ticket, &line);
+        int refusal = error == ALT_OK ? refusal_of(store, line) : ALT_OK;
+        if (refusal != ALT_OK && refusal != ALT_NOT_DONE && refusal != ALT_ABORTED && refused == ALT_OK) {
+            refused = refusal;
+            details = store->details;
+            details.line = ticket - begin;
+        }
+    }
+    if (error == ALT_OK && refused != ALT_OK)
+        store->details = details;
+    return error != ALT_OK ? error : refused;
+}
+
 int alt_put(alt_store *store, const char *alt, alt_key key, const void *bytes, size_t length)
 {
-    COMMAND(store, "put %w %k %v", alt, key, bytes, length);
+    return command(store, NULL, "put %w %k %v", alt, key, bytes, length);
 }
 
 int alt_remove(alt_store *store, const char *alt, alt_key key)
 {
-    COMMAND(store, "remove %w %k", alt, key);
+    return command(store, NULL, "remove %w %k", alt, key);
 }
 
 int alt_new(alt_store *store, const char *name, const char *parent)
 {
-    COMMAND(store, "new %w %w", name, parent);
+    return command(store, NULL, "new %w %w", name, parent);
 }
 
 int alt_new_at(alt_store *store, const char *name, const char *parent, const char *checkpoint)
 {
-    COMMAND(store, "new %w %w %w", name, parent, checkpoint);
+    return command(store, NULL, "new %w %w %w", name, parent, checkpoint);
 }
 
 int alt_drop(alt_store *store, const char *alt)
 {
-    COMMAND(store, "drop %w", alt);
+    return command(store, NULL, "drop %w", alt);
 }
 
 int alt_checkpoint(alt_store *store, const char *alt, const char *name)
 {
-    COMMAND(store, "checkpoint %w %w", alt, name);
+    return command(store, NULL, "checkpoint %w %w", alt, name);
 }
 
 int alt_uncheck(alt_store *store, const char *alt, const char *name)
 {
-    COMMAND(store, "uncheck %w %w", alt, name);
+    return command(store, NULL, "uncheck %w %w", alt, name);
 }
 
 int alt_back(alt_store *store, const char *alt, const char *name)
 {
-    COMMAND(store, "back %w %w", alt, name);
+    return command(store, NULL, "back %w %w", alt, name);
 }
 
 int alt_post(alt_store *store, const char *alt)
 {
-    COMMAND(store, "post %w", alt);
+    return command(store, NULL, "post %w", alt);
 }
 
 int alt_commit(alt_store *store)
 {
-    COMMAND(store, "commit");
+    return enter(store) == ALT_OK && store->batch != 0 ? end_batch(store, "commit") : command(store, NULL, "commit");
 }
 
 int alt_reclaim(alt_store *store)
 {
-    COMMAND(store, "reclaim");
+    return command(store, NULL, "reclaim");
 }
 
 int alt_grow(alt_store *store, uint32_t blocks)
 {
-    COMMAND(store, "grow %n", (uint64_t)blocks);
+    return command(store, NULL, "grow %n", (uint64_t)blocks);
 }
 
-int alt_merge(alt_store *store, const char *alt, const alt_settlement *settlements, size_t count, uint64_t *changed)
+/* Adds the words of settlements to the form of a line. */
+static int add_settlements(struct buffer *form, const alt_settlement *settlements, size_t count)
 {
-    struct buffer words = {0};
-    int error = append(&words, "merge %w", 8);
+    int error = ALT_OK;
     for (size_t at = 0; at < count && error == ALT_OK; at++) {
         char spelled[48];
         const char *side = settlements[at].side == ALT_MINE ? "mine" : "theirs";
         alt_key key = settlements[at].key;
         int length = snprintf(spelled, sizeof spelled, " %" PRIu16 ":%" PRIu64 "=%s", key.table, key.number, side);
-        error = append(&words, spelled, (size_t)length);
+        error = append(form, spelled, (size_t)length);
     }
-    if (error == ALT_OK)
-        error = append(&words, "", 1);
-    alt_ticket ticket;
-    if (error == ALT_OK)
-        error = send_line(store, &ticket, words.bytes, alt);
-    free(words.bytes);
-    char *rest;
-    if (error == ALT_OK)
-        error = take_answer(store, ticket, "ok", &rest);
-    if (error == ALT_OK && changed != NULL)
-        *changed = strtoull(rest, NULL, 10);
     return error;
+}
+
+int alt_merge(alt_store *store, const char *alt, const alt_settlement *settlements, size_t count, uint64_t *changed)
+{
+    struct buffer form = {0};
+    int error = append(&form, "merge %w", 8);
+    if (error == ALT_OK)
+        error = add_settlements(&form, settlements, count);
+    if (error == ALT_OK)
+        error = append(&form, "", 1);
+    if (error == ALT_OK)
+        error = command(store, changed, form.bytes, alt);
+    free(form.bytes);
+    return error;
+}
+
+/* --- batches of a service -------------------------------------------------------------------------- */
+
+int alt_begin(alt_store *store)
+{
+    alt_ticket ticket;
+    int error = send_line(store, &ticket, "begin");
+    if (error == ALT_OK)
+        error = alt_take(store, ticket);
+    if (error == ALT_OK)
+        store->batch = ticket;
+    return error;
+}
+
+int alt_abort(alt_store *store)
+{
+    return enter(store) == ALT_OK && store->batch != 0 ? end_batch(store, "abort") : command(store, NULL, "abort");
 }
 
 /* --- queries --------------------------------------------------------------------------------------- */
@@ -775,10 +918,11 @@ int alt_free_blocks(alt_store *store, uint64_t *blocks)
     return error;
 }
 
-/* Takes the line of a row, or of the end of all. */
+/* Takes the line of a row, or the one that ends them. */
 static void take_row(alt_rows *rows, char *line)
 {
-    rows->is_whole = strncmp(line, "end ", 4) == 0;
+    rows->error = refusal_of(rows->store, line);
+    rows->is_whole = rows->error != ALT_OK || strncmp(line, "end ", 4) == 0;
     rows->waiting = rows->is_whole ? NULL : line;
 }
 
@@ -786,6 +930,7 @@ static void take_row(alt_rows *rows, char *line)
 static int begin_rows(alt_store *store, int error, alt_ticket ticket, enum kind kind, alt_rows **result)
 {
     char *line;
+    *result = NULL;
     if (error == ALT_OK)
         error = take_line(store, ticket, &line);
     if (error == ALT_OK)
@@ -845,16 +990,18 @@ static int fill_row(alt_rows *rows)
     return error;
 }
 
-/* The words of the next row behind its first, of which there are so many. */
+/* The words of the next row after its first. */
 static int next_row(alt_rows *rows, enum kind kind, char **words, int count)
 {
-    if (!pthread_equal(rows->store->owner, pthread_self()))
+    if (!is_owner(rows->store))
         return ALT_WRONG_THREAD;
     if (!rows->is_open || rows->kind != kind)
         return ALT_BAD_ANSWER;
-    int error = rows->store->end != 0 ? rows->store->end : fill_row(rows);
-    if (error != ALT_OK || rows->is_whole)
-        return error != ALT_OK ? error : ALT_DONE;
+    int error = fill_row(rows);
+    if (error == ALT_OK && rows->is_whole)
+        error = rows->error != ALT_OK ? rows->error : ALT_DONE;
+    if (error != ALT_OK)
+        return error;
     char *at = strchr(rows->waiting, ' ');
     rows->waiting = NULL;
     for (int word = 0; word < count; word++) {
@@ -919,15 +1066,17 @@ int alt_next_checkpoint(alt_rows *rows, const char **name)
 
 int alt_close_rows(alt_rows *rows)
 {
-    if (!pthread_equal(rows->store->owner, pthread_self()))
+    if (rows == NULL)
+        return ALT_OK;
+    if (!is_owner(rows->store))
         return ALT_WRONG_THREAD;
-    int error = rows->store->end;
+    int error = ALT_OK;
     while (rows->is_open && !rows->is_whole && error == ALT_OK) {
         rows->waiting = NULL;
         error = fill_row(rows);
     }
     rows->is_open = 0;
-    return error;
+    return error != ALT_OK ? error : rows->error;
 }
 
 /* --- writing ahead --------------------------------------------------------------------------------- */
@@ -980,4 +1129,36 @@ int alt_take_value(alt_store *store, alt_ticket ticket, void *buffer, size_t roo
     if (value.length > 0)
         memcpy(buffer, value.bytes, value.length);
     return ALT_OK;
+}
+
+/* The first ticket whose answer was not taken yet, or 0. */
+static alt_ticket next_ticket(const alt_store *store)
+{
+    if (store->kept_begin < store->kept_end)
+        return store->kept[store->kept_begin].ticket;
+    return store->answered < store->sent ? store->answered + 1 : 0;
+}
+
+int alt_take_all(alt_store *store, alt_ticket *refused)
+{
+    int first = ALT_OK, error = enter(store);
+    alt_details details;
+    char *line;
+    if (error != ALT_OK || store->batch != 0)
+        return error != ALT_OK ? error : ALT_IN_BATCH;
+    for (alt_ticket ticket = next_ticket(store); ticket != 0; ticket = next_ticket(store)) {
+        error = take_line(store, ticket, &line);
+        int refusal = error == ALT_OK ? refusal_of(store, line) : error;
+        if (refusal != ALT_OK && first == ALT_OK) {
+            first = refusal;
+            details = store->details;
+            if (refused != NULL)
+                *refused = ticket;
+        }
+        if (error != ALT_OK)
+            return error;
+    }
+    if (first != ALT_OK)
+        store->details = details;
+    return first;
 }

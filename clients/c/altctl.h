@@ -1,22 +1,23 @@
-/* A store of Zonegrater from C and C++: `alt_open` starts `altctl run FILE`, or connects to a service that answers the
-   same lines, and each call writes a line and reads its answer.
+/* A store of Zonegrater from C and C++: `alt_open` starts `altctl run FILE`, or connects to a service (`desk/altserve`)
+   that answers the same lines. Each call writes a line and reads its answer.
 
        alt_store *store;
        int error = alt_open(&store, "map.alt", NULL);
        if (error == ALT_OK)
-           error = alt_put(store, "north", (alt_key){7, 1}, "duct", 4);
+           error = alt_put(store, "top", (alt_key){7, 1}, "duct", 4);
        if (error == ALT_OK)
            error = alt_commit(store);
        if (error != ALT_OK)
            fprintf(stderr, "%s\n", alt_error_text(store, error));
        alt_close(store);
 
-   A value is 0 to 4,000 bytes, a name 1 to 32 letters, digits, `_`, `-` and `.`. What was not committed is gone when the
-   store is closed, or when the program ends. docs/FORMATS.md has the lines and their answers, docs/OPERATING.md what helps
-   where one is refused, docs/EMBEDDING.md what else there is.
+   A value is 0 to 4,000 bytes, a name 1 to 32 ASCII letters, digits, `_`, `-` and `.`. Changes that are not committed are
+   lost when the store is closed or the program ends. docs/FORMATS.md has the lines and their answers, docs/OPERATING.md
+   advice on each refusal, and docs/EMBEDDING.md how to build with this client.
 
-   Every call gives ALT_OK or an error. A store belongs to the thread that opened it; any other thread's call gives
-   ALT_WRONG_THREAD and does nothing, until `alt_adopt` makes it the owner. C99 and POSIX, and nothing else. */
+   Calls return ALT_OK or an error. A store belongs to the thread that opened it: a call from any other thread returns
+   ALT_WRONG_THREAD and does nothing, until that thread becomes the owner by `alt_adopt`. C99, for Linux; it needs the C
+   library alone. */
 #ifndef ALTCTL_H
 #define ALTCTL_H
 
@@ -27,11 +28,12 @@
 extern "C" {
 #endif
 
-/* The longest value, and the longest name, which a NUL follows here. */
+/* The longest value and the longest name, in bytes. */
 enum { ALT_LONGEST_VALUE = 4000, ALT_LONGEST_NAME = 32 };
 
-/* The refusals of a store have the numbers from 1 on, as docs/FORMATS.md lists them; those of a service around it have the
-   numbers from 90 on. What is below 0 comes from this client. */
+/* Positive numbers are refusals: those of the store as docs/FORMATS.md and docs/OPERATING.md list them, and from 90 on those
+   of a service (docs/PLANNERS.md). A refused call changes no record; but a commit that returns ALT_DEVICE may have been made,
+   and the program ends after it. Negative numbers are this client's own. */
 enum {
     ALT_OK = 0,
     ALT_NO_SUCH_ALTERNATIVE = 1,
@@ -58,60 +60,78 @@ enum {
     ALT_BAD_LINE = 22,
     ALT_LONG_LINE = 23,
 
-    /* There is no further row. */
+    ALT_DENIED = 90,
+    ALT_NOT_DONE = 91,
+    ALT_ABORTED = 92,
+    ALT_NOT_IN_BATCH = 93,
+    ALT_TOO_LARGE = 94,
+    ALT_HELD_TOO_LONG = 95,
+    ALT_HALF_LINE = 96,
+    ALT_NOT_JOURNALED = 97,
+    ALT_NO_BACKUP = 98,
+    ALT_STOPPED = 99,
+    ALT_TOO_MANY_PLANNERS = 100,
+
+    /* There are no more rows. */
     ALT_DONE = -1,
-    /* A call of the system failed; `errno` tells why. */
+    /* A system call failed; `errno` tells why. */
     ALT_SYSTEM = -2,
-    /* Another process has the file's lock. */
+    /* Another process has locked the file. */
     ALT_IN_USE = -3,
-    /* The program has ended, or the service has closed the connection. `alt_detail` has the program's status and text. */
+    /* The program has ended, or the service has closed the connection. Of a program `alt_detail` has the status and what it
+       said. What was committed is in the file; whether a commit that was not answered was made is unknown. */
     ALT_ENDED = -4,
-    /* Another thread owns the store. */
+    /* Another thread owns the store, or the process that this one was forked off. */
     ALT_WRONG_THREAD = -5,
     /* Rows are being read: close them first. */
     ALT_ROWS_OPEN = -6,
-    /* A name, or another word, has a byte that no word of a line may have, or is empty; a value is too long. */
+    /* A name is NULL, empty, or has a byte that no word of a line may have; or a value is too long. Nothing was sent. */
     ALT_BAD_WORD = -7,
-    /* The buffer is too small for the value: its length is told. */
+    /* The buffer is too small for the value, whose length is returned. */
     ALT_SMALL_BUFFER = -8,
     /* No answer waits under this ticket. */
     ALT_NO_SUCH_TICKET = -9,
     /* The answer is none that this client knows, or a row is asked for as one of another kind. */
     ALT_BAD_ANSWER = -10,
-    /* The file is there already, or can't be made. */
-    ALT_CANNOT_CREATE = -11
+    /* The file exists already, or cannot be made under this name. */
+    ALT_CANNOT_CREATE = -11,
+    /* The program cannot be started; `errno` tells why. */
+    ALT_NO_PROGRAM = -12,
+    /* A query, or a line sent ahead, in a batch. Nothing was sent. */
+    ALT_IN_BATCH = -13
 };
 
 typedef struct alt_store alt_store;
 
-/* How a store is opened. All zeros, or no options at all, is what most want. */
+/* How a store is opened. NULL in its place, or all zeros, is what most callers want. A service ignores all of it. */
 typedef struct {
-    const char *program; /* the path of `altctl`, or NULL: it is looked for in PATH */
-    const char *cache;   /* `--cache`: how many blocks of the file stay in memory, in digits, or NULL */
-    const char *buffer;  /* `--buffer`: how many written blocks may wait in memory, in digits, or NULL */
-    const char *grow;    /* `--grow`: a full store grows up to so many blocks, in digits, or NULL */
-    int read_only;       /* `--read-only`: nothing may be changed, and others may read at the same time */
-    int wait;            /* wait for the file's lock while another process has it */
+    const char *program; /* the path of `altctl`; NULL: it is looked for in PATH */
+    int cache;           /* `--cache`: blocks of the file kept in memory; 0: the program's default; ALT_NO_BLOCKS: none */
+    int buffer;          /* `--buffer`: written blocks that wait in memory; 0 and ALT_NO_BLOCKS as above */
+    int wait;            /* not 0: while another process has locked the file, wait for it */
 } alt_options;
+
+enum { ALT_NO_BLOCKS = -1 };
 
 typedef struct {
     uint16_t table;
     uint64_t number;
 } alt_key;
 
-/* A value in memory of the store's, up to the next call; no bytes (NULL) stand for no value at all. */
+/* A value, in memory that is the store's until the next call on it. `bytes` is NULL if there is no value at all. */
 typedef struct {
     const unsigned char *bytes;
     size_t length;
 } alt_value;
 
-/* What an error tells beside its number; the members that it doesn't speak of are 0. */
+/* What an error tells besides its number. Members that an error says nothing about are 0. */
 typedef struct {
-    char name[40];          /* ALT_FULL: `Full` */
+    char name[40];          /* a refusal: its name, as `Full` */
     uint64_t count;         /* ALT_UNSETTLED: how many conflicts are left; ALT_DAMAGED: the block */
     alt_key key;            /* ALT_NOT_IN_CONFLICT, ALT_SETTLED_TWICE */
-    int status;             /* ALT_ENDED: the program's exit status, or minus the signal that ended it */
-    char said[400];         /* ALT_ENDED: what the program said on its standard error; a service's refusal: what it says */
+    uint64_t line;          /* a refused batch: which of its changes was refused, 1 for the first */
+    int status;             /* ALT_ENDED: the program's exit status, or minus the signal that killed it */
+    char said[400];         /* ALT_ENDED: the program's standard error; a refusal: the words after its name */
 } alt_details;
 
 /* --- opening and closing --------------------------------------------------------------------------- */
@@ -119,21 +139,22 @@ typedef struct {
 /* Makes a store of 64 to 1,048,576 blocks of 4,096 bytes in a new file. */
 int alt_create(const char *file, uint32_t blocks, const alt_options *options);
 
-/* Opens the store in a file, whose lock (`flock`) is held until it is closed, or the service behind a Unix socket, where
-   the name begins with `unix:`. Where this fails, *store is NULL but for ALT_ENDED and refusals: then `alt_detail` tells
-   more, and the store is to be closed. */
+/* Opens the store in a file, which stays locked (`flock`) as long as the program runs. A name that begins with `unix:` is the
+   socket of a service. Close *store even if this fails: until then `alt_error_text` has the details. It may be NULL then. */
 int alt_open(alt_store **store, const char *file, const alt_options *options);
 
-/* Closes a store, if it is not NULL; what was not committed is gone. Gives ALT_ENDED where the program's status is not 0. */
+/* Closes a store, or does nothing with NULL. Lines that were sent ahead are still carried out. Returns ALT_OK if the program
+   ended as it should, or else what ended it; the store is gone either way, except with ALT_WRONG_THREAD. */
 int alt_close(alt_store *store);
 
-/* Makes the calling thread the owner. No other thread may be in a call of this store meanwhile. */
+/* Makes the calling thread the owner. The caller sees to it that no other thread is in a call on this store. */
 void alt_adopt(alt_store *store);
 
-/* What the last error of the store told. */
+/* The details of the last error, until the next call on the store. */
 const alt_details *alt_detail(const alt_store *store);
 
-/* The name of an error (`Full`, `ALT_IN_USE`), and a text of it with its details. */
+/* The name of an error (`Full`, `ALT_IN_USE`), and a sentence about it with its details, right after the call that returned
+   it. The sentence may be in memory of the store, until the next call on it. The store may be NULL. */
 const char *alt_error_name(int error);
 const char *alt_error_text(alt_store *store, int error);
 
@@ -159,20 +180,30 @@ typedef struct {
     alt_side side;
 } alt_settlement;
 
-/* Brings in what changed in the parent; *changed, where it is not NULL, becomes how many records that changed. */
+/* Brings in what changed in the parent. *changed becomes the number of records that this changed, 0 in a batch; it may be
+   NULL, and so may the settlements if there are none. */
 int alt_merge(alt_store *store, const char *alt, const alt_settlement *settlements, size_t count, uint64_t *changed);
+
+/* --- batches of a service -------------------------------------------------------------------------- */
+
+/* A service makes each change durable before it answers. Those between `alt_begin` and `alt_commit` it makes together, or none
+   of them: they return ALT_OK as soon as they are sent, and `alt_commit` returns the refusal of the one that was refused.
+   A store that the program works on refuses `alt_begin` with ALT_BAD_LINE. */
+int alt_begin(alt_store *store);
+int alt_abort(alt_store *store);
 
 /* --- queries --------------------------------------------------------------------------------------- */
 
-/* The value of a record, and *length its length. ALT_NO_SUCH_RECORD where there is none; ALT_SMALL_BUFFER where it has more
-   than `room` bytes. */
+/* Copies the value of a record, and sets *length. ALT_NO_SUCH_RECORD if there is none, ALT_SMALL_BUFFER if it has more than
+   `room` bytes; ALT_LONGEST_VALUE bytes are always enough. */
 int alt_get(alt_store *store, const char *alt, alt_key key, void *buffer, size_t room, size_t *length);
 
 /* The number of free blocks. */
 int alt_free_blocks(alt_store *store, uint64_t *blocks);
 
-/* Rows are read one by one, as the program writes them: nothing is held but one. Until they are closed no other line may be
-   written. The `alt_next_..` of the kind that was asked for gives ALT_OK and a row, or ALT_DONE. */
+/* Rows are read one by one as the program writes them, and are not held in memory. Read them by the `alt_next_..` of their
+   kind, which returns ALT_OK and a row, or ALT_DONE; nothing else may be asked until they are closed. If a query is refused,
+   *rows becomes NULL. */
 typedef struct alt_rows alt_rows;
 
 typedef struct {
@@ -207,14 +238,15 @@ int alt_next_conflict(alt_rows *rows, alt_conflict *conflict);
 int alt_next_alternative(alt_rows *rows, alt_alternative *alternative);
 int alt_next_checkpoint(alt_rows *rows, const char **name);
 
-/* Reads what is left of the rows, and ends them. */
+/* Skips the rows that are left, and ends them; does nothing with NULL. */
 int alt_close_rows(alt_rows *rows);
 
 /* --- writing ahead --------------------------------------------------------------------------------- */
 
-/* A line that is sent ahead is answered when its ticket is taken: so many lines are on their way at once, and each is
-   answered in the order in which it was sent. Tickets may be taken in any order, each once; answers that came before one
-   that is taken are kept until then. `alt_close` forgets those that were not taken. */
+/* A line that is sent ahead returns a ticket, and its answer is taken by that ticket later: many lines are on their way at
+   once, so nobody waits for each answer. The store answers them in the order in which they were sent. Take each ticket once,
+   in any order; in the order of sending it costs least, since an answer that comes before the one that is taken is kept in
+   memory until it is taken itself. Take some thousands of answers before sending more. */
 typedef uint64_t alt_ticket;
 
 int alt_send_put(alt_store *store, const char *alt, alt_key key, const void *bytes, size_t length, alt_ticket *ticket);
@@ -222,9 +254,13 @@ int alt_send_remove(alt_store *store, const char *alt, alt_key key, alt_ticket *
 int alt_send_get(alt_store *store, const char *alt, alt_key key, alt_ticket *ticket);
 int alt_send_commit(alt_store *store, alt_ticket *ticket);
 
-/* The answer to a command that was sent ahead, and to a get. */
+/* Takes the answer to a command, or to a get. What a get has found is lost if the buffer is too small. */
 int alt_take(alt_store *store, alt_ticket ticket);
 int alt_take_value(alt_store *store, alt_ticket ticket, void *buffer, size_t room, size_t *length);
+
+/* Takes all answers that were not taken yet. If commands were refused it returns the refusal of the first one, with its ticket
+   in *refused, which may be NULL; values of gets are dropped. */
+int alt_take_all(alt_store *store, alt_ticket *refused);
 
 #ifdef __cplusplus
 }

@@ -1,40 +1,51 @@
 #!/bin/sh
-# Tests the C client with each compiler and checker that is there: `clients/c/test.sh [PROGRAM]`, with the program that
-# `./altctl` at the top starts where none is given. What isn't there is skipped, with a line that says so.
+# Tests the C client with each compiler and checker that is installed: `clients/c/test.sh [PROGRAM]`; without a PROGRAM it
+# takes the one that `./altctl` at the top starts. With --quick before it the first compiler alone tests it, with its checkers.
+# What is not installed is skipped, with a line that says so.
 set -eu
 
+quick=
+if [ "${1-}" = --quick ]; then
+    quick=yes
+    shift
+fi
 here=$(CDPATH='' cd -- "$(dirname -- "$0")" && pwd)
-program=${1-$here/../../altctl}
+top=$here/../..
+program=${1-$top/altctl}
+service=$top/desk/altserve
 folder=$(mktemp -d)
 trap 'rm -rf "$folder"' EXIT
 failed=0
 count=0
 warnings='-std=c99 -Wall -Wextra -Wpedantic -Werror'
 
-# Runs a command with its output kept, which is shown where it fails.
+# Runs a command, and shows what it said if it fails.
 try() {
     step=$1
     shift
     count=$((count + 1))
     if "$@" >"$folder/output" 2>&1; then
-        echo "ok $step: $(tail -n 1 "$folder/output")"
+        said=$(tail -n 1 "$folder/output")
+        echo "ok $step${said:+: $said}"
     else
         echo "FAILED $step"
         sed 's/^/    /' "$folder/output" | tail -n 40
         failed=$((failed + 1))
+        return 1
     fi
 }
 
-# Builds the tests by a compiler with its options, and runs them under the words behind `--`.
+# Builds the tests by a compiler with its options, and runs them by the words after that.
 tests() {
     name=$1
     compiler=$2
     options=$3
     shift 3
     # shellcheck disable=SC2086
-    try "$name: build" $compiler $warnings $options -o "$folder/tests" "$here/test_altctl.c" "$here/altctl.c" -lpthread
+    try "$name, build" $compiler $warnings $options -o "$folder/tests" "$here/test_altctl.c" "$here/altctl.c" -lpthread || return 0
     mkdir -p "$folder/stores"
-    try "$name" "$@" "$folder/tests" "$program" "$folder/stores"
+    # shellcheck disable=SC2086
+    try "$name" "$@" "$folder/tests" "$program" "$folder/stores" $service || :
 }
 
 has() {
@@ -44,7 +55,7 @@ has() {
     }
 }
 
-# Whether a compiler can link its checkers here.
+# Whether a compiler's checkers can be linked here.
 can_check() {
     echo 'int main(void) { return 0; }' >"$folder/empty.c"
     "$1" -fsanitize=address,undefined -o "$folder/empty" "$folder/empty.c" 2>/dev/null || {
@@ -53,24 +64,39 @@ can_check() {
     }
 }
 
+python3 -c 'import sys; sys.exit(sys.version_info < (3, 9))' 2>/dev/null || {
+    service=
+    echo 'skipped: the tests of a service need Python 3.9'
+}
 for compiler in gcc clang; do
+    if [ -n "$quick" ] && [ "$count" -gt 0 ]; then
+        break
+    fi
     if has "$compiler"; then
-        tests "$compiler" "$compiler" -O2 env
-        ! can_check "$compiler" || tests "$compiler with its checkers" "$compiler" \
-            '-g -fsanitize=address,undefined -fno-sanitize-recover=all' env
+        [ -n "$quick" ] || tests "$compiler" "$compiler" -O2 env
+        if can_check "$compiler"; then
+            checkers='-g -fsanitize=address,undefined -fno-sanitize-recover=all'
+            tests "$compiler with its checkers" "$compiler" "$checkers" env
+            # shellcheck disable=SC2086
+            ! try "$compiler, memory is refused, build" "$compiler" $warnings $checkers -o "$folder/memory" "$here/test_memory.c" -lpthread ||
+                try "$compiler, memory is refused" "$folder/memory" "$program" "$folder/stores" || :
+        fi
     fi
 done
-if has gcc && has valgrind; then
+if [ -z "$quick" ] && has gcc && has valgrind; then
     tests valgrind gcc '-g -O1' valgrind -q --error-exitcode=9 --leak-check=full
 fi
+if [ -z "$quick" ] && has gcc && gcc -fsanitize=thread -o "$folder/empty" "$folder/empty.c" 2>/dev/null; then
+    tests 'gcc with its checker of threads' gcc '-g -O1 -fsanitize=thread' env
+fi
 if has g++; then
-    try 'example in C++: build' sh -c "gcc -std=c99 -c -o '$folder/altctl.o' '$here/altctl.c' &&
-        g++ -std=c++17 -Wall -Wextra -Werror -o '$folder/example' '$here/example.cpp' '$folder/altctl.o' -lpthread"
+    try 'example in C++, build' sh -c "gcc -std=c99 -c -o '$folder/altctl.o' '$here/altctl.c' &&
+        g++ -std=c++11 -Wall -Wextra -Wpedantic -Werror -o '$folder/example' '$here/example.cpp' '$folder/altctl.o'" || :
     "$program" create "$folder/example.alt" 256 >/dev/null
     printf '%s\n' '7:1 is duct 160 PVC here, and duct 125 PVC in the parent' 'merged: 1 record changed' \
         '7 1 duct 160 PVC' '7 2 duct 110 PVC' '7 3 duct 50 HDPE' >"$folder/due"
     try 'example in C++' sh -c "'$folder/example' '$folder/example.alt' '$program' >'$folder/came' &&
-        diff '$folder/due' '$folder/came'"
+        diff '$folder/due' '$folder/came'" || :
 fi
 echo "client in C: $((count - failed)) of $count steps passed"
 [ "$failed" -eq 0 ]

@@ -1,4 +1,5 @@
-/* Tests of the C client over real files: `test_altctl PROGRAM FOLDER`. Each test has a new store of 64 blocks. */
+/* Tests of the C client over real files: `test_altctl PROGRAM FOLDER [SERVICE]`. Each test has a new store of 64 blocks.
+   SERVICE is `desk/altserve`; without it the tests of a service are skipped. */
 #define _GNU_SOURCE
 #include "altctl.h"
 
@@ -10,15 +11,18 @@
 #include <stdlib.h>
 #include <string.h>
 #include <sys/file.h>
+#include <sys/resource.h>
 #include <sys/stat.h>
+#include <sys/time.h>
+#include <sys/wait.h>
 #include <unistd.h>
 
-static const char *program;
+static const char *program, *service;
 static char file[4000];
 static alt_options options;
 static int failures;
 
-/* Notes where two numbers differ that are to be the same. */
+/* Notes two numbers that differ and should not. */
 #define SAME(due, came)                                                                       \
     do {                                                                                      \
         long long due_ = (long long)(due), came_ = (long long)(came);                         \
@@ -96,9 +100,9 @@ static void a_record_is_there_after_a_commit(void)
     SAME(ALT_OK, alt_commit(store));
     SAME(ALT_OK, put(store, "top", 2, "pipe"));
     SAME(ALT_OK, alt_close(store));
-    options.cache = "0";
+    options.cache = ALT_NO_BLOCKS;
     store = opened();
-    options.cache = NULL;
+    options.cache = 0;
     HAS(store, "top", 1, "duct");
     HAS(store, "top", 2, NULL);
     uint64_t blocks;
@@ -125,22 +129,55 @@ static void each_byte_comes_back(void)
     SAME(ALT_SMALL_BUFFER, alt_get(store, "top", key(65535, UINT64_MAX - 5), came, 3999, &length));
     SAME(4000, length);
     SAME(ALT_BAD_WORD, alt_put(store, "top", key(1, 1), bytes, 4001));
+    SAME(ALT_OK, put(store, "top", 1, "Stra\u00DFe 7"));
+    HAS(store, "top", 1, "Stra\u00DFe 7");
+    SAME(ALT_OK, put(store, "top", 2, "~"));
+    HAS(store, "top", 2, "~");
     SAME(ALT_OK, alt_close(store));
 }
 
-static void a_design_is_settled_and_posted(void)
+/* The longest line of an answer: three values of which each byte takes three. */
+static void percent_signs_come_back(void)
 {
+    static char base[ALT_LONGEST_VALUE], parent[ALT_LONGEST_VALUE], mine[ALT_LONGEST_VALUE];
     alt_store *store = opened();
     alt_rows *rows;
-    alt_change change;
     alt_conflict conflict;
-    alt_record record;
-    uint64_t changed = 9;
+    memset(base, '%', sizeof base);
+    memset(parent, '\n', sizeof parent);
+    memset(mine, 0, sizeof mine);
+    SAME(ALT_OK, alt_put(store, "top", key(7, 1), base, sizeof base));
+    SAME(ALT_OK, alt_new(store, "a", "top"));
+    SAME(ALT_OK, alt_put(store, "top", key(7, 1), parent, sizeof parent));
+    SAME(ALT_OK, alt_put(store, "a", key(7, 1), mine, sizeof mine));
+    SAME(ALT_OK, alt_conflicts(store, "a", &rows));
+    SAME(ALT_OK, alt_next_conflict(rows, &conflict));
+    same_value(__LINE__, base, sizeof base, conflict.base);
+    same_value(__LINE__, parent, sizeof parent, conflict.parent);
+    same_value(__LINE__, mine, sizeof mine, conflict.mine);
+    SAME(ALT_DONE, alt_next_conflict(rows, &conflict));
+    SAME(ALT_OK, alt_close_rows(rows));
+    SAME(ALT_OK, alt_close(store));
+}
+
+/* A design `a` under top: both have changed record 1, and top has record 2 besides. */
+static alt_store *with_a_conflict(void)
+{
+    alt_store *store = opened();
     SAME(ALT_OK, put(store, "top", 1, "duct"));
     SAME(ALT_OK, alt_new(store, "a", "top"));
     SAME(ALT_OK, put(store, "top", 1, "pipe"));
     SAME(ALT_OK, put(store, "a", 1, "cable A"));
     SAME(ALT_OK, put(store, "top", 2, "hose"));
+    return store;
+}
+
+static void changes_and_conflicts_are_listed(void)
+{
+    alt_store *store = with_a_conflict();
+    alt_rows *rows;
+    alt_change change;
+    alt_conflict conflict;
     SAME(ALT_OK, alt_changes(store, "a", &rows));
     SAME(ALT_OK, alt_next_change(rows, &change));
     SAME(7, change.key.table);
@@ -156,6 +193,16 @@ static void a_design_is_settled_and_posted(void)
     SAME_VALUE("pipe", conflict.parent);
     SAME_VALUE("cable A", conflict.mine);
     SAME(ALT_OK, alt_close_rows(rows));
+    SAME(ALT_OK, alt_close(store));
+}
+
+static void a_design_is_settled_and_posted(void)
+{
+    alt_store *store = with_a_conflict();
+    alt_rows *rows;
+    alt_change change;
+    alt_record record;
+    uint64_t changed = 9;
     SAME(ALT_NOT_MERGED, alt_post(store, "a"));
     SAME(ALT_UNSETTLED, alt_merge(store, "a", NULL, 0, &changed));
     SAME(1, alt_detail(store)->count);
@@ -231,15 +278,102 @@ static void a_store_grows(void)
 static void what_is_no_word_is_not_sent(void)
 {
     alt_store *store = opened();
-    const char *words[] = {"", "a b", "a\ncommit", "\xC3\xA4"};
+    const char *words[] = {NULL, "", "a b", "a\ncommit", "\xC3\xA4"};
     for (size_t at = 0; at < sizeof words / sizeof *words; at++)
         SAME(ALT_BAD_WORD, alt_new(store, words[at], "top"));
     SAME(ALT_BAD_LINE, alt_new(store, "a+b", "top"));
+    SAME(ALT_BAD_LINE, alt_new(store, "a23456789012345678901234567890123", "top"));
     SAME(ALT_OK, alt_new(store, "a.b", "top"));
     SAME(ALT_OK, alt_close(store));
 }
 
-/* So many lines that neither pipe could take them, or their answers, at once. */
+static void refusals_have_their_numbers(void)
+{
+    enum { MANY = 120000 };
+    alt_store *store = opened();
+    alt_settlement twice[] = {{key(7, 1), ALT_MINE}, {key(7, 1), ALT_THEIRS}};
+    alt_settlement *many = calloc(MANY, sizeof *many);
+    SAME(ALT_OK, put(store, "top", 1, "duct"));
+    SAME(ALT_OK, alt_new(store, "a", "top"));
+    SAME(ALT_OK, alt_new(store, "b", "a"));
+    SAME(ALT_ALTERNATIVE_EXISTS, alt_new(store, "b", "top"));
+    SAME(ALT_HAS_CHILDREN, alt_drop(store, "a"));
+    SAME(ALT_OK, alt_checkpoint(store, "a", "before"));
+    SAME(ALT_CHECKPOINT_EXISTS, alt_checkpoint(store, "a", "before"));
+    SAME(ALT_OK, put(store, "top", 1, "pipe"));
+    SAME(ALT_OK, put(store, "a", 1, "hose"));
+    SAME(ALT_SETTLED_TWICE, alt_merge(store, "a", twice, 2, NULL));
+    SAME(7, alt_detail(store)->key.table);
+    SAME(1, alt_detail(store)->key.number);
+    SAME(ALT_LONG_LINE, alt_merge(store, "a", many, MANY, NULL));
+    free(many);
+    char value[ALT_LONGEST_VALUE] = "";
+    int error = ALT_OK;
+    for (uint64_t number = 1; error == ALT_OK && number < 64; number++)
+        error = alt_put(store, "top", key(8, number), value, sizeof value);
+    SAME(ALT_FULL, error);
+    SAME_TEXT("13 Full", alt_error_text(store, error));
+    error = ALT_OK;
+    for (int at = 0; error == ALT_OK && at < 512; at++) {
+        char name[16];
+        snprintf(name, sizeof name, "at%d", at);
+        error = alt_checkpoint(store, "top", name);
+    }
+    SAME(ALT_TOO_MANY, error);
+    SAME(ALT_OK, alt_close(store));
+}
+
+static void errors_have_names(void)
+{
+    SAME_TEXT("ok", alt_error_name(ALT_OK));
+    SAME_TEXT("NoSuchAlternative", alt_error_name(ALT_NO_SUCH_ALTERNATIVE));
+    SAME_TEXT("LongLine", alt_error_name(ALT_LONG_LINE));
+    SAME_TEXT("Denied", alt_error_name(ALT_DENIED));
+    SAME_TEXT("TooManyPlanners", alt_error_name(ALT_TOO_MANY_PLANNERS));
+    SAME_TEXT("ALT_DONE", alt_error_name(ALT_DONE));
+    SAME_TEXT("ALT_IN_BATCH", alt_error_name(ALT_IN_BATCH));
+    SAME_TEXT("unknown", alt_error_name(24));
+    SAME_TEXT("unknown", alt_error_name(101));
+    SAME_TEXT("unknown", alt_error_name(-14));
+    SAME_TEXT("another process has locked the file", alt_error_text(NULL, ALT_IN_USE));
+    errno = ENOENT;
+    SAME_TEXT("No such file or directory", alt_error_text(NULL, ALT_SYSTEM));
+}
+
+static void rows_may_be_left_unread(void)
+{
+    enum { MANY = 300 };
+    alt_store *store = opened();
+    alt_rows *rows;
+    alt_record record;
+    SAME(ALT_OK, alt_grow(store, 1024));
+    for (uint64_t number = 0; number < MANY; number++)
+        SAME(ALT_OK, put(store, "top", number, "duct"));
+    SAME(ALT_OK, alt_list(store, "top", &rows));
+    SAME(ALT_OK, alt_close_rows(rows));
+    SAME(ALT_OK, alt_close_rows(rows));
+    SAME(ALT_OK, alt_list(store, "top", &rows));
+    SAME(ALT_OK, alt_next_record(rows, &record));
+    SAME(0, record.key.number);
+    SAME(ALT_OK, alt_close_rows(rows));
+    SAME(ALT_BAD_ANSWER, alt_next_record(rows, &record));
+    HAS(store, "top", MANY - 1, "duct");
+    SAME(ALT_NO_SUCH_ALTERNATIVE, alt_list(store, "b", &rows));
+    SAME(1, rows == NULL);
+    SAME(ALT_OK, alt_close_rows(rows));
+    uint64_t count = 0;
+    SAME(ALT_OK, alt_list(store, "top", &rows));
+    for (; alt_next_record(rows, &record) == ALT_OK; count++)
+        SAME(count, record.key.number);
+    SAME(MANY, count);
+    SAME(ALT_OK, alt_close_rows(rows));
+    /* The store can be closed in the middle of rows. */
+    SAME(ALT_OK, alt_commit(store));
+    SAME(ALT_OK, alt_list(store, "top", &rows));
+    SAME(ALT_OK, alt_close(store));
+}
+
+/* More lines than either pipe could hold, and more answers. */
 static void lines_are_sent_ahead(void)
 {
     enum { MANY = 5000 };
@@ -277,10 +411,95 @@ static void lines_are_sent_ahead(void)
     SAME(ALT_OK, alt_close(store));
 }
 
+static void wake(int signal)
+{
+    (void)signal;
+}
+
+/* While a signal interrupts each call of the system again and again. */
+static void a_hundred_thousand_lines_are_sent_ahead(void)
+{
+    enum { MANY = 100000 };
+    static alt_ticket tickets[MANY];
+    struct sigaction woken = {.sa_handler = wake};
+    struct itimerval often = {{0, 2000}, {0, 2000}}, never = {{0, 0}, {0, 0}};
+    alt_store *store = opened();
+    sigaction(SIGALRM, &woken, NULL);
+    setitimer(ITIMER_REAL, &often, NULL);
+    for (int at = 0; at < MANY; at++) {
+        char value[16];
+        int length = snprintf(value, sizeof value, "%d", at);
+        SAME(ALT_OK, alt_send_put(store, "top", key(7, at % 10), value, (size_t)length, &tickets[at]));
+    }
+    /* From both ends to the middle. */
+    for (int at = 0; at < MANY / 2; at++) {
+        SAME(ALT_OK, alt_take(store, tickets[at]));
+        SAME(ALT_OK, alt_take(store, tickets[MANY - 1 - at]));
+    }
+    setitimer(ITIMER_REAL, &never, NULL);
+    SAME(ALT_NO_SUCH_TICKET, alt_take(store, tickets[MANY / 2]));
+    HAS(store, "top", 3, "99993");
+    SAME(ALT_OK, alt_close(store));
+}
+
+/* Of three answers one is left each time, so those that were taken lie between those that wait. */
+static void some_answers_are_left(void)
+{
+    enum { MANY = 200 };
+    alt_ticket left[MANY], second, third;
+    alt_store *store = opened();
+    for (uint64_t number = 0; number < MANY; number++) {
+        SAME(ALT_OK, alt_send_put(store, "top", key(7, number % 10), number % 7 ? "duct" : "pipe", 4, &third));
+        SAME(ALT_OK, alt_send_get(store, "top", key(7, number % 10), &left[number]));
+        SAME(ALT_OK, alt_send_remove(store, "top", key(8, number), &second));
+        SAME(ALT_OK, alt_send_commit(store, &third));
+        SAME(ALT_OK, alt_take(store, third));
+        SAME(ALT_NO_SUCH_RECORD, alt_take(store, second));
+    }
+    for (uint64_t number = MANY; number-- > 0;) {
+        char value[4];
+        size_t length = 0;
+        SAME(ALT_OK, alt_take_value(store, left[number], value, sizeof value, &length));
+        SAME(4, length);
+        SAME(0, memcmp(value, number % 7 ? "duct" : "pipe", 4));
+        SAME(ALT_NO_SUCH_TICKET, alt_take_value(store, left[number], value, sizeof value, &length));
+    }
+    SAME(ALT_OK, alt_take_all(store, NULL));
+    SAME(ALT_OK, alt_close(store));
+}
+
+static void all_answers_are_taken(void)
+{
+    alt_store *store = opened();
+    alt_ticket first, second, third, refused = 0;
+    SAME(ALT_OK, alt_take_all(store, &refused));
+    SAME(ALT_OK, alt_send_put(store, "top", key(7, 1), "duct", 4, &first));
+    SAME(ALT_OK, alt_send_get(store, "top", key(7, 2), &second));
+    SAME(ALT_OK, alt_take_all(store, NULL));
+    SAME(ALT_NO_SUCH_TICKET, alt_take(store, first));
+    SAME(ALT_OK, alt_send_put(store, "top", key(7, 1), "duct", 4, &first));
+    SAME(ALT_OK, alt_send_remove(store, "top", key(7, 9), &second));
+    SAME(ALT_OK, alt_send_put(store, "b", key(7, 1), "duct", 4, &third));
+    SAME(ALT_NO_SUCH_ALTERNATIVE, alt_take(store, third));
+    SAME(ALT_NO_SUCH_RECORD, alt_take_all(store, &refused));
+    SAME(second, refused);
+    SAME_TEXT("NoSuchRecord", alt_detail(store)->name);
+    SAME(0, refused == first);
+    SAME(ALT_OK, alt_close(store));
+}
+
 static void *puts_from_elsewhere(void *store)
 {
     static int error;
     error = put(store, "top", 1, "duct");
+    return &error;
+}
+
+static void *adopts(void *store)
+{
+    static int error;
+    alt_adopt(store);
+    error = put(store, "top", 1, "pipe");
     return &error;
 }
 
@@ -293,44 +512,291 @@ static void a_store_has_one_owner(void)
     SAME(0, pthread_join(thread, &came));
     SAME(ALT_WRONG_THREAD, *(int *)came);
     HAS(store, "top", 1, NULL);
+    SAME(0, pthread_create(&thread, NULL, adopts, store));
+    SAME(0, pthread_join(thread, &came));
+    SAME(ALT_OK, *(int *)came);
+    SAME(ALT_WRONG_THREAD, put(store, "top", 1, "hose"));
     alt_adopt(store);
-    SAME(ALT_OK, put(store, "top", 1, "pipe"));
+    pid_t forked = fork();
+    if (forked == 0)
+        _exit(put(store, "top", 1, "hose") != ALT_WRONG_THREAD || alt_close(store) != ALT_WRONG_THREAD);
+    int status = -1;
+    SAME(forked, waitpid(forked, &status, 0));
+    SAME(0, status);
+    SAME(0, pthread_create(&thread, NULL, adopts, store));
+    SAME(0, pthread_join(thread, &came));
+    SAME_TEXT("another thread or process owns the store", alt_error_text(store, ALT_WRONG_THREAD));
+    SAME(ALT_WRONG_THREAD, alt_close(store));
+    alt_adopt(store);
+    HAS(store, "top", 1, "pipe");
     SAME(ALT_OK, alt_close(store));
 }
 
-/* The number of the one process that has the file open: the program. */
-static long program_of(void)
+static void *closes_later(void *store)
 {
-    char command[5000], digits[64] = "";
-    snprintf(command, sizeof command, "fuser '%s' 2>/dev/null", file);
-    FILE *told = popen(command, "r");
-    if (told == NULL || fgets(digits, sizeof digits, told) == NULL)
-        digits[0] = 0;
-    if (told != NULL)
-        pclose(told);
-    return strtol(digits, NULL, 10);
+    alt_adopt(store);
+    usleep(100000);
+    SAME(ALT_OK, alt_close(store));
+    return NULL;
+}
+
+static void an_opening_may_wait_for_the_lock(void)
+{
+    alt_store *store = opened();
+    alt_options waits = options;
+    pthread_t thread;
+    SAME(ALT_OK, put(store, "top", 1, "duct"));
+    SAME(ALT_OK, alt_commit(store));
+    SAME(ALT_IN_USE, alt_open(&(alt_store *){NULL}, file, &options));
+    SAME(0, pthread_create(&thread, NULL, closes_later, store));
+    waits.wait = 1;
+    SAME(ALT_OK, alt_open(&store, file, &waits));
+    SAME(0, pthread_join(thread, NULL));
+    HAS(store, "top", 1, "duct");
+    SAME(ALT_OK, alt_close(store));
+}
+
+/* The program of the one store that is open: the only child of this thread. 0 if the system doesn't tell. */
+static pid_t program_of(void)
+{
+    long found = 0;
+    FILE *children = fopen("/proc/thread-self/children", "r");
+    if (children == NULL || fscanf(children, "%ld", &found) != 1)
+        puts("skipped: the system doesn't tell which children a process has");
+    if (children != NULL)
+        fclose(children);
+    return (pid_t)found;
 }
 
 static void a_kill_is_told_and_loses_no_commit(void)
 {
     alt_store *store = opened();
-    SAME(ALT_OK, put(store, "top", 1, "duct"));
-    SAME(ALT_OK, alt_commit(store));
+    alt_ticket ahead, committed;
+    uint64_t blocks;
+    pid_t found = program_of();
+    /* An interrupt from the terminal reaches the caller alone. */
+    SAME(found, found > 0 ? getpgid(found) : found);
+    SAME(ALT_OK, alt_send_put(store, "top", key(7, 1), "duct", 4, &ahead));
+    SAME(ALT_OK, alt_send_commit(store, &committed));
+    SAME(ALT_OK, alt_free_blocks(store, &blocks));
     SAME(ALT_OK, put(store, "top", 2, "pipe"));
-    long found = program_of();
-    if (found <= 0) {
-        puts("skipped: no `fuser` that finds the program");
-        alt_close(store);
-        return;
+    if (found > 0) {
+        SAME(0, kill(found, SIGKILL));
+        SAME(ALT_ENDED, alt_commit(store));
+        SAME(-SIGKILL, alt_detail(store)->status);
+        /* Answers that came before it can be taken. */
+        SAME(ALT_OK, alt_take(store, ahead));
+        SAME(ALT_OK, alt_take(store, committed));
+        SAME(ALT_ENDED, put(store, "top", 3, "hose"));
+        SAME(-SIGKILL, alt_detail(store)->status);
+        SAME_TEXT("the program ended with status -9", alt_error_text(store, ALT_ENDED));
     }
-    SAME(0, kill((pid_t)found, SIGKILL));
-    SAME(ALT_ENDED, alt_commit(store));
-    SAME(-SIGKILL, alt_detail(store)->status);
-    SAME(ALT_ENDED, put(store, "top", 3, "hose"));
-    SAME(ALT_ENDED, alt_close(store));
+    SAME(found > 0 ? ALT_ENDED : ALT_OK, alt_close(store));
     store = opened();
     HAS(store, "top", 1, "duct");
     HAS(store, "top", 2, NULL);
+    SAME(ALT_OK, alt_close(store));
+}
+
+/* A kill at some moment of many commits: each that was answered is in the file, and nothing after the next one. */
+static void a_kill_among_commits_loses_none(void)
+{
+    for (int milliseconds = 5; milliseconds <= 45; milliseconds += 20) {
+        alt_store *store = opened();
+        pid_t found = program_of(), killer = found > 0 ? fork() : -1;
+        uint64_t number = 0, shown = 0;
+        int error = ALT_OK;
+        if (killer == 0) {
+            usleep((useconds_t)milliseconds * 1000);
+            _exit(kill(found, SIGKILL) != 0);
+        }
+        while (killer > 0 && error == ALT_OK) {
+            char value[24];
+            snprintf(value, sizeof value, "%llu", (unsigned long long)++number);
+            error = put(store, "top", 1, value);
+            if (error == ALT_OK)
+                error = alt_commit(store);
+        }
+        SAME(killer > 0 ? ALT_ENDED : ALT_OK, error);
+        alt_close(store);
+        SAME(killer, waitpid(killer, NULL, 0));
+        store = opened();
+        char value[24] = "";
+        size_t length;
+        error = alt_get(store, "top", key(7, 1), value, sizeof value - 1, &length);
+        shown = error == ALT_OK ? strtoull(value, NULL, 10) : 0;
+        SAME(1, shown == number || shown + 1 == number || (number == 1 && shown >= 1));
+        SAME(ALT_OK, alt_close(store));
+    }
+}
+
+/* A caller that is killed leaves a program behind, which ends at once: no lock stays, and what was committed does. */
+static void a_killed_caller_leaves_no_lock(void)
+{
+    alt_store *store;
+    alt_options waits = options;
+    pid_t caller = fork();
+    if (caller == 0) {
+        store = opened();
+        if (put(store, "top", 1, "duct") == ALT_OK && alt_commit(store) == ALT_OK && put(store, "top", 2, "pipe") == ALT_OK)
+            kill(getpid(), SIGKILL);
+        _exit(1);
+    }
+    int status = 0;
+    SAME(caller, waitpid(caller, &status, 0));
+    SAME(SIGKILL, WIFSIGNALED(status) ? WTERMSIG(status) : 0);
+    waits.wait = 1;
+    SAME(ALT_OK, alt_open(&store, file, &waits));
+    HAS(store, "top", 1, "duct");
+    HAS(store, "top", 2, NULL);
+    SAME(ALT_OK, alt_close(store));
+}
+
+static void a_caller_may_have_closed_its_streams(void)
+{
+    pid_t caller = fork();
+    if (caller == 0) {
+        alt_store *store;
+        for (int stream = 0; stream < 3; stream++)
+            close(stream);
+        int error = alt_open(&store, file, &options);
+        if (error == ALT_OK && alt_open(&(alt_store *){NULL}, file, &options) != ALT_IN_USE)
+            error = ALT_IN_USE;
+        if (error == ALT_OK)
+            error = put(store, "top", 1, "duct");
+        if (error == ALT_OK)
+            error = alt_commit(store);
+        if (error == ALT_OK)
+            error = alt_close(store);
+        _exit(error != ALT_OK);
+    }
+    int status = 0;
+    SAME(caller, waitpid(caller, &status, 0));
+    SAME(0, status);
+    alt_store *store = opened();
+    HAS(store, "top", 1, "duct");
+    SAME(ALT_OK, alt_close(store));
+}
+
+/* A disk that fails, which a limit on the size of files stands for: the growth is refused, and the program ends. */
+static void a_failing_disk_is_told(void)
+{
+    struct rlimit before, low;
+    alt_store *store;
+    getrlimit(RLIMIT_FSIZE, &before);
+    low = before;
+    low.rlim_cur = 100 * 4096;
+    signal(SIGXFSZ, SIG_IGN);
+    setrlimit(RLIMIT_FSIZE, &low);
+    int error = alt_open(&store, file, &options);
+    setrlimit(RLIMIT_FSIZE, &before);
+    signal(SIGXFSZ, SIG_DFL);
+    SAME(ALT_OK, error);
+    SAME(ALT_OK, put(store, "top", 1, "duct"));
+    SAME(ALT_OK, alt_commit(store));
+    SAME(ALT_DEVICE, alt_grow(store, 128));
+    SAME(ALT_ENDED, put(store, "top", 2, "pipe"));
+    SAME(3, alt_detail(store)->status);
+    SAME_TEXT("the program ended with status 3: altctl: stopped", alt_error_text(store, ALT_ENDED));
+    SAME(ALT_ENDED, alt_close(store));
+    store = opened();
+    HAS(store, "top", 1, "duct");
+    SAME(ALT_OK, alt_close(store));
+}
+
+static void rows_end_with_the_program(void)
+{
+    alt_store *store = opened();
+    alt_rows *rows;
+    alt_record record;
+    char value[ALT_LONGEST_VALUE] = "";
+    pid_t found = program_of();
+    SAME(ALT_OK, alt_grow(store, 65536));
+    for (uint64_t number = 0; number < 200; number++)
+        SAME(ALT_OK, alt_put(store, "top", key(7, number), value, sizeof value));
+    SAME(ALT_OK, alt_list(store, "top", &rows));
+    if (found > 0) {
+        int error = ALT_OK;
+        uint64_t count = 0;
+        /* 200 rows of 12,000 bytes are more than the socket holds, so the program is in the middle of them. */
+        SAME(0, kill(found, SIGKILL));
+        while ((error = alt_next_record(rows, &record)) == ALT_OK)
+            SAME(count++, record.key.number);
+        SAME(ALT_ENDED, error);
+        SAME(1, count < 200);
+        SAME(ALT_ENDED, alt_close_rows(rows));
+    }
+    SAME(found > 0 ? ALT_ENDED : ALT_OK, alt_close(store));
+}
+
+static void a_file_may_have_any_name(void)
+{
+    const char *names[] = {"Stra\u00DFe 7.alt", "--cache", " %20\n"};
+    for (size_t at = 0; at < sizeof names / sizeof *names; at++) {
+        char path[4200];
+        alt_store *store;
+        snprintf(path, sizeof path, "%.*s%s", (int)(strrchr(file, '/') + 1 - file), file, names[at]);
+        SAME(ALT_OK, alt_create(path, 64, &options));
+        SAME(ALT_OK, alt_open(&store, path, &options));
+        SAME(ALT_OK, put(store, "top", 1, "duct"));
+        SAME(ALT_OK, alt_close(store));
+        SAME(0, unlink(path));
+    }
+    /* The program takes names in UTF-8 alone. */
+    SAME(ALT_CANNOT_CREATE, alt_create("\xFF.alt", 64, &options));
+}
+
+/* A program that answers the opening, then the lines that come with `answers`, and ends. */
+static alt_store *answered(const char *answers)
+{
+    char path[4200];
+    alt_store *store;
+    alt_options other = options;
+    snprintf(path, sizeof path, "%s.sh", file);
+    FILE *script = fopen(path, "w");
+    fprintf(script, "#!/bin/sh\nread -r line; echo free 9\nread -r line; printf '%s'\n", answers);
+    fclose(script);
+    chmod(path, 0755);
+    other.program = path;
+    SAME(ALT_OK, alt_open(&store, file, &other));
+    unlink(path);
+    return store;
+}
+
+static void other_answers_are_told(void)
+{
+    const char *to_gets[] = {"nonsense\\n", "\\n", "value\\n", "error\\n", "error x y\\n", "error 5\\n", "error 0 Ok\\n"};
+    const char *to_lists[] = {"record\\n", "record 7\\n", "record 7 1\\n", "record 7 1 duct pipe\\n", "nonsense\\n"};
+    char value[8];
+    size_t length;
+    alt_rows *rows;
+    alt_record record;
+    for (size_t at = 0; at < sizeof to_gets / sizeof *to_gets; at++) {
+        alt_store *store = answered(to_gets[at]);
+        int error = alt_get(store, "top", key(7, 1), value, sizeof value, &length);
+        /* What only begins like a refusal is none. */
+        SAME(ALT_BAD_ANSWER, error);
+        alt_close(store);
+    }
+    for (size_t at = 0; at < sizeof to_lists / sizeof *to_lists; at++) {
+        alt_store *store = answered(to_lists[at]);
+        SAME(ALT_OK, alt_list(store, "top", &rows));
+        SAME(ALT_BAD_ANSWER, alt_next_record(rows, &record));
+        SAME(ALT_ENDED, alt_close_rows(rows));
+        alt_close(store);
+    }
+    alt_store *store = answered("value %%4\\n");
+    SAME(ALT_OK, alt_get(store, "top", key(7, 1), value, sizeof value, &length));
+    SAME(ALT_OK, alt_close(store));
+    store = answered("value half");
+    SAME(ALT_ENDED, alt_get(store, "top", key(7, 1), value, sizeof value, &length));
+    SAME(ALT_OK, alt_close(store));
+    store = answered("record 7 1 duct\\nerror 18 Damaged 34\\n");
+    SAME(ALT_OK, alt_list(store, "top", &rows));
+    SAME(ALT_OK, alt_next_record(rows, &record));
+    SAME(ALT_DAMAGED, alt_next_record(rows, &record));
+    SAME(34, alt_detail(store)->count);
+    SAME(ALT_DAMAGED, alt_close_rows(rows));
     SAME(ALT_OK, alt_close(store));
 }
 
@@ -344,15 +810,11 @@ static void what_cannot_be_opened_is_told(void)
     SAME(ALT_IN_USE, alt_open(&second, file, &options));
     SAME(ALT_OK, alt_close(store));
     alt_options wrong = {.program = "/nowhere/altctl"};
-    /* Where the system can't tell at once that there is no such program, it ends at once. */
-    int error = alt_open(&store, file, &wrong);
-    if (error == ALT_ENDED)
-        SAME(127, alt_detail(store)->status);
-    else
-        SAME(ALT_SYSTEM, error);
+    SAME(ALT_NO_PROGRAM, alt_open(&store, file, &wrong));
+    SAME(ENOENT, errno);
     alt_close(store);
     wrong = options;
-    wrong.cache = "many";
+    wrong.cache = 65537;
     SAME(ALT_ENDED, alt_open(&store, file, &wrong));
     SAME(2, alt_detail(store)->status);
     SAME(ALT_ENDED, alt_close(store));
@@ -370,35 +832,193 @@ static void what_cannot_be_opened_is_told(void)
     SAME(ALT_OK, alt_close(NULL));
 }
 
-#define TEST(name) {#name, name}
+/* --- behind a service ------------------------------------------------------------------------------- */
+
+/* Starts the service over the file, and connects to it. */
+static alt_store *served(pid_t *started)
+{
+    char address[4100];
+    alt_store *store = NULL;
+    int error = ALT_SYSTEM;
+    snprintf(address, sizeof address, "unix:%s.sock", file);
+    *started = fork();
+    if (*started == 0) {
+        freopen("/dev/null", "w", stderr);
+        execl(service, service, "--program", program, file, (char *)NULL);
+        _exit(127);
+    }
+    for (int tries = 0; error == ALT_SYSTEM && tries < 1000 && waitpid(*started, NULL, WNOHANG) == 0; tries++) {
+        usleep(20000);
+        error = alt_open(&store, address, NULL);
+    }
+    if (error != ALT_OK) {
+        printf("%s cannot be reached: %s\n", address, alt_error_text(store, error));
+        kill(*started, SIGKILL);
+        exit(1);
+    }
+    return store;
+}
+
+static void end_service(pid_t started)
+{
+    int status = 0;
+    char name[4100];
+    SAME(0, kill(started, SIGTERM));
+    SAME(started, waitpid(started, &status, 0));
+    SAME(0, status);
+    snprintf(name, sizeof name, "%s.journal", file);
+    SAME(0, unlink(name));
+}
+
+static void a_service_commits_each_change(void)
+{
+    pid_t started;
+    alt_store *store = served(&started);
+    alt_rows *rows;
+    alt_record record;
+    alt_ticket tickets[2];
+    char value[8];
+    size_t length = 0;
+    SAME(ALT_OK, alt_new(store, "north", "top"));
+    SAME(ALT_OK, alt_send_put(store, "north", key(7, 1), "duct", 4, &tickets[0]));
+    SAME(ALT_OK, alt_send_get(store, "north", key(7, 1), &tickets[1]));
+    SAME(ALT_OK, alt_take_value(store, tickets[1], value, sizeof value, &length));
+    SAME(4, length);
+    SAME(ALT_OK, alt_take(store, tickets[0]));
+    SAME(ALT_OK, alt_commit(store));
+    SAME(ALT_DENIED, alt_put(store, ".service", key(7, 1), "duct", 4));
+    SAME_TEXT("90 Denied change .service", alt_error_text(store, ALT_DENIED));
+    SAME(ALT_OK, alt_list(store, "north", &rows));
+    SAME(ALT_OK, alt_next_record(rows, &record));
+    SAME_VALUE("duct", record.value);
+    SAME(ALT_OK, alt_close_rows(rows));
+    SAME(ALT_OK, alt_close(store));
+    end_service(started);
+    store = opened();
+    HAS(store, "north", 1, "duct");
+    SAME(ALT_OK, alt_close(store));
+}
+
+static void a_batch_is_made_as_a_whole(void)
+{
+    pid_t started;
+    alt_store *store = served(&started);
+    alt_rows *rows;
+    alt_ticket ticket;
+    uint64_t changed = 9;
+    SAME(ALT_OK, alt_begin(store));
+    SAME(ALT_IN_BATCH, alt_begin(store));
+    SAME(ALT_OK, alt_new(store, "north", "top"));
+    SAME(ALT_OK, put(store, "north", 1, "duct"));
+    SAME(ALT_IN_BATCH, alt_list(store, "north", &rows));
+    SAME(ALT_IN_BATCH, alt_send_remove(store, "north", key(7, 1), &ticket));
+    SAME(ALT_IN_BATCH, alt_take_all(store, NULL));
+    SAME(ALT_OK, alt_merge(store, "north", NULL, 0, &changed));
+    SAME(0, changed);
+    SAME(ALT_OK, alt_post(store, "north"));
+    SAME(ALT_OK, alt_commit(store));
+    HAS(store, "top", 1, "duct");
+    SAME(ALT_OK, alt_begin(store));
+    SAME(ALT_OK, alt_commit(store));
+    SAME(ALT_OK, alt_close(store));
+    end_service(started);
+    store = opened();
+    HAS(store, "top", 1, "duct");
+    SAME(ALT_BAD_LINE, alt_begin(store));
+    SAME(ALT_OK, put(store, "top", 2, "hose"));
+    SAME(ALT_OK, alt_close(store));
+}
+
+static void a_batch_may_be_refused_or_forgotten(void)
+{
+    pid_t started;
+    alt_store *store = served(&started);
+    SAME(ALT_OK, alt_begin(store));
+    SAME(ALT_OK, put(store, "top", 2, "hose"));
+    SAME(ALT_OK, alt_remove(store, "top", key(7, 9)));
+    SAME(ALT_OK, put(store, "top", 3, "hose"));
+    SAME(ALT_NO_SUCH_RECORD, alt_commit(store));
+    SAME(2, alt_detail(store)->line);
+    SAME_TEXT("5 NoSuchRecord", alt_error_text(store, ALT_NO_SUCH_RECORD));
+    HAS(store, "top", 2, NULL);
+    SAME(ALT_OK, alt_begin(store));
+    SAME(ALT_OK, put(store, "top", 2, "pipe"));
+    SAME(ALT_OK, alt_abort(store));
+    HAS(store, "top", 2, NULL);
+    SAME(ALT_OK, alt_begin(store));
+    SAME(ALT_OK, put(store, "top", 2, "pipe"));
+    SAME(ALT_OK, alt_close(store));
+    end_service(started);
+    store = opened();
+    HAS(store, "top", 2, NULL);
+    SAME(ALT_OK, alt_close(store));
+}
+
+static void the_end_of_a_service_is_told(void)
+{
+    pid_t started;
+    alt_store *store = served(&started);
+    SAME(ALT_OK, put(store, "top", 1, "duct"));
+    end_service(started);
+    SAME(ALT_ENDED, put(store, "top", 2, "duct"));
+    SAME_TEXT("the service has closed the connection", alt_error_text(store, ALT_ENDED));
+    SAME(ALT_OK, alt_close(store));
+}
+
+#define TEST(name) {#name, name, 0}
+#define SERVED(name) {#name, name, 1}
 
 static const struct {
     const char *name;
     void (*run)(void);
+    int needs_service;
 } tests[] = {
     TEST(a_record_is_there_after_a_commit),
     TEST(each_byte_comes_back),
+    TEST(percent_signs_come_back),
+    TEST(changes_and_conflicts_are_listed),
     TEST(a_design_is_settled_and_posted),
     TEST(names_are_listed),
     TEST(a_store_grows),
     TEST(what_is_no_word_is_not_sent),
+    TEST(refusals_have_their_numbers),
+    TEST(errors_have_names),
+    TEST(rows_may_be_left_unread),
     TEST(lines_are_sent_ahead),
+    TEST(a_hundred_thousand_lines_are_sent_ahead),
+    TEST(some_answers_are_left),
+    TEST(all_answers_are_taken),
     TEST(a_store_has_one_owner),
+    TEST(an_opening_may_wait_for_the_lock),
     TEST(a_kill_is_told_and_loses_no_commit),
+    TEST(a_kill_among_commits_loses_none),
+    TEST(a_killed_caller_leaves_no_lock),
+    TEST(a_caller_may_have_closed_its_streams),
+    TEST(a_failing_disk_is_told),
+    TEST(rows_end_with_the_program),
+    TEST(a_file_may_have_any_name),
+    TEST(other_answers_are_told),
     TEST(what_cannot_be_opened_is_told),
+    SERVED(a_service_commits_each_change),
+    SERVED(a_batch_is_made_as_a_whole),
+    SERVED(a_batch_may_be_refused_or_forgotten),
+    SERVED(the_end_of_a_service_is_told),
 };
 
 int main(int count, char **words)
 {
-    if (count != 3) {
-        fputs("usage: test_altctl PROGRAM FOLDER\n", stderr);
+    if (count != 3 && count != 4) {
+        fputs("usage: test_altctl PROGRAM FOLDER [SERVICE]\n", stderr);
         return 2;
     }
     setvbuf(stdout, NULL, _IONBF, 0);
     program = words[1];
     options.program = program;
+    service = count == 4 ? words[3] : NULL;
     snprintf(file, sizeof file, "%s/map.alt", words[2]);
     for (size_t at = 0; at < sizeof tests / sizeof *tests; at++) {
+        if (tests[at].needs_service && service == NULL)
+            continue;
         unlink(file);
         if (alt_create(file, 64, &options) != ALT_OK) {
             printf("%s cannot be made\n", file);
@@ -409,6 +1029,6 @@ int main(int count, char **words)
         printf("%s %s\n", failures == before ? "ok" : "FAILED", tests[at].name);
     }
     unlink(file);
-    printf("%zu tests, %d failures\n", sizeof tests / sizeof *tests, failures);
+    printf("%zu tests%s, %d failures\n", sizeof tests / sizeof *tests, service == NULL ? " but those of a service" : "", failures);
     return failures > 0;
 }
