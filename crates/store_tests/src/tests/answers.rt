@@ -1,168 +1,179 @@
 //! What an open store answers to a step of a script, as text.
-use super::words::command;
+use super::words::{Wrong, command, key, many_of, name, number, value};
 use std::alloc::Global;
 use std::fmt;
-use testkit::{Reply, Wrong, key, many_of, name, number, value};
 use vm_disk::Disk;
 use vm_store::{Stop, Store};
-use vm_types::{Answer, Command, Key, Value};
+use vm_types::{Answer, Command, Key, Refusal, Value};
 
-/// The bytes of a value, or none, as a script shows them: `~` for none, `''` for the value without bytes,
-/// `61*300` for so many bytes of one kind.
+/// A value, or none, as a script shows it: `~` for none, `''` for the one without bytes, `61*300` for so
+/// many bytes of one kind.
 #[derive(Clone, Copy)]
-struct Shown<'a>(Option<&'a [u8]>);
+struct Shown(Option<Value>);
 
-impl fmt::Display for Shown<'_> {
+impl fmt::Display for Shown {
     fn fmt<W: fmt::Write>(&self, f: &mut fmt::Formatter<W>) -> fmt::Result {
-        let Some(bytes) = self.0 else {
+        let Some(value) = &self.0 else {
             return f.write_str("~");
         };
-        if bytes.is_empty() {
+        if value.as_bytes().is_empty() {
             return f.write_str("''");
         }
-        if let Some(byte) = many_of(bytes) {
-            return write!(f, "{byte:02X}*{}", bytes.len());
+        if let Some(byte) = many_of(value.as_bytes()) {
+            return write!(f, "{byte:02X}*{}", value.as_bytes().len());
         }
-        for byte in bytes {
+        for byte in value.as_bytes() {
             f.write_char(char::from(*byte))?;
         }
         Ok(())
     }
 }
 
-fn add_value<D: Disk>(
-    store: &mut Store<D>,
-    alt: &str,
-    at: &str,
-    text: &mut String,
-) -> Result<(), Wrong> {
-    match store.get(&name(alt)?, key(at)?)? {
-        Some(found) => write!(text, "{}", Shown(Some(found.as_bytes())))?,
-        None => text.push_str("~")?,
+/// The value of these bytes, or none, to be shown.
+fn value_of(bytes: Option<&[u8]>) -> Shown {
+    Shown(bytes.and_then(Value::new))
+}
+
+/// What a call is answered: a text, or a refusal.
+type Given = Result<Result<String, Refusal>, Wrong>;
+
+pub(super) fn refusal_text(alloc: Global, refusal: Refusal) -> Result<String, Wrong> {
+    Ok(format!(in alloc; "error {refusal}")?)
+}
+
+fn reply_text(alloc: Global, reply: Result<Answer, Refusal>) -> Result<String, Wrong> {
+    match reply {
+        Ok(Answer::Done) => Ok(String::from_str(alloc, "ok")?),
+        Ok(Answer::Merged(count)) => Ok(format!(in alloc; "ok {count}")?),
+        Err(refusal) => refusal_text(alloc, refusal),
     }
-    Ok(())
+}
+
+fn value_at<D: Disk>(alloc: Global, store: &mut Store<D>, alt: &str, at: &str) -> Given {
+    let found = match store.get(&name(alt)?, key(at)?) {
+        Ok(found) => found,
+        Err(refusal) => return Ok(Err(refusal)),
+    };
+    let mut text = String::new(alloc);
+    write!(text, "{}", Shown(found))?;
+    Ok(Ok(text))
 }
 
 /// The same, of the bytes in the block in which the value stands.
-fn add_lent<D: Disk>(
-    store: &mut Store<D>,
-    alt: &str,
-    at: &str,
-    text: &mut String,
-) -> Result<(), Wrong> {
+fn lent_at<D: Disk>(alloc: Global, store: &mut Store<D>, alt: &str, at: &str) -> Given {
     let mut room = [0; 4096];
-    let found = store.look(&name(alt)?, key(at)?, &mut room)?;
-    write!(text, "{}", Shown(found))?;
-    Ok(())
+    let found = match store.look(&name(alt)?, key(at)?, &mut room) {
+        Ok(found) => found,
+        Err(refusal) => return Ok(Err(refusal)),
+    };
+    let mut text = String::new(alloc);
+    write!(text, "{}", value_of(found))?;
+    Ok(Ok(text))
 }
 
-fn add_records<D: Disk>(
-    alloc: Global,
-    store: &mut Store<D>,
-    alt: &str,
-    text: &mut String,
-) -> Result<(), Wrong> {
-    for (key, value) in &store.list(alloc, &name(alt)?)? {
-        write!(text, " {key}={}", Shown(Some(value)))?;
+fn records<D: Disk>(alloc: Global, store: &mut Store<D>, alt: &str) -> Given {
+    let list = match store.list(alloc, &name(alt)?) {
+        Ok(list) => list,
+        Err(refusal) => return Ok(Err(refusal)),
+    };
+    let mut text = String::new(alloc);
+    for (key, value) in &list {
+        write!(text, " {key}={}", Shown(Value::new(value)))?;
     }
-    Ok(())
+    Ok(Ok(text))
 }
 
-fn add_changes<D: Disk>(
-    alloc: Global,
-    store: &mut Store<D>,
-    alt: &str,
-    text: &mut String,
-) -> Result<(), Wrong> {
-    for (key, before, after) in &store.changes(alloc, &name(alt)?)? {
-        write!(text, " {key}={}/{}", Shown(before), Shown(after))?;
+fn changes<D: Disk>(alloc: Global, store: &mut Store<D>, alt: &str) -> Given {
+    let list = match store.changes(alloc, &name(alt)?) {
+        Ok(list) => list,
+        Err(refusal) => return Ok(Err(refusal)),
+    };
+    let mut text = String::new(alloc);
+    for (key, before, after) in &list {
+        let (before, after) = (value_of(before), value_of(after));
+        write!(text, " {key}={before}/{after}")?;
     }
-    Ok(())
+    Ok(Ok(text))
 }
 
-fn add_conflicts<D: Disk>(
-    alloc: Global,
-    store: &mut Store<D>,
-    alt: &str,
-    text: &mut String,
-) -> Result<(), Wrong> {
-    for (key, base, parent, mine) in &store.conflicts(alloc, &name(alt)?)? {
-        let (base, parent, mine) = (Shown(base), Shown(parent), Shown(mine));
+fn conflicts<D: Disk>(alloc: Global, store: &mut Store<D>, alt: &str) -> Given {
+    let list = match store.conflicts(alloc, &name(alt)?) {
+        Ok(list) => list,
+        Err(refusal) => return Ok(Err(refusal)),
+    };
+    let mut text = String::new(alloc);
+    for (key, base, parent, mine) in &list {
+        let (base, parent, mine) = (value_of(base), value_of(parent), value_of(mine));
         write!(text, " {key}={base}/{parent}/{mine}")?;
     }
-    Ok(())
+    Ok(Ok(text))
 }
 
-fn add_tally<D: Disk>(
-    alloc: Global,
-    store: &mut Store<D>,
-    alt: &str,
-    text: &mut String,
-) -> Result<(), Wrong> {
-    let tally = store.tally(alloc, &name(alt)?)?;
+fn tally<D: Disk>(alloc: Global, store: &mut Store<D>, alt: &str) -> Given {
+    let tally = match store.tally(alloc, &name(alt)?) {
+        Ok(tally) => tally,
+        Err(refusal) => return Ok(Err(refusal)),
+    };
     let (changed, unmerged, conflicts) = (tally.changed, tally.unmerged, tally.conflicts);
     let post = if tally.can_post { "yes" } else { "no" };
-    write!(text, "{changed} {unmerged} {conflicts} {post}")?;
-    Ok(())
+    Ok(Ok(format!(in alloc; "{changed} {unmerged} {conflicts} {post}")?))
 }
 
-fn add_alternatives<D: Disk>(
-    alloc: Global,
-    store: &Store<D>,
-    text: &mut String,
-) -> Result<(), Wrong> {
-    for (name, parent) in &store.alternatives(alloc)? {
+fn alternatives<D: Disk>(alloc: Global, store: &Store<D>) -> Given {
+    let list = match store.alternatives(alloc) {
+        Ok(list) => list,
+        Err(refusal) => return Ok(Err(refusal)),
+    };
+    let mut text = String::new(alloc);
+    for (name, parent) in &list {
         write!(text, " {name}")?;
         if let Some(parent) = parent {
             write!(text, "<{parent}")?;
         }
     }
-    Ok(())
+    Ok(Ok(text))
 }
 
-fn add_checkpoints<D: Disk>(
-    alloc: Global,
-    store: &Store<D>,
-    alt: &str,
-    text: &mut String,
-) -> Result<(), Wrong> {
-    for name in &store.checkpoints(alloc, &name(alt)?)? {
+fn checkpoints<D: Disk>(alloc: Global, store: &Store<D>, alt: &str) -> Given {
+    let list = match store.checkpoints(alloc, &name(alt)?) {
+        Ok(list) => list,
+        Err(refusal) => return Ok(Err(refusal)),
+    };
+    let mut text = String::new(alloc);
+    for name in &list {
         write!(text, " {name}")?;
     }
-    Ok(())
+    Ok(Ok(text))
 }
 
-/// Adds what a query is answered.
-fn add_found<D: Disk>(
-    alloc: Global,
-    store: &mut Store<D>,
-    words: &[&str],
-    text: &mut String,
-) -> Result<(), Wrong> {
+fn free<D: Disk>(alloc: Global, store: &Store<D>) -> Given {
+    match store.free() {
+        Ok(count) => Ok(Ok(format!(in alloc; "{count}")?)),
+        Err(refusal) => Ok(Err(refusal)),
+    }
+}
+
+fn blocks<D: Disk>(alloc: Global, store: &Store<D>) -> Given {
+    match store.blocks() {
+        Ok(count) => Ok(Ok(format!(in alloc; "{count}")?)),
+        Err(refusal) => Ok(Err(refusal)),
+    }
+}
+
+fn query<D: Disk>(alloc: Global, store: &mut Store<D>, words: &[&str]) -> Given {
     match words {
-        ["get", alt, at] => add_value(store, alt, at, text)?,
-        ["look", alt, at] => add_lent(store, alt, at, text)?,
-        ["list", alt] => add_records(alloc, store, alt, text)?,
-        ["changes", alt] => add_changes(alloc, store, alt, text)?,
-        ["conflicts", alt] => add_conflicts(alloc, store, alt, text)?,
-        ["tally", alt] => add_tally(alloc, store, alt, text)?,
-        ["alts"] => add_alternatives(alloc, store, text)?,
-        ["checks", alt] => add_checkpoints(alloc, store, alt, text)?,
-        ["free"] => write!(text, "{}", store.free()?)?,
-        ["blocks"] => write!(text, "{}", store.blocks()?)?,
-        _ => return Err(Wrong::Unreadable),
+        ["get", alt, at] => value_at(alloc, store, alt, at),
+        ["look", alt, at] => lent_at(alloc, store, alt, at),
+        ["list", alt] => records(alloc, store, alt),
+        ["changes", alt] => changes(alloc, store, alt),
+        ["conflicts", alt] => conflicts(alloc, store, alt),
+        ["tally", alt] => tally(alloc, store, alt),
+        ["alts"] => alternatives(alloc, store),
+        ["checks", alt] => checkpoints(alloc, store, alt),
+        ["free"] => free(alloc, store),
+        ["blocks"] => blocks(alloc, store),
+        _ => Err(Wrong::Unreadable),
     }
-    Ok(())
-}
-
-/// Adds what a command was answered.
-fn add_reply(text: &mut String, reply: Reply) -> Result<(), Wrong> {
-    match reply {
-        Ok(Answer::Done) => text.push_str("ok")?,
-        Ok(Answer::Merged(count)) => write!(text, "ok {count}")?,
-        Err(refusal) => write!(text, "error {refusal}")?,
-    }
-    Ok(())
 }
 
 /// Puts a value into so many records, from this one on, and gives the first answer that is no `ok`.
@@ -172,7 +183,7 @@ fn put_all<D: Disk>(
     from: Key,
     count: u32,
     given: &str,
-) -> Result<Reply, Wrong> {
+) -> Result<Result<Answer, Refusal>, Wrong> {
     let (alt, value) = (name(alt)?, value(given)?);
     for n in 0..u64::from(count) {
         let key = Key {
@@ -195,7 +206,7 @@ fn check_all<D: Disk>(
     alt: &str,
     count: u32,
     before: Option<(Key, Value)>,
-) -> Result<Reply, Wrong> {
+) -> Result<Result<Answer, Refusal>, Wrong> {
     let alt = name(alt)?;
     for n in 0..count {
         let mut reply = Ok(Answer::Done);
@@ -215,22 +226,18 @@ fn check_all<D: Disk>(
 
 /// Carries out a list of commands, with `;` between two. Behind the answers stands how the list
 /// ended.
-fn add_run<D: Disk>(
-    alloc: Global,
-    store: &mut Store<D>,
-    words: &[&str],
-    text: &mut String,
-) -> Result<(), Wrong> {
+fn run<D: Disk>(alloc: Global, store: &mut Store<D>, words: &[&str]) -> Result<String, Wrong> {
     let mut commands = Vec::new(alloc);
     for part in words.split(|word| *word == ";") {
         if !part.is_empty() {
-            commands.push(command(alloc, part)?.ok_or(Wrong::Unreadable)?)?;
+            let command = command(alloc, part)?.ok_or(Wrong::Unreadable)?;
+            commands.push(command).map_err(|_| Wrong::Memory)?;
         }
     }
     let (replies, stop) = store.run(alloc, &commands);
+    let mut text = String::new(alloc);
     for reply in &replies {
-        add_reply(text, *reply)?;
-        text.push_str(" ; ")?;
+        write!(text, "{} ; ", reply_text(alloc, *reply)?)?;
     }
     text.push_str(match stop {
         None => "end",
@@ -238,32 +245,7 @@ fn add_run<D: Disk>(
         Some(Stop::Memory) => "Memory",
         Some(Stop::Failed) => "Failed",
     })?;
-    Ok(())
-}
-
-/// Carries out a step, and adds what the store answers.
-fn add_answer<D: Disk>(
-    alloc: Global,
-    store: &mut Store<D>,
-    words: &[&str],
-    text: &mut String,
-) -> Result<(), Wrong> {
-    let reply = match words {
-        ["puts", alt, from, count, given] => {
-            put_all(store, alt, key(from)?, number(count)?, given)?
-        }
-        ["checkpoints", alt, count] => check_all(alloc, store, alt, number(count)?, None)?,
-        ["kept", alt, at, given, count] => {
-            let before = Some((key(at)?, value(given)?));
-            check_all(alloc, store, alt, number(count)?, before)?
-        }
-        ["run", list @ ..] => return add_run(alloc, store, list, text),
-        _ => match command(alloc, words)? {
-            Some(command) => store.apply(&command),
-            None => return add_found(alloc, store, words, text),
-        },
-    };
-    add_reply(text, reply)
+    Ok(text)
 }
 
 /// What the store answers to a step.
@@ -272,10 +254,28 @@ pub(super) fn answer<D: Disk>(
     store: &mut Store<D>,
     words: &[&str],
 ) -> Result<String, Wrong> {
-    let mut text = String::new(alloc);
-    match add_answer(alloc, store, words, &mut text) {
-        Err(Wrong::Refused(refusal)) => write!(text, "error {refusal}")?,
-        added => added?,
+    match words {
+        ["puts", alt, from, count, given] => {
+            let reply = put_all(store, alt, key(from)?, number(count)?, given)?;
+            return reply_text(alloc, reply);
+        }
+        ["checkpoints", alt, count] => {
+            let reply = check_all(alloc, store, alt, number(count)?, None)?;
+            return reply_text(alloc, reply);
+        }
+        ["kept", alt, at, given, count] => {
+            let before = Some((key(at)?, value(given)?));
+            let reply = check_all(alloc, store, alt, number(count)?, before)?;
+            return reply_text(alloc, reply);
+        }
+        ["run", list @ ..] => return run(alloc, store, list),
+        _ => {}
     }
-    Ok(text)
+    if let Some(command) = command(alloc, words)? {
+        return reply_text(alloc, store.apply(&command));
+    }
+    match query(alloc, store, words)? {
+        Ok(text) => Ok(text),
+        Err(refusal) => refusal_text(alloc, refusal),
+    }
 }

@@ -1,6 +1,6 @@
 //! The blocks of a disk in memory, looked at and changed by steps of a script.
+use super::words::{Wrong, byte, many_of, number};
 use std::alloc::Global;
-use testkit::{Wrong, byte, many_of, number};
 use vm_disk::{Disk, MemDisk};
 
 /// What a disk in memory has in a block once it was forgotten.
@@ -32,7 +32,7 @@ fn set_run(bytes: &mut [u8; 4096], run: &str) -> Result<(), Wrong> {
         if at >= 4096 {
             return Err(Wrong::Unreadable);
         }
-        bytes[at] = byte(str::from_utf8(pair)?)?;
+        bytes[at] = byte(str::from_utf8(pair).map_err(|_| Wrong::Unreadable)?)?;
     }
     Ok(())
 }
@@ -86,27 +86,22 @@ fn bytes_text(alloc: Global, bytes: &[u8; 4096]) -> Result<String, Wrong> {
     Ok(text)
 }
 
-/// Which blocks a step lists.
-#[derive(Clone, Copy)]
-enum Listed {
-    /// Those that have other bytes than zeros.
-    Written,
-    /// Those that are not synced.
-    Dirty,
-    /// Those that were forgotten since the last sync, and not written again.
-    Forgotten,
-}
-
-/// The numbers of such blocks.
-fn list(alloc: Global, disk: &mut MemDisk, listed: Listed) -> Result<String, Wrong> {
+/// The blocks that have other bytes than zeros.
+fn written(alloc: Global, disk: &mut MemDisk) -> Result<String, Wrong> {
     let mut text = String::new(alloc);
     for n in 0..disk.blocks() {
-        let is_listed = match listed {
-            Listed::Written => bytes_of(disk, n)? != [0; 4096],
-            Listed::Dirty => disk.is_dirty(n),
-            Listed::Forgotten => disk.is_dirty(n) && bytes_of(disk, n)? == FORGOTTEN,
-        };
-        if is_listed {
+        if bytes_of(disk, n)? != [0; 4096] {
+            write!(text, " {n}")?;
+        }
+    }
+    Ok(text)
+}
+
+/// The blocks that were forgotten since the last sync, and not written again.
+fn forgotten(alloc: Global, disk: &mut MemDisk) -> Result<String, Wrong> {
+    let mut text = String::new(alloc);
+    for n in 0..disk.blocks() {
+        if disk.is_dirty(n) && bytes_of(disk, n)? == FORGOTTEN {
             write!(text, " {n}")?;
         }
     }
@@ -124,9 +119,8 @@ pub(super) fn look(
             let bytes = bytes_of(disk, number(n)?)?;
             Ok(Some(bytes_text(alloc, &bytes)?))
         }
-        ["written"] => Ok(Some(list(alloc, disk, Listed::Written)?)),
-        ["dirty"] => Ok(Some(list(alloc, disk, Listed::Dirty)?)),
-        ["forgotten"] => Ok(Some(list(alloc, disk, Listed::Forgotten)?)),
+        ["written"] => Ok(Some(written(alloc, disk)?)),
+        ["forgotten"] => Ok(Some(forgotten(alloc, disk)?)),
         _ => Ok(None),
     }
 }

@@ -1,8 +1,5 @@
 //! A crash in a command or after one, and what is shown afterwards.
-use super::script::Row::{Each, Once};
-use super::script::{DUCT, On, Row, Table};
-
-pub(super) const TABLES: &[Table] = &[(On::Both, ON_BOTH), (On::Memory, IN_MEMORY)];
+use super::script::{DUCT, Row, each_on_both, in_memory, on_both};
 
 /// A Commit of `duct` that is stopped inside the write of the selector, which is device call 15:
 /// formatting and opening take eleven, the Put writes block 34, and the Commit writes block 18,
@@ -17,17 +14,15 @@ const STOPPED_IN_THE_SELECTOR: &str = "
     crash
     open";
 
-const ON_BOTH: &[Row] = &[
-    Once(
-        "torn selector that is even shows the old entries",
-        &["stop 14 FE 00", STOPPED_IN_THE_SELECTOR, "get top 7:1 -> ~"],
-    ),
-    Once(
-        "torn selector that is odd shows the new entries",
-        &[
-            "stop 14 A5 00",
-            STOPPED_IN_THE_SELECTOR,
-            "
+#[test]
+fn torn_selector_that_is_even_shows_the_old_entries(rt: HostRuntime) {
+    let row = "get top 7:1 -> ~";
+    on_both(&rt, &["stop 14 FE 00", STOPPED_IN_THE_SELECTOR, row]);
+}
+
+#[test]
+fn torn_selector_that_is_odd_shows_the_new_entries(rt: HostRuntime) {
+    let row = "
         get top 7:1 -> duct
         commit
         close
@@ -35,14 +30,33 @@ const ON_BOTH: &[Row] = &[
         block 2 -> 0:534C4F5402 8:40 12:01 128:4103746F70 195:22
         anew
         open
-        get top 7:1 -> duct",
-        ],
-    ),
+        get top 7:1 -> duct";
+    on_both(&rt, &["stop 14 A5 00", STOPPED_IN_THE_SELECTOR, row]);
+}
+
+/// Opening a new store makes four device calls, the Put one, and the Commit writes the slot, syncs,
+/// and then writes the selector.
+#[test]
+fn selector_that_was_torn_to_an_even_byte_names_slot_a(rt: HostRuntime) {
+    let row = "
+        format 64
+        stop 7 FE FE
+        open
+        put top 7:1 duct
+        commit -> error 15 Device
+        close
+        crash
+        open
+        list top -> none";
+    in_memory(&rt, &[row]);
+}
+
+const LAST_SYNC_FAILS: &[Row] = &[
     // The second Commit writes block 2, syncs, writes block 1, and its last sync is device call 22.
-    Once(
+    (
         "commit whose last sync fails may be shown",
-        &[
-            "
+        "",
+        "
         once 21
         format 64
         open
@@ -63,15 +77,13 @@ const ON_BOTH: &[Row] = &[
         open
         get top 7:1 -> pipe
         get top 7:2 -> ~",
-        ],
     ),
     // Opening the store of `duct` makes five device calls, the Put two, and the Commit four. `pipe` is
     // in block 35 then: the second Put takes block 34, and the Remove block 36.
-    Once(
+    (
         "what was removed and not committed leaves no trace",
-        &[
-            DUCT,
-            "
+        DUCT,
+        "
         once 10
         open
         put top 7:1 pipe
@@ -90,44 +102,55 @@ const ON_BOTH: &[Row] = &[
         open
         get top 7:1 -> pipe
         get top 7:2 -> ~",
-        ],
     ),
-    Each(
-        "put that is not committed is gone after a crash",
-        &[
-            "
+];
+
+#[test]
+fn commit_whose_last_sync_fails_may_be_shown(rt: HostRuntime) {
+    each_on_both(&rt, LAST_SYNC_FAILS);
+}
+
+#[test]
+fn put_that_is_not_committed_is_gone_after_a_crash(rt: HostRuntime) {
+    let row = "
         format 64
         open
         put top 7:1 duct
         commit
         put top 7:1 pipe
-        close",
-        ],
-        &[&["crash 35=00"], &["crash 35=FF"]],
-        &[
-            "
+        close";
+    let after = "
         open
-        get top 7:1 -> duct",
-        ],
-    ),
-    // The second Commit is stopped inside its first write, which is device call 19.
-    Each(
-        "slot that is not in use may be torn",
-        &[],
-        &[
-            &["stop 18 00 00", TORN_SLOT, "block 2 -> none"],
-            &["stop 18 41 41", TORN_SLOT, "block 2 -> all=41"],
-            &["stop 18 FF FF", TORN_SLOT, "block 2 -> all=FF"],
-        ],
-        &[
-            "
-        open
-        get top 7:1 -> duct",
-        ],
-    ),
-];
+        get top 7:1 -> duct";
+    for crash in &["crash 35=00", "crash 35=FF"] {
+        on_both(&rt, &[row, crash, after]);
+    }
+}
 
-const TORN_SLOT: &str = "
+/// The Puts write the blocks 35 and 36. The crash takes other bytes into both.
+#[test]
+fn crash_after_a_closing_shows_what_was_committed(rt: HostRuntime) {
+    let row = "
+        open
+        put top 7:1 pipe
+        new spur top
+        put top 7:2 x
+        close
+        dirty -> 35 36";
+    let after = "
+        open
+        get top 7:1 -> duct
+        get top 7:2 -> ~
+        get spur 7:1 -> error 1 NoSuchAlternative";
+    for crash in &["crash all=00", "crash all=41", "crash all=FF"] {
+        in_memory(&rt, &[DUCT, row, crash, after]);
+    }
+}
+
+/// The second Commit is stopped inside its first write, which is device call 19.
+#[test]
+fn slot_that_is_not_in_use_may_be_torn(rt: HostRuntime) {
+    let row = "
         format 64
         open
         put top 7:1 duct
@@ -136,45 +159,14 @@ const TORN_SLOT: &str = "
         commit -> error 15 Device
         close
         crash";
-
-const IN_MEMORY: &[Row] = &[
-    // Opening a new store makes four device calls, the Put one, and the Commit writes the slot, syncs,
-    // and then writes the selector.
-    Once(
-        "selector that was torn to an even byte names slot a",
-        &[
-            "
-        format 64
-        stop 7 FE FE
+    let after = "
         open
-        put top 7:1 duct
-        commit -> error 15 Device
-        close
-        crash
-        open
-        list top -> none",
-        ],
-    ),
-    // The Puts write the blocks 35 and 36. The crash takes other bytes into both.
-    Each(
-        "crash after a closing shows what was committed",
-        &[
-            DUCT,
-            "
-        open
-        put top 7:1 pipe
-        new spur top
-        put top 7:2 x
-        close
-        dirty -> 35 36",
-        ],
-        &[&["crash all=00"], &["crash all=41"], &["crash all=FF"]],
-        &[
-            "
-        open
-        get top 7:1 -> duct
-        get top 7:2 -> ~
-        get spur 7:1 -> error 1 NoSuchAlternative",
-        ],
-    ),
-];
+        get top 7:1 -> duct";
+    for (stop, torn) in &[
+        ("stop 18 00 00", "block 2 -> none"),
+        ("stop 18 41 41", "block 2 -> all=41"),
+        ("stop 18 FF FF", "block 2 -> all=FF"),
+    ] {
+        on_both(&rt, &[stop, row, torn, after]);
+    }
+}

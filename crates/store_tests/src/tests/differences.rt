@@ -1,29 +1,23 @@
 //! What an alternative changed since its base, and its conflicts with its parent.
-use super::script::Row::Once;
-use super::script::{NEW, On, Row, Table};
+use super::script::{NEW, Row, each_in_memory, each_on_both};
 
-pub(super) const TABLES: &[Table] = &[(On::Both, ON_BOTH), (On::Memory, IN_MEMORY)];
-
-const ON_BOTH: &[Row] = &[Once(
+const ON_BOTH: &[Row] = &[(
     "value that is written again is no change",
-    &[
-        NEW,
-        "
+    NEW,
+    "
         put top 1:1 x
         put top 1:1 x
         new a top
         put a 1:1 x
         changes a -> none",
-    ],
 )];
 
 const IN_MEMORY: &[Row] = &[
     // The base of `top` has no records.
-    Once(
+    (
         "changes are listed by rising keys",
-        &[
-            NEW,
-            "
+        NEW,
+        "
         put top 1:2 x
         put top 1:1 x
         new a top
@@ -33,17 +27,20 @@ const IN_MEMORY: &[Row] = &[
         put a 1:1 y
         changes a -> 1:1=x/y 1:2=x/~ 1:3=~/y
         changes top -> 1:1=~/z 1:2=~/x",
-        ],
     ),
-    Once(
+    (
         "conflicts want an alternative with a parent",
-        &[
-            NEW,
-            "
+        NEW,
+        "
         changes nope -> error 1 NoSuchAlternative
         conflicts nope -> error 1 NoSuchAlternative
         conflicts top -> error 6 IsTop
         changes top -> none",
-        ],
     ),
 ];
+
+#[test]
+fn differences_are_listed(rt: HostRuntime) {
+    each_on_both(&rt, ON_BOTH);
+    each_in_memory(&rt, IN_MEMORY);
+}

@@ -1,8 +1,5 @@
 //! What the blocks of a store hold, and what formatting refuses.
-use super::script::Row::Once;
-use super::script::{DUCT, On, Row, Table};
-
-pub(super) const TABLES: &[Table] = &[(On::Both, ON_BOTH)];
+use super::script::{DUCT, Row, each_on_both, on_both};
 
 /// `ALTSTORE`, one and the size of a block; the selector of slot B; both slots, which begin with
 /// `SLOT`, two and 64 blocks, with the entry of `top`, whose root is none in slot A and block 34 in
@@ -16,25 +13,24 @@ const BLOCKS: &str = "
     block 34 -> 0:4C454146 8:01 16:07 18:01 26:04 28:64756374";
 
 const ON_BOTH: &[Row] = &[
-    Once(
+    (
         "commit leaves header, selector, slots and leaf",
-        &[DUCT, BLOCKS],
+        DUCT,
+        BLOCKS,
     ),
-    Once(
+    (
         "format refuses a bad size",
-        &[
-            "
+        "",
+        "
         format 0 -> error 21 BadSize
         format 63 -> error 21 BadSize
         format 65 -> error 21 BadSize
         format 1048577 -> error 21 BadSize",
-        ],
     ),
-    Once(
+    (
         "odd selector names slot b",
-        &[
-            DUCT,
-            "
+        DUCT,
+        "
         set 1 0:A5
         open
         get top 7:1 -> duct
@@ -45,10 +41,15 @@ const ON_BOTH: &[Row] = &[
         anew
         open
         get top 7:1 -> duct",
-        ],
-    ),
-    Once(
-        "format leaves a store as it was",
-        &[DUCT, "format 64 -> error 20 AlreadyAStore", BLOCKS],
     ),
 ];
+
+#[test]
+fn format_commit_and_opening_agree(rt: HostRuntime) {
+    each_on_both(&rt, ON_BOTH);
+}
+
+#[test]
+fn format_leaves_a_store_as_it_was(rt: HostRuntime) {
+    on_both(&rt, &[DUCT, "format 64 -> error 20 AlreadyAStore", BLOCKS]);
+}

@@ -1,25 +1,16 @@
 //! A store that gets more blocks, on a disk with room for them, on one without, and on one that has them.
-use super::script::Row::{Each, Once};
-use super::script::{DUCT, NEW, On, Row, Table};
-
-pub(super) const TABLES: &[Table] = &[
-    (On::Both, NOT_COMMITTED),
-    (On::Both, USED),
-    (On::Both, NO_ROOM_ON_BOTH),
-    (On::Memory, NO_ROOM_IN_MEMORY),
-    (On::Both, BEFORE_THE_FIRST_SYNC),
-    (On::Both, FROM_THE_FIRST_SYNC_ON),
-];
+use super::script::{
+    DUCT, NEW, RoomRow, Row, each_in_memory, each_on_both, each_with_room, with_room,
+};
 
 /// Growths that are refused, or not committed.
-const NOT_COMMITTED: &[Row] = &[
+const NOT_COMMITTED: &[RoomRow] = &[
     // The device calls are those of the opening.
-    Once(
+    (
         "bad size changes nothing",
-        &[
-            "blank 64 128",
-            NEW,
-            "
+        128,
+        NEW,
+        "
         grow 64 -> error 21 BadSize
         grow 63 -> error 21 BadSize
         grow 1048577 -> error 21 BadSize
@@ -30,16 +21,14 @@ const NOT_COMMITTED: &[Row] = &[
         close
         calls -> 4
         dirty -> none",
-        ],
     ),
     // Of 128 blocks 34 are the store's own. The Put takes block 34, and the crash takes the new blocks
     // away.
-    Once(
+    (
         "growth that is not committed is gone after a crash",
-        &[
-            "blank 64 128",
-            NEW,
-            "
+        128,
+        NEW,
+        "
         grow 128
         blocks -> 128
         free -> 94
@@ -61,15 +50,13 @@ const NOT_COMMITTED: &[Row] = &[
         blocks -> 128
         free -> 93
         list top -> 1:1=x",
-        ],
     ),
     // The disk keeps the blocks that it got, so the second Grow makes no device call.
-    Once(
+    (
         "growth that is not committed is gone after closing",
-        &[
-            "blank 64 128",
-            NEW,
-            "
+        128,
+        NEW,
+        "
         grow 128
         close
         calls -> 5
@@ -82,15 +69,13 @@ const NOT_COMMITTED: &[Row] = &[
         free -> 94
         close
         calls -> 4",
-        ],
     ),
     // A crash has left 6 of 16 new blocks. Opening makes five device calls.
-    Once(
+    (
         "blocks that a crash has left are used",
-        &[
-            "blank 64 80",
-            DUCT,
-            "
+        80,
+        DUCT,
+        "
         open
         grow 80
         close
@@ -109,20 +94,23 @@ const NOT_COMMITTED: &[Row] = &[
         close
         calls -> 6
         dirty -> 70 71 72 73 74 75 76 77 78 79",
-        ],
     ),
 ];
 
+#[test]
+fn growth_counts_from_its_commit_on(rt: HostRuntime) {
+    each_with_room(&rt, NOT_COMMITTED);
+}
+
 /// What becomes of new blocks.
-const USED: &[Row] = &[
+const USED: &[RoomRow] = &[
     // Block 0 has no number of blocks. Slot A, which the Commit writes, has 80, which is 50 in
     // hexadecimal digits, and slot B has 64 as before.
-    Once(
+    (
         "commit writes the new number of blocks",
-        &[
-            "blank 64 80",
-            DUCT,
-            "
+        80,
+        DUCT,
+        "
         open
         grow 80
         commit
@@ -131,15 +119,13 @@ const USED: &[Row] = &[
         block 1 -> none
         block 2 -> 0:534C4F5402 8:50 12:01 128:4103746F70 195:22
         block 18 -> 0:534C4F5402 8:40 12:01 128:4103746F70 195:22",
-        ],
     ),
     // The checkpoints keep the blocks 34 to 73, and the last two Puts take 74 and 75.
-    Once(
+    (
         "new blocks are taken, kept and found again",
-        &[
-            "blank 64 96",
-            NEW,
-            "
+        96,
+        NEW,
+        "
         grow 96
         kept top 1:1 v 40
         put top 1:2 w
@@ -157,16 +143,14 @@ const USED: &[Row] = &[
         list top -> 1:1=v 1:2=x
         back top k040
         list top -> 1:1=v",
-        ],
     ),
     // 30 blocks are for data. Each of the 14 checkpoints keeps one, so 16 are spare, and one more with
     // the new one.
-    Once(
+    (
         "growth makes room for a put",
-        &[
-            "blank 64 65",
-            NEW,
-            "
+        65,
+        NEW,
+        "
         kept top 1:1 v 14
         commit
         put top 1:1 v -> error 13 Full
@@ -176,15 +160,14 @@ const USED: &[Row] = &[
         put top 1:1 v
         free -> 16
         put top 1:1 v -> error 13 Full",
-        ],
     ),
     // The store is on the first 64 of 130 blocks. There is room for 140, and only for more than 130
     // the disk is asked.
-    Once(
+    (
         "growth within the disk makes no device call",
-        &[
-            "blank 64 140",
-            "
+        140,
+        "",
+        "
         longer 130
         format 64
         anew
@@ -221,15 +204,13 @@ const USED: &[Row] = &[
         list top -> 1:1=x
         grow 140
         free -> 105",
-        ],
     ),
     // Two Puts write the blocks 34 and 35.
-    Once(
+    (
         "growth stands among other commands",
-        &[
-            "blank 64 128",
-            NEW,
-            "
+        128,
+        NEW,
+        "
         run put top 1:1 x ; grow 128 ; grow 128 ; put top 1:2 y ; commit \
             -> ok ; ok ; error 21 BadSize ; ok ; ok ; end
         blocks -> 128
@@ -239,16 +220,14 @@ const USED: &[Row] = &[
         blocks -> 128
         free -> 93
         list top -> 1:1=x 1:2=y",
-        ],
     ),
     // Puts and the Merge write the blocks 34 to 38. The checkpoint keeps block 34, and all else is in
     // block 38.
-    Once(
+    (
         "growth is no part of an alternative or a checkpoint",
-        &[
-            "blank 64 130",
-            NEW,
-            "
+        130,
+        NEW,
+        "
         put top 1:1 x
         checkpoint top c
         grow 128
@@ -274,17 +253,20 @@ const USED: &[Row] = &[
         alts -> top
         checks top -> c
         list top -> 1:1=x 1:2=z 1:3=w",
-        ],
     ),
 ];
 
+#[test]
+fn new_blocks_are_as_the_others(rt: HostRuntime) {
+    each_with_room(&rt, USED);
+}
+
 const NO_ROOM_ON_BOTH: &[Row] = &[
     // Opening makes four device calls.
-    Once(
+    (
         "store fails where the disk has no room",
-        &[
-            NEW,
-            "
+        NEW,
+        "
         grow 65 -> error 15 Device
         grow 65 -> error 17 Failed
         grow 64 -> error 17 Failed
@@ -296,26 +278,30 @@ const NO_ROOM_ON_BOTH: &[Row] = &[
         open
         blocks -> 64
         free -> 30",
-        ],
     ),
 ];
 
 const NO_ROOM_IN_MEMORY: &[Row] = &[
     // It is no bad size.
-    Once(
+    (
         "store may ask for as many blocks as one may have",
-        &[NEW, "grow 1048576 -> error 15 Device"],
+        NEW,
+        "grow 1048576 -> error 15 Device",
     ),
-    Once(
+    (
         "list ends where the disk has no room",
-        &[
-            NEW,
-            "
+        NEW,
+        "
         run put top 1:1 x ; grow 65 ; commit -> ok ; error 15 Device ; Device
         run grow 65 -> Failed",
-        ],
     ),
 ];
+
+#[test]
+fn store_fails_where_the_disk_has_no_room(rt: HostRuntime) {
+    each_on_both(&rt, NO_ROOM_ON_BOTH);
+    each_in_memory(&rt, NO_ROOM_IN_MEMORY);
+}
 
 /// What is shown after a crash before the Commit of a growth, and the same once more without a
 /// crash.
@@ -336,112 +322,84 @@ const AS_BEFORE: &str = "
     free -> 45
     list top -> 7:1=duct 7:2=pipe";
 
-const CLOSED: &str = "
+/// Opening makes five device calls, the Grow one, the Put two, and the Commit four: it writes the
+/// slot, syncs, writes the selector, and syncs.
+#[test]
+fn crash_before_the_first_sync_shows_the_old_number_of_blocks(rt: HostRuntime) {
+    let closed = "
         open
         grow 80
         close";
-
-const IN_THE_PUT: &str = "
+    let in_the_put = "
         open
         grow 80
         put top 7:2 pipe -> error 15 Device
         blocks -> error 17 Failed
         close";
-
-const IN_THE_COMMIT: &str = "
+    let in_the_commit = "
         open
         grow 80
         put top 7:2 pipe
         commit -> error 15 Device
         blocks -> error 17 Failed
         close";
+    for (stop, row) in &[
+        ("anew", closed),
+        ("stop 6 41 41", in_the_put),
+        ("stop 7 41 41", in_the_put),
+        ("stop 8 41 41", in_the_commit),
+        ("stop 9 41 41", in_the_commit),
+    ] {
+        for crash in &[
+            "short 64",
+            "short 64 all=41",
+            "short 65 all=00",
+            "short 79 all=FF",
+            "short 80 all=41",
+            "crash",
+        ] {
+            with_room(&rt, 80, &[DUCT, stop, row, crash, AS_BEFORE]);
+        }
+    }
+}
 
-/// What a crash leaves while not all blocks are sure.
-const CRASHES: &[&[&str]] = &[
-    &["short 64"],
-    &["short 64 all=41"],
-    &["short 65 all=00"],
-    &["short 79 all=FF"],
-    &["short 80 all=41"],
-    &["crash"],
-];
-
-/// Opening makes five device calls, the Grow one, the Put two, and the Commit four: it writes the
-/// slot, syncs, writes the selector, and syncs. A crash before the first of these syncs shows the old number of
-/// blocks.
-const BEFORE_THE_FIRST_SYNC: &[Row] = &[
-    Each(
-        "crash after a closing",
-        &["blank 64 80", DUCT, "anew", CLOSED],
-        CRASHES,
-        &[AS_BEFORE],
-    ),
-    Each(
-        "crash in the read of a put",
-        &["blank 64 80", DUCT, "stop 6 41 41", IN_THE_PUT],
-        CRASHES,
-        &[AS_BEFORE],
-    ),
-    Each(
-        "crash in the write of a put",
-        &["blank 64 80", DUCT, "stop 7 41 41", IN_THE_PUT],
-        CRASHES,
-        &[AS_BEFORE],
-    ),
-    Each(
-        "crash in the write of the slot",
-        &["blank 64 80", DUCT, "stop 8 41 41", IN_THE_COMMIT],
-        CRASHES,
-        &[AS_BEFORE],
-    ),
-    Each(
-        "crash in the first sync",
-        &["blank 64 80", DUCT, "stop 9 41 41", IN_THE_COMMIT],
-        CRASHES,
-        &[AS_BEFORE],
-    ),
-    // The Grow makes the sixth device call.
-    Each(
-        "growth that the device fails changes nothing",
-        &["blank 64 80", DUCT],
-        &[&["once 5"], &["stop 5 41 41"]],
-        &[
-            "
-        open
-        grow 80 -> error 15 Device
-        blocks -> error 17 Failed
-        close
-        calls -> 6
-        crash all=41",
-            AS_BEFORE,
-        ],
-    ),
-];
-
-const AS_COMMITTED: &str = "
-        open
-        blocks -> 80
-        free -> 45
-        list top -> 7:1=duct 7:2=pipe";
-
-const IN_THE_SELECTOR: &str = "
+/// All blocks are sure then. An odd selector names slot B, which says 64 blocks, and an even one
+/// slot A.
+#[test]
+fn crash_after_the_first_sync_shows_either_number_of_blocks(rt: HostRuntime) {
+    let row = "
         open
         grow 80
         put top 7:2 pipe
         commit -> error 15 Device
         close
         dirty -> 1";
+    let as_committed = "
+        open
+        blocks -> 80
+        free -> 45
+        list top -> 7:1=duct 7:2=pipe";
+    for (stop, crash, shown) in &[
+        ("stop 10 A5 00", "crash", AS_BEFORE),
+        ("stop 10 FE 00", "crash", as_committed),
+        ("stop 11 41 41", "crash 1=01", AS_BEFORE),
+        ("stop 11 41 41", "crash", as_committed),
+    ] {
+        with_room(&rt, 80, &[DUCT, stop, row, crash, shown]);
+    }
+}
 
-/// All blocks are sure then. An odd selector names slot B, which says 64 blocks, and an even one
-/// slot A.
-const FROM_THE_FIRST_SYNC_ON: &[Row] = &[Each(
-    "crash after the first sync shows either number of blocks",
-    &["blank 64 80", DUCT],
-    &[
-        &["stop 10 A5 00", IN_THE_SELECTOR, "crash", AS_BEFORE],
-        &["stop 10 FE 00", IN_THE_SELECTOR, "crash", AS_COMMITTED],
-        &["stop 11 41 41", IN_THE_SELECTOR, "crash 1=01", AS_BEFORE],
-        &["stop 11 41 41", IN_THE_SELECTOR, "crash", AS_COMMITTED],
-    ],
-    &[],
-)];
+/// The Grow makes the sixth device call.
+#[test]
+fn growth_that_the_device_fails_changes_nothing(rt: HostRuntime) {
+    let row = "
+        open
+        grow 80 -> error 15 Device
+        blocks -> error 17 Failed
+        close
+        calls -> 6
+        crash all=41";
+    for fails in &["once 5", "stop 5 41 41"] {
+        with_room(&rt, 80, &[DUCT, fails, row, AS_BEFORE]);
+    }
+}

@@ -1,23 +1,34 @@
 //! Values of more than 240 bytes: each has a block of its own, and its leaf a link to that block.
-pub(super) mod blocks;
-pub(super) mod counting;
-pub(super) mod crashes;
-pub(super) mod damage;
-pub(super) mod formats;
-pub(super) mod merging;
+mod blocks;
+mod counting;
+mod crashes;
+mod damage;
+mod formats;
+mod merging;
 
-use super::script::Row::{Each, Once};
-use super::script::{NEW, On, Row, Table};
+use super::script::{NEW, Row, each_on_both, on_both, on_each, with_room};
 use vm_types::Value;
 
-pub(super) const TABLES: &[Table] = &[(On::Both, ON_BOTH), (On::Both, SIZES), (On::All, SESSIONS)];
+#[test]
+fn value_has_up_to_4000_bytes(rt: HostRuntime) {
+    let bytes = [0x61; 4096];
+    for (len, is_value) in [
+        (240, true),
+        (241, true),
+        (4000, true),
+        (4001, false),
+        (4096, false),
+    ] {
+        let value = bytes.get(..len).and_then(Value::new);
+        assert_eq!(rt; value.is_some(), is_value, "{len}");
+    }
+}
 
 const ON_BOTH: &[Row] = &[
-    Once(
+    (
         "reclaim frees the block of a long value",
-        &[
-            NEW,
-            "
+        NEW,
+        "
         put top 7:1 61*300
         free -> 28
         put top 7:1 duct
@@ -25,13 +36,11 @@ const ON_BOTH: &[Row] = &[
         reclaim
         free -> 29
         get top 7:1 -> duct",
-        ],
     ),
-    Once(
+    (
         "value of zeros keeps its length",
-        &[
-            NEW,
-            "
+        NEW,
+        "
         put top 1:1 00*241
         put top 1:2 00*4000
         put top 1:3 00*240
@@ -42,14 +51,12 @@ const ON_BOTH: &[Row] = &[
         get top 1:1 -> 00*241
         look top 1:2 -> 00*4000
         list top -> 1:1=00*241 1:2=00*4000 1:3=00*240",
-        ],
     ),
     // Each Put takes two of the thirty blocks, and the checkpoint keeps them: seven leave 16.
-    Once(
+    (
         "full is answered where fewer than 17 blocks are spare",
-        &[
-            NEW,
-            "
+        NEW,
+        "
         kept top 1:1 61*300 7
         free -> 16
         commit
@@ -61,13 +68,11 @@ const ON_BOTH: &[Row] = &[
         put top 1:1 61*300
         free -> 16
         get top 1:1 -> 61*300",
-        ],
     ),
-    Once(
+    (
         "commands with long values stand in a list",
-        &[
-            NEW,
-            "
+        NEW,
+        "
         run put top 1:1 61*300 ; new a top ; put a 1:1 62*4000 ; post a ; remove top 1:2 ; commit \
             -> ok ; ok ; ok ; ok ; error 5 NoSuchRecord ; ok ; end
         close
@@ -77,65 +82,56 @@ const ON_BOTH: &[Row] = &[
         list top -> 1:1=62*4000
         list a -> 1:1=62*4000
         changes a -> none",
-        ],
     ),
 ];
 
-const AFTER: &str = "
+#[test]
+fn long_values_are_put_and_freed(rt: HostRuntime) {
+    each_on_both(&rt, ON_BOTH);
+}
+
+/// A value of 240 bytes is in its leaf.
+#[test]
+fn values_of_each_size_are_there_after_opening(rt: HostRuntime) {
+    let after = "
         commit
         close
         crash all=41
         open";
-
-const SIZES: &[Row] = &[
-    // A value of 240 bytes is in its leaf.
-    Each(
-        "values of each size are there after opening",
-        &[NEW],
-        &[
-            &[
-                "put top 7:1 61*240",
-                "list top -> 7:1=61*240",
-                "free -> 29",
-                AFTER,
-                "list top -> 7:1=61*240",
-                "free -> 29",
-                "close",
-                "block 34 -> 0:4C454146 8:01 16:07 18:01 26:F0 28:61*240",
-            ],
-            &[
-                "put top 7:1 61*241",
-                "list top -> 7:1=61*241",
-                "free -> 28",
-                AFTER,
-                "list top -> 7:1=61*241",
-                "free -> 28",
-                "close",
-                "block 34 -> 0:4C4F4E47 8:F1 16:07 18:01 26:61*241
+    for (put, shown, free, blocks) in &[
+        (
+            "put top 7:1 61*240",
+            "list top -> 7:1=61*240",
+            "free -> 29",
+            "block 34 -> 0:4C454146 8:01 16:07 18:01 26:F0 28:61*240",
+        ),
+        (
+            "put top 7:1 61*241",
+            "list top -> 7:1=61*241",
+            "free -> 28",
+            "block 34 -> 0:4C4F4E47 8:F1 16:07 18:01 26:61*241
             block 35 -> 0:4C454632 8:01 16:07 18:01 26:F1 28:22",
-            ],
-            &[
-                "put top 7:1 61*4000",
-                "list top -> 7:1=61*4000",
-                "free -> 28",
-                AFTER,
-                "list top -> 7:1=61*4000",
-                "free -> 28",
-                "close",
-                "block 34 -> 0:4C4F4E47 8:A00F 16:07 18:01 26:61*4000
+        ),
+        (
+            "put top 7:1 61*4000",
+            "list top -> 7:1=61*4000",
+            "free -> 28",
+            "block 34 -> 0:4C4F4E47 8:A00F 16:07 18:01 26:61*4000
             block 35 -> 0:4C454632 8:01 16:07 18:01 26:A00F22",
-            ],
-        ],
-        &[],
-    ),
-    // The Puts of twenty checkpoints take the blocks 34 to 73, the value before the leaf, and the last one
-    // takes block 74.
-    Once(
-        "long values are in new blocks of a store that grew",
-        &[
-            "blank 64 96",
-            NEW,
-            "
+        ),
+    ] {
+        on_both(
+            &rt,
+            &[NEW, put, shown, free, after, shown, free, "close", blocks],
+        );
+    }
+}
+
+/// The Puts of twenty checkpoints take the blocks 34 to 73, the value before the leaf, and the last one
+/// takes block 74.
+#[test]
+fn long_values_are_in_new_blocks_of_a_store_that_grew(rt: HostRuntime) {
+    let row = "
         put top 1:1 62*4000
         remove top 1:1
         grow 96
@@ -156,23 +152,23 @@ const SIZES: &[Row] = &[
         reclaim
         free -> 21
         back top k020
-        list top -> 1:1=61*300",
-        ],
-    ),
-];
+        list top -> 1:1=61*300";
+    with_room(&rt, 96, &[NEW, row]);
+}
 
-const ANEW: &str = "
+/// All kinds of commands with long values, each time shown before and after an opening.
+#[test]
+fn a_session_with_long_values_shows_the_same_on_each_disk(rt: HostRuntime) {
+    let anew = "
         commit
         close
         anew
         open";
-
-const CRASH: &str = "
+    let crash = "
         close
         crash all=41
         open";
-
-const MADE: &str = "
+    let made = "
         puts top 1:1 9 61*300
         put top 1:5 w
         remove top 1:6
@@ -184,22 +180,19 @@ const MADE: &str = "
         put a 2:4 v
         put top 1:2 64*300
         put top 1:3 65*300";
-
-const MADE_SHOWN: &str = "
+    let made_shown = "
         list top -> 1:1=61*300 1:2=64*300 1:3=65*300 1:4=61*300 1:5=w 1:7=61*300 1:8=61*300 1:9=61*300
         list a -> 1:1=62*4000 1:2=61*300 1:3=61*300 1:4=61*300 1:5=w 1:7=61*300 1:8=61*300 1:9=61*300 \
             2:1=63*241 2:2=63*241 2:4=v 2:5=63*241 2:6=63*241 2:7=63*241 2:8=63*241 2:9=63*241
         changes a -> 1:1=61*300/62*4000 2:1=~/63*241 2:2=~/63*241 2:4=~/v 2:5=~/63*241 2:6=~/63*241 \
             2:7=~/63*241 2:8=~/63*241 2:9=~/63*241";
-
-const LOST: &str = "
+    let lost = "
         put top 1:1 66*300
         merge a -> error 9 Unsettled 1
         remove a 2:1
         puts a 3:1 9 67*300
         reclaim";
-
-const MERGED: &str = "
+    let merged = "
         conflicts a -> none
         merge a -> ok 2
         put a 1:3 ''
@@ -207,46 +200,26 @@ const MERGED: &str = "
         post a
         grow 300
         remove top 1:1";
-
-const MERGED_SHOWN: &str = "
+    let merged_shown = "
         list top -> 1:2=64*300 1:3='' 1:4=61*300 1:5=w 1:7=61*300 1:8=61*300 1:9=61*300 \
             2:1=63*241 2:2=63*241 2:4=v 2:5=63*241 2:6=63*241 2:7=63*241 2:8=63*241 2:9=63*241
         get a 1:1 -> 62*4000
         conflicts a -> none
         tally a -> 0 1 0 no";
-
-/// All kinds of commands with long values, each time shown before and after an opening.
-const SESSIONS: &[Row] = &[Once(
-    "a session with long values shows the same on each disk",
-    &[
-        "blank 256 300",
+    let row = [
         "format 256",
         "open",
-        MADE,
-        MADE_SHOWN,
-        ANEW,
-        MADE_SHOWN,
-        LOST,
-        CRASH,
-        MADE_SHOWN,
-        MERGED,
-        MERGED_SHOWN,
-        ANEW,
-        MERGED_SHOWN,
-    ],
-)];
-
-#[test]
-fn value_has_up_to_4000_bytes(rt: HostRuntime) {
-    let bytes = [0x61; 4096];
-    for (len, is_value) in [
-        (240, true),
-        (241, true),
-        (4000, true),
-        (4001, false),
-        (4096, false),
-    ] {
-        let value = bytes.get(..len).and_then(Value::new);
-        assert_eq!(rt; value.is_some(), is_value, "{len}");
-    }
+        made,
+        made_shown,
+        anew,
+        made_shown,
+        lost,
+        crash,
+        made_shown,
+        merged,
+        merged_shown,
+        anew,
+        merged_shown,
+    ];
+    on_each(&rt, &row);
 }

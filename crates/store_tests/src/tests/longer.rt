@@ -1,17 +1,13 @@
 //! A store on a disk that has more blocks than the store, and that a crash may leave shorter.
-use super::script::Row::{Each, Once};
-use super::script::{DUCT, On, Row, Table};
+use super::script::{DUCT, RoomRow, each_with_room, with_room};
 
-pub(super) const TABLES: &[Table] = &[(On::Both, ON_LONGER_DISKS)];
-
-const ON_LONGER_DISKS: &[Row] = &[
+const ON_LONGER_DISKS: &[RoomRow] = &[
     // The disk was made longer behind the store's back: its blocks from 64 on are none of the store's.
-    Once(
+    (
         "a longer disk shows the same store",
-        &[
-            "blank 64 80",
-            DUCT,
-            "
+        80,
+        DUCT,
+        "
         longer 80
         dirty -> 64 65 66 67 68 69 70 71 72 73 74 75 76 77 78 79
         open
@@ -27,14 +23,12 @@ const ON_LONGER_DISKS: &[Row] = &[
         list top -> 7:1=duct 7:2=pipe
         # Both records lie in one leaf, as the only block of 30.
         free -> 29",
-        ],
     ),
-    Once(
+    (
         "a disk gets no longer than its room",
-        &[
-            "blank 64 80",
-            DUCT,
-            "
+        80,
+        DUCT,
+        "
         longer 81 -> fault
         open
         get top 7:1 -> duct
@@ -42,20 +36,13 @@ const ON_LONGER_DISKS: &[Row] = &[
         longer 80
         longer 80
         longer 81 -> fault",
-        ],
-    ),
-    Each(
-        "a crash that takes new blocks shows what was committed",
-        &["blank 64 80", DUCT, "longer 80"],
-        &[
-            &["short 64 all=41"],
-            &["short 65 all=41"],
-            &["short 79"],
-            &["short 80 all=41"],
-        ],
-        &[ONLY_DUCT],
     ),
 ];
+
+#[test]
+fn a_store_is_the_same_on_a_longer_disk(rt: HostRuntime) {
+    each_with_room(&rt, ON_LONGER_DISKS);
+}
 
 /// The rest of a row, after a crash that left some of the new blocks.
 const ONLY_DUCT: &str = "
@@ -70,3 +57,15 @@ const ONLY_DUCT: &str = "
     open
     list top -> 7:1=duct 7:2=pipe
     free -> 29";
+
+#[test]
+fn a_crash_that_takes_new_blocks_shows_what_was_committed(rt: HostRuntime) {
+    for crash in &[
+        "short 64 all=41",
+        "short 65 all=41",
+        "short 79",
+        "short 80 all=41",
+    ] {
+        with_room(&rt, 80, &[DUCT, "longer 80", crash, ONLY_DUCT]);
+    }
+}

@@ -1,15 +1,11 @@
 //! What a Merge answers, and what it leaves in both alternatives.
-use super::script::Row::Once;
-use super::script::{NEW, On, Row, Table};
-
-pub(super) const TABLES: &[Table] = &[(On::Both, ON_BOTH), (On::Memory, IN_MEMORY)];
+use super::script::{NEW, Row, each_in_memory, each_on_both};
 
 const ON_BOTH: &[Row] = &[
-    Once(
+    (
         "conflict is settled by the parent's value",
-        &[
-            NEW,
-            "
+        NEW,
+        "
         new a top
         put top 1:1 x
         put a 1:1 y
@@ -19,13 +15,11 @@ const ON_BOTH: &[Row] = &[
         get a 1:1 -> x
         post a
         get top 1:1 -> x",
-        ],
     ),
-    Once(
+    (
         "conflict is settled by one's own value",
-        &[
-            NEW,
-            "
+        NEW,
+        "
         put top 1:1 x
         new a top
         remove top 1:1
@@ -35,13 +29,11 @@ const ON_BOTH: &[Row] = &[
         get a 1:1 -> y
         post a
         get top 1:1 -> y",
-        ],
     ),
-    Once(
+    (
         "equal changes are in no conflict",
-        &[
-            NEW,
-            "
+        NEW,
+        "
         put top 1:1 x
         put top 1:2 x
         new a top
@@ -55,13 +47,11 @@ const ON_BOTH: &[Row] = &[
         post a
         list top -> 1:1=z
         list a -> 1:1=z",
-        ],
     ),
-    Once(
+    (
         "back restores the base too",
-        &[
-            NEW,
-            "
+        NEW,
+        "
         new a top
         checkpoint a c
         put top 1:1 x
@@ -70,14 +60,12 @@ const ON_BOTH: &[Row] = &[
         get a 1:1 -> ~
         post a -> error 8 NotMerged
         get top 1:1 -> x",
-        ],
     ),
     // Two settlements of one key come after the tests of the alternative.
-    Once(
+    (
         "merge and post want an alternative with a parent",
-        &[
-            NEW,
-            "
+        NEW,
+        "
         new a top
         new b a
         merge a 1:1=mine 1:1=mine -> error 11 SettledTwice 1:1
@@ -86,16 +74,14 @@ const ON_BOTH: &[Row] = &[
         merge nope 1:1=mine 1:1=mine -> error 1 NoSuchAlternative
         post top -> error 6 IsTop
         post nope -> error 1 NoSuchAlternative",
-        ],
     ),
 ];
 
 const IN_MEMORY: &[Row] = &[
-    Once(
+    (
         "record that only the parent took out goes in a merge",
-        &[
-            NEW,
-            "
+        NEW,
+        "
         put top 1:1 x
         put top 1:2 x
         new a top
@@ -107,14 +93,12 @@ const IN_MEMORY: &[Row] = &[
         post a
         list a -> 1:3=y
         list top -> 1:3=y",
-        ],
     ),
     // What was settled stays so: the parent's value is the base's from the Merge on.
-    Once(
+    (
         "merge makes the parent's records the base",
-        &[
-            NEW,
-            "
+        NEW,
+        "
         put top 1:1 x
         new a top
         put top 1:1 z
@@ -129,6 +113,11 @@ const IN_MEMORY: &[Row] = &[
         merge a -> error 9 Unsettled 1
         conflicts a -> 1:1=z/w/y
         list a -> 1:1=y 1:2=z",
-        ],
     ),
 ];
+
+#[test]
+fn merges_are_answered(rt: HostRuntime) {
+    each_on_both(&rt, ON_BOTH);
+    each_in_memory(&rt, IN_MEMORY);
+}

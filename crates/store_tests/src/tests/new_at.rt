@@ -1,15 +1,11 @@
 //! Alternatives that begin at a checkpoint of their parent.
-use super::script::Row::Once;
-use super::script::{NEW, On, Row, Table};
-
-pub(super) const TABLES: &[Table] = &[(On::Both, ON_BOTH), (On::Memory, IN_MEMORY)];
+use super::script::{NEW, Row, each_in_memory, each_on_both};
 
 const ON_BOTH: &[Row] = &[
-    Once(
+    (
         "alternative begins at a checkpoint",
-        &[
-            NEW,
-            "
+        NEW,
+        "
         put top 1:1 x
         checkpoint top c
         put top 1:1 z
@@ -26,14 +22,12 @@ const ON_BOTH: &[Row] = &[
         reclaim
         list top -> 1:1=z
         list a -> 1:1=z",
-        ],
     ),
     // The checkpoint has changed records, so its base is not what it shows.
-    Once(
+    (
         "base is what the checkpoint shows",
-        &[
-            NEW,
-            "
+        NEW,
+        "
         put top 1:1 x
         new a top
         put a 1:2 y
@@ -49,13 +43,11 @@ const ON_BOTH: &[Row] = &[
         back b c -> error 3 NoSuchCheckpoint
         back a c
         post b",
-        ],
     ),
-    Once(
+    (
         "what is missing comes before too many",
-        &[
-            NEW,
-            "
+        NEW,
+        "
         checkpoints top 510
         new a nope q -> error 1 NoSuchAlternative
         new top top q -> error 2 AlternativeExists
@@ -63,17 +55,15 @@ const ON_BOTH: &[Row] = &[
         new a top k001 -> error 12 TooMany
         uncheck top k002
         new a top k001",
-        ],
     ),
 ];
 
 const IN_MEMORY: &[Row] = &[
     // An opening of an empty store makes four device calls.
-    Once(
+    (
         "beginning at a checkpoint makes no device call",
-        &[
-            NEW,
-            "
+        NEW,
+        "
         close
         anew
         open
@@ -81,6 +71,11 @@ const IN_MEMORY: &[Row] = &[
         new a top c
         close
         calls -> 4",
-        ],
     ),
 ];
+
+#[test]
+fn alternatives_begin_at_checkpoints(rt: HostRuntime) {
+    each_on_both(&rt, ON_BOTH);
+    each_in_memory(&rt, IN_MEMORY);
+}

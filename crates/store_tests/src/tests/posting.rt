@@ -1,16 +1,12 @@
 //! What a Post answers, and what it leaves in both alternatives.
-use super::script::Row::Once;
-use super::script::{NEW, On, Row, Table};
-
-pub(super) const TABLES: &[Table] = &[(On::Both, ON_BOTH), (On::Memory, IN_MEMORY)];
+use super::script::{NEW, Row, each_in_memory, each_on_both};
 
 const ON_BOTH: &[Row] = &[
     // The parent has the records of the base again, in another block.
-    Once(
+    (
         "parent that went back to the base is merged",
-        &[
-            NEW,
-            "
+        NEW,
+        "
         put top 1:1 x
         new a top
         put a 1:2 y
@@ -20,16 +16,14 @@ const ON_BOTH: &[Row] = &[
         post a
         list top -> 1:1=x 1:2=y
         changes a -> none",
-        ],
     ),
 ];
 
 const IN_MEMORY: &[Row] = &[
-    Once(
+    (
         "grandchild merges from its parent and posts to it",
-        &[
-            NEW,
-            "
+        NEW,
+        "
         new a top
         new b a
         put top 1:1 x
@@ -41,13 +35,11 @@ const IN_MEMORY: &[Row] = &[
         post a -> error 8 NotMerged
         list a -> 1:2=y 1:3=z
         list top -> 1:1=x",
-        ],
     ),
-    Once(
+    (
         "merge that is not committed is gone after closing",
-        &[
-            NEW,
-            "
+        NEW,
+        "
         new a top
         put top 1:1 x
         commit
@@ -71,6 +63,11 @@ const IN_MEMORY: &[Row] = &[
         close
         open
         get top 1:2 -> y",
-        ],
     ),
 ];
+
+#[test]
+fn posts_are_answered(rt: HostRuntime) {
+    each_on_both(&rt, ON_BOTH);
+    each_in_memory(&rt, IN_MEMORY);
+}

@@ -1,9 +1,6 @@
 //! Records: what is put, got, listed and taken out.
-use super::script::Row::Once;
-use super::script::{DUCT, NEW, On, Row, Table, plays_on};
+use super::script::{DUCT, NEW, Row, each_in_memory, each_on_both, in_memory};
 use std::test::Fail;
-
-pub(super) const TABLES: &[Table] = &[(On::Both, ON_BOTH), (On::Memory, IN_MEMORY)];
 
 /// A closed store in which `duct` and the record beside it are committed, in one leaf. Opening it makes five
 /// device calls.
@@ -18,20 +15,17 @@ pub(super) const TWO_RECORDS: &str = "
     anew";
 
 const ON_BOTH: &[Row] = &[
-    Once(
+    (
         "what is committed is there after opening",
-        &[
-            DUCT,
-            "
+        DUCT,
+        "
         open
         get top 7:1 -> duct",
-        ],
     ),
-    Once(
+    (
         "value is lent from its block",
-        &[
-            DUCT,
-            "
+        DUCT,
+        "
         open
         look top 7:1 -> duct
         look top 7:2 -> ~
@@ -43,24 +37,20 @@ const ON_BOTH: &[Row] = &[
         look a 7:2 -> ''
         look top 7:1 -> duct
         look top 7:2 -> ~",
-        ],
     ),
-    Once(
+    (
         "greatest key takes the empty value",
-        &[
-            NEW,
-            "
+        NEW,
+        "
         get top 65535:18446744073709551615 -> ~
         put top 65535:18446744073709551615 ''
         get top 65535:18446744073709551615 -> ''
         get top 7:1 -> ~",
-        ],
     ),
-    Once(
+    (
         "what is not committed is gone after closing",
-        &[
-            DUCT,
-            "
+        DUCT,
+        "
         open
         put top 7:1 pipe
         get top 7:1 -> pipe
@@ -68,56 +58,49 @@ const ON_BOTH: &[Row] = &[
         anew
         open
         get top 7:1 -> duct",
-        ],
     ),
-    Once(
+    (
         "record that is absent from a new store is refused",
-        &[NEW, "remove top 0:0 -> error 5 NoSuchRecord"],
+        NEW,
+        "remove top 0:0 -> error 5 NoSuchRecord",
     ),
-    Once(
+    (
         "record that is absent beside another is refused",
-        &[
-            DUCT,
-            "
+        DUCT,
+        "
         open
         remove top 0:0 -> error 5 NoSuchRecord
         remove top 7:2 -> error 5 NoSuchRecord
         remove nope 7:1 -> error 1 NoSuchAlternative
         get top 7:1 -> duct",
-        ],
     ),
 ];
 
 const IN_MEMORY: &[Row] = &[
-    Once(
+    (
         "alternative that is not there is refused",
-        &[
-            NEW,
-            "
+        NEW,
+        "
         get nope 7:1 -> error 1 NoSuchAlternative
         put nope 7:1 duct -> error 1 NoSuchAlternative
         get top 7:1 -> ~
         list top -> none
         list nope -> error 1 NoSuchAlternative",
-        ],
     ),
-    Once(
+    (
         "records are listed by rising keys",
-        &[
-            DUCT,
-            "
+        DUCT,
+        "
         open
         put top 65535:0 ''
         put top 1:18446744073709551615 pipe
         put top 0:2 -
         list top -> 0:2=- 1:18446744073709551615=pipe 7:1=duct 65535:0=''",
-        ],
     ),
-    Once(
+    (
         "records are taken out one by one",
-        &[
-            TWO_RECORDS,
-            "
+        TWO_RECORDS,
+        "
         open
         remove top 7:1
         remove top 7:1 -> error 5 NoSuchRecord
@@ -130,9 +113,14 @@ const IN_MEMORY: &[Row] = &[
         list top -> none
         put top 7:2 ''
         list top -> 7:2=''",
-        ],
     ),
 ];
+
+#[test]
+fn records_are_put_got_listed_and_taken_out(rt: HostRuntime) {
+    each_on_both(&rt, ON_BOTH);
+    each_in_memory(&rt, IN_MEMORY);
+}
 
 #[test]
 fn blocks_are_found_again_over_many_puts(rt: HostRuntime) -> Result<(), Fail> {
@@ -144,7 +132,6 @@ fn blocks_are_found_again_over_many_puts(rt: HostRuntime) -> Result<(), Fail> {
         close
         open
         get top 7:1 -> duct";
-    let texts = [DUCT, "open", &row, after];
-    plays_on(&rt, On::Memory, "many puts", 0, &[&texts]);
+    in_memory(&rt, &[DUCT, "open", &row, after]);
     Ok(())
 }

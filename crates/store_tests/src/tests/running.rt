@@ -1,30 +1,25 @@
 //! Lists of commands.
-use super::script::Row::Once;
-use super::script::{NEW, On, Row, Table};
-
-pub(super) const TABLES: &[Table] = &[(On::Memory, LISTS)];
+use super::script::{NEW, Row, each_in_memory};
 
 const LISTS: &[Row] = &[
-    Once(
+    (
         "commands are answered in order",
-        &[
-            NEW,
-            "
+        NEW,
+        "
         run put top 7:1 duct ; put nope 7:1 duct ; commit \
             -> ok ; error 1 NoSuchAlternative ; ok ; end
         get top 7:1 -> duct
         close
         open
         get top 7:1 -> duct",
-        ],
     ),
-    Once("empty list has no answers", &[NEW, "run -> end"]),
+    ("empty list has no answers", NEW, "run -> end"),
     // Formatting and opening make eleven device calls, the Put one, and the Commit's first sync is the
     // third after these.
-    Once(
+    (
         "list ends where the device fails",
-        &[
-            "
+        "",
+        "
         once 13
         format 64
         open
@@ -36,21 +31,23 @@ const LISTS: &[Row] = &[
         anew
         open
         get top 7:1 -> ~",
-        ],
     ),
     // Of 64 blocks 34 are the store's own. The first Put takes a leaf, the second a copy of it, and
     // then no version reaches the first leaf any longer.
-    Once(
+    (
         "reclaim in a list leaves the spare blocks free",
-        &[
-            NEW,
-            "
+        NEW,
+        "
         free -> 30
         run put top 7:1 duct ; put top 7:1 pipe -> ok ; ok ; end
         free -> 28
         run reclaim ; commit -> ok ; ok ; end
         free -> 29
         get top 7:1 -> pipe",
-        ],
     ),
 ];
+
+#[test]
+fn lists_of_commands_are_answered(rt: HostRuntime) {
+    each_in_memory(&rt, LISTS);
+}

@@ -26,10 +26,9 @@
 //! |---|---|
 //! | `format 64`, `open` | `ok` |
 //! | `calls` | `5`: the device calls since the device was taken anew |
+//! | `dirty` | `34 35`: the blocks that are not synced |
 //! | `anew` | `ok`: the device is taken anew, with nothing in its cache |
-//! | `blank 64 80` | the same, of a disk of so many blocks of zeros with room for so many; each row begins with `blank 64 64` |
-//! | `dirty` | the device is taken anew; `34 35`: the blocks that were not synced |
-//! | `written` | the same; `0 1 2`: the blocks that have other bytes than zeros |
+//! | `written` | the device is taken anew; `0 1 2`: the blocks that have other bytes than zeros |
 //! | `forgotten` | the same; `34 35`: the blocks that were forgotten since the last sync, and not written again |
 //! | `block 18` | the same; `0:534C 195:40`: its bytes but zeros, from these places on; or `all=41` |
 //! | `once 5` | `ok`: the device is taken anew, and its sixth call fails |
@@ -40,12 +39,15 @@
 //! | `cut 21` | the same, with so many blocks of it |
 //! | `longer 80` | `ok`, or `fault`: the disk is asked to have so many blocks |
 //! | `short 64`, `short 64 35=FF` | `ok`: the device is taken anew after a crash that leaves so many blocks, and may fill some |
-use super::answers::answer;
+ghost use Rattle.std.specs.Prelude.{◌≤◌};
+
+use super::answers::{answer, refusal_text};
 use super::blocks::{cut, look, set_block, set_bytes};
+use super::keeping::KeepingDisk;
 use super::over::OverMemory;
-use std::alloc::Global;
+use super::words::{Wrong, byte, number};
+use std::alloc::{AllocError, Global};
 use std::process::Abort;
-use testkit::{RecordingDisk, Wrong, byte, number};
 use vm_disk::{CachedDisk, DelayedDisk, Disk, FuseDisk, MemDisk};
 use vm_store::{Store, format, open};
 
@@ -77,35 +79,14 @@ pub(super) const SEVENTEEN: &str = "
     close
     anew";
 
-/// A row of a table. Its name, and the number of its case, are told where it fails.
-pub(super) enum Row {
-    /// Its name, and its texts.
-    Once(&'static str, &'static [&'static str]),
-    /// Its name, the texts with which each of its cases begins, the other texts of each case, and those with
-    /// which each ends.
-    Each(
-        &'static str,
-        &'static [&'static str],
-        &'static [&'static [&'static str]],
-        &'static [&'static str],
-    ),
-}
+/// A row of a table: its name, which is told where it fails, the text before its own, and its own.
+pub(super) type Row = (&'static str, &'static str, &'static str);
 
-/// On which disks a row is played.
-#[derive(Clone, Copy)]
-pub(super) enum On {
-    /// In memory.
-    Memory,
-    /// In memory, and once more over a cache.
-    Both,
-    /// On both, and over a disk that writes late.
-    Late,
-    /// On these, and on a disk that keeps what is forgotten.
-    All,
-}
+/// The same, with the room of the disk behind the name.
+pub(super) type RoomRow = (&'static str, u32, &'static str, &'static str);
 
-/// Rows, and on which disks each of them is played.
-pub(super) type Table = (On, &'static [Row]);
+/// What is told in place of a name where a row is in no table.
+const ROW: &str = "row";
 
 /// More device calls than any script makes.
 const NEVER: u32 = 100_000;
@@ -129,7 +110,7 @@ fn device<M: OverMemory>(
     if passes > NEVER {
         return Err(Wrong::Unreadable);
     }
-    let disk = M::over(alloc, disk)?;
+    let disk = M::over(alloc, disk).map_err(|_| Wrong::Memory)?;
     Ok(match torn {
         Some(torn) => FuseDisk::stop(disk, passes, torn),
         None => FuseDisk::once(disk, passes, [9; 4096]),
@@ -144,11 +125,11 @@ fn filling(alloc: Global, blocks: u32, words: &[&str]) -> Result<Vec<(u32, [u8; 
         let fill = byte(fill)?;
         if place == "all" {
             for n in 0..blocks {
-                filling.push((n, [fill; 4096]))?;
+                filling.push((n, [fill; 4096])).map_err(|_| Wrong::Memory)?;
             }
         } else {
             let n = number(place)?;
-            filling.push((n, [fill; 4096]))?;
+            filling.push((n, [fill; 4096])).map_err(|_| Wrong::Memory)?;
         }
     }
     Ok(filling)
@@ -163,14 +144,6 @@ fn short(alloc: Global, disk: MemDisk, blocks: u32, fills: &[&str]) -> Result<Me
     Ok(disk.crash_short(&filling, blocks))
 }
 
-/// A disk of so many blocks of zeros, with room for so many.
-fn blank(alloc: Global, blocks: u32, room: u32) -> Result<MemDisk, Wrong> {
-    if blocks > room {
-        return Err(Wrong::Unreadable);
-    }
-    Ok(MemDisk::with_room(alloc, blocks, room)?)
-}
-
 /// The disk with other bytes.
 fn changed(alloc: Global, mut disk: MemDisk, words: &[&str]) -> Result<MemDisk, Wrong> {
     match words {
@@ -183,7 +156,6 @@ fn changed(alloc: Global, mut disk: MemDisk, words: &[&str]) -> Result<MemDisk, 
         ["set", block, runs @ ..] => set_bytes(&mut disk, number(block)?, runs)?,
         ["zero", block] => set_block(&mut disk, number(block)?, &[0; 4096])?,
         ["cut", blocks] => return cut(alloc, disk, number(blocks)?),
-        ["blank", blocks, room] => return blank(alloc, number(blocks)?, number(room)?),
         _ => return Err(Wrong::Unreadable),
     }
     Ok(disk)
@@ -217,6 +189,16 @@ fn lengthen<D: Disk>(disk: &mut D, blocks: u32) -> Result<&'static str, Wrong> {
     }
 }
 
+fn dirty_blocks(alloc: Global, disk: &MemDisk) -> Result<String, Wrong> {
+    let mut text = String::new(alloc);
+    for n in 0..disk.blocks() {
+        if disk.is_dirty(n) {
+            write!(text, " {n}")?;
+        }
+    }
+    Ok(text)
+}
+
 /// Plays a step while no store is open.
 fn play_shut<M: OverMemory>(alloc: Global, mut disk: FuseDisk<M>, words: &[&str]) -> Played<M> {
     let ok = String::from_str(alloc, "ok")?;
@@ -224,14 +206,14 @@ fn play_shut<M: OverMemory>(alloc: Global, mut disk: FuseDisk<M>, words: &[&str]
         ["format", blocks] => match format(disk, number(blocks)?) {
             Ok(disk) => Ok((Bench::Shut(disk), ok)),
             Err((disk, refusal)) => {
-                let refused = format!(in alloc; "error {refusal}")?;
+                let refused = refusal_text(alloc, refusal)?;
                 Ok((Bench::Shut(disk), refused))
             }
         },
         ["open"] => match open(alloc, disk) {
             Ok(store) => Ok((Bench::Open(store), ok)),
             Err((disk, refusal)) => {
-                let refused = format!(in alloc; "error {refusal}")?;
+                let refused = refusal_text(alloc, refusal)?;
                 Ok((Bench::Shut(disk), refused))
             }
         },
@@ -242,6 +224,10 @@ fn play_shut<M: OverMemory>(alloc: Global, mut disk: FuseDisk<M>, words: &[&str]
         ["longer", blocks] => {
             let text = String::from_str(alloc, lengthen(&mut disk, number(blocks)?)?)?;
             Ok((Bench::Shut(disk), text))
+        }
+        ["dirty"] => {
+            let blocks = dirty_blocks(alloc, disk.inner().memory())?;
+            Ok((Bench::Shut(disk), blocks))
         }
         _ => {
             let mut memory = disk.into_inner().below();
@@ -300,7 +286,6 @@ fn play<M: OverMemory>(alloc: Global, bench: Bench<FuseDisk<M>>, step: &str) -> 
 fn plays<M: OverMemory, R: AllocGlobal + Abort>(
     rt: &R,
     name: &str,
-    case: usize,
     on: &str,
     mut bench: Bench<FuseDisk<M>>,
     text: &str,
@@ -315,39 +300,33 @@ fn plays<M: OverMemory, R: AllocGlobal + Abort>(
             Ok((next, given)) => {
                 let given = given.trim();
                 let given = if given.is_empty() { "none" } else { given };
-                assert_eq!(rt;
-                    given,
-                    due.trim(),
-                    "{name}, case {case}, {on}, line {n}: {line}"
-                );
+                assert_eq!(rt; given, due.trim(), "{name}, {on}, line {n}: {line}");
                 bench = next;
             }
-            Err(wrong) => panic!(rt; "{name}, case {case}, {on}, line {n}: {line}: {wrong:?}"),
+            Err(wrong) => panic!(rt; "{name}, {on}, line {n}: {line}: {wrong:?}"),
         }
     }
     bench
 }
 
-/// Plays texts one after another, from a blank disk of 64 blocks on.
-fn plays_over<M: OverMemory, R: AllocGlobal + Abort>(
+/// Plays texts one after another on a disk.
+fn plays_all<M: OverMemory, R: AllocGlobal + Abort>(
     rt: &R,
     name: &str,
-    case: usize,
     on: &str,
-    parts: &[&[&str]],
+    disk: Result<MemDisk, AllocError>,
+    texts: &[&str],
 ) {
-    let device = match blank(rt.alloc(), 64, 64) {
+    let device = match disk {
         Ok(disk) => device::<M>(rt.alloc(), disk, NEVER, None),
-        Err(wrong) => Err(wrong),
+        Err(_) => Err(Wrong::Memory),
     };
     let mut bench = match device {
         Ok(device) => Bench::Shut(device),
-        Err(wrong) => panic!(rt; "{name}, case {case}, {on}: {wrong:?}"),
+        Err(wrong) => panic!(rt; "{name}, {on}: {wrong:?}"),
     };
-    for texts in parts {
-        for text in *texts {
-            bench = plays(rt, name, case, on, bench, text);
-        }
+    for text in texts {
+        bench = plays(rt, name, on, bench, text);
     }
     let _disk = match bench {
         Bench::Shut(disk) => disk,
@@ -355,38 +334,92 @@ fn plays_over<M: OverMemory, R: AllocGlobal + Abort>(
     };
 }
 
-/// The same on each of these disks.
-pub(super) fn plays_on<R: AllocGlobal + Abort>(
-    rt: &R,
-    disks: On,
-    name: &str,
-    case: usize,
-    parts: &[&[&str]],
-) {
-    plays_over::<MemDisk, R>(rt, name, case, "in memory", parts);
-    if !matches!(disks, On::Memory) {
-        plays_over::<CachedDisk<MemDisk>, R>(rt, name, case, "over a cache", parts);
-    }
-    if matches!(disks, On::Late | On::All) {
-        plays_over::<DelayedDisk<MemDisk>, R>(rt, name, case, "over a late disk", parts);
-    }
-    if matches!(disks, On::All) {
-        plays_over::<RecordingDisk, R>(rt, name, case, "with all kept", parts);
+/// Plays texts one after another on a disk in memory.
+pub(super) fn from_disk<R: AllocGlobal + Abort>(rt: &R, disk: MemDisk, texts: &[&str]) {
+    plays_all::<MemDisk, R>(rt, ROW, "in memory", Ok(disk), texts);
+}
+
+/// The same on a blank disk of 256 blocks.
+pub(super) fn in_256_blocks<R: AllocGlobal + Abort>(rt: &R, texts: &[&str]) {
+    let blank = MemDisk::new(rt.alloc(), 256);
+    plays_all::<MemDisk, R>(rt, ROW, "in memory", blank, texts);
+}
+
+/// The same on a blank disk of 64 blocks.
+pub(super) fn in_memory<R: AllocGlobal + Abort>(rt: &R, texts: &[&str]) {
+    let blank = MemDisk::new(rt.alloc(), 64);
+    plays_all::<MemDisk, R>(rt, ROW, "in memory", blank, texts);
+}
+
+/// The same on a blank disk of 64 blocks with room for so many, and once more over a cache.
+pub(super) fn with_room<R: AllocGlobal + Abort>(rt: &R, room: u32, texts: &[&str])
+    requires { 64 ≤ room }
+{
+    let blank = MemDisk::with_room(rt.alloc(), 64, room);
+    plays_all::<MemDisk, R>(rt, ROW, "in memory", blank, texts);
+    let blank = MemDisk::with_room(rt.alloc(), 64, room);
+    plays_all::<CachedDisk<MemDisk>, R>(rt, ROW, "over a cache", blank, texts);
+}
+
+/// The same on a blank disk of 64 blocks, and once more over a cache.
+pub(super) fn on_both<R: AllocGlobal + Abort>(rt: &R, texts: &[&str]) {
+    in_memory(rt, texts);
+    let blank = MemDisk::new(rt.alloc(), 64);
+    plays_all::<CachedDisk<MemDisk>, R>(rt, ROW, "over a cache", blank, texts);
+}
+
+/// The same on a blank disk of 64 blocks with room for 80, over a cache, and over a disk that writes late.
+pub(super) fn and_late<R: AllocGlobal + Abort>(rt: &R, texts: &[&str]) {
+    with_room(rt, 80, texts);
+    let blank = MemDisk::with_room(rt.alloc(), 64, 80);
+    plays_all::<DelayedDisk<MemDisk>, R>(rt, ROW, "over a late disk", blank, texts);
+}
+
+/// The same on a blank disk of 256 blocks with room for 300, over a cache, over a disk that writes late, and on
+/// one that keeps what is forgotten.
+pub(super) fn on_each<R: AllocGlobal + Abort>(rt: &R, texts: &[&str]) {
+    let blank = MemDisk::with_room(rt.alloc(), 256, 300);
+    plays_all::<MemDisk, R>(rt, ROW, "in memory", blank, texts);
+    let blank = MemDisk::with_room(rt.alloc(), 256, 300);
+    plays_all::<CachedDisk<MemDisk>, R>(rt, ROW, "over a cache", blank, texts);
+    let blank = MemDisk::with_room(rt.alloc(), 256, 300);
+    plays_all::<DelayedDisk<MemDisk>, R>(rt, ROW, "over a late disk", blank, texts);
+    let blank = MemDisk::with_room(rt.alloc(), 256, 300);
+    plays_all::<KeepingDisk, R>(rt, ROW, "with all kept", blank, texts);
+}
+
+/// Plays each row of a table on a blank disk of 64 blocks of its own.
+pub(super) fn each_in_memory<R: AllocGlobal + Abort>(rt: &R, rows: &[Row]) {
+    for (name, first, row) in rows {
+        let blank = MemDisk::new(rt.alloc(), 64);
+        plays_all::<MemDisk, R>(rt, name, "in memory", blank, &[first, row]);
     }
 }
 
-/// Plays each row of these tables.
-pub(super) fn play_all<R: AllocGlobal + Abort>(rt: &R, tables: &[Table]) {
-    for (disks, rows) in tables {
-        for row in *rows {
-            match row {
-                Row::Once(name, texts) => plays_on(rt, *disks, name, 0, &[texts]),
-                Row::Each(name, first, cases, last) => {
-                    for (case, texts) in cases.iter().enumerate() {
-                        plays_on(rt, *disks, name, case, &[first, texts, last]);
-                    }
-                }
-            }
-        }
+/// The same on blank disks of 256 blocks.
+pub(super) fn each_in_256_blocks<R: AllocGlobal + Abort>(rt: &R, rows: &[Row]) {
+    for (name, first, row) in rows {
+        let blank = MemDisk::new(rt.alloc(), 256);
+        plays_all::<MemDisk, R>(rt, name, "in memory", blank, &[first, row]);
+    }
+}
+
+/// The same on blank disks of 64 blocks, and once more over a cache.
+pub(super) fn each_on_both<R: AllocGlobal + Abort>(rt: &R, rows: &[Row]) {
+    each_in_memory(rt, rows);
+    for (name, first, row) in rows {
+        let blank = MemDisk::new(rt.alloc(), 64);
+        plays_all::<CachedDisk<MemDisk>, R>(rt, name, "over a cache", blank, &[first, row]);
+    }
+}
+
+/// The same on blank disks of 64 blocks with the row's room, and once more over a cache.
+pub(super) fn each_with_room<R: AllocGlobal + Abort>(rt: &R, rows: &[RoomRow]) {
+    for (name, room, first, row) in rows {
+        assert!(rt; 64 <= *room, "{name}");
+        let blank = MemDisk::with_room(rt.alloc(), 64, *room);
+        plays_all::<MemDisk, R>(rt, name, "in memory", blank, &[first, row]);
+        let blank = MemDisk::with_room(rt.alloc(), 64, *room);
+        plays_all::<CachedDisk<MemDisk>, R>(rt, name, "over a cache", blank, &[first, row]);
     }
 }

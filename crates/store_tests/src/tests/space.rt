@@ -1,24 +1,15 @@
 //! How many blocks are free, and how many each command asks for and takes.
-use super::script::Row::Once;
-use super::script::{DUCT, NEW, On, Row, SEVENTEEN, Table};
-
-pub(super) const TABLES: &[Table] = &[
-    (On::Both, ON_BOTH),
-    (On::Memory, IN_MEMORY),
-    (On::Memory, MERGES),
-    (On::Memory, MERGES_IN_256_BLOCKS),
-];
+use super::script::{DUCT, NEW, Row, SEVENTEEN, each_in_256_blocks, each_in_memory, each_on_both};
 
 const ON_BOTH: &[Row] = &[
-    Once("new store of 64 blocks has 30 free", &[NEW, "free -> 30"]),
+    ("new store of 64 blocks has 30 free", NEW, "free -> 30"),
     // The seventeenth record splits the leaf: two leaves and a root are written. The Remove of the
     // eleventh record marks, and that of the tenth leaves nine records, which are the first leaf: it
     // writes no block.
-    Once(
+    (
         "leaf is split and takes the place of the root again",
-        &[
-            NEW,
-            "
+        NEW,
+        "
         puts top 1:1 17 v
         free -> 24
         reclaim
@@ -51,14 +42,12 @@ const ON_BOTH: &[Row] = &[
         get top 1:15 -> ~
         get top 1:16 -> ~
         get top 1:17 -> ~",
-        ],
     ),
     // 30 blocks are for data. Each of the 14 checkpoints keeps one, so 16 are spare for the next Put.
-    Once(
+    (
         "checkpoints keep their blocks",
-        &[
-            NEW,
-            "
+        NEW,
+        "
         kept top 1:1 v 14
         commit
         put top 1:1 v -> error 13 Full
@@ -67,16 +56,14 @@ const ON_BOTH: &[Row] = &[
         commit
         put top 1:1 v
         free -> 16",
-        ],
     ),
 ];
 
 const IN_MEMORY: &[Row] = &[
-    Once(
+    (
         "reclaim frees what no version needs",
-        &[
-            DUCT,
-            "
+        DUCT,
+        "
         open
         free -> 29
         put top 7:1 pipe
@@ -89,15 +76,13 @@ const IN_MEMORY: &[Row] = &[
         reclaim
         free -> 29
         get top 7:1 -> tube",
-        ],
     ),
     // The Put takes one of thirty blocks. A new alternative shares its parent's, and what is refused
     // takes none.
-    Once(
+    (
         "what is refused takes no block",
-        &[
-            NEW,
-            "
+        NEW,
+        "
         put top 7:1 duct
         new a top
         free -> 29
@@ -108,15 +93,13 @@ const IN_MEMORY: &[Row] = &[
         free -> 29
         list nope -> error 1 NoSuchAlternative
         free -> 29",
-        ],
     ),
     // Fourteen Puts take the blocks 34 to 47. The fifteenth finds sixteen free and marks: block 47
     // alone stays held, and the Put takes block 34.
-    Once(
+    (
         "put marks where fewer than 17 blocks are free",
-        &[
-            NEW,
-            "
+        NEW,
+        "
         put top 1:1 v
         free -> 29
         put top 1:2 v
@@ -151,30 +134,32 @@ const IN_MEMORY: &[Row] = &[
         free -> 27
         close
         dirty -> 34 35 36 37 38 39 40 41 42 43 44 45 46 47",
-        ],
     ),
     // A root over two leaves is the current map of both alternatives, and the base of one: each of the
     // three blocks is held once. A record changed in one of them takes a leaf and a root more.
-    Once(
+    (
         "shared blocks are held once",
-        &[
-            SEVENTEEN,
-            "
+        SEVENTEEN,
+        "
         open
         free -> 27
         put top 1:17 v
         free -> 25",
-        ],
     ),
 ];
 
+#[test]
+fn blocks_are_taken_kept_and_freed(rt: HostRuntime) {
+    each_on_both(&rt, ON_BOTH);
+    each_in_memory(&rt, IN_MEMORY);
+}
+
 const MERGES: &[Row] = &[
     // Nine changes ask for 153 spare blocks. 28 are spare beside the two leaves.
-    Once(
+    (
         "merge is refused where too few blocks are spare",
-        &[
-            NEW,
-            "
+        NEW,
+        "
         new a top
         puts top 1:1 9 v
         puts a 2:1 8 v
@@ -185,15 +170,13 @@ const MERGES: &[Row] = &[
         post a -> error 8 NotMerged
         put a 1:1 v
         free -> 27",
-        ],
     ),
     // 30 blocks are for data. Each of the 14 checkpoints keeps one, so 16 are spare, and one more
     // after an Uncheck. A Merge without changes asks for none.
-    Once(
+    (
         "merge of one record asks for seventeen spare blocks",
-        &[
-            NEW,
-            "
+        NEW,
+        "
         new a top
         kept top 1:1 v 14
         new b top
@@ -205,18 +188,16 @@ const MERGES: &[Row] = &[
         put a 1:1 v -> error 13 Full
         get a 1:1 -> v
         free -> 16",
-        ],
     ),
 ];
 
 const MERGES_IN_256_BLOCKS: &[Row] = &[
     // 205 of 222 blocks are free before it. The first eight changes write a leaf each, and the ninth
     // two leaves and a root.
-    Once(
+    (
         "merge makes one change after another",
-        &[
-            "blank 256 256",
-            "
+        "",
+        "
         format 256
         open
         new a top
@@ -230,14 +211,12 @@ const MERGES_IN_256_BLOCKS: &[Row] = &[
         post a
         list top -> 1:1=v 1:2=v 1:3=v 1:4=v 1:5=v 1:6=v 1:7=v 1:8=v 1:9=v \
             2:1=v 2:2=v 2:3=v 2:4=v 2:5=v 2:6=v 2:7=v 2:8=v",
-        ],
     ),
     // The map has two leaves under a root, so each change writes two blocks.
-    Once(
+    (
         "merge brings changes into a map of two levels",
-        &[
-            "blank 256 256",
-            "
+        "",
+        "
         format 256
         open
         puts top 1:1 20 v
@@ -265,6 +244,11 @@ const MERGES_IN_256_BLOCKS: &[Row] = &[
             1:14=v 1:15=v 1:16=v 1:17=v 1:18=v 1:19=v 1:20=t 1:21=t 1:30=m
         free -> 171
         changes a -> none",
-        ],
     ),
 ];
+
+#[test]
+fn merges_ask_for_blocks_and_take_them(rt: HostRuntime) {
+    each_in_memory(&rt, MERGES);
+    each_in_256_blocks(&rt, MERGES_IN_256_BLOCKS);
+}

@@ -1,17 +1,13 @@
 //! How far an alternative has gone from its base and from its parent.
-use super::script::Row::Once;
-use super::script::{NEW, On, Row, Table};
-
-pub(super) const TABLES: &[Table] = &[(On::Memory, IN_256_BLOCKS), (On::Both, ON_BOTH)];
+use super::script::{NEW, Row, each_in_256_blocks, each_on_both};
 
 const IN_256_BLOCKS: &[Row] = &[
     // Both sides changed the first record, the parent alone the second and the fourth, the alternative
     // alone the third. A merge takes the parent's three, and a post leaves nothing.
-    Once(
+    (
         "tallies follow merges and posts",
-        &[
-            "blank 256 256",
-            "
+        "",
+        "
         format 256
         open
         put top 1:1 x
@@ -29,17 +25,15 @@ const IN_256_BLOCKS: &[Row] = &[
         tally a -> 2 0 0 yes
         post a
         tally a -> 0 0 0 yes",
-        ],
     ),
 ];
 
 const ON_BOTH: &[Row] = &[
     // What a parent took in of its own parent is a change of it. A record that it put back is none.
-    Once(
+    (
         "tallies are between an alternative and its own parent",
-        &[
-            NEW,
-            "
+        NEW,
+        "
         put top 1:1 x
         new a top
         put a 1:2 y
@@ -56,16 +50,19 @@ const ON_BOTH: &[Row] = &[
         tally b -> 1 0 0 yes
         put a 1:2 w
         tally b -> 1 1 1 no",
-        ],
     ),
-    Once(
+    (
         "no tally where there is no parent",
-        &[
-            NEW,
-            "
+        NEW,
+        "
         put top 1:1 x
         tally top -> error 6 IsTop
         tally a -> error 1 NoSuchAlternative",
-        ],
     ),
 ];
+
+#[test]
+fn tallies_count_what_differs(rt: HostRuntime) {
+    each_in_256_blocks(&rt, IN_256_BLOCKS);
+    each_on_both(&rt, ON_BOTH);
+}

@@ -1,15 +1,11 @@
 //! Alternatives and checkpoints.
-use super::script::Row::Once;
-use super::script::{NEW, On, Row, Table};
-
-pub(super) const TABLES: &[Table] = &[(On::Both, ON_BOTH), (On::Memory, IN_MEMORY)];
+use super::script::{NEW, Row, each_in_memory, each_on_both};
 
 const ON_BOTH: &[Row] = &[
-    Once(
+    (
         "commands on alternatives are refused in their order",
-        &[
-            NEW,
-            "
+        NEW,
+        "
         new a top
         new b a
         drop a -> error 7 HasChildren
@@ -20,13 +16,11 @@ const ON_BOTH: &[Row] = &[
         drop b
         drop a
         get a 1:1 -> error 1 NoSuchAlternative",
-        ],
     ),
-    Once(
+    (
         "commands on checkpoints are refused in their order",
-        &[
-            NEW,
-            "
+        NEW,
+        "
         new a top
         back a q -> error 3 NoSuchCheckpoint
         checkpoint a c
@@ -39,13 +33,12 @@ const ON_BOTH: &[Row] = &[
         checkpoint c c -> error 1 NoSuchAlternative
         uncheck c c -> error 1 NoSuchAlternative
         back c c -> error 1 NoSuchAlternative",
-        ],
     ),
     // Opening makes 4 device calls, and the Commit 19.
-    Once(
+    (
         "five hundred and eleven entries are the most",
-        &[
-            "
+        "",
+        "
         format 64
         anew
         open
@@ -60,13 +53,11 @@ const ON_BOTH: &[Row] = &[
         checkpoint top k510 -> error 4 CheckpointExists
         uncheck top k077
         new a top",
-        ],
     ),
-    Once(
+    (
         "alternatives are listed in order of creation",
-        &[
-            NEW,
-            "
+        NEW,
+        "
         alts -> top
         new b top
         checkpoint b c
@@ -76,16 +67,14 @@ const ON_BOTH: &[Row] = &[
         drop a
         new a d
         alts -> top b<top d<top a<d",
-        ],
     ),
 ];
 
 const IN_MEMORY: &[Row] = &[
-    Once(
+    (
         "alternatives show what their parent had",
-        &[
-            NEW,
-            "
+        NEW,
+        "
         put top 1:1 x
         new a top
         get a 1:1 -> x
@@ -94,13 +83,11 @@ const IN_MEMORY: &[Row] = &[
         put a 1:1 y
         get a 1:1 -> y
         get top 1:1 -> z",
-        ],
     ),
-    Once(
+    (
         "back shows the records of the checkpoint",
-        &[
-            NEW,
-            "
+        NEW,
+        "
         new a top
         checkpoint a c
         put a 1:1 x
@@ -110,13 +97,11 @@ const IN_MEMORY: &[Row] = &[
         back a d
         get a 1:1 -> x
         back a c",
-        ],
     ),
-    Once(
+    (
         "checkpoints go with their alternative",
-        &[
-            NEW,
-            "
+        NEW,
+        "
         new a top
         checkpoint top c
         checkpoint a c
@@ -124,14 +109,12 @@ const IN_MEMORY: &[Row] = &[
         new a top
         back a c -> error 3 NoSuchCheckpoint
         back top c",
-        ],
     ),
     // The name has the greatest length.
-    Once(
+    (
         "versions are there after opening",
-        &[
-            NEW,
-            "
+        NEW,
+        "
         new nnnnnnnnnnnnnnnnnnnnnnnnnnnnnnnn top
         put nnnnnnnnnnnnnnnnnnnnnnnnnnnnnnnn 1:1 x
         checkpoint nnnnnnnnnnnnnnnnnnnnnnnnnnnnnnnn nnnnnnnnnnnnnnnnnnnnnnnnnnnnnnnn
@@ -144,13 +127,12 @@ const IN_MEMORY: &[Row] = &[
         back nnnnnnnnnnnnnnnnnnnnnnnnnnnnnnnn nnnnnnnnnnnnnnnnnnnnnnnnnnnnnnnn
         get nnnnnnnnnnnnnnnnnnnnnnnnnnnnnnnn 1:1 -> x
         get top 1:1 -> ~",
-        ],
     ),
     // The device calls are those of the opening.
-    Once(
+    (
         "calls that change entries alone make no device call",
-        &[
-            "
+        "",
+        "
         format 64
         anew
         open
@@ -163,13 +145,11 @@ const IN_MEMORY: &[Row] = &[
         drop a
         close
         calls -> 4",
-        ],
     ),
-    Once(
+    (
         "checkpoints are listed in order of creation",
-        &[
-            NEW,
-            "
+        NEW,
+        "
         checks top -> none
         new a top
         checkpoint top z
@@ -184,6 +164,11 @@ const IN_MEMORY: &[Row] = &[
         checks a -> y x z
         checks top -> z y x
         checks x -> error 1 NoSuchAlternative",
-        ],
     ),
 ];
+
+#[test]
+fn versions_are_made_shown_listed_and_refused(rt: HostRuntime) {
+    each_on_both(&rt, ON_BOTH);
+    each_in_memory(&rt, IN_MEMORY);
+}

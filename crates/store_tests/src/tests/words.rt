@@ -1,7 +1,82 @@
-//! The commands that the words of a script stand for.
-use std::alloc::Global;
-use testkit::{Wrong, key, name, number, value};
-use vm_types::{Command, Key, Settled, Side};
+//! What the words of a script stand for.
+use std::alloc::{AllocError, Global};
+use std::fmt;
+use vm_disk::DeviceFault;
+use vm_types::{Command, Key, Name, Settled, Side, Value};
+
+/// Why a step has no answer.
+#[derive(Clone, Copy, Debug, PartialEq, Eq)]
+pub(super) enum Wrong {
+    /// No memory for the script itself.
+    Memory,
+    /// A device call of the script itself failed.
+    Device,
+    /// The step is none.
+    Unreadable,
+}
+
+impl From<AllocError> for Wrong {
+    fn from(_: AllocError) -> Wrong {
+        Wrong::Memory
+    }
+}
+
+impl From<fmt::Error> for Wrong {
+    fn from(_: fmt::Error) -> Wrong {
+        Wrong::Memory
+    }
+}
+
+impl From<DeviceFault> for Wrong {
+    fn from(_: DeviceFault) -> Wrong {
+        Wrong::Device
+    }
+}
+
+pub(super) fn number(word: &str) -> Result<u32, Wrong> {
+    word.parse::<u32>().map_err(|_| Wrong::Unreadable)
+}
+
+/// A byte of two hexadecimal digits.
+pub(super) fn byte(word: &str) -> Result<u8, Wrong> {
+    u8::from_str_radix(word, 16).map_err(|_| Wrong::Unreadable)
+}
+
+pub(super) fn name(word: &str) -> Result<Name, Wrong> {
+    Name::new(word.as_bytes()).ok_or(Wrong::Unreadable)
+}
+
+/// Table and number, as in `7:1`.
+pub(super) fn key(word: &str) -> Result<Key, Wrong> {
+    let (table, number) = word.split_once(':').ok_or(Wrong::Unreadable)?;
+    let table = table.parse::<u16>().map_err(|_| Wrong::Unreadable)?;
+    let number = number.parse::<u64>().map_err(|_| Wrong::Unreadable)?;
+    Ok(Key { table, number })
+}
+
+/// So many bytes of one kind, as in `61*300`, if the word is such.
+fn repeated(word: &str) -> Option<Value> {
+    let (digits, count) = word.split_once('*')?;
+    let bytes = [byte(digits).ok()?; 4096];
+    let count = count.parse::<usize>().ok()?;
+    Value::new(bytes.get(..count)?)
+}
+
+/// The byte of which alone these are a hundred or more, if there is one.
+pub(super) fn many_of(bytes: &[u8]) -> Option<u8> {
+    let first = *bytes.first()?;
+    let same = [first; 4096];
+    (bytes.len() >= 100 && same.get(..bytes.len()) == Some(bytes)).then_some(first)
+}
+
+/// A value, where `''` is the one without bytes, and `61*300` one of so many bytes.
+pub(super) fn value(word: &str) -> Result<Value, Wrong> {
+    if let Some(value) = repeated(word) {
+        return Ok(value);
+    }
+    let text = if word == "''" { "" } else { word };
+    Value::new(text.as_bytes()).ok_or(Wrong::Unreadable)
+}
 
 /// A key and a side, as in `7:1=mine`.
 fn settlement(word: &str) -> Result<(Key, Side), Wrong> {
@@ -18,7 +93,7 @@ fn merge(alloc: Global, alt: &str, settlements: &[&str]) -> Result<Command, Wron
     let mut sides = Vec::new(alloc);
     for word in settlements {
         let side = settlement(word)?;
-        sides.push(side)?;
+        sides.push(side).map_err(|_| Wrong::Memory)?;
     }
     Ok(Command::Merge {
         alt: name(alt)?,

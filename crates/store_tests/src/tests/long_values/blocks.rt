@@ -1,20 +1,12 @@
 //! The blocks of long values, and the leaves that link to them.
-use crate::tests::script::Row::{Each, Once};
-use crate::tests::script::{NEW, On, Row, Table};
-
-pub(crate) const TABLES: &[Table] = &[
-    (On::Both, ON_BOTH),
-    (On::Memory, HALVES),
-    (On::Late, FORGOTTEN),
-];
+use crate::tests::script::{NEW, Row, and_late, each_on_both, in_256_blocks};
 
 const ON_BOTH: &[Row] = &[
     // The block of the value is written first. A short value in its place is in a leaf as ever.
-    Once(
+    (
         "long value stands in a block of its own",
-        &[
-            NEW,
-            "
+        NEW,
+        "
         put top 7:1 61*300
         free -> 28
         get top 7:1 -> 61*300
@@ -35,15 +27,13 @@ const ON_BOTH: &[Row] = &[
         close
         dirty -> 36
         block 36 -> 0:4C454146 8:01 16:07 18:01 26:04 28:64756374",
-        ],
     ),
     // The first value takes the blocks 34 and 35. A change of its neighbour copies the leaf alone, which
     // links to block 34 as before.
-    Once(
+    (
         "leaf that is copied links to the same block",
-        &[
-            NEW,
-            "
+        NEW,
+        "
         put top 1:1 61*300
         put top 1:2 v
         free -> 27
@@ -63,43 +53,40 @@ const ON_BOTH: &[Row] = &[
         crash all=41
         open
         list top -> 1:2=v",
-        ],
     ),
-    Once(
+    (
         "leaf without its long value is one as ever",
-        &[
-            NEW,
-            "
+        NEW,
+        "
         put top 1:1 61*300
         put top 1:2 v
         remove top 1:1
         close
         block 37 -> 0:4C454146 8:01 16:01 18:02 26:01 28:76",
-        ],
     ),
-    Once(
+    (
         "long value that was the only one leaves no leaf",
-        &[
-            NEW,
-            "
+        NEW,
+        "
         put top 1:1 61*300
         remove top 1:1
         free -> 28
         list top -> none
         reclaim
         free -> 30",
-        ],
     ),
 ];
 
-const HALVES: &[Row] = &[
-    // The first Put takes the blocks 34 and 35, the next fifteen one each, and the last one a leaf for
-    // nine records, one for eight, and the root. The long value is the first record.
-    Once(
-        "only the half with a long value is a leaf of the new form",
-        &[
-            "blank 256 256",
-            "
+#[test]
+fn leaves_link_to_the_blocks_of_long_values(rt: HostRuntime) {
+    each_on_both(&rt, ON_BOTH);
+}
+
+/// The first Put takes the blocks 34 and 35, the next fifteen one each, and the last one a leaf for
+/// nine records, one for eight, and the root. The long value is the first record.
+#[test]
+fn only_the_half_with_a_long_value_is_a_leaf_of_the_new_form(rt: HostRuntime) {
+    let made = "
         format 256
         open
         put top 1:1 61*300
@@ -108,8 +95,8 @@ const HALVES: &[Row] = &[
         reclaim
         free -> 218
         commit
-        close",
-            "
+        close";
+    let halves = "
         block 51 -> 0:4C454632 8:09 16:01 18:01 26:2C0122 \
             268:01 270:02 278:01 280:76 \
             520:01 522:03 530:01 532:76 \
@@ -127,61 +114,38 @@ const HALVES: &[Row] = &[
             1024:01 1026:0E 1034:01 1036:76 \
             1276:01 1278:0F 1286:01 1288:76 \
             1528:01 1530:10 1538:01 1540:76 \
-            1780:01 1782:11 1790:01 1792:76",
-            "
+            1780:01 1782:11 1790:01 1792:76";
+    let node = "
         block 53 -> 0:4E4F444501 8:02 16:01 18:01 26:33 30:01 32:0A 40:34
         open
         list top -> 1:1=61*300 1:2=v 1:3=v 1:4=v 1:5=v 1:6=v 1:7=v 1:8=v 1:9=v 1:10=v 1:11=v \
-            1:12=v 1:13=v 1:14=v 1:15=v 1:16=v 1:17=v",
-        ],
-    ),
-];
+            1:12=v 1:13=v 1:14=v 1:15=v 1:16=v 1:17=v";
+    in_256_blocks(&rt, &[made, halves, node]);
+}
 
-/// The changes of which each case makes some.
-const ONE: &str = "put top 1:1 61*300";
-
-const TWO: &str = "put top 1:2 v";
-
-const THREE: &str = "put top 1:1 62*300";
-
-const FOUR: &str = "remove top 1:1";
-
-const FORGOTTEN: &[Row] = &[
-    // The first Put takes the blocks 34 and 35, the second one 36, the third 37 and 38, and the Remove 39.
-    Each(
-        "block of a long value is forgotten in its own series alone",
-        &["blank 64 80", NEW],
-        &[
-            &[ONE, "close", "forgotten -> none"],
-            &[ONE, TWO, "close", "forgotten -> 35"],
-            &[ONE, TWO, THREE, "close", "forgotten -> 34 35 36"],
-            &[
-                ONE,
-                TWO,
-                THREE,
-                FOUR,
-                "close",
-                "forgotten -> 34 35 36 37 38",
-            ],
-            &[ONE, "commit", THREE, FOUR, "close", "forgotten -> 36 37"],
-            &[
-                ONE,
-                "checkpoint top c",
-                THREE,
-                FOUR,
-                "close",
-                "forgotten -> 36 37",
-            ],
-            &[ONE, "new a top", THREE, FOUR, "close", "forgotten -> 36 37"],
-            &[
-                "new a top",
-                ONE,
-                "merge a -> ok 1",
-                "put a 1:1 v",
-                "close",
-                "forgotten -> none",
-            ],
-        ],
-        &[],
-    ),
-];
+/// The first Put takes the blocks 34 and 35, the second one 36, the third 37 and 38, and the Remove 39.
+#[test]
+fn block_of_a_long_value_is_forgotten_in_its_own_series_alone(rt: HostRuntime) {
+    let [one, two, three, four] = [
+        "put top 1:1 61*300",
+        "put top 1:2 v",
+        "put top 1:1 62*300",
+        "remove top 1:1",
+    ];
+    for (changes, forgotten) in &[
+        ([one, "", "", ""], "forgotten -> none"),
+        ([one, two, "", ""], "forgotten -> 35"),
+        ([one, two, three, ""], "forgotten -> 34 35 36"),
+        ([one, two, three, four], "forgotten -> 34 35 36 37 38"),
+        ([one, "commit", three, four], "forgotten -> 36 37"),
+        ([one, "checkpoint top c", three, four], "forgotten -> 36 37"),
+        ([one, "new a top", three, four], "forgotten -> 36 37"),
+        (
+            ["new a top", one, "merge a -> ok 1", "put a 1:1 v"],
+            "forgotten -> none",
+        ),
+    ] {
+        let [one, two, three, four] = changes;
+        and_late(&rt, &[NEW, one, two, three, four, "close", forgotten]);
+    }
+}

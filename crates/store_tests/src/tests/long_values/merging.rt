@@ -1,17 +1,13 @@
 //! Differences of long values, their conflicts, and merges.
-use crate::tests::script::Row::Once;
-use crate::tests::script::{NEW, On, Row, Table};
-
-pub(crate) const TABLES: &[Table] = &[(On::Both, ON_BOTH), (On::Memory, IN_256_BLOCKS)];
+use crate::tests::script::{NEW, Row, each_in_256_blocks, each_on_both};
 
 const ON_BOTH: &[Row] = &[
     // The base has 34 and 35, `top` 36 and 37, and `a` 38 and 39. The Merge writes the value of `top`
     // into a block of its own for `a`, and the leaf, which is then the map of both.
-    Once(
+    (
         "merge of a long value writes a block of its own",
-        &[
-            NEW,
-            "
+        NEW,
+        "
         put top 1:1 61*300
         new a top
         free -> 28
@@ -32,13 +28,11 @@ const ON_BOTH: &[Row] = &[
         close
         block 40 -> 0:4C4F4E47 8:2C01 16:01 18:01 26:62*300
         block 41 -> 0:4C454632 8:01 16:01 18:01 26:2C0128",
-        ],
     ),
-    Once(
+    (
         "reclaim frees the blocks of values that a merge replaced",
-        &[
-            NEW,
-            "
+        NEW,
+        "
         put top 1:1 61*300
         new a top
         put top 1:1 62*300
@@ -57,14 +51,12 @@ const ON_BOTH: &[Row] = &[
         list top -> 1:1=62*300
         list a -> 1:1=62*300
         free -> 28",
-        ],
     ),
     // The same value in another block is no change.
-    Once(
+    (
         "long value that is written again is no change",
-        &[
-            NEW,
-            "
+        NEW,
+        "
         put top 1:1 61*300
         new a top
         put a 1:1 61*300
@@ -78,14 +70,12 @@ const ON_BOTH: &[Row] = &[
         changes a -> 1:1=61*300/61*299
         post a
         list top -> 1:1=61*299",
-        ],
     ),
     // The checkpoint has the blocks 34 and 35. Back there, the blocks 36 and 37 are in no map.
-    Once(
+    (
         "back shows the long value of the checkpoint",
-        &[
-            NEW,
-            "
+        NEW,
+        "
         put top 1:1 61*300
         checkpoint top c
         put top 1:1 62*301
@@ -104,17 +94,15 @@ const ON_BOTH: &[Row] = &[
         reclaim
         free -> 29
         list top -> 1:1=''",
-        ],
     ),
 ];
 
 const IN_256_BLOCKS: &[Row] = &[
     // Each of the three values is long in one of these, and none in another.
-    Once(
+    (
         "long values are in conflict with short ones and absence",
-        &[
-            "blank 256 256",
-            "
+        "",
+        "
         format 256
         open
         put top 1:1 61*4000
@@ -148,6 +136,11 @@ const IN_256_BLOCKS: &[Row] = &[
         conflicts a -> none
         post a
         list top -> 1:1=63*4000 1:3=62*300 1:5=61*301 1:6=63*300 1:7=62*300",
-        ],
     ),
 ];
+
+#[test]
+fn long_values_are_compared_and_merged(rt: HostRuntime) {
+    each_on_both(&rt, ON_BOTH);
+    each_in_256_blocks(&rt, IN_256_BLOCKS);
+}
