@@ -43,12 +43,12 @@ try 300 progress.py
 if [ -n "$quick" ]; then
     # Behind the gate: the program that it has built is the one that dist/ carries.
     try 60 dist.sh --check
-    try 60 ../clients/c/test.sh --quick
+    try 120 ../clients/c/test.sh --quick
     try 60 compare.py -n 8
     try 60 kill.py "$tools/../altctl" 8
     try 60 crashes.py -n 1
 else
-    try 300 ../clients/c/test.sh
+    try 600 ../clients/c/test.sh
     try 600 compare.py -n 60
     try 300 kill.py "$tools/../altctl" 60
     try 600 crashes.py
