@@ -5,8 +5,9 @@ With `--check` it writes nothing, names the pages whose tables differ, and ends 
 
 The sentence of a promise stands where it is proved: in the comment above a field of a record (crates/NAME/specs) or
 above a clause of a contract (crates/NAME/src). It speaks for all fields or clauses below it, up to the next comment or
-an empty line; for those that have none, the first sentence above the whole record or function does. A table stands
-between two lines. The first one names the crate, and the records and functions whose promises are listed:
+an empty line; for those that have none, the first sentence above the whole record or function does, or above the
+function of the trait that it implements. A table stands between two lines. The first one names the crate, and the
+records and functions whose promises are listed:
 
     <!-- promises vm_store: Performs Store::run open -->
     <!-- end of promises -->
@@ -20,7 +21,7 @@ PAGES = [TOP / "docs" / "PROMISES.md", *sorted(TOP.glob("crates/*/README.md"))]
 TABLE = re.compile(r"^(<!-- promises (\w+): ([\w: ]+) -->\n)(.*?)^(<!-- end of promises -->)$", re.M | re.S)
 RECORD = re.compile(r"^( *)pub record (\w+)")
 FIELD = re.compile(r"^ *pub (\w+) *:")
-OWNER = re.compile(r"^(?:pub )?(?:trait|impl(?:<.*?>)?(?: [\w:<>]+ for)?) (\w+)")
+OWNER = re.compile(r"^(?:pub )?(?:trait|impl(?:<.*?>)?(?: (\w+) for)?) (\w+)")
 FUNCTION = re.compile(r"^( *)(?:pub )?fn (\w+)")
 CLAUSE = re.compile(r"^ *ensures (\w*)")
 
@@ -64,20 +65,23 @@ def records_of(crate):
 
 
 def functions_of(crate):
-    """The functions of a crate: the name, the comment above it, and the groups of its clauses."""
-    for path in sorted((TOP / "crates" / crate / "src").rglob("*.rt")):
-        lines, owner = path.read_text().split("\n"), ""
+    """The functions of a crate: the name, the comment above it, and the groups of its clauses. Those of traits come
+    first, as their comments also speak for the implementations."""
+    of_traits, paths = {}, sorted((TOP / "crates" / crate / "src").rglob("*.rt"))
+    for path in sorted(paths, key=lambda it: "\npub trait " not in it.read_text()):
+        lines, owner, trait = path.read_text().split("\n"), "", ""
         for at, line in enumerate(lines):
             if it := OWNER.match(line):
-                owner = f"{it[1]}::"
+                owner, trait = f"{it[2]}::", f"{it[1] or it[2]}::"
             elif line == "}":
                 owner = ""
             elif it := FUNCTION.match(line):
                 last = at + 1
                 while last < len(lines) and lines[last] not in (f"{it[1]}{{", "}") and not FUNCTION.match(lines[last]):
                     last += 1
-                name = f"{owner}{it[2]}" if it[1] else it[2]
-                yield name, comment_above(lines, at, "///"), groups(lines[at:last], CLAUSE, "//")
+                told = comment_above(lines, at, "///") or of_traits.get(trait + it[2], "")
+                of_traits[owner + it[2]] = told
+                yield owner * bool(it[1]) + it[2], told, groups(lines[at:last], CLAUSE, "//")
 
 
 def sentence(text):
