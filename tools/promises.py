@@ -7,9 +7,9 @@ The sentence of a promise stands where it is proved: in the comment above a fiel
 above a clause of a contract (crates/NAME/src). It speaks for all fields or clauses below it, up to the next comment or
 an empty line; for those that have none, the first sentence above the whole record or function does, or above the
 function of the trait that it implements. A table stands between two lines. The first one names the crate, and the
-records and functions whose promises are listed:
+records and functions whose promises are listed, all of them or those that are named:
 
-    <!-- promises vm_store: Performs Store::run open -->
+    <!-- promises vm_store: Performs Store::run open.opened,none -->
     <!-- end of promises -->
 """
 import re
@@ -18,7 +18,7 @@ from pathlib import Path
 
 TOP = Path(__file__).resolve().parent.parent
 PAGES = [TOP / "docs" / "PROMISES.md", *sorted(TOP.glob("crates/*/README.md"))]
-TABLE = re.compile(r"^(<!-- promises (\w+): ([\w: ]+) -->\n)(.*?)^(<!-- end of promises -->)$", re.M | re.S)
+TABLE = re.compile(r"^(<!-- promises (\w+): ([\w:., ]+) -->\n)(.*?)^(<!-- end of promises -->)$", re.M | re.S)
 RECORD = re.compile(r"^( *)pub record (\w+)")
 FIELD = re.compile(r"^ *pub (\w+) *:")
 OWNER = re.compile(r"^(?:pub )?(?:trait|impl(?:<.*?>)?(?: (\w+) for)?) (\w+)")
@@ -95,10 +95,15 @@ def rows(crate, names, missing):
     known = {}
     for name, told, found in [*records_of(crate), *functions_of(crate)]:
         known.setdefault(name, (told, found))
-    for name in names:
-        if name not in known:
-            sys.exit(f"promises: {crate} has no record and no function {name}")
-        told, found = known[name]
+    for word in names:
+        name, _, listed = word.partition(".")
+        wanted = listed.split(",") if listed else []
+        told, found = known.get(name, ("", []))
+        if wanted:
+            found = [(text, [it for it in fields if it in wanted]) for text, fields in found]
+            found = [it for it in found if it[1]]
+        if sum(len(it[1]) for it in found) < max(len(wanted), 1):
+            sys.exit(f"promises: {crate} has no record and no function {word}")
         bare = [it for text, fields in found if not text for it in fields]
         missing += [f"{crate}: {name}: {it or 'its clause'}" for it in bare]
         own = [(told.split(". ")[0] or ", ".join(bare).replace("_", " "), bare)] if bare else []
