@@ -35,6 +35,7 @@ try() {
 "$tools/../altctl" --help >/dev/null || { echo 'all: altctl could not be built'; exit 1; }
 try 120 uncited.py
 try 60 trusted.py
+try 60 promises.py --check
 try 60 pictures.py --check
 try 300 documents.py
 try 300 session.sh

@@ -1,7 +1,6 @@
 #!/usr/bin/env python3
 """Runs the sessions and programs that the documents show, and compares what comes with what they say:
-`tools/documents.py [--counts] [ALTCTL]`. Where something differs, it says what was expected and what came, and ends
-with status 1.
+`tools/documents.py [ALTCTL]`. Where something differs, it says what was expected and what came, and ends with status 1.
 
 In a block `console`, a line after `$ ` is a command of the shell; the lines after `> ` below it are its input, and all
 others are what it prints. A block `sh` or `python` is a program as it stands, and the block `text` right below it is
@@ -11,9 +10,9 @@ blocks of one document run in one folder, one after another, with the program as
 
 A document whose programs need what is not installed is left out, and the last line says so.
 
-It also looks whether README and `altctl --version` name the toolchain that is there, whether links lead to files,
-whether each refusal has a row of advice, whether the README shows the library's function as it is tested, and whether
-a row `| FILE | COUNT |` tells how many lines that file has. `--counts` writes these anew.
+It also looks whether README and `altctl --version` name the toolchain that is there, whether links lead to files, also
+those of the crates' READMEs, whether each refusal has a row of advice, and whether the README shows the library's
+function as it is tested.
 """
 import contextlib
 import difflib
@@ -37,7 +36,6 @@ NEEDS = {
     },
 }
 BLOCK = re.compile(r"^```(\w+)\n(.*?)^```$", re.M | re.S)
-COUNT = re.compile(r"^(\| `(crates/[\w/.]+)` \| )(\d+)( \|)", re.M)
 LINK = re.compile(r"\]\(([^)#]+)[^)]*\)|^\[.+\]: (\S+)$|`(docs/[A-Z]+\.md|tools/\w+\.\w+|clients/[\w/]+\.\w+|desk/\w+(?:\.\w+)?)`", re.M)
 
 
@@ -141,24 +139,6 @@ def dead_links(document):
             yield f"{document.relative_to(TOP)}: no file {name}"
 
 
-def wrong_counts(document, writes):
-    """The rows whose count of lines is wrong. They are mended where that is asked for."""
-    text, wrong = document.read_text(), []
-
-    def mended(found):
-        file = TOP / found[2]
-        count = len(file.read_text().splitlines()) if file.exists() else 0
-        if count != int(found[3]):
-            wrong.append(f"{document.relative_to(TOP)}: {found[2]} has {count} lines, and not {found[3]}")
-        return f"{found[1]}{count}{found[4]}"
-
-    whole = COUNT.sub(mended, text)
-    if writes and wrong:
-        document.write_text(whole)
-        return []
-    return wrong
-
-
 def missing_refusals():
     """The refusals, 1 to 23, that have no row of advice in docs/OPERATING.md."""
     rows = [it for it in (TOP / "docs" / "OPERATING.md").read_text().splitlines() if it.startswith("| `")]
@@ -181,11 +161,10 @@ def wrong_versions(altctl):
 
 
 def main():
-    words = [it for it in sys.argv[1:] if it != "--counts"]
-    altctl = os.path.abspath((words or [TOP / "altctl"])[0])
+    altctl = os.path.abspath((sys.argv[1:] or [TOP / "altctl"])[0])
     faults = [*missing_refusals(), *wrong_versions(altctl)]
-    for document in DOCUMENTS:
-        faults += [*dead_links(document), *wrong_counts(document, "--counts" in sys.argv[1:])]
+    for document in [*DOCUMENTS, *sorted(TOP.glob("crates/*/README.md"))]:
+        faults += dead_links(document)
     for it in faults:
         print(it)
     count = differences = 0
