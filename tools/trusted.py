@@ -15,7 +15,9 @@ from uncited import ROOT, WORD, items
 IMPORT = re.compile(r"\s*(?:ghost |pub )*use Rattle\.(\w+)\.specs\.([\w.]+)\.\{(.*)\}")
 PROGRAM = ROOT / "crates" / "vm_cli" / "src" / "program.rt"
 CLAUSE = re.compile(r"^pub fn run_words\b.*?^    ensures files \{(.*?)^(?:    ensures|\{)", re.M | re.S)
+# A row for one file, and a row that has the files of a crate by their names.
 LISTED = re.compile(r"^\| `(crates/\w+/specs/[\w/]+\.antt)`", re.M)
+BY_NAME = re.compile(r"`(\w+)`: ((?:`\w+`(?:, )?)+)")
 
 
 def file_of(crate, modules):
@@ -73,7 +75,12 @@ def reached_from(text, imports):
 def main():
     text = PROGRAM.read_text()
     reached = reached_from(CLAUSE.search(text)[1], imports_of(text.split("\n")))
-    listed = set(LISTED.findall((ROOT / "docs" / "TRUST.md").read_text()))
+    trust = (ROOT / "docs" / "TRUST.md").read_text()
+    listed = set(LISTED.findall(trust))
+    for crate, names in BY_NAME.findall(trust):
+        listed.update(f"crates/{crate}/specs/{it}.antt" for it in re.findall(r"\w+", names))
+    for it in sorted(it for it in listed if not (ROOT / it).exists()):
+        sys.exit(f"docs/TRUST.md: no file {it}")
     missing = {str(it.relative_to(ROOT)): names for it, names in reached.items() if names}
     missing = {it: names for it, names in sorted(missing.items()) if it not in listed}
     for it, names in missing.items():
