@@ -22,7 +22,7 @@ TABLE = re.compile(r"^(<!-- promises (\w+): ([\w:., ]+) -->\n)(.*?)^(<!-- end of
 RECORD = re.compile(r"^( *)pub record (\w+)")
 FIELD = re.compile(r"^ *pub (\w+) *:")
 OWNER = re.compile(r"^(?:pub )?(?:trait|impl(?:<.*?>)?(?: (\w+) for)?) (\w+)")
-FUNCTION = re.compile(r"^( *)(?:pub )?fn (\w+)")
+FUNCTION = re.compile(r"^( *)(?:pub(?:\(crate\))? )?(?:const )?fn (\w+)")
 CLAUSE = re.compile(r"^ *ensures (\w*)")
 
 
