@@ -59,10 +59,10 @@ create() {
     program "create $1 $2" 0 create "$1" "$2"
 }
 
-# --- the lines of the README ---------------------------------------------------------------------
+# --- each line, and merges -----------------------------------------------------------------------
 
-create readme 64
-session 'the lines of the README' readme <<'END'
+create each 64
+session 'each line' each <<'END'
 > new a top
 ok
 > put a 7 1 duct
@@ -133,7 +133,7 @@ end 1
 END
 
 create merges 64
-session 'the lines of the README on merges' merges <<'END'
+session 'merges' merges <<'END'
 > new a top
 ok
 > put a 7 1 duct
