@@ -164,6 +164,76 @@ def put():
     return it
 
 
+def three_way():
+    """What a merge gives at each record."""
+    it = Picture("three-way", 960, 400, "The three-way rule: what a merge gives at a record, by base, parent and mine")
+    it.text(24, 36, "The three-way rule, at each record", 18, bold=True)
+    it.text(936, 36, "~ stands for no value", 13, GREY, at="end")
+    heads = [(24, "base", "last taken in", INK), (158, "parent", "now", BLUE), (292, "mine", "now", ORANGE)]
+    for x, name, tells, colour in [*heads, (470, "after the merge", "", GREEN)]:
+        it.text(x + 2, 74, name, 14, colour, bold=True)
+        it.text(x + 2 + 9 * len(name), 74, tells, 12, GREY)
+    rows = [
+        ("duct", "duct", "pipe", "pipe", "only mine changed: it stays"),
+        ("duct", "hose", "duct", "hose", "only the parent's changed: it comes in"),
+        ("duct", "hose", "hose", "hose", "both changed to the same value"),
+        ("duct", "~", "duct", "~", "a removal is a change like any other"),
+        ("duct", "hose", "pipe", "conflict", "both changed, differently: a person settles it,"),
+    ]
+    for n, (base, parent, mine, merged, tells) in enumerate(rows):
+        y = 88 + n * 56
+        it.box(24, y, 122, 42, [base], PALE, GREY, mono=True)
+        for x, value, pale, colour in ((158, parent, BLUE_PALE, BLUE), (292, mine, ORANGE_PALE, ORANGE)):
+            fill, line = (pale, colour) if value != base else ("#eef0f2", GREY)
+            it.box(x, y, 122, 42, [value], fill, line, mono=True, bold=value != base)
+        it.line([(420, y + 21), (464, y + 21)], INK, arrow=True)
+        if merged == "conflict":
+            it.rect(470, y, 122, 42, GROUND, ORANGE, dashes="6 4")
+            it.text(531, y + 26, merged, 14, ORANGE, at="middle", bold=True)
+            it.text(606, y + 18, tells, 13, GREY)
+            it.text(606, y + 36, "=mine gives pipe, =theirs gives hose", 13, GREY)
+        else:
+            it.box(470, y, 122, 42, [merged], GREEN_PALE, GREEN, mono=True, bold=True)
+            it.text(606, y + 26, tells, 13, GREY)
+    it.text(24, 386, "Coloured: changed since the base. After the merge the parent's records are the new base.", 12, GREY)
+    return it
+
+
+def merge_blocks():
+    """Which blocks a merge and a post write, and which they give up."""
+    it = Picture("merge", 960, 430, "Where the blocks of a merge go: it writes paths of its own, and a post writes nothing")
+    it.text(24, 36, "Where the blocks of a merge go", 18, bold=True)
+    it.text(936, 36, "two leaves and a root: A, B, R", 13, GREY, at="end")
+    names = ["A", "B", "R", "A'", "R'", "B*", "R*", "A+", "R+"]
+    stages = [
+        (("north was made, then", "both sides changed"), "bbbttnn..", "top: A' B R'     north: A B* R*     its base: A B R"),
+        (("merge north", "one record comes in"), "xsxttnxmm", "top: A' B R'     north: A+ B* R+     its base: A' B R'"),
+        (("commit,", "and the next marking"), ".s.ttn.mm", "the blocks that no version needs are free"),
+        (("post north: top shows", "what north shows"), ".x.xxs.ss", "top, north and its base: A+ B* R+, no block written"),
+    ]
+    looks = {
+        "b": (PALE, GREY, ""), "t": (BLUE_PALE, BLUE, ""), "n": (ORANGE_PALE, ORANGE, ""), "m": (GREEN_PALE, GREEN, ""),
+        "s": (PALE, GREY, ""), "x": (GROUND, GREY, "4 3"), ".": (GROUND, PALE, ""),
+    }
+    for n, (tells, kinds, needs) in enumerate(stages):
+        y = 62 + n * 84
+        it.texts(24, y + 18, tells, 13, 18, bold=True)
+        for at, kind in enumerate(kinds):
+            fill, line, dashes = looks[kind]
+            it.rect(216 + at * 80, y, 72, 40, fill, line, dashes=dashes)
+            name = "free" if kind == "." else names[at]
+            it.text(252 + at * 80, y + 25, name, 14, GREY if kind in ".x" else INK, at="middle", mono=True, bold=kind == "m")
+        it.text(216, y + 58, needs, 12, GREY)
+    x = 24
+    legend = [("b", "of the base"), ("t", "changed in top"), ("n", "changed in north"), ("m", "written by the merge"), ("x", "no longer needed")]
+    for kind, tells in legend:
+        fill, line, dashes = looks[kind]
+        it.rect(x, 396, 22, 16, fill, line, dashes=dashes)
+        it.text(x + 30, 409, tells, 12, GREY)
+        x += 56 + 8 * len(tells)
+    return it
+
+
 def commit():
     """Slots and selector around the two syncs of a commit."""
     it = Picture("commit", 960, 424, "A commit: slot B, a sync, the selector, a sync; what a crash shows at each moment")
@@ -286,7 +356,7 @@ def border():
 def main():
     stale = []
     FOLDER.mkdir(exist_ok=True)
-    for draw in (designs, put, commit, strip, border):
+    for draw in (designs, three_way, put, merge_blocks, commit, strip, border):
         picture = draw()
         file = FOLDER / f"{picture.name}.svg"
         if "--check" not in sys.argv[1:]:
