@@ -36,7 +36,7 @@ NEEDS = {
     },
 }
 BLOCK = re.compile(r"^```(\w+)\n(.*?)^```$", re.M | re.S)
-LINK = re.compile(r"\]\(([^)#]+)[^)]*\)|^\[.+\]: (\S+)$|`(docs/[A-Z]+\.md|tools/\w+\.\w+|clients/[\w/]+\.\w+|desk/\w+(?:\.\w+)?)`", re.M)
+LINK = re.compile(r"\]\(([^)#]+)[^)]*\)|^\[.+\]: (\S+)$|`(docs/[A-Z-]+\.md|tools/\w+\.\w+|clients/[\w/]+\.\w+|desk/\w+(?:\.\w+)?)`", re.M)
 
 
 class Run:
