@@ -115,7 +115,7 @@ def designs():
     it.text(800, north - 60, "post north", 13, at="end", mono=True)
     it.line([(890, 60), (890, 385)], INK, 1.5, "6 4")
     it.text(890, 404, "commit", 13, at="middle", mono=True, bold=True)
-    it.text(24, 404, "Until a commit nothing is in the file for good; from it on, all of it is.", 12, GREY)
+    it.text(24, 404, "Nothing is durable until a commit; then everything so far is.", 12, GREY)
     return it
 
 
@@ -298,7 +298,7 @@ def strip():
         fill, line = (GREEN_PALE, GREEN) if x > 544 else (PALE, GREY)
         it.box(x, 248, width, 34, tells.split("|"), fill, line, 11 if "|" in tells else 12)
         x += width
-    it.text(544, 300, "A longer value stands in a data block of its own.", 12, GREY)
+    it.text(544, 300, "A longer value has a data block of its own.", 12, GREY)
     it.text(24, 340, "Where a tree begins", 14, bold=True)
     lines = [
         "Only the slot that the selector names counts. Its entries name",
@@ -348,7 +348,7 @@ def border():
         "tests of the crates, on memory", "random sessions beside the model", "a device that stops at each call", "",
         "scripts over real files:", "– sessions of lines", "– killed at random moments", "– no room on the device",
         "– each block call failing", "– each allocation refused", "– every byte of the file", "",
-        "texts of help, flushed answers,", "closed standard streams,", "memory found where there is some",
+        "texts of help, flushed answers,", "closed standard streams,", "memory found if there is some",
     ], 13, 19.5)
     return it
 
