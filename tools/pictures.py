@@ -169,10 +169,9 @@ def three_way():
     it = Picture("three-way", 960, 400, "The three-way rule: what a merge gives at a record, by base, parent and mine")
     it.text(24, 36, "The three-way rule, at each record", 18, bold=True)
     it.text(936, 36, "~ stands for no value", 13, GREY, at="end")
-    heads = [(24, "base", "last taken in", INK), (158, "parent", "now", BLUE), (292, "mine", "now", ORANGE)]
-    for x, name, tells, colour in [*heads, (470, "after the merge", "", GREEN)]:
+    heads = [(24, "base", INK), (158, "parent", BLUE), (292, "mine", ORANGE), (470, "after the merge", GREEN)]
+    for x, name, colour in heads:
         it.text(x + 2, 74, name, 14, colour, bold=True)
-        it.text(x + 2 + 9 * len(name), 74, tells, 12, GREY)
     rows = [
         ("duct", "duct", "pipe", "pipe", "only mine changed: it stays"),
         ("duct", "hose", "duct", "hose", "only the parent's changed: it comes in"),
@@ -195,7 +194,7 @@ def three_way():
         else:
             it.box(470, y, 122, 42, [merged], GREEN_PALE, GREEN, mono=True, bold=True)
             it.text(606, y + 26, tells, 13, GREY)
-    it.text(24, 386, "Coloured: changed since the base. After the merge the parent's records are the new base.", 12, GREY)
+    it.text(24, 386, "The base is what mine last took in from the parent; a merge makes the parent's records the new base.", 12, GREY)
     return it
 
 
@@ -206,10 +205,10 @@ def merge_blocks():
     it.text(936, 36, "two leaves and a root: A, B, R", 13, GREY, at="end")
     names = ["A", "B", "R", "A'", "R'", "B*", "R*", "A+", "R+"]
     stages = [
-        (("north was made, then", "both sides changed"), "bbbttnn..", "top: A' B R'     north: A B* R*     its base: A B R"),
-        (("merge north", "one record comes in"), "xsxttnxmm", "top: A' B R'     north: A+ B* R+     its base: A' B R'"),
+        (("north was made, then", "both sides changed"), "bbbttnn..", "top: A' B R';   north: A B* R*;   its base: A B R"),
+        (("merge north", "one record comes in"), "xsxttnxmm", "top: A' B R';   north: A+ B* R+;   its base: A' B R'"),
         (("commit,", "and the next marking"), ".s.ttn.mm", "the blocks that no version needs are free"),
-        (("post north: top shows", "what north shows"), ".x.xxs.ss", "top, north and its base: A+ B* R+, no block written"),
+        (("post north: top shows", "what north shows"), ".x.xxs.ss", "top, north and its base: A+ B* R+; no block is written"),
     ]
     looks = {
         "b": (PALE, GREY, ""), "t": (BLUE_PALE, BLUE, ""), "n": (ORANGE_PALE, ORANGE, ""), "m": (GREEN_PALE, GREEN, ""),
