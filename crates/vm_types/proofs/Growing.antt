@@ -1,10 +1,10 @@
 -- A store that grows: what a Grow comes to, and that no command takes blocks away.
-use Rattle.std.proofs.Common.{◌≡◌, ℕ, ◌<◌, ◌≤◌, Bool, true, false, Result, Ok, Err, refl, arith}
+use Rattle.std.proofs.Common.{◌≡◌, ◌≢◌, ℕ, ◌<◌, ◌≤◌, Bool, true, false, Result, Ok, Err, refl, arith}
 use Rattle.std.specs.Prelude.{IsOk}
 use Rattle.std.proofs.lemmas.Bool.{leb-false, ltb-false, le-leb, le-ltb, lt-leb, lt-ltb, or_parts, or_from, or_left, or_right}
 use Rattle.vm_types.specs.declared.answer.Answer.{Answer}
 use Rattle.vm_types.specs.declared.command.Command.{Command}
-use Rattle.vm_types.specs.declared.command.Command.TheVariants.{Commit, Grow}
+use Rattle.vm_types.specs.declared.command.Command.TheVariants.{Commit, Rollback, Grow}
 use Rattle.vm_types.specs.declared.refusal.Refusal.{Refusal}
 use Rattle.vm_types.specs.declared.refusal.Refusal.TheVariants.{BadSize}
 use Rattle.vm_types.specs.Laws.{HasSizes}
@@ -40,19 +40,24 @@ unfolding refuse_if
 passes true r rest h = cc
 passes false r rest h = refl
 
--- no command takes blocks away
+-- no command takes blocks away but a Rollback, and it takes none that are committed
 pub only_grows : (s : State) (command : Command) (answer : Result Answer Refusal) → HasSizes s → (IsOk answer → IsOk (outcome s command))
-    → HasSizes (next s command answer) × (s.kept ≤ (next s command answer).kept) × (s.blocks ≤ (next s command answer).blocks)
-only_grows s command (Err refusal) sizes accepts = (sizes, omega arith, omega arith)
+    → HasSizes (next s command answer) × (s.kept ≤ (next s command answer).kept) × (command ≢ Rollback → s.blocks ≤ (next s command answer).blocks)
+only_grows s command (Err refusal) sizes accepts = (sizes, omega arith, λ _. omega arith)
 only_grows s (Grow more) (Ok answer) sizes accepts =
     let larger = size_is_good s.blocks more (passes _ _ _ (accepts refl)) in (
       record { enough = sizes.enough; fewer = omega (arith, sizes.fewer, larger.0); few = larger.1 },
       omega arith,
-      omega (arith, larger.0),
+      λ _. omega (arith, larger.0),
     )
 only_grows s Commit (Ok answer) sizes accepts = (
   record { enough = omega (arith, sizes.enough, sizes.fewer); fewer = omega arith; few = sizes.few },
   sizes.fewer,
-  omega arith,
+  λ _. omega arith,
 )
-only_grows s command (Ok answer) sizes accepts = (record { enough = sizes.enough; fewer = sizes.fewer; few = sizes.few }, omega arith, omega arith)
+only_grows s Rollback (Ok answer) sizes accepts = (
+  record { enough = sizes.enough; fewer = omega arith; few = omega (arith, sizes.fewer, sizes.few) },
+  omega arith,
+  λ other. absurd (other refl),
+)
+only_grows s command (Ok answer) sizes accepts = (record { enough = sizes.enough; fewer = sizes.fewer; few = sizes.few }, omega arith, λ _. omega arith)

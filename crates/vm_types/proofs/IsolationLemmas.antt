@@ -1,17 +1,17 @@
 -- A command leaves alone each alternative that it doesn't work on and that no child is posted into.
-use Rattle.std.proofs.Common.{◌≡◌, ℕ, Bool, true, false, cond, List, [], ◌∷◌, ◌++◌, Option, Some, None, Result, Ok, Err, option_and_then, bytes_eq, refl, sym, ap, ◌∙◌}
+use Rattle.std.proofs.Common.{◌≡◌, ℕ, Bool, true, false, cond, List, [], ◌∷◌, ◌++◌, Option, Some, None, Result, Ok, Err, option_and_then, bytes_eq, refl, sym, ap, ◌∙◌, if◌then◌else◌}
 use Rattle.std.specs.Option.{option_eq, option_or}
 use Rattle.std.proofs.lemmas.Slice.Eq.{bytes_eq-Decides}
 use Rattle.std.proofs.lemmas.List.Folds.{find-append}
 use Rattle.vm_types.specs.declared.answer.Answer.{Answer}
 use Rattle.vm_types.specs.declared.command.Command.{Command}
-use Rattle.vm_types.specs.declared.command.Command.TheVariants.{New, NewAt, Drop, Put, Remove, Checkpoint, Uncheck, Back, Merge, Post, Commit, Reclaim, Grow}
+use Rattle.vm_types.specs.declared.command.Command.TheVariants.{New, NewAt, Drop, Put, Remove, Checkpoint, Uncheck, Back, Merge, Post, Commit, Rollback, Reclaim, Grow}
 use Rattle.vm_types.specs.declared.refusal.Refusal.{Refusal}
 use Rattle.vm_types.specs.Map.{Map}
 use Rattle.vm_types.specs.Firsts.{without_first}
 use Rattle.vm_types.specs.Tree.{Alternative, Tree, named, changed}
 use Rattle.vm_types.specs.Step.{Outcome, or_refuse, refuse_found, refuse_if, new_alternative, step}
-use Rattle.vm_types.specs.State.{State, tree_after, next, after}
+use Rattle.vm_types.specs.State.{State, tree_after, is_rollback, next, after}
 use Rattle.vm_types.specs.Isolation.{target, posts_into, LeavesAlone}
 
 -- the outcome leaves the alternative of this name as it was
@@ -97,8 +97,14 @@ module _ (name : List ℕ) where
               ∙ named_changed tree parent (λ x. record x { current = a.current }) other (λ x. refl);
         }))))
     isolated_step Commit h p = record { kept = refl }
+    isolated_step Rollback h p = cc
     isolated_step Reclaim h p = record { kept = refl }
     isolated_step (Grow blocks) h p = record { kept = refl }
+
+  -- nor is it a Rollback, which works on every alternative
+  no_rollback : (command : Command) → target command name ≡ false → is_rollback command ≡ false
+  no_rollback Rollback h = cc
+  no_rollback command h = refl
 
   -- and so does each list of such commands
   pub isolated : (s : State) (commands : List Command) (answers : List (Result Answer Refusal)) → LeavesAlone s commands answers name → named (after s commands answers).working name ≡ named s.working name
@@ -108,4 +114,5 @@ module _ (name : List ℕ) where
   isolated s (command ∷ commands) (Err refusal ∷ answers) h = isolated s commands answers h.2
   isolated s (command ∷ commands) (Ok answer ∷ answers) h =
       isolated (next s command (Ok answer)) commands answers h.2
+      ∙ ap (λ t. named (if t then s.committed else tree_after s.working (step s.working command)) name) (no_rollback command h.0)
       ∙ (isolated_step s.working command h.0 (h.1 refl)).kept

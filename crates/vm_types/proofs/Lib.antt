@@ -1,5 +1,6 @@
 mod BytesLemmas
 mod Rows
+pub mod AtLemmas
 pub mod Bridge
 pub mod ChangeLemmas
 pub mod FirstsLemmas
@@ -11,6 +12,7 @@ pub mod Maps
 pub mod MergingLemmas
 pub mod MomentsLemmas
 pub mod PackedLemmas
+pub mod PartLemmas
 pub mod Runs
 pub mod SettledLemmas
 pub mod ShapeLemmas

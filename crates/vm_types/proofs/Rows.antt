@@ -6,7 +6,7 @@ use Rattle.vm_types.specs.declared.answer.Answer.TheVariants.{Done, Merged}
 use Rattle.vm_types.specs.declared.command.Side.{Side}
 use Rattle.vm_types.specs.declared.command.Side.TheVariants.{Mine, Theirs}
 use Rattle.vm_types.specs.declared.command.Command.{Command}
-use Rattle.vm_types.specs.declared.command.Command.TheVariants.{New, NewAt, Drop, Put, Remove, Checkpoint, Uncheck, Back, Merge, Post, Commit, Reclaim, Grow}
+use Rattle.vm_types.specs.declared.command.Command.TheVariants.{New, NewAt, Drop, Put, Remove, Checkpoint, Uncheck, Back, Merge, Post, Commit, Rollback, Reclaim, Grow}
 use Rattle.vm_types.specs.declared.refusal.Refusal.{Refusal}
 use Rattle.vm_types.specs.declared.refusal.Refusal.TheVariants.{NoSuchAlternative, AlternativeExists, NoSuchCheckpoint, CheckpointExists, NoSuchRecord, IsTop, HasChildren, NotMerged, Unsettled, NotInConflict, SettledTwice, Device, Memory, BadSize}
 use Rattle.vm_types.specs.declared.change.Change.{Change}
@@ -318,3 +318,40 @@ growth_changes_no_record = refl
 -- a Grow for which there is no memory, or in which the device fails, leaves the state as it was
 refused_growth_changes_nothing : after new_store (Grow 65 ∷ Grow 66 ∷ []) (Err Memory ∷ Err Device ∷ []) ≡ new_store
 refused_growth_changes_nothing = refl
+
+-- a Rollback goes back to what was committed, to its tree and to its number of blocks: the record, the alternative with its checkpoint,
+-- the posted records and the growth since then are gone
+abbrev committed_two : List Command
+committed_two = Put top (key 1 1) x ∷ New a top ∷ Checkpoint a c ∷ Commit ∷ []
+
+abbrev undone : List Command
+undone = committed_two ++ Put a (key 1 1) y ∷ Put a (key 1 2) y ∷ Post a ∷ Uncheck a c ∷ New b a ∷ Checkpoint b q ∷ Grow 128 ∷ Rollback ∷ []
+
+undone_is_answered : answers undone ≡ oks 12
+unfolding or_refuse refuse_if refuse_found
+undone_is_answered = refl
+
+undone_is_what_was_committed : state_of undone ≡ opened (record { tree = tree_of committed_two; blocks = 64 })
+unfolding or_refuse refuse_if refuse_found
+undone_is_what_was_committed = refl
+
+-- what was taken back may be made again: the growth and the alternative, and a Commit keeps them
+abbrev made_again : List Command
+made_again = undone ++ Grow 128 ∷ New b a ∷ Commit ∷ Rollback ∷ []
+
+made_again_is_answered : answers made_again ≡ oks 16
+unfolding or_refuse refuse_if refuse_found
+made_again_is_answered = refl
+
+made_again_is_kept : state_of made_again ≡ opened (record { tree = tree_of (committed_two ++ New b a ∷ []); blocks = 128 })
+unfolding or_refuse refuse_if refuse_found
+made_again_is_kept = refl
+
+-- on a new store a Rollback goes back to `top` without a record, and twice does what once does
+new_store_is_rolled_back : state_of (Put top (key 1 1) x ∷ Grow 65 ∷ Rollback ∷ Rollback ∷ []) ≡ new_store
+unfolding or_refuse refuse_if refuse_found
+new_store_is_rolled_back = refl
+
+rollback_changes_no_record : edits (tree_of committed_two) Rollback ≡ 0
+unfolding or_refuse refuse_if refuse_found
+rollback_changes_no_record = refl

@@ -2,7 +2,7 @@
 use Rattle.std.proofs.Common.{◌≡◌, ℕ, Bool, true, false, List, [], ◌∷◌, ◌++◌, Option, Some, None, is_some, option_map, Ok, bytes_eq, refl, sym, ap, ◌∙◌, subst}
 use Rattle.vm_types.specs.declared.answer.Answer.{Answer}
 use Rattle.vm_types.specs.declared.command.Command.{Command}
-use Rattle.vm_types.specs.declared.command.Command.TheVariants.{New, NewAt, Drop, Put, Remove, Checkpoint, Uncheck, Back, Merge, Post, Commit, Reclaim, Grow}
+use Rattle.vm_types.specs.declared.command.Command.TheVariants.{New, NewAt, Drop, Put, Remove, Checkpoint, Uncheck, Back, Merge, Post, Commit, Rollback, Reclaim, Grow}
 use Rattle.vm_types.specs.declared.refusal.Refusal.{Refusal}
 use Rattle.vm_types.specs.Map.{Map, IsMap, with_value, without, merge}
 use Rattle.vm_types.specs.Firsts.{without_first}
@@ -123,5 +123,6 @@ module _ (tree : Tree) (well : IsWellFormed tree) where
       (IsSound-maps a sound (merge a.base p.current a.current settled) p.current (IsMap-merge a.base p.current a.current settled sound.rising.0) (sound_at tree parent p well above).rising.0 (λ none. absurd (no_parent a parent none under)))))))
   step_stays (Post alt) = or_refuse_stays _ _ _ (λ a found. or_refuse_stays _ _ _ (λ parent under. or_refuse_stays _ _ _ (λ p above. refuse_if_stays _ _ _ (λ _. post_stays alt parent a p _ found under above))))
   step_stays Commit = record { well = well }
+  step_stays Rollback = record { well = well }
   step_stays Reclaim = record { well = well }
   step_stays (Grow blocks) = record { well = well }

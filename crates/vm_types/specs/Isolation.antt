@@ -1,14 +1,14 @@
 -- Which commands leave an alternative alone.
-use Rattle.std.specs.Prelude.{◌≡◌, ℕ, Bool, false, List, ◌∷◌, Some, Result, option_and_then, IsOk, bytes_eq}
+use Rattle.std.specs.Prelude.{◌≡◌, ℕ, Bool, true, false, List, ◌∷◌, Some, Result, option_and_then, IsOk, bytes_eq}
 use Rattle.std.specs.Option.{option_eq}
 use Rattle.vm_types.specs.declared.answer.Answer.{Answer}
 use Rattle.vm_types.specs.declared.command.Command.{Command}
-use Rattle.vm_types.specs.declared.command.Command.TheVariants.{New, NewAt, Drop, Put, Remove, Checkpoint, Uncheck, Back, Merge, Post, Commit, Reclaim, Grow}
+use Rattle.vm_types.specs.declared.command.Command.TheVariants.{New, NewAt, Drop, Put, Remove, Checkpoint, Uncheck, Back, Merge, Post, Commit, Rollback, Reclaim, Grow}
 use Rattle.vm_types.specs.declared.refusal.Refusal.{Refusal}
 use Rattle.vm_types.specs.Tree.{Tree, named}
 use Rattle.vm_types.specs.State.{State, next}
 
--- whether a command works on the alternative
+-- whether a command works on the alternative: a Rollback works on every one
 abbrev pub target : Command → List ℕ → Bool
 target (New alt parent) name = bytes_eq alt name
 target (NewAt alt parent checkpoint) name = bytes_eq alt name
@@ -21,6 +21,7 @@ target (Back alt checkpoint) name = bytes_eq alt name
 target (Merge alt settled) name = bytes_eq alt name
 target (Post alt) name = bytes_eq alt name
 target Commit name = false
+target Rollback name = true
 target Reclaim name = false
 target (Grow blocks) name = false
 

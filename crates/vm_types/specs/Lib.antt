@@ -10,6 +10,7 @@ pub mod Moments
 pub mod Name
 pub mod Outcomes
 pub mod Packed
+pub mod Parts
 pub mod Pieces
 pub mod Places
 pub mod Queries
@@ -18,4 +19,5 @@ pub mod State
 pub mod Step
 pub mod Texts
 pub mod Tree
+pub mod Versions
 pub mod Walked

@@ -2,7 +2,7 @@
 use Rattle.std.specs.Prelude.{ℕ, ◌||◌, Bool, true, false, List, [], ◌∷◌, length, nat_lt, nat_le, Result, Ok, Err, if◌then◌else◌}
 use Rattle.vm_types.specs.declared.answer.Answer.{Answer}
 use Rattle.vm_types.specs.declared.command.Command.{Command}
-use Rattle.vm_types.specs.declared.command.Command.TheVariants.{Put, Remove, Merge, Commit, Grow}
+use Rattle.vm_types.specs.declared.command.Command.TheVariants.{Put, Remove, Merge, Commit, Rollback, Grow}
 use Rattle.vm_types.specs.declared.refusal.Refusal.{Refusal}
 use Rattle.vm_types.specs.declared.refusal.Refusal.TheVariants.{BadSize}
 use Rattle.vm_types.specs.declared.sizes.TheConstants.{MAX_BLOCKS}
@@ -40,7 +40,7 @@ abbrev pub tree_after : Tree → Outcome → Tree
 tree_after tree (Ok o) = o.0
 tree_after tree (Err refusal) = tree
 
--- the number of blocks after a command that was accepted: a Grow tells it, and each other command leaves it
+-- the number of blocks after a command that was accepted and is no Rollback: a Grow tells it, and each other one leaves it
 abbrev pub blocks_after : ℕ → Command → ℕ
 blocks_after blocks (Grow more) = more
 blocks_after blocks command = blocks
@@ -64,13 +64,19 @@ abbrev pub is_commit : Command → Bool
 is_commit Commit = true
 is_commit command = false
 
--- a command that was accepted: it changes what commands work on, and Commit makes that the committed
+-- whether a command is Rollback
+abbrev pub is_rollback : Command → Bool
+is_rollback Rollback = true
+is_rollback command = false
+
+-- a command that was accepted: it changes what commands work on. Commit makes that the committed, tree and number of blocks, and
+-- Rollback makes the committed what commands work on
 abbrev pub accepted : State → Command → State
 accepted s command = record {
   committed = if is_commit command then s.working else s.committed;
   kept = if is_commit command then s.blocks else s.kept;
-  working = tree_after s.working (step s.working command);
-  blocks = blocks_after s.blocks command;
+  working = if is_rollback command then s.committed else tree_after s.working (step s.working command);
+  blocks = if is_rollback command then s.kept else blocks_after s.blocks command;
 }
 
 -- a command that was answered so: a refused one changes nothing

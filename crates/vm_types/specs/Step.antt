@@ -7,7 +7,7 @@ use Rattle.vm_types.specs.declared.answer.Answer.{Answer}
 use Rattle.vm_types.specs.declared.answer.Answer.TheVariants.{Done, Merged}
 use Rattle.vm_types.specs.declared.command.Side.{Side}
 use Rattle.vm_types.specs.declared.command.Command.{Command}
-use Rattle.vm_types.specs.declared.command.Command.TheVariants.{New, NewAt, Drop, Put, Remove, Checkpoint, Uncheck, Back, Merge, Post, Commit, Reclaim, Grow}
+use Rattle.vm_types.specs.declared.command.Command.TheVariants.{New, NewAt, Drop, Put, Remove, Checkpoint, Uncheck, Back, Merge, Post, Commit, Rollback, Reclaim, Grow}
 use Rattle.vm_types.specs.declared.refusal.Refusal.{Refusal}
 use Rattle.vm_types.specs.declared.refusal.Refusal.TheVariants.{NoSuchAlternative, AlternativeExists, NoSuchCheckpoint, CheckpointExists, NoSuchRecord, IsTop, HasChildren, NotMerged, Unsettled, NotInConflict, SettledTwice, TooMany}
 use Rattle.vm_types.specs.Map.{Map, same_key, get, with_value, without, delta, conflicts, side_of, merge, same_map}
@@ -61,7 +61,7 @@ merge_step tree alt a p settled =
     refuse_found (settled_refusal settled (map (λ c. c.key) (conflicts a.base p.current a.current))) (
     Ok (changed tree alt (λ x. record x { current = merged; base = p.current }), Merged (length (delta a.current merged))))
 
--- each command, with its refusals in the order of the tests
+-- each command, with its refusals in the order of the tests. What a Rollback goes back to is no part of the tree: the state tells it
 abbrev pub step : Tree → Command → Outcome
 step tree (New name parent) =
     or_refuse (named tree parent) NoSuchAlternative (λ p.
@@ -111,5 +111,6 @@ step tree (Post alt) =
     refuse_if (not (same_map a.base p.current)) NotMerged (
     done (changed (changed tree parent (λ x. record x { current = a.current })) alt (λ x. record x { base = a.current }))))))
 step tree Commit = done tree
+step tree Rollback = done tree
 step tree Reclaim = done tree
 step tree (Grow blocks) = done tree

@@ -104,6 +104,8 @@ pub enum Command {
     },
     /// Makes the working state the committed one.
     Commit,
+    /// Makes the committed state the working one: what was not committed is gone.
+    Rollback,
     /// Frees each block that neither state needs.
     Reclaim,
     /// Gives the store so many blocks in all, more than it has.

@@ -1,6 +1,6 @@
 //! Laws of the model. Each function does nothing: its contract is the law, which is so proved for every tree, map or list
 //! of commands.
-ghost use Rattle.vm_types.specs.Laws.{StepsKeepTreesWellFormed, MergesAreThreeWay, DeltasTellEquality, StoresOnlyGrow, AlternativesAreIsolated};
+ghost use Rattle.vm_types.specs.Laws.{StepsKeepTreesWellFormed, MergesAreThreeWay, DeltasTellEquality, DiffsArePartwise, StoresOnlyGrow, AlternativesAreIsolated, ChangesBeginAtBases};
 
 /// Names stay distinct, parents stay earlier, and `top` stays first and keeps the empty base.
 pub fn steps_keep_trees_well_formed()
@@ -17,7 +17,13 @@ pub fn deltas_tell_equality()
     ensures { DeltasTellEquality }
 {}
 
-/// No command takes blocks away from a store.
+/// What differs in a part is what differs of it.
+pub fn diffs_are_partwise()
+    ensures { DiffsArePartwise }
+{}
+
+/// No command takes blocks away from what is committed. What commands work on loses none but by a
+/// Rollback, which goes back to the committed number.
 pub fn stores_only_grow()
     ensures { StoresOnlyGrow }
 {}
@@ -25,4 +31,9 @@ pub fn stores_only_grow()
 /// Many editors work on one store, each in an alternative of their own.
 pub fn alternatives_are_isolated()
     ensures { AlternativesAreIsolated }
+{}
+
+/// What changed in an alternative is what differs from its base to what it shows. The base of `top` is empty.
+pub fn changes_begin_at_bases()
+    ensures { ChangesBeginAtBases }
 {}

@@ -7,6 +7,7 @@
 #![tactic(auto)]
 
 mod answer;
+mod at;
 mod change;
 mod changes;
 mod command;
@@ -23,6 +24,7 @@ mod value;
 mod values;
 
 pub use answer::Answer;
+pub use at::{At, Of};
 pub use change::{Change, Conflict};
 pub use changes::{Changes, ChangesIter};
 pub use command::{Command, Settled, Side};
