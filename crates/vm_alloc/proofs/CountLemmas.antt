@@ -1,15 +1,15 @@
 -- How the counts that `Held` and `Marks` keep follow the flags.
-use Rattle.std.proofs.Common.{◌≡◌, ℕ, ◌+◌, ◌-◌, ◌<◌, ◌≤◌, Bool, true, false, not, List, ◌++◌, length, drop, replicate, sym, ◌∙◌, ap, inl, inr, arith, length-append, length-drop}
+use Rattle.std.proofs.Common.{◌≡◌, ℕ, ◌+◌, ◌-◌, ◌<◌, ◌≤◌, Bool, true, false, not, List, ◌++◌, min, length, take, drop, replicate, sym, ◌∙◌, ap, inl, inr, arith, length-append, length-drop}
 use Rattle.std.specs.Prelude.{slice_set, ◌↔◌}
 use Rattle.std.proofs.Math.ListN.{length-set}
 use Rattle.std.proofs.lemmas.Bool.{cases_lt, false≢true}
-use Rattle.std.proofs.lemmas.List.{length-replicate}
+use Rattle.std.proofs.lemmas.List.{get_or-take, length-replicate, length-take-le}
 use Rattle.std.proofs.lemmas.List.Sums.{count_by-le-length}
 use Rattle.vm_alloc.specs.Counts.{IsCounted, IsTallied}
 use Rattle.vm_alloc.specs.Held.{IsHeld, free_count}
 use Rattle.vm_alloc.specs.Marks.{is_marked}
 use Rattle.vm_alloc.proofs.FlagLemmas.{first_flags_length, first_flags_low, first_flags_high}
-use Rattle.vm_alloc.proofs.HeldLemmas.{free_first, free_longer, free_new, no_mark, unmarked_less, unmarked_more, unmarked_same_low, mark_same, unmark_same}
+use Rattle.vm_alloc.proofs.HeldLemmas.{free_first, free_longer, free_new, free_split, free_split_from, no_mark, unmarked_less, unmarked_more, unmarked_same_low, mark_same, unmark_same}
 
 pub counted_none : (blocks : ℕ) (marks : List Bool) → 64 ≤ blocks → blocks ≤ 1048576 → marks ≡ replicate blocks false → IsCounted marks (blocks - 34)
 counted_none blocks marks enough few none =
@@ -63,6 +63,31 @@ counted_longer marks longer unmarked blocks more counted is enough few many =
       enough = omega (arith, count, counted.enough);
       few = omega (arith, count);
       count = omega (arith, free, counted.count, many);
+    }
+
+-- fewer blocks
+pub counted_fewer : (marks new : List Bool) (unmarked blocks gone : ℕ) → IsCounted marks unmarked → 64 ≤ blocks → blocks ≤ length marks → new ≡ take blocks marks → gone ≡ free_count (drop blocks marks)
+    → IsCounted new (unmarked - gone)
+counted_fewer marks new unmarked blocks gone counted enough fewer is many =
+    let count : length new ≡ blocks = ap length is ∙ length-take-le blocks marks fewer in
+    let free : free_count (drop 34 new) ≡ free_count (drop 34 (take blocks marks)) = ap (λ (m : List Bool). free_count (drop 34 m)) is in
+    record {
+      enough = omega arith;
+      few = omega (arith, counted.few);
+      count = omega (arith, counted.count, free, many, free_split_from 34 blocks marks (omega arith));
+    }
+
+pub tallied_fewer : (held new : List Bool) (free lowest blocks gone : ℕ) → IsTallied held free lowest → 64 ≤ blocks → blocks ≤ length held → new ≡ take blocks held → gone ≡ free_count (drop blocks held)
+    → IsTallied new (free - gone) (min lowest blocks)
+tallied_fewer held new free lowest blocks gone tallied enough fewer is many =
+    let count : length new ≡ blocks = ap length is ∙ length-take-le blocks held fewer in
+    let same : free_count new ≡ free_count (take blocks held) = ap (λ (h : List Bool). free_count h) is in
+    record {
+      enough = omega arith;
+      few = omega (arith, tallied.few);
+      system = λ n low. ap (λ (h : List Bool). is_marked h n) is ∙ get_or-take blocks held n false (omega arith) ∙ tallied.system n low;
+      before = λ n low. ap (λ (h : List Bool). is_marked h n) is ∙ get_or-take blocks held n false (omega arith) ∙ tallied.before n (omega arith);
+      count = omega (arith, tallied.count, same, many, free_split blocks held);
     }
 
 pub counted_still : (marks : List Bool) (unmarked n : ℕ) → IsCounted marks unmarked → is_marked marks n ≡ false → IsCounted (slice_set marks n false) unmarked

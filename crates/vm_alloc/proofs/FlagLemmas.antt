@@ -1,13 +1,13 @@
 -- The flags that lie in words, as a list.
-use Rattle.std.proofs.Common.{◌≡◌, ◌≢◌, ℕ, ◌+◌, ◌-◌, ◌*◌, ◌/◌, ◌^◌, ◌<◌, ◌≤◌, ◌&&◌, min, Bool, true, false, List, ◌++◌, length, get_or, drop, replicate, refl, sym, ◌∙◌, ap, inl, inr, arith, length-append, length-drop}
+use Rattle.std.proofs.Common.{◌≡◌, ◌≢◌, ℕ, ◌+◌, ◌-◌, ◌*◌, ◌/◌, ◌^◌, ◌<◌, ◌≤◌, ◌&&◌, min, Bool, true, false, List, ◌++◌, length, get_or, take, drop, replicate, refl, sym, ◌∙◌, ap, inl, inr, arith, length-append, length-drop}
 use Rattle.std.proofs.Math.ListN.{set, length-set}
 use Rattle.std.proofs.lemmas.Bool.{cases_eq, cases_lt, false≢true}
 use Rattle.std.proofs.lemmas.Grind.{common_steps}
-use Rattle.std.proofs.lemmas.List.{ext_get_or, get_or-set_same, get_or-set_other, get_or-replicate, get_or_past, get_or_append_left, get_or-append_right, length-replicate}
+use Rattle.std.proofs.lemmas.List.{ext_get_or, get_or-set_same, get_or-set_other, get_or-replicate, get_or-take, get_or_past, get_or_append_left, get_or-append_right, length-replicate, length-take-le}
 use Rattle.std.proofs.lemmas.List.FromFn.{length-map-range_with_len, get_or-map-range_with_len}
 use Rattle.vm_alloc.specs.Flags.{flags_of, IsPacked}
 use Rattle.vm_alloc.specs.Words.{is_bit_set}
-use Rattle.vm_alloc.proofs.WordLemmas.{no_bit, same_bits_longer}
+use Rattle.vm_alloc.proofs.WordLemmas.{no_bit, same_bits_longer, same_bits_shorter}
 
 pub length-flags_of : (words : List ℕ) (count : ℕ) → length (flags_of words count) ≡ count
 unfolding flags_of
@@ -179,6 +179,20 @@ flags_longer words new count more m flags view packed longer is =
       | inl inside ↦ get_or_append_left flags rest false k inside ∙ sym (flag_read words words count flags k view refl inside) ∙ sym bits
       | inr past ↦ get_or-append_right flags rest (length flags) k false refl past ∙ get_or-replicate (more - length flags) (k - length flags) false false (omega arith) ∙ sym (bits ∙ packed.clear k (omega arith))
     ])
+
+-- ---- fewer flags
+
+pub packed_shorter : (words new : List ℕ) (count fewer : ℕ) → IsPacked words count → fewer ≤ count → length new ≡ (fewer + 63) / 64 → ((k : ℕ) → fewer ≤ k → is_bit_set new k ≡ false) → IsPacked new fewer
+packed_shorter words new count fewer packed less fits clear = record { few = omega (arith, packed.few); fits = fits; clear = clear }
+
+pub flags_shorter : (words read new : List ℕ) (count fewer m : ℕ) (flags : List Bool) → flags_of words count ≡ flags → fewer ≤ length flags → fewer ≤ 64 * m → read ≡ take m words
+    → ((k : ℕ) → k < fewer → is_bit_set new k ≡ is_bit_set read k) → flags_of new fewer ≡ take fewer flags
+flags_shorter words read new count fewer m flags view less room is before =
+    same_flags new fewer (take fewer flags) (length-take-le fewer flags less)
+    (λ k within.
+    get_or-take fewer flags k false within
+    ∙ sym (flag_read words words count flags k view refl (omega arith))
+    ∙ sym (before k within ∙ ap (λ (ws : List ℕ). is_bit_set ws k) is ∙ same_bits_shorter words m k (omega arith)))
 
 -- flags of which some were cleared
 pub packed_both : (words read lent new : List ℕ) (count : ℕ) → IsPacked words count → read ≡ words → length new ≡ length read → ((k : ℕ) → is_bit_set new k ≡ (is_bit_set read k && is_bit_set lent k)) → IsPacked new count

@@ -1,9 +1,9 @@
 -- What is known of the held blocks, for this crate and for those above it.
-use Rattle.std.proofs.Common.{◌≡◌, ◌≢◌, ℕ, ◌+◌, ◌-◌, ◌<◌, ◌≤◌, Bool, true, false, not, cond, Some, List, [], ◌∷◌, ◌++◌, length, get_or, drop, replicate, refl, sym, ◌∙◌, ap, inl, inr, arith, length-drop, suc}
+use Rattle.std.proofs.Common.{◌≡◌, ◌≢◌, ℕ, ◌+◌, ◌-◌, ◌<◌, ◌≤◌, Bool, true, false, not, cond, Some, List, [], ◌∷◌, ◌++◌, length, get_or, take, drop, replicate, refl, sym, ◌∙◌, ap, inl, inr, arith, length-drop, suc}
 use Rattle.std.specs.Prelude.{slice_get, slice_set}
 use Rattle.std.proofs.Math.ListN.{set, length-set}
 use Rattle.std.proofs.lemmas.Bool.{cases_eq, cases_lt, false≢true}
-use Rattle.std.proofs.lemmas.List.{get_or-set_same, get_or-set_other, get_or-replicate, get_or_past, length-replicate, set-get_or, get_or-drop, drop-set-add, drop-set-lt, drop-append-le, drop-replicate, set-set}
+use Rattle.std.proofs.lemmas.List.{get_or-set_same, get_or-set_other, get_or-replicate, get_or_past, length-replicate, set-get_or, get_or-drop, drop-set-add, drop-set-lt, drop-append-le, drop-drop, drop-replicate, drop-take, drop_all, drop_more, set-set, take-append-drop}
 use Rattle.std.proofs.lemmas.List.Folds.{sum_by-replicate}
 use Rattle.std.proofs.lemmas.List.Sums.{sum_by-cons, sum_by-append, sum_by-set}
 use Rattle.std.proofs.lemmas.Option.{slice_get_within, get_or_from_slice_get, slice_get-get_or}
@@ -104,6 +104,30 @@ free_longer first held more enough =
     ap (λ (z : List Bool). free_count z) (drop-append-le first held (replicate more false) enough)
     ∙ free_append (drop first held) (replicate more false)
     ∙ ap (λ (n : ℕ). free_count (drop first held) + n) (free_replicate more)
+
+-- the first blocks and the others
+pub free_split : (n : ℕ) (held : List Bool) → free_count (take n held) + free_count (drop n held) ≡ free_count held
+free_split n held = sym (free_append (take n held) (drop n held)) ∙ ap (λ (z : List Bool). free_count z) (take-append-drop n held)
+
+-- the same, counted from a block on that is one of the first
+pub free_split_from : (first n : ℕ) (held : List Bool) → first ≤ n → free_count (drop first (take n held)) + free_count (drop n held) ≡ free_count (drop first held)
+free_split_from first n held low =
+    let split : first + (n - first) ≡ n = omega arith in
+    let front : free_count (drop first (take n held)) ≡ free_count (take (n - first) (drop first held)) =
+    ap (λ (z : List Bool). free_count z) (ap (λ (k : ℕ). drop first (take k held)) (sym split) ∙ drop-take first (n - first) held) in
+    let rest : free_count (drop n held) ≡ free_count (drop (n - first) (drop first held)) =
+    ap (λ (z : List Bool). free_count z) (ap (λ (k : ℕ). drop k held) (sym split) ∙ sym (drop-drop (n - first) first held)) in
+    omega (arith, front, rest, free_split (n - first) (drop first held))
+
+-- one block on, of which it is known whether it is held, and none behind the last one
+pub free_next : (held : List Bool) (n : ℕ) (b : Bool) → n < length held → is_held held n ≡ b → free_count (drop n held) ≡ weight b + free_count (drop (n + 1) held)
+free_next held n b inside is =
+    ap (λ (z : List Bool). free_count z) (drop_more held n false inside)
+    ∙ free_cons (get_or held n false) (drop (n + 1) held)
+    ∙ ap (λ (x : Bool). weight x + free_count (drop (n + 1) held)) is
+
+pub free_past : (held : List Bool) (n : ℕ) → length held ≤ n → free_count (drop n held) ≡ 0
+free_past held n past = ap (λ (z : List Bool). free_count z) (drop_all n held past)
 
 -- no block is marked
 pub no_mark : (blocks n : ℕ) → is_marked (replicate blocks false) n ≡ false

@@ -1,11 +1,11 @@
 -- Bits that lie 64 in a word, and what a write of one word does to them.
-use Rattle.std.proofs.Common.{◌≡◌, ◌≢◌, ℕ, zero, suc, ◌+◌, ◌*◌, ◌-◌, ◌/◌, ◌%◌, ◌^◌, ◌<◌, ◌≤◌, ◌&&◌, max, min, true, false, eqb, List, ◌++◌, length, get_or, replicate, refl, sym, ◌∙◌, ap, inl, inr, arith}
+use Rattle.std.proofs.Common.{◌≡◌, ◌≢◌, ℕ, zero, suc, ◌+◌, ◌*◌, ◌-◌, ◌/◌, ◌%◌, ◌^◌, ◌<◌, ◌≤◌, ◌&&◌, max, min, true, false, eqb, List, ◌++◌, length, get_or, take, replicate, refl, sym, ◌∙◌, ap, inl, inr, arith}
 use Rattle.std.specs.Int.{bit_at, bit_not, w64, trailing_ones}
 use Rattle.std.specs.Prelude.{bit_and, bit_or}
 use Rattle.std.proofs.Math.ListN.{set}
 use Rattle.std.proofs.Math.Nat.{max-eq_right, max-zero}
 use Rattle.std.proofs.lemmas.Bool.{cases_eq, cases_lt}
-use Rattle.std.proofs.lemmas.List.{get_or-set_same, get_or-set_other, get_or-replicate, get_or_past, get_or_append_left, get_or-append_right, length-replicate}
+use Rattle.std.proofs.lemmas.List.{get_or-set_same, get_or-set_other, get_or-take, get_or-replicate, get_or_past, get_or_append_left, get_or-append_right, length-replicate}
 use Rattle.std.proofs.lemmas.Nat.{one_shl}
 use Rattle.std.proofs.lemmas.Nat.Bits.{bit_at-lt, bit_at_and, bit_at_or, bit_at_ones, bit_at_ones_above, bit_at_set_same, bit_at_set_other, bit_at_clear_same, bit_at_clear_other, bit_at-trailing_ones, bit_at-zero}
 use Rattle.vm_alloc.specs.Words.{is_bit_set}
@@ -73,6 +73,50 @@ first_here words count inside few k low =
 pub first_others : (words : List ℕ) (count : ℕ) → 0 < length words → count < 64 → (k : ℕ) → count ≤ k → is_bit_set (set words 0 (bit_or (get_or words 0 0) (1 * 2 ^ count % 18446744073709551616 - 1))) k ≡ is_bit_set words k
 first_others words count inside few k high =
     bit_kept words 0 _ k inside (λ at. high_bit (get_or words 0 0) count (k % 64) few (omega arith))
+
+-- the bit k of `word & (1 << count) - 1`
+low_bit_left : (word count k : ℕ) → count < 64 → k < count → bit_at (bit_and word (1 * 2 ^ count % 18446744073709551616 - 1)) k ≡ bit_at word k
+low_bit_left word count k few low =
+    let ones : 1 * 2 ^ count % 18446744073709551616 - 1 ≡ 2 ^ count - 1 = ap (λ (m : ℕ). m - 1) (one_shl count 64 few) in
+    let small = bit_at-lt word k in
+    ap (λ (m : ℕ). bit_at (bit_and word m) k) ones
+    ∙ bit_at_and word (2 ^ count - 1) k
+    ∙ ap (λ (b : ℕ). min (bit_at word k) b) (bit_at_ones count k low)
+    ∙ omega (arith, small)
+
+high_bit_cleared : (word count k : ℕ) → count < 64 → count ≤ k → bit_at (bit_and word (1 * 2 ^ count % 18446744073709551616 - 1)) k ≡ 0
+high_bit_cleared word count k few high =
+    let ones : 1 * 2 ^ count % 18446744073709551616 - 1 ≡ 2 ^ count - 1 = ap (λ (m : ℕ). m - 1) (one_shl count 64 few) in
+    ap (λ (m : ℕ). bit_at (bit_and word m) k) ones
+    ∙ bit_at_and word (2 ^ count - 1) k
+    ∙ ap (λ (b : ℕ). min (bit_at word k) b) (bit_at_ones_above count k high)
+    ∙ omega arith
+
+-- no bit is set behind the words
+bit_past : (words : List ℕ) (k : ℕ) → length words ≤ k / 64 → is_bit_set words k ≡ false
+bit_past words k past = ap (λ (w : ℕ). eqb (bit_at w (k % 64)) 1) (get_or_past words (k / 64) 0 past) ∙ ap (λ (b : ℕ). eqb b 1) (bit_at-zero (k % 64))
+
+-- `words[count / 64] &= (1 << (count % 64)) - 1` leaves the bits before `count`
+pub cut_before : (words : List ℕ) (count : ℕ) → count / 64 < length words → (k : ℕ) → k < count
+    → is_bit_set (set words (count / 64) (bit_and (get_or words (count / 64) 0) (1 * 2 ^ (count % 64) % 18446744073709551616 - 1))) k ≡ is_bit_set words k
+cut_before words count inside k low =
+    bit_kept words (count / 64) _ k inside (λ at. low_bit_left (get_or words (count / 64) 0) (count % 64) (k % 64) (omega arith) (omega arith))
+
+-- and none behind, where that word is the last one
+pub cut_behind : (words : List ℕ) (count : ℕ) → count / 64 < length words → length words ≤ count / 64 + 1 → (k : ℕ) → count ≤ k
+    → is_bit_set (set words (count / 64) (bit_and (get_or words (count / 64) 0) (1 * 2 ^ (count % 64) % 18446744073709551616 - 1))) k ≡ false
+cut_behind words count inside few k high = elim (cases_eq (k / 64) (count / 64)) [
+  | inl at ↦ bit_there words (count / 64) _ k inside at ∙ ap (λ (b : ℕ). eqb b 1) (high_bit_cleared (get_or words (count / 64) 0) (count % 64) (k % 64) (omega arith) (omega arith))
+  | inr away ↦ bit_elsewhere words (count / 64) _ k away ∙ bit_past words k (omega arith)
+]
+
+-- where all words are before `count`, no bit is behind
+pub none_behind : (words : List ℕ) (count : ℕ) → length words ≤ count / 64 → (k : ℕ) → count ≤ k → is_bit_set words k ≡ false
+none_behind words count few k high = bit_past words k (omega arith)
+
+-- a bit of the first words
+pub same_bits_shorter : (words : List ℕ) (m k : ℕ) → k < 64 * m → is_bit_set (take m words) k ≡ is_bit_set words k
+same_bits_shorter words m k low = ap (λ (w : ℕ). eqb (bit_at w (k % 64)) 1) (get_or-take m words (k / 64) 0 (omega arith))
 
 -- the word i has its lowest clear bit here
 pub record IsLowestClear (words : List ℕ) (n : ℕ) : Type 0 where

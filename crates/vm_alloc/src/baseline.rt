@@ -1,4 +1,4 @@
-ghost use Rattle.std.specs.Prelude.{◌≡◌, ◌↔◌, ◌<◌, ◌≤◌, ◌&&◌, ℕ, false, length, replicate, IsTrue, IfOk};
+ghost use Rattle.std.specs.Prelude.{◌≡◌, ◌↔◌, ◌<◌, ◌≤◌, ◌&&◌, ℕ, false, length, replicate, take, IsTrue, IfOk};
 ghost use Rattle.vm_alloc.specs.Held.{is_held, IsHeld};
 
 use crate::flags::Flags;
@@ -30,6 +30,15 @@ impl Baseline {
         Ok(Baseline {
             flags: Flags::new(alloc, blocks as usize)?,
         })
+    }
+
+    /// Leaves out the blocks from this number on.
+    pub fn truncate(&mut self, blocks: u32)
+        requires { blocks ≤ length self.old }
+        ensures blocks { self.new ≡ take blocks self.old }
+        ensures count { length self.new ≡ blocks }
+    {
+        self.flags.truncate(blocks as usize);
     }
 
     /// How many blocks the store has.

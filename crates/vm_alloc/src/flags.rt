@@ -1,7 +1,9 @@
 //! A fixed number of flags, of which a contract sees the list.
-ghost use Rattle.std.specs.Prelude.{◌≡◌, ℕ, ◌-◌, ◌<◌, ◌≤◌, ◌++◌, ◌&&◌, true, false, length, replicate, drop, slice_index_or, slice_set, IfOk};
+ghost use Rattle.std.specs.Prelude.{◌≡◌, ℕ, ◌-◌, ◌<◌, ◌≤◌, ◌++◌, ◌&&◌, true, false, not, length, replicate, take, drop, count_by, slice_index_or, slice_set, IfOk};
 
-use crate::words::{bit, clear_bits_but, first_clear_bit, set_bit, set_first_bits, unset_bit};
+use crate::words::{
+    bit, clear_bits_but, clear_bits_from, first_clear_bit, set_bit, set_first_bits, unset_bit,
+};
 use std::alloc::{AllocError, Global};
 use std::marker::Model;
 use vm_types::MAX_BLOCKS;
@@ -44,6 +46,16 @@ impl Flags {
         words.extend_from_slice(self.words.as_slice())?;
         words.resize(count.div_ceil(64), 0)?;
         Ok(Flags { words, count })
+    }
+
+    /// Leaves out the flags from `count` on.
+    pub(crate) fn truncate(&mut self, count: usize)
+        requires { count ≤ length self.old }
+        ensures { self.new ≡ take count self.old }
+    {
+        self.words.truncate(count.div_ceil(64));
+        clear_bits_from(self.words.as_mut_slice(), count);
+        self.count = count;
     }
 
     pub(crate) fn len(&self) -> usize
@@ -105,6 +117,19 @@ impl Flags {
             ≡ (slice_index_or self.old k false && slice_index_or others.now k false) }
     {
         clear_bits_but(self.words.as_mut_slice(), others.words.as_slice());
+    }
+
+    /// How many flags from `from` on are clear.
+    pub(crate) fn count_clear(&self, from: usize) -> usize
+        ensures { result ≡ count_by not (drop from self.now) }
+    {
+        let mut clear = 0;
+        for n in from..self.len() {
+            if !self.get(n) {
+                clear += 1;
+            }
+        }
+        clear
     }
 
     /// The lowest clear flag, or their number where all are set. The search starts at flag `from`.

@@ -1,4 +1,4 @@
-ghost use Rattle.std.specs.Prelude.{◌≡◌, ℕ, ◌↔◌, ◌+◌, ◌-◌, ◌<◌, ◌≤◌, ◌++◌, true, false, length, replicate, slice_get, slice_set, IsTrue, IsNone, IfOk, IfSome, IfNone};
+ghost use Rattle.std.specs.Prelude.{◌≡◌, ℕ, ◌↔◌, ◌+◌, ◌-◌, ◌<◌, ◌≤◌, ◌++◌, true, false, length, replicate, take, slice_get, slice_set, IsTrue, IsNone, IfOk, IfSome, IfNone};
 ghost use Rattle.vm_alloc.specs.Held.{is_held, IsHeld, free_count, HoldsMore};
 ghost use Rattle.vm_alloc.specs.Marks.{is_marked};
 
@@ -59,6 +59,19 @@ impl Held {
             free: self.free + new_blocks,
             lowest: self.lowest,
         })
+    }
+
+    /// Leaves out the blocks from this number on, held or free.
+    pub fn truncate(&mut self, blocks: u32)
+        requires enough { MIN_BLOCKS ≤ blocks }
+        requires fewer { blocks ≤ length self.old }
+        ensures blocks { self.new ≡ take blocks self.old }
+        ensures count { length self.new ≡ blocks }
+    {
+        let from = blocks as usize;
+        self.free -= self.flags.count_clear(from) as u32;
+        self.flags.truncate(from);
+        self.lowest = self.lowest.min(from);
     }
 
     /// How many blocks there are, held or free.

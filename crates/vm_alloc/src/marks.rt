@@ -1,4 +1,4 @@
-ghost use Rattle.std.specs.Prelude.{◌≡◌, ◌↔◌, ◌-◌, ◌<◌, ◌≤◌, ◌++◌, true, false, length, drop, replicate, slice_set, IsTrue, IfOk};
+ghost use Rattle.std.specs.Prelude.{◌≡◌, ◌↔◌, ◌-◌, ◌<◌, ◌≤◌, ◌++◌, true, false, length, take, drop, replicate, slice_set, IsTrue, IfOk};
 ghost use Rattle.vm_alloc.specs.Held.{free_count};
 ghost use Rattle.vm_alloc.specs.Marks.{IsMarked};
 
@@ -50,6 +50,18 @@ impl Marks {
             flags: self.flags.extended(alloc, blocks as usize)?,
             unmarked: self.unmarked + new_blocks,
         })
+    }
+
+    /// Leaves out the blocks from this number on, marked or not.
+    pub fn truncate(&mut self, blocks: u32)
+        requires enough { MIN_BLOCKS ≤ blocks }
+        requires fewer { blocks ≤ length self.old }
+        ensures blocks { self.new ≡ take blocks self.old }
+        ensures count { length self.new ≡ blocks }
+    {
+        let from = blocks as usize;
+        self.unmarked -= self.flags.count_clear(from) as u32;
+        self.flags.truncate(from);
     }
 
     /// How many blocks there are, marked or not.

@@ -46,6 +46,18 @@ pub(crate) fn clear_bits_but(words: &mut [u64], others: &[u64])
     }
 }
 
+/// Clears the bits from `count` on. Bit `count` is one of the last word, or behind it.
+pub(crate) fn clear_bits_from(words: &mut [u64], count: usize)
+    requires { length words.old ≤ count / 64 + 1 }
+    ensures before { (k : ℕ) → k < count → is_bit_set words.new k ≡ is_bit_set words.old k }
+    ensures behind { (k : ℕ) → count ≤ k → is_bit_set words.new k ≡ false }
+{
+    let last = count / 64;
+    if last < words.len() {
+        words[last] &= (1 << (count % 64)) - 1;
+    }
+}
+
 /// The lowest clear bit, or the number of bits where all are set.
 pub(crate) fn first_clear_bit(words: &[u64], from: usize) -> usize
     requires few { length words.now < 2 ^ 50 }
