@@ -9,6 +9,7 @@ pub mod Leading
 pub mod LeafBeside
 pub mod LeafRows
 pub mod Looking
+pub mod OneLeft
 pub mod Placing
 pub mod PutLemmas
 pub mod Removal

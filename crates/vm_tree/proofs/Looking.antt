@@ -59,6 +59,10 @@ passed_on (Err fault) is = ap Err is
 pub looks_as : {when more : Type 0} {held later : List Bool} {old new : DiskState} → LooksIf when held later old new → (more → when) → LooksIf more held later old new
 looks_as looks so = record { kept = λ is. looks.kept (so is); reads = λ honest is. looks.reads honest (so is) }
 
+-- what cannot be
+pub looks_never : {when : Type 0} {held later : List Bool} {old new : DiskState} → (when → ⊥) → LooksIf when held later old new
+looks_never out = record { kept = λ is. absurd (out is); reads = λ honest is. absurd (out is) }
+
 -- what was only looked at, after what was only looked at
 pub looks_if_on : {first when more : Type 0} {held between later : List Bool} {old mid new : DiskState} → LooksIf first held between old mid → first → LooksIf when between later mid new
     → (new.honest ≡ true → mid.honest ≡ true) → (more → when) → LooksIf more held later old new

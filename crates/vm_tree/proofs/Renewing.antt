@@ -13,6 +13,7 @@ use Rattle.vm_tree.specs.Free.{is_free}
 use Rattle.vm_tree.specs.Replacing.{Lacks, IsHeldBeside, IsPathIn, IsRenewed, Replaces, long_of, path_from, path_under}
 use Rattle.vm_tree.specs.Root.{IsRootedIn}
 use Rattle.vm_tree.specs.declared.root.Root.{Root}
+use Rattle.vm_tree.proofs.Touching.{held_not_free}
 
 -- where more is held
 pub renewed_more : (before held later : List Bool) (keep : ℕ → Bool) → HoldsMore held later → (n : ℕ) → IsRenewed before held keep n → IsRenewed before later keep n
@@ -21,7 +22,11 @@ renewed_more before held later keep more n is = record { now = more.still n is.n
 -- a block that was free is none that was held before
 pub renewed_free : (before held later : List Bool) (keep : ℕ → Bool) (n : ℕ) → HoldsMore before held → is_free held n ≡ true → IsHeld later n → IsRenewed before later keep n
 renewed_free before held later keep n more free is =
-    record { now = is; kept = λ had. absurd (false≢true (sym (ap not (more.still n had)) ∙ free)) }
+    record { now = is; kept = λ had. absurd (false≢true (sym (held_not_free held n (more.still n had)) ∙ free)) }
+
+-- a block that was free, and is held now, is not held as it was before
+pub taken_now : (before held later : List Bool) (n : ℕ) → HoldsMore before held → is_free held n ≡ true → IsHeld later n → is_held later n ≡ is_held before n → ⊥
+taken_now before held later n more free is same = false≢true (sym (held_not_free held n (more.still n (sym same ∙ is))) ∙ free)
 
 -- block n is none of these
 abbrev pub lacks : List ℕ → ℕ → Bool

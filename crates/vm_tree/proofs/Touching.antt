@@ -1,35 +1,47 @@
 -- Blocks that are held keep their bytes, and dirty ones stay dirty, over one call and over two.
-use Rattle.std.proofs.Common.{◌≡◌, ◌≢◌, ◌⊎◌, inl, inr, ℕ, Bool, true, false, not, List, length, Some, Result, refl, ap, sym, ◌∙◌, arith}
-use Rattle.std.proofs.lemmas.Bool.{cases_eq, false≢true}
+use Rattle.std.proofs.Common.{◌≡◌, ◌≢◌, ◌⊎◌, inl, inr, ℕ, Bool, true, false, not, List, [], ◌∷◌, ◌++◌, length, ◌&&◌, ◌<◌, nat_lt, Some, Result, refl, ap, sym, ◌∙◌, subst, arith, append_assoc}
+use Rattle.std.proofs.lemmas.Bool.{cases_eq, lt-ltb}
 use Rattle.vm_disk.specs.Disk.{Medium, DiskState, block, Elapses, Writes}
 use Rattle.vm_disk.specs.declared.disk.DeviceFault.{DeviceFault}
-use Rattle.vm_alloc.proofs.HeldLemmas.{free_is}
+use Rattle.vm_alloc.proofs.HeldLemmas.{free_inside, free_is}
 use Rattle.std.specs.Prelude.{slice_get}
-use Rattle.vm_disk.specs.Moments.{OnlyReads, Throughout, TouchesOnly}
-use Rattle.vm_disk.proofs.MomentLemmas.{started, touches_nothing, write_on, at_end, goes_on, reads_keep, weaken, and_then}
+use Rattle.vm_disk.specs.Moments.{AtEach, OnlyReads, Throughout, TouchesOnly}
+use Rattle.vm_disk.proofs.MomentLemmas.{started, touches_nothing, write_on, at_end, weaken, and_then}
 use Rattle.vm_alloc.specs.Held.{is_held, IsHeld, HoldsMore}
-use Rattle.vm_tree.specs.Unsynced.{LeavesDirty, NeverSyncs}
+use Rattle.vm_tree.specs.Unsynced.{DirtyGrows, LeavesDirty, NeverSyncs, latest}
 use Rattle.vm_tree.specs.Free.{is_free}
+
+-- a block that is held is not free
+pub held_not_free : (held : List Bool) (n : ℕ) → IsHeld held n → is_free held n ≡ false
+held_not_free held n is = ap (λ b. not b && nat_lt n (length held)) is
+
+-- and one that is counted and not held is
+pub counted_free : (held : List Bool) (n : ℕ) → n < length held → is_held held n ≡ false → is_free held n ≡ true
+counted_free held n inside is = ap (λ b. not b && nat_lt n (length held)) is ∙ lt-ltb n (length held) inside
+
+-- where more is held, none is free that was not
+not_freed : (a b : List Bool) (n : ℕ) → HoldsMore a b → is_free a n ≡ false → is_free b n ≡ false
+not_freed a b n more out = by_mark (is_held a n) refl (is_held b n) refl
+  where
+    by_mark : (had : Bool) → is_held a n ≡ had → (has : Bool) → is_held b n ≡ has → is_free b n ≡ false
+    by_mark had was true is = held_not_free b n is
+    by_mark true was false is = held_not_free b n (more.still n was)
+    by_mark false was false is =
+        let behind : nat_lt n (length a) ≡ false = sym (ap (λ t. not t && nat_lt n (length a)) was) ∙ out in
+        ap (λ t. not t && nat_lt n (length b)) is ∙ ap (λ count. nat_lt n count) more.same_length ∙ behind
 
 -- a block that is held keeps its bytes
 pub held_same : (held : List Bool) (old new : Medium) (n : ℕ) → TouchesOnly (is_free held) old new → IsHeld held n → block new.contents n ≡ block old.contents n
-held_same held old new n spares is = spares.same n (ap not is)
+held_same held old new n spares is = spares.same n (held_not_free held n is)
 
 -- what spares the blocks held before, and then those held by then
 pub touches_more : (a b : List Bool) (old mid new : Medium) → HoldsMore a b → TouchesOnly (is_free a) old mid → TouchesOnly (is_free b) mid new → TouchesOnly (is_free a) old new
 touches_more a b old mid new more first then = record {
   count = then.count ∙ first.count;
   sure = omega (arith, first.sure, then.sure);
-  same = λ n out. then.same n (kept n out) ∙ first.same n out;
-  clean = λ n out clean. then.clean n (kept n out) (first.clean n out clean);
+  same = λ n out. then.same n (not_freed a b n more out) ∙ first.same n out;
+  clean = λ n out clean. then.clean n (not_freed a b n more out) (first.clean n out clean);
 }
-  where
-    negated : (b : Bool) → not b ≡ false → b ≡ true
-    negated true e = refl
-    negated false e = absurd (false≢true (sym e))
-
-    kept : (n : ℕ) → is_free a n ≡ false → is_free b n ≡ false
-    kept n out = ap not (more.still n (negated (is_held a n) out))
 
 pub touches_then : (a b : List Bool) (old mid new : DiskState) → HoldsMore a b → Throughout old mid (TouchesOnly (is_free a) old.now) → Throughout mid new (TouchesOnly (is_free b) mid.now)
     → Throughout old new (TouchesOnly (is_free a) old.now)
@@ -46,32 +58,59 @@ held_kept held old new moments n is = held_same held old.now new.now n (at_end o
 pub free_written : {T : Type 0} (held : List Bool) (n : ℕ) (bytes : List ℕ) (result : Result T DeviceFault) (old new : DiskState) → slice_get held n ≡ Some false → Writes n bytes result old new
     → Throughout old new (TouchesOnly (is_free held) old.now)
 free_written held n bytes result old new free writes =
-    write_on n bytes result (is_free held) old old new (ap not (free_is held n free)) (started old (TouchesOnly (is_free held) old.now) (touches_nothing (is_free held) old.now)) writes
+    write_on n bytes result (is_free held) old old new (counted_free held n (free_inside held n free) (free_is held n free)) (started old (TouchesOnly (is_free held) old.now) (touches_nothing (is_free held) old.now)) writes
 
 -- where nothing was done
 pub all_dirty : (m : Medium) → LeavesDirty m m
 all_dirty m = record { more = omega arith; dirty = λ n inside dirty. dirty; sure = refl }
 
+-- one device call after which what was dirty is so still
+pub stays_dirty : (old new : DiskState) → Elapses old new → LeavesDirty old.now new.now → NeverSyncs old new
+stays_dirty old new time leaves = by_step time.step
+  where
+    by_step : (new.past ≡ old.now ∷ old.past) ⊎ ((new.past ≡ old.past) × (new.now ≡ old.now)) → NeverSyncs old new
+    by_step (inl past) = record { since = new.now ∷ []; goes_on = ap (λ (ms : List Medium). new.now ∷ ms) past; each = (leaves, tt) }
+    by_step (inr same) = record { since = []; goes_on = ap (λ (m : Medium). m ∷ new.past) same.1 ∙ ap (λ (ms : List Medium). old.now ∷ ms) same.0; each = tt }
+
+latest_same : (first : Medium) (ms : List Medium) → AtEach (λ m. m ≡ first) ms → latest first ms ≡ first
+latest_same first [] each = refl
+latest_same first (m ∷ ms) each = each.0
+
+same_grows : (first : Medium) (ms : List Medium) → AtEach (λ m. m ≡ first) ms → DirtyGrows first ms
+same_grows first [] each = tt
+same_grows first (m ∷ ms) each =
+    let R : Medium → Type 0 = λ k. LeavesDirty k m in (subst R (each.0 ∙ sym (latest_same first ms each.1)) (all_dirty m), same_grows first ms each.1)
+
 -- reads sync nothing
 pub reads_unsynced : (old new : DiskState) → OnlyReads old new → NeverSyncs old new
-reads_unsynced old new reads = reads_keep old new (LeavesDirty old.now) reads (all_dirty old.now)
+reads_unsynced old new reads = record { since = reads.since; goes_on = reads.goes_on; each = same_grows old.now reads.since reads.each }
+
+latest_is : (first now : Medium) (ms past later : List Medium) → now ∷ later ≡ ms ++ first ∷ past → now ≡ latest first ms
+latest_is first now [] past later e = cc
+latest_is first now (m ∷ ms) past later e = cc
+
+latest_on : (first mid : Medium) (ms ns : List Medium) → mid ≡ latest first ns → latest mid ms ≡ latest first (ms ++ ns)
+latest_on first mid [] ns same = same
+latest_on first mid (m ∷ ms) ns same = refl
+
+grows_on : (first mid : Medium) (ms ns : List Medium) → mid ≡ latest first ns → DirtyGrows mid ms → DirtyGrows first ns → DirtyGrows first (ms ++ ns)
+grows_on first mid [] ns same more so_far = so_far
+grows_on first mid (m ∷ ms) ns same more so_far =
+    let R : Medium → Type 0 = λ k. LeavesDirty k m in (subst R (latest_on first mid ms ns same) more.0, grows_on first mid ms ns same more.1 so_far)
 
 -- nor does one call more that does not
 pub unsynced_then : (old mid new : DiskState) → NeverSyncs old mid → NeverSyncs mid new → NeverSyncs old new
-unsynced_then old mid new first then =
-    let so_far = at_end old mid (LeavesDirty old.now) first in
-    and_then old mid new (LeavesDirty old.now) first
-    (weaken mid new (LeavesDirty mid.now) (LeavesDirty old.now) (λ m now. record {
-      more = omega (arith, so_far.more, now.more);
-      dirty = λ n inside dirty. now.dirty n (omega (arith, so_far.more, inside)) (so_far.dirty n inside dirty);
-      sure = now.sure ∙ so_far.sure;
-    }) then)
+unsynced_then old mid new first then = record {
+  since = then.since ++ first.since;
+  goes_on = then.goes_on ∙ ap (λ (ms : List Medium). then.since ++ ms) first.goes_on ∙ sym (append_assoc then.since first.since (old.now ∷ old.past));
+  each = grows_on old.now mid.now then.since first.since (latest_is old.now mid.now first.since old.past mid.past first.goes_on) then.each first.each;
+}
 
 -- nor does a device call after which its block is dirty, and all others are as they were
 pub dirtied : (n : ℕ) (old new : DiskState) → Elapses old new → new.now.dirty n ≡ true → length new.now.contents ≡ length old.now.contents
     → ((k : ℕ) → k ≢ n → new.now.dirty k ≡ old.now.dirty k) → new.now.sure ≡ old.now.sure → NeverSyncs old new
 dirtied n old new time is count others sure =
-    goes_on old old new (LeavesDirty old.now) (started old (LeavesDirty old.now) (all_dirty old.now)) time record {
+    stays_dirty old new time record {
       more = omega (arith, count);
       dirty = λ k inside dirty. by_place k (cases_eq k n) dirty;
       sure = sure;

@@ -39,6 +39,10 @@ LooksIfDamaged result held later old new = (b : ℕ) → LooksIf (result ≡ Err
 abbrev pub PutsIfDamaged : {T : Type 0} → Result T PutFault → List Bool → List Bool → DiskState → DiskState → Type 0
 PutsIfDamaged result held later old new = (b : ℕ) → LooksIf (result ≡ Err (put.Tree (Damaged b))) held later old new
 
+-- that it has no room for a record more is found before any is taken or written
+abbrev pub PutsIfDeep : {T : Type 0} → Result T PutFault → List Bool → List Bool → DiskState → DiskState → Type 0
+PutsIfDeep result held later old new = LooksIf (result ≡ Err put.Deep) held later old new
+
 -- a call that answers that the device failed just where `fails` holds wrote free blocks alone: its failures rise where it failed, what was
 -- held stays held, and at no moment had a held block of an honest disk other bytes than before, nor was a dirty one synced
 pub record Writes (fails : Type 0) (held later : List Bool) (old new : DiskState) : Type 0 where

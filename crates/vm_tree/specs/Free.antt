@@ -1,14 +1,14 @@
 -- Blocks that may be written.
-use Rattle.std.specs.Prelude.{ℕ, ◌+◌, ◌<◌, ◌≤◌, nat_lt, if◌then◌else◌, Bool, not, List, length}
+use Rattle.std.specs.Prelude.{ℕ, ◌+◌, ◌<◌, ◌≤◌, ◌&&◌, nat_lt, if◌then◌else◌, Bool, not, List, length}
 use Rattle.std.specs.List.{AllByRecursion}
 use Rattle.vm_types.specs.declared.sizes.TheConstants.{FIRST_DATA}
 use Rattle.vm_alloc.specs.Held.{is_held, IsHeld, free_count}
 use Rattle.vm_block.specs.declared.sizes.TheConstants.{MAX_SHORT}
 use Rattle.vm_block.specs.declared.node.Child.{Child}
 
--- is this block free?
+-- is this block free, one of those that are counted and not held?
 abbrev pub is_free : List Bool → ℕ → Bool
-is_free held n = not (is_held held n)
+is_free held n = not (is_held held n) && nat_lt n (length held)
 
 -- a block for data, which is held now
 pub record IsTaken (held : List Bool) (n : ℕ) : Type 0 where

@@ -40,6 +40,13 @@ pub record IsRowsAt (x : Contents) (limit b : ℕ) (ws : List Row) : Type 0 wher
   pub inside : IsData limit b
   pub rows : HasRows (block x b) ws
 
+-- these bytes, of this block, are a leaf of so many rows at most
+pub record IsLeafAt (x : Contents) (b most : ℕ) (bytes : List ℕ) : Type 0 where
+  pub rows : List Row
+  pub bytes_are : bytes ≡ block x b
+  pub leaf : HasRows bytes rows
+  pub few : length rows ≤ most
+
 -- this block is for data, and is an inner block of this level with these children
 pub record IsNodeAt (x : Contents) (limit level b : ℕ) (cs : List Child) : Type 0 where
   pub inside : IsData limit b
@@ -111,6 +118,10 @@ FindsNode result old new limit level b = Finds result old new (λ x children. Is
 -- the block has this key and the long value that is lent
 abbrev pub FindsLong : Result (Bor (List ℕ)) TreeFault → DiskState → DiskState → ℕ → Key → ℕ → Type 0
 FindsLong result old new limit key b = Finds result old new (λ x value. IsLongAt x limit b key value.now)
+
+-- this child's block is a leaf of so many rows at most, and has these bytes
+abbrev pub FindsRows : {T : Type 0} → Result T TreeFault → DiskState → DiskState → Child → ℕ → List ℕ → Type 0
+FindsRows result old new top most bytes = Finds result old new (λ x answer. IsLeafAt x top.block most bytes)
 
 -- this child's block has the head of a leaf, and begins with its key
 abbrev pub FindsEnd : {T : Type 0} → Result T TreeFault → DiskState → DiskState → ℕ → Child → Type 0

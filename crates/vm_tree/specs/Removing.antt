@@ -1,20 +1,22 @@
 -- A record taken out, and what is left then.
-use Rattle.std.specs.Prelude.{◌≡◌, ◌≢◌, ℕ, ◌-◌, true, Bool, List, [], ◌∷◌, ◌++◌, length, Option, None, IsSomeAnd, Result, Ok, Err}
+use Rattle.std.specs.Prelude.{◌≡◌, ◌≢◌, ◌⊎◌, ℕ, zero, suc, ◌+◌, ◌-◌, true, Bool, List, [], ◌∷◌, ◌++◌, length, take, drop, Option, None, IsSomeAnd, IsOkAnd, Result, Ok, Err}
 use Rattle.std.specs.List.{AllByRecursion}
 use Rattle.vm_types.specs.declared.key.Key.{Key}
 use Rattle.vm_types.specs.Map.{get, without}
 use Rattle.vm_types.specs.Places.{RisesFrom, places, value_at}
 use Rattle.arrayvec.specs.ArrayVec.{ArrayVec}
-use Rattle.vm_disk.specs.Disk.{Contents, DiskState}
-use Rattle.vm_alloc.specs.Held.{HoldsMore, IsHeld}
+use Rattle.vm_disk.specs.Disk.{Contents, DiskState, block}
+use Rattle.vm_alloc.specs.Held.{HoldsMore, IsHeld, is_held}
 use Rattle.vm_block.specs.Changed.{leave_out, without_place}
-use Rattle.vm_block.specs.Leaf.{Record}
-use Rattle.vm_block.specs.Node.{ChildFits, IsNode}
+use Rattle.vm_block.specs.Head.{IsNodeHead}
+use Rattle.vm_block.specs.Leaf.{HasRows, Record, Row}
+use Rattle.vm_block.specs.Node.{ChildFits, IsNode, child_bytes}
 use Rattle.vm_block.specs.declared.node.Child.{Child}
-use Rattle.vm_tree.specs.Tree.{Sizes, Children, Subtree}
+use Rattle.vm_tree.specs.Tree.{Sizes, IsData, Children, Subtree}
 use Rattle.vm_block.specs.declared.way.Way.{Way}
 use Rattle.vm_tree.specs.Answers.{OkOrDevice, Removes}
 use Rattle.vm_tree.specs.Calls.{LooksIf}
+use Rattle.vm_tree.specs.Free.{TakesAtMost}
 use Rattle.vm_tree.specs.Making.{Made, IsWide}
 use Rattle.vm_tree.specs.Replacing.{IsHeldBeside, IsRenewed, Replaces, path_from, path_under}
 use Rattle.vm_tree.specs.Root.{IsRootedIn, IfUnder, IfWhole, sizes_of}
@@ -64,11 +66,56 @@ LooksIfSame result held later old new = LooksIf (result ≡ Ok Same) held later 
 abbrev pub LooksIfNothing : Result Left TreeFault → List Bool → List Bool → DiskState → DiskState → Type 0
 LooksIfNothing result held later old new = LooksIf (result ≡ Ok Nothing) held later old new
 
+-- the block of this root is held as it was before: it was not taken now
+abbrev pub WasThere : List Bool → List Bool → Root → Type 0
+WasThere held later root = is_held later root.block ≡ is_held held root.block
+
+-- a root is left that was there
+abbrev pub LeavesOld : List Bool → List Bool → Left → Type 0
+LeavesOld held later Same = ⊥
+LeavesOld held later Nothing = ⊥
+LeavesOld held later (Rest root) = WasThere held later root
+
+-- and where a root is left that was there
+abbrev pub LooksIfOld : Result Left TreeFault → List Bool → List Bool → DiskState → DiskState → Type 0
+LooksIfOld result held later old new = LooksIf (IsOkAnd result (LeavesOld held later)) held later old new
+
 -- the root that is left, if one is, is a leaf or has two children at least
 abbrev pub LeavesWide : DiskState → Left → Type 0
 LeavesWide new Same = Unit {0}
 LeavesWide new Nothing = Unit {0}
 LeavesWide new (Rest root) = IsWide new root
+
+-- it is that of a block for data
+abbrev pub LeavesData : ℕ → Left → Type 0
+LeavesData limit Same = Unit {0}
+LeavesData limit Nothing = Unit {0}
+LeavesData limit (Rest root) = IsData limit root.block
+
+-- for what is left on a level so many blocks were taken at most: one for each level of its root
+abbrev pub TakesForLeft : ℕ → List Bool → List Bool → Left → Type 0
+TakesForLeft level held later left = TakesAtMost (level_of left level + 1) held later
+
+-- the root of a map in so many blocks: it has a block for data, or none
+abbrev pub IsRootAmong : ℕ → Root → Type 0
+IsRootAmong limit root = (root.block ≡ 0) ⊎ IsData limit root.block
+
+-- the root that is answered has no block
+abbrev pub Empties : Result (Option Root) TreeFault → Type 0
+Empties result = IsOkAnd result (λ rest. IsSomeAnd rest (λ root. root.block ≡ 0))
+
+-- the root that is answered was there
+abbrev pub KeepsRoot : Result (Option Root) TreeFault → List Bool → List Bool → Type 0
+KeepsRoot result held later = IsOkAnd result (λ rest. IsSomeAnd rest (WasThere held later))
+
+-- from block b, so many levels above the leaves, down to a leaf of one row each block has one child
+unfoldable pub HasOne : Contents → ℕ → ℕ → Type 0
+HasOne x zero b = (w : Row) × HasRows (block x b) (w ∷ [])
+HasOne x (suc l) b = (child : Child) × IsNodeHead (block x b) (suc l) 1 × (take 14 (drop 16 (block x b)) ≡ child_bytes child) × HasOne x l child.block
+
+-- where `when` holds, and the disk is honest, this block had one row under it before the call
+abbrev pub HadOneIf : Type 0 → DiskState → DiskState → ℕ → ℕ → Type 0
+HadOneIf when old new level b = new.honest ≡ true → when → HasOne old.now.contents level b
 
 -- the children of an inner block without the one that was taken
 abbrev pub LeavesOut : Option (ArrayVec Child) → Way → List ℕ → Type 0

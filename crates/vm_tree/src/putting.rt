@@ -3,7 +3,7 @@ ghost use Rattle.std.specs.Prelude.{◌≡◌, ◌≢◌, ◌+◌, ◌*◌, ◌<
 ghost use Rattle.vm_types.specs.Places.{KeyFits, place};
 ghost use Rattle.vm_alloc.specs.Held.{free_count};
 ghost use Rattle.vm_tree.specs.Answers.{OkOrDevice};
-ghost use Rattle.vm_tree.specs.Calls.{LooksIfDamaged, PutsFree, PutsIfDamaged, WritesFree};
+ghost use Rattle.vm_tree.specs.Calls.{LooksIfDamaged, PutsFree, PutsIfDamaged, PutsIfDeep, WritesFree};
 ghost use Rattle.vm_tree.specs.Free.{IsTaken, AreTaken, TakesAtMost, long_blocks};
 ghost use Rattle.vm_tree.specs.Making.{HasTaken, IfOne, IsWide, MakesHalves, MakesNodesWith, PutsInLeaf, SplitsLeafOver, SplitsNodeOver, WritesPut, children_of, is_split};
 ghost use Rattle.vm_types.specs.Bytes.{longest};
@@ -218,7 +218,8 @@ fn put_in_leaf<D: Disk, const LEAF: usize>(
     ensures writes { PutsFree result held.old held.new (D.state disk.old) (D.state disk.new) }
     ensures device { HasTaken result held.new }
     ensures split { IfOk result (λ copied. is_split copied ≡ true → room ≡ true) }
-    ensures deep { result ≡ Err PutFault.Deep → (room ≡ false) × (held.new ≡ held.old) }
+    ensures full { result ≡ Err PutFault.Deep → room ≡ false }
+    ensures deep { PutsIfDeep result held.old held.new (D.state disk.old) (D.state disk.new) }
     ensures looks { PutsIfDamaged result held.old held.new (D.state disk.old) (D.state disk.new) }
     ensures one { room ≡ false → TakesAtMost (1 + long_blocks value.now) held.old held.new }
     ensures single { IfOne result (TakesAtMost (1 + long_blocks value.now) held.old held.new) }
@@ -271,7 +272,8 @@ fn put_below<D: Disk, const LEAF: usize, const FAN: usize>(
     ensures fits { KeyFits key }
     ensures device { HasTaken result held.new }
     ensures split { IfOk result (λ copied. is_split copied ≡ true → room ≡ true) }
-    ensures deep { result ≡ Err PutFault.Deep → (room ≡ false) × (held.new ≡ held.old) }
+    ensures full { result ≡ Err PutFault.Deep → room ≡ false }
+    ensures deep { PutsIfDeep result held.old held.new (D.state disk.old) (D.state disk.new) }
     ensures looks { PutsIfDamaged result held.old held.new (D.state disk.old) (D.state disk.new) }
     ensures one { room ≡ false → TakesAtMost (2 * level + 1 + long_blocks value.now) held.old held.new }
     ensures single { IfOne result (TakesAtMost (2 * level + 1 + long_blocks value.now) held.old held.new) }
@@ -358,9 +360,10 @@ pub fn put<D: Disk, const LEAF: usize, const FAN: usize, const LEVELS: usize>(
         → IfOk result (λ r. (root.level ≤ r.level) × (r.level ≤ root.level + 1)) }
     ensures wide { IfOk result (λ r. r.level ≢ root.level → IsWide (D.state disk.new) r) }
 
-    // No more than 15 blocks are taken, and that of a long value; none of them where it answers Deep.
+    // No more than 15 blocks are taken, and that of a long value. Where it answers Deep, nothing was
+    // written or taken.
     ensures taken { TakesAtMost (15 + long_blocks value.now) held.old held.new }
-    ensures deep { result ≡ Err PutFault.Deep → held.new ≡ held.old }
+    ensures deep { PutsIfDeep result held.old held.new (D.state disk.old) (D.state disk.new) }
 
     // It takes the blocks of one path alone: two a level at most and a new root, or two a level but one at the top
     // where the tree stays as high, and one for the empty map; and that of a long value.

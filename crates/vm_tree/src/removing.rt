@@ -6,14 +6,15 @@ ghost use Rattle.vm_tree.specs.Calls.{OnlyLooks, LooksIf, LooksIfDamaged, Writes
 ghost use Rattle.vm_tree.specs.Free.{TakesAtMost};
 ghost use Rattle.vm_tree.specs.Making.{IsWide};
 ghost use Rattle.vm_tree.specs.Paths.{NamesLong, NamesPath, NamesPathUnder};
-ghost use Rattle.vm_tree.specs.Reading.{FindsEnd, FindsPath, FindsPathFrom, GivesRowsAmong};
-ghost use Rattle.vm_tree.specs.Removing.{LeavesOut, LeavesRest, LeavesWide, LooksIfNothing, LooksIfSame, NarrowsTo, RemovesFrom, RemovesFromLeaf, RemovesUnder, child_of, level_of};
+ghost use Rattle.vm_tree.specs.Reading.{FindsEnd, FindsPath, FindsPathFrom, FindsRows, GivesRowsAmong};
+ghost use Rattle.vm_tree.specs.Removing.{Empties, HadOneIf, IsRootAmong, KeepsRoot, LeavesData, LeavesOut, LeavesRest, LeavesWide, LooksIfNothing, LooksIfOld, LooksIfSame, NarrowsTo, RemovesFrom, RemovesFromLeaf, RemovesUnder, TakesForLeft, child_of, level_of};
 ghost use Rattle.vm_tree.specs.Replacing.{KeepsAbove, long_of};
 ghost use Rattle.vm_tree.specs.Root.{AreSizes, sizes_of};
+ghost use Rattle.vm_tree.specs.Tree.{IsData};
 
 use crate::faults::TreeFault;
 use crate::linking::linked;
-use crate::reading::{load_block, load_way};
+use crate::reading::{is_data, load_block, load_way};
 use crate::root::{Root, root_at};
 use crate::splicing::spliced;
 use crate::writing::{write_bytes, write_node_block};
@@ -50,7 +51,7 @@ fn child_of(root: Root) -> Child
 fn without_child(bytes: &[u8; 4096], way: Way) -> Option<ArrayVec<Child, 257>>
     requires within { way.index < way.count }
     requires few { way.count ≤ MAX_CHILDREN }
-    ensures count { IfSome result (λ rest. length rest.items ≤ way.count) }
+    ensures count { IfSome result (λ rest. length rest.items + 1 ≡ way.count) }
     ensures only { LeavesOut result way bytes.now }
 {
     match read_node(bytes) {
@@ -70,6 +71,7 @@ fn load_rows<D: Disk, const MOST: usize>(
     requires { blocks ≤ (D.state disk.old).blocks }
     ensures looks { OnlyLooks result (D.state disk.old) (D.state disk.new) }
     ensures end { FindsEnd result (D.state disk.old) (D.state disk.new) blocks top }
+    ensures found { FindsRows result (D.state disk.old) (D.state disk.new) top MOST (D.hand disk.new) }
     ensures only { GivesRowsAmong result (D.state disk.old) (D.state disk.new)
         blocks top MOST (D.hand disk.new) }
 {
@@ -94,9 +96,12 @@ fn remove_from_leaf<D: Disk, const LEAF: usize>(
     requires free { 1 ≤ free_count held.old }
     ensures writes { WritesFree result held.old held.new (D.state disk.old) (D.state disk.new) }
     ensures level { IfOk result (λ left. level_of left 0 ≡ 0) }
+    ensures root { IfOk result (LeavesData (length held.old)) }
     ensures taken { TakesAtMost 1 held.old held.new }
     ensures same { LooksIfSame result held.old held.new (D.state disk.old) (D.state disk.new) }
     ensures nothing { LooksIfNothing result held.old held.new (D.state disk.old) (D.state disk.new) }
+    ensures narrowed { LooksIfOld result held.old held.new (D.state disk.old) (D.state disk.new) }
+    ensures last { HadOneIf (result ≡ Ok Left.Nothing) (D.state disk.old) (D.state disk.new) 0 top.block }
     ensures looks { LooksIfDamaged result held.old held.new (D.state disk.old) (D.state disk.new) }
     ensures path { FindsPath result (D.state disk.old) (D.state disk.new) (length held.old) (place key) 0 top }
     ensures remove { RemovesFromLeaf result LEAF held.old held.new
@@ -118,7 +123,8 @@ fn remove_from_leaf<D: Disk, const LEAF: usize>(
     }
 }
 
-/// The first block from this one down that is a leaf or has more children than one.
+/// The first block from this one down that is a leaf or has more children than one. It is to be a block
+/// for data.
 fn narrowed<D: Disk, const FAN: usize>(
     disk: &mut D,
     blocks: u32,
@@ -128,9 +134,13 @@ fn narrowed<D: Disk, const FAN: usize>(
     requires { blocks ≤ (D.state disk.old).blocks }
     ensures looks { OnlyLooks result (D.state disk.old) (D.state disk.new) }
     ensures level { IfOk result (λ root. root.level ≤ level) }
+    ensures root { IfOk result (λ root. IsData blocks root.block) }
     ensures wide { IfOk result (IsWide (D.state disk.new)) }
     ensures narrow { NarrowsTo result FAN (D.state disk.old) (D.state disk.new) blocks level top }
 {
+    if !is_data(blocks, top.block) {
+        return Err(TreeFault::Damaged(top.block));
+    }
     if level == 0 {
         return Ok(root_at(top, 0));
     }
@@ -163,8 +173,11 @@ fn write_rest<D: Disk, const FAN: usize>(
     ensures level { IfOk result (λ left. level_of left level ≤ level) }
     ensures same_level { is_root ≡ false → IfOk result (λ left. level_of left level ≡ level) }
     ensures nothing { LooksIfNothing result held.old held.new (D.state disk.old) (D.state disk.new) }
+    ensures narrowed { LooksIfOld result held.old held.new (D.state disk.old) (D.state disk.new) }
+    ensures last { result ≡ Ok Left.Nothing → length children.now ≡ 0 }
     ensures looks { LooksIfDamaged result held.old held.new (D.state disk.old) (D.state disk.new) }
     ensures taken { TakesAtMost 1 held.old held.new }
+    ensures root { IfOk result (LeavesData (length held.old)) }
     ensures wide { is_root ≡ true → IfOk result (LeavesWide (D.state disk.new)) }
     ensures rest { LeavesRest result FAN level children.now held.old held.new
         (D.state disk.old) (D.state disk.new) }
@@ -202,9 +215,13 @@ fn remove_below<D: Disk, const LEAF: usize, const FAN: usize>(
     ensures level { IfOk result (λ left. level_of left level ≤ level) }
     ensures same_level { is_root ≡ false → IfOk result (λ left. level_of left level ≡ level) }
     ensures taken { TakesAtMost (level + 1) held.old held.new }
+    ensures low_taken { IfOk result (TakesForLeft level held.old held.new) }
+    ensures root { IfOk result (LeavesData (length held.old)) }
     ensures wide { is_root ≡ true → IfOk result (LeavesWide (D.state disk.new)) }
     ensures same { LooksIfSame result held.old held.new (D.state disk.old) (D.state disk.new) }
     ensures nothing { LooksIfNothing result held.old held.new (D.state disk.old) (D.state disk.new) }
+    ensures narrowed { LooksIfOld result held.old held.new (D.state disk.old) (D.state disk.new) }
+    ensures last { HadOneIf (result ≡ Ok Left.Nothing) (D.state disk.old) (D.state disk.new) level top.block }
     ensures looks { LooksIfDamaged result held.old held.new (D.state disk.old) (D.state disk.new) }
     ensures path { FindsPath result (D.state disk.old) (D.state disk.new) (length held.old) (place key) level top }
     ensures remove { RemovesUnder result LEAF FAN held.old held.new
@@ -255,6 +272,9 @@ pub fn remove<D: Disk, const LEAF: usize, const FAN: usize, const LEVELS: usize>
     requires room { 16 ≤ free_count held.old }
     ensures level { IfOk result (λ rest. IfSome rest (λ r. r.level < LEVELS)) }
 
+    // The new root is that of a block for data, or that of the empty map.
+    ensures root { IfOk result (λ rest. IfSome rest (IsRootAmong (length held.old))) }
+
     // What is held stays held, and at no moment has a block that was held other bytes than before.
     ensures writes { WritesFree result held.old held.new (D.state disk.old) (D.state disk.new) }
 
@@ -264,9 +284,22 @@ pub fn remove<D: Disk, const LEAF: usize, const FAN: usize, const LEVELS: usize>
     // It takes the blocks of one path alone, one a level.
     ensures path_taken { TakesAtMost (root.level + 1) held.old held.new }
 
-    // Where the answer is None, nothing was written or taken.
+    // Nor more than one for each level of the new root.
+    ensures low_taken { IfOk result (λ rest. IfSome rest
+        (λ r. TakesAtMost (r.level + 1) held.old held.new)) }
+
+    // Nothing was written or taken where the answer is None, where no record is left, and where the new
+    // root was there: one that would have one child is not written.
     ensures kept { LooksIf (result ≡ Ok None) held.old held.new
         (D.state disk.old) (D.state disk.new) }
+    ensures emptied { LooksIf (Empties result) held.old held.new
+        (D.state disk.old) (D.state disk.new) }
+    ensures narrowed { LooksIf (KeepsRoot result held.old held.new) held.old held.new
+        (D.state disk.old) (D.state disk.new) }
+
+    // That no record is left is told only where the old root had one alone, whatever its blocks are.
+    ensures last { HadOneIf (Empties result) (D.state disk.old) (D.state disk.new)
+        root.level root.block }
 
     // A block is found damaged before any is taken or written.
     ensures looks { LooksIfDamaged result held.old held.new (D.state disk.old) (D.state disk.new) }

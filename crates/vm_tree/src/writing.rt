@@ -55,6 +55,7 @@ pub(crate) fn write_bytes<D: Disk>(
     ensures writes { WritesFree result held.old held.new (D.state disk.old) (D.state disk.new) }
     ensures device { OkOrDevice result (λ child. IsTaken held.new child.block) }
     ensures taken { TakesAtMost 1 held.old held.new }
+    ensures free { IfOk result (λ child. is_free held.old child.block ≡ true) }
     ensures written { WritesBytes result (D.state disk.new) bytes.now }
     ensures leaf { WritesLeaf result held.old held.new (D.state disk.old) (D.state disk.new) bytes.now }
     ensures node { WritesNode result held.old held.new (D.state disk.old) (D.state disk.new) bytes.now }
@@ -78,6 +79,7 @@ pub(crate) fn write_node_block<D: Disk>(
     ensures writes { WritesFree result held.old held.new (D.state disk.old) (D.state disk.new) }
     ensures device { OkOrDevice result (λ child. IsTaken held.new child.block) }
     ensures taken { TakesAtMost 1 held.old held.new }
+    ensures free { IfOk result (λ child. is_free held.old child.block ≡ true) }
     ensures written { WritesBytes result (D.state disk.new) (node_bytes level children.now) }
     ensures made { MakesNode result level children.now
         held.old held.new (D.state disk.old) (D.state disk.new) }

@@ -108,7 +108,7 @@ returns-in_err-copied-clause-put g t c levels honest rs bs tree begins rises =
     let d = c.in_ok-way.way.child in
     let made = λ (ds : List Child) (qs : List Record) (own : List ℕ). Replaces c.args.held.now c.put_below.new.held (path_from (c.args.level - 1) c.put_below.new.path) own (λ P. Made P sizes (g.D.Disk.state c.put_below.new.disk).now.contents (length c.args.held.now) (c.args.level - 1) ds qs) in
     let full = λ (is : c.in_err-copied.field-0.0 ≡ Deep).
-    let none = (c.in_err-copied.ensures.deep (ap Err is)).0 in
+    let none = c.in_err-copied.ensures.full (ap Err is) in
     let many : g.row.FAN ≤ c.in_ok-way.way.count = elim c.if-room.branch [ then-room w ↦ absurd (false≢true (sym none ∙ w.room-is ∙ w.if-room.true)) | else-room w ↦ ltb-false c.in_ok-way.way.count g.row.FAN (sym w.room-is ∙ none) ] in
     let all : sizes.fan ≤ length cs = omega (arith, many, way.1) in
     all in
@@ -171,6 +171,9 @@ returns-in_err-way-clause-writes g t c = looks_free c.in_err-way.ensures.looks (
 
 pub returns-in_err-copied-clause-writes : goal.returns-in_err-copied-clause-writes
 returns-in_err-copied-clause-writes g t c = looks_write c.in_ok-way.ensures.looks c.in_err-copied.ensures.writes (search rules)
+
+pub returns-in_err-copied-clause-deep : goal.returns-in_err-copied-clause-deep
+returns-in_err-copied-clause-deep g t c = looks_if c.in_ok-way.ensures.looks c.in_err-copied.ensures.writes.goes.earlier c.in_err-copied.ensures.deep (search rules)
 
 pub returns-in_err-copied-clause-looks : goal.returns-in_err-copied-clause-looks
 returns-in_err-copied-clause-looks g t c b = looks_if c.in_ok-way.ensures.looks c.in_err-copied.ensures.writes.goes.earlier (c.in_err-copied.ensures.looks b) (search rules)

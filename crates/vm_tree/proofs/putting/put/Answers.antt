@@ -107,7 +107,7 @@ returns-in_err-copied-clause-put g c honest m bs (inr top) =
     rw (passed_on _ c.from_residual-in_err-copied.ensures.1) (fault_puts _ (Splits sizes x (place c.args.key) c.args.root.level c.args.root.block m) (LacksRoom sizes x c.args.root m c.args.key) _ _
     (c.in_err-copied.ensures.put g.row.LEVELS honest m bs top.subtree top.lowest top.rising)
     (λ is splits.
-    let none = ltb-false (c.from-2.result + 1) g.row.LEVELS (c.in_err-copied.ensures.deep (ap Err is)).0 in
+    let none = ltb-false (c.from-2.result + 1) g.row.LEVELS (c.in_err-copied.ensures.full (ap Err is)) in
     splits_lacks sizes x _ c.args.root m bs c.args.key c.put_below.ensures.fits top (omega (arith, none, c.from-2.ensures, top.level)) splits))
 
 pub returns-then-root-eq0-clause-path : goal.returns-then-root-eq0-clause-path
@@ -147,6 +147,9 @@ returns-in_ok-top-in-Two-clause-writes g c = writes_on c.in_ok-copied.ensures.wr
 
 pub returns-in_err-top-in-Two-clause-writes : goal.returns-in_err-top-in-Two-clause-writes
 returns-in_err-top-in-Two-clause-writes g c = writes_on c.in_ok-copied.ensures.writes c.in_err-top-in-Two.ensures.writes (search rules)
+
+pub returns-in_err-copied-clause-deep : goal.returns-in_err-copied-clause-deep
+returns-in_err-copied-clause-deep g c = looks_as c.in_err-copied.ensures.deep (search rules)
 
 pub returns-in_err-copied-clause-looks : goal.returns-in_err-copied-clause-looks
 returns-in_err-copied-clause-looks g c b = looks_as (c.in_err-copied.ensures.looks b) (search rules)

@@ -1,12 +1,20 @@
 use Rattle.std.proofs.Common.{◌∙◌, take, ap, sym, arith}
+use Rattle.std.proofs.lemmas.Bool.{false≢true}
 use Rattle.vm_disk.specs.Disk.{Medium, block}
 use Rattle.vm_disk.proofs.MomentLemmas.{same_medium}
 use Rattle.vm_tree.specs.Tree.{Subtree}
 use Rattle.vm_tree.specs.Root.{sizes_of}
 use Rattle.vm_tree.proofs.Looking.{looks_on, passed_on}
-use Rattle.vm_tree.proofs.Descent.{node_read}
+use Rattle.vm_tree.proofs.Descent.{node_read, subtree_top}
 use Rattle.vm_tree.proofs.RemoveLemmas.{alone_opens, two_children, sole, narrows_here, narrows_down}
 use Rattle.vm_tree.proofs.removing.+narrowed.Goals as goal
+
+pub returns-then-not-is_data-clause-narrow : goal.returns-then-not-is_data-clause-narrow
+returns-then-not-is_data-clause-narrow g t c honest leaf levels rs bs under =
+    let sizes = sizes_of leaf g.row.FAN levels in
+    let alone = alone_opens (Subtree sizes (g.D.Disk.state c.args.disk.now).now.contents c.args.blocks c.args.level) c.args.top rs bs under in
+    let inside = subtree_top sizes _ c.args.blocks c.args.level c.args.top.block rs bs alone.0 in
+    absurd (false≢true (sym c.if-not-is_data.true ∙ c.is_data.ensures.1 (omega (arith, inside.0), omega (arith, inside.1))))
 
 pub returns-then-level-eq0-clause-narrow : goal.returns-then-level-eq0-clause-narrow
 returns-then-level-eq0-clause-narrow g t c honest leaf levels rs bs under =

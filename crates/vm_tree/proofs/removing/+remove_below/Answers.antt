@@ -1,4 +1,4 @@
-use Rattle.std.proofs.Common.{◌≡◌, ◌∙◌, ℕ, Bool, ◌+◌, ◌-◌, ◌<◌, Ok, List, [], ◌∷◌, ◌++◌, length, take, drop, ap, sym, subst, refl, arith, rules}
+use Rattle.std.proofs.Common.{◌≡◌, ◌∙◌, ℕ, Bool, ◌+◌, ◌-◌, ◌<◌, Ok, Err, IfOk, IsOkAnd, Result, List, [], ◌∷◌, ◌++◌, length, take, drop, ap, sym, subst, refl, arith, rules}
 use Rattle.std.proofs.Math.ListN.{length-set}
 use Rattle.std.proofs.lemmas.Bool.{false≢true, eqb-false, eqb-true}
 use Rattle.vm_types.specs.Places.{place}
@@ -9,24 +9,27 @@ use Rattle.vm_block.specs.Leaf.{Record}
 use Rattle.vm_block.specs.declared.node.Child.{Child}
 use Rattle.vm_alloc.specs.Held.{HoldsMore}
 use Rattle.vm_block.proofs.EachLemmas.{each_so}
-use Rattle.vm_tree.specs.Tree.{Children, Subtree}
+use Rattle.vm_tree.specs.Free.{TakesAtMost}
+use Rattle.vm_tree.specs.Tree.{Children, IsData, Subtree}
 use Rattle.vm_tree.specs.Making.{Made}
 use Rattle.vm_tree.specs.Reading.{IsNodeAt}
 use Rattle.vm_block.specs.Changed.{without_place}
-use Rattle.vm_tree.specs.Removing.{RemovesBelow, child_of, level_of}
+use Rattle.vm_tree.specs.Removing.{HasOne, LeavesData, LeavesOld, RemovesBelow, TakesForLeft, WasThere, child_of, level_of}
 use Rattle.vm_tree.specs.Replacing.{IsRenewed, Replaces, path_from}
 use Rattle.vm_tree.specs.declared.removing.Left.{Left}
 use Rattle.vm_tree.specs.declared.root.Root.{Root}
 use Rattle.vm_tree.specs.Root.{sizes_of}
+use Rattle.vm_tree.specs.declared.faults.TreeFault.{TreeFault}
 use Rattle.vm_tree.specs.declared.faults.TreeFault.TheVariants.{Device}
 use Rattle.vm_tree.proofs.HandLemmas.{hand_node}
 use Rattle.vm_tree.proofs.Beside.{node_path, path_alone, path_grown, path_leaf}
-use Rattle.vm_tree.proofs.Looking.{looks_free, looks_if, looks_if_on, looks_write, passed_on, writes_on}
+use Rattle.vm_tree.proofs.Looking.{looks_free, looks_if, looks_if_on, looks_never, looks_write, passed_on, writes_on}
 use Rattle.vm_tree.proofs.Descent.{node_read}
 use Rattle.vm_tree.proofs.Leading.{leads_on, if_ok_is, if_ok_so}
+use Rattle.vm_tree.proofs.OneLeft.{one_child_on}
 use Rattle.vm_tree.proofs.PutLemmas.{only_one, replaced_length}
 use Rattle.vm_tree.proofs.RemoveLemmas.{rests_removes, none_there, fault_there, node_rest, two_children, only_there, others_left}
-use Rattle.vm_tree.proofs.Renewing.{renewed_more}
+use Rattle.vm_tree.proofs.Renewing.{renewed_more, taken_now}
 use Rattle.vm_tree.proofs.Touching.{held_kept}
 use Rattle.vm_tree.proofs.removing.+remove_below.Goals as goal
 use Rattle.vm_tree.proofs.removing.+remove_below.Goals.{then-is_root, else-is_root}
@@ -369,3 +372,74 @@ returns-in_ok-node-in-Rest-clause-wide g t c root honest up k cs node =
     let two : 1 < c.in_ok-way.way.count = elim c.if-is_root.branch [ then-is_root w ↦ omega (arith, c.in_ok-way.ensures.within.0, eqb-false c.in_ok-way.way.count 1 (sym w.alone-is ∙ c.if-alone.false)) | else-is_root w ↦ absurd (false≢true (sym w.if-is_root.false ∙ root)) ] in
     let head = c.in_ok-way.ensures.head in
     two_children (ap (take 16) (c.in_ok-node-in-Rest.ensures.written honest) ∙ c.set_child.ensures.head ∙ ap (take 16) c.at_hand.ensures ∙ head.begins) (omega (arith, head.low)) two (omega (arith, head.few)) (rw c.root_at.ensures at node)
+
+-- where one block was taken at most
+takes_low : (result : Result Left TreeFault) (level : ℕ) (held later : List Bool) → TakesAtMost 1 held later → IfOk result (TakesForLeft level held later)
+takes_low (Ok left) level held later taken = omega arith
+takes_low (Err e) level held later taken = tt
+
+pub returns-then-level-eq0-clause-low_taken : goal.returns-then-level-eq0-clause-low_taken
+returns-then-level-eq0-clause-low_taken g t c = takes_low c.remove_from_leaf.result c.args.level c.args.held.now c.remove_from_leaf.new.held c.remove_from_leaf.ensures.taken
+
+pub returns-in-Some-clause-low_taken : goal.returns-in-Some-clause-low_taken
+returns-in-Some-clause-low_taken g t c =
+    let kept : c.remove_below.new.held ≡ c.args.held.now = c.in_ok-left.ensures.nothing.kept (ap Ok c.in-Nothing.is) in
+    takes_low c.write_rest.result c.args.level c.args.held.now c.write_rest.new.held (subst (λ (held : List Bool). TakesAtMost 1 held c.write_rest.new.held) kept c.write_rest.ensures.taken)
+
+pub returns-in-Some-clause-root : goal.returns-in-Some-clause-root
+returns-in-Some-clause-root g t c =
+    subst (λ n. IfOk c.write_rest.result (LeavesData n)) c.in_ok-left.ensures.writes.still.same_length c.write_rest.ensures.root
+
+pub returns-in_ok-node-in-Rest-clause-root : goal.returns-in_ok-node-in-Rest-clause-root
+returns-in_ok-node-in-Rest-clause-root g t c =
+    let taken = c.in_ok-node-in-Rest.ensures.device in
+    let many = c.in_ok-node-in-Rest.ensures.writes.still.same_length in
+    let before = c.in_ok-left.ensures.writes.still.same_length in
+    let inside : IsData (length c.args.held.now) c.in_ok-node-in-Rest.node.block = (omega (arith, taken.above), omega (arith, taken.inside, many, before)) in
+    subst (λ (root : Root). IsData (length c.args.held.now) root.block) (sym c.root_at.ensures) inside
+
+pub returns-in_ok-node-in-Rest-clause-low_taken : goal.returns-in_ok-node-in-Rest-clause-low_taken
+returns-in_ok-node-in-Rest-clause-low_taken g t c =
+    let above : 0 < c.args.level = omega (arith, c.if-level-eq0.false) in
+    let path : TakesAtMost (c.args.level + 1) c.args.held.now c.write_bytes.new.held = omega (arith, above, c.in_ok-left.ensures.taken, c.in_ok-node-in-Rest.ensures.taken) in
+    subst (λ (root : Root). TakesAtMost (root.level + 1) c.args.held.now c.write_bytes.new.held) (sym c.root_at.ensures) path
+
+pub returns-then-alone-clause-low_taken : goal.returns-then-alone-clause-low_taken
+returns-then-alone-clause-low_taken g t c = subst (TakesForLeft (c.args.level - 1) c.args.held.now c.remove_below.new.held) c.in-Rest.is c.in_ok-left.ensures.low_taken
+
+pub returns-then-alone-clause-root : goal.returns-then-alone-clause-root
+returns-then-alone-clause-root g t c = subst (LeavesData (length c.args.held.now)) c.in-Rest.is c.in_ok-left.ensures.root
+
+pub returns-in-Some-clause-narrowed : goal.returns-in-Some-clause-narrowed
+returns-in-Some-clause-narrowed g t c =
+    let none = ap Ok c.in-Nothing.is in
+    let kept : c.remove_below.new.held ≡ c.args.held.now = c.in_ok-left.ensures.nothing.kept none in
+    looks_if c.in_ok-way.ensures.looks (λ honest. c.in_ok-left.ensures.writes.goes.earlier (c.write_rest.ensures.writes.goes.earlier honest))
+    (looks_if_on c.in_ok-left.ensures.nothing none c.write_rest.ensures.narrowed c.write_rest.ensures.writes.goes.earlier (λ is. is))
+    (λ is. subst (λ (held : List Bool). IsOkAnd c.write_rest.result (LeavesOld held c.write_rest.new.held)) (sym kept) is)
+
+pub returns-then-alone-clause-narrowed : goal.returns-then-alone-clause-narrowed
+returns-then-alone-clause-narrowed g t c =
+    looks_if c.in_ok-way.ensures.looks c.in_ok-left.ensures.writes.goes.earlier c.in_ok-left.ensures.narrowed
+    (λ is. subst (LeavesOld c.args.held.now c.remove_below.new.held) (sym c.in-Rest.is) is)
+
+pub returns-in_ok-node-in-Rest-clause-narrowed : goal.returns-in_ok-node-in-Rest-clause-narrowed
+returns-in_ok-node-in-Rest-clause-narrowed g t c =
+    let before = c.args.held.now in
+    let later = c.write_bytes.new.held in
+    let written = c.in_ok-node-in-Rest.ensures in
+    looks_never (λ is. taken_now before c.remove_below.new.held later c.in_ok-node-in-Rest.node.block c.in_ok-left.ensures.writes.still written.free written.device.held_now (subst (λ (root : Root). WasThere before later root) c.root_at.ensures is))
+
+pub returns-then-level-eq0-clause-last : goal.returns-then-level-eq0-clause-last
+returns-then-level-eq0-clause-last g t c honest none =
+    subst (λ l. HasOne (g.D.Disk.state c.args.disk.now).now.contents l c.args.top.block) (sym c.if-level-eq0.true) (c.remove_from_leaf.ensures.last honest none)
+
+pub returns-in-Some-clause-last : goal.returns-in-Some-clause-last
+returns-in-Some-clause-last g t c honest none =
+    let mid = c.write_rest.ensures.writes.goes.earlier honest in
+    let earlier = c.in_ok-left.ensures.writes.goes.earlier mid in
+    let found = c.in_ok-way.ensures.found earlier in
+    let gone : length c.as_slice.result.now ≡ 0 = c.write_rest.ensures.last none in
+    let one : c.in_ok-way.way.count ≡ 1 = omega (arith, gone, ap (λ (cs : List Child). length cs) c.as_slice.ensures.value, c.in-Some.ensures.count) in
+    one_child_on _ _ _ c.args.level c.args.top.block c.in_ok-way.way.level c.in_ok-way.way.count c.args.top.low c.in_ok-way.way.child _ (omega (arith, c.if-level-eq0.false))
+    (same_medium _ _ (c.in_ok-way.ensures.looks.reads earlier)) found.bytes_are c.in_ok-way.ensures.head c.in_ok-way.ensures.level.0 one (c.in_ok-way.ensures.step earlier) (c.in_ok-left.ensures.last mid (ap Ok c.in-Nothing.is))

@@ -1,9 +1,11 @@
-use Rattle.std.proofs.Common.{◌∙◌, ◌≤◌, ℕ, List, Ok, [], ◌∷◌, length, ap, sym, subst, refl, rules, ◌≡◌}
+use Rattle.std.proofs.Common.{◌∙◌, ◌≤◌, ℕ, List, Ok, [], ◌∷◌, length, inl, inr, ap, sym, subst, refl, arith, rules, ◌≡◌}
 use Rattle.vm_types.specs.Map.{Map, get, without}
 use Rattle.vm_types.specs.Places.{place}
+use Rattle.vm_alloc.specs.Held.{free_count}
 use Rattle.vm_tree.specs.Making.{Made}
+use Rattle.vm_tree.specs.Tree.{IsData}
 use Rattle.vm_block.specs.Changed.{without_place}
-use Rattle.vm_tree.specs.Removing.{RemovesBelow, child_of, level_of}
+use Rattle.vm_tree.specs.Removing.{LeavesData, LeavesOld, RemovesBelow, TakesForLeft, child_of, level_of}
 use Rattle.vm_tree.specs.Replacing.{IsHeldBeside, IsRenewed, Replaces, path_from, path_under}
 use Rattle.vm_tree.specs.Root.{IsRootedIn, sizes_of}
 use Rattle.vm_tree.specs.declared.removing.Left.{Left}
@@ -106,3 +108,37 @@ returns-in-Rest-clause-path_in g c honest m bs rooted =
 
 pub returns-in_err-left-clause-looks : goal.returns-in_err-left-clause-looks
 returns-in_err-left-clause-looks g c b = looks_as (c.in_err-left.ensures.looks b) (search rules)
+
+pub returns-in-Rest-clause-root : goal.returns-in-Rest-clause-root
+returns-in-Rest-clause-root g c = inr (subst (LeavesData (length c.args.held.now)) c.in-Rest.is c.in_ok-left.ensures.root)
+
+pub returns-in-Rest-clause-low_taken : goal.returns-in-Rest-clause-low_taken
+returns-in-Rest-clause-low_taken g c = subst (TakesForLeft c.args.root.level c.args.held.now c.remove_below.new.held) c.in-Rest.is c.in_ok-left.ensures.low_taken
+
+pub returns-in-Rest-clause-emptied : goal.returns-in-Rest-clause-emptied
+returns-in-Rest-clause-emptied g c =
+    let inside : IsData (length c.args.held.now) c.in-Rest.root.block = subst (LeavesData (length c.args.held.now)) c.in-Rest.is c.in_ok-left.ensures.root in
+    record { kept = λ none. absurd (omega (arith, none, inside.0)); reads = λ honest none. absurd (omega (arith, none, inside.0)) }
+
+pub returns-in-Nothing-clause-emptied : goal.returns-in-Nothing-clause-emptied
+returns-in-Nothing-clause-emptied g c = looks_as c.in_ok-left.ensures.nothing (λ none. ap Ok c.in-Nothing.is)
+
+pub returns-in-Nothing-clause-low_taken : goal.returns-in-Nothing-clause-low_taken
+returns-in-Nothing-clause-low_taken g c = omega (arith, ap free_count (c.in_ok-left.ensures.nothing.kept (ap Ok c.in-Nothing.is)))
+
+pub returns-in-Nothing-clause-narrowed : goal.returns-in-Nothing-clause-narrowed
+returns-in-Nothing-clause-narrowed g c = looks_as c.in_ok-left.ensures.nothing (λ is. ap Ok c.in-Nothing.is)
+
+pub returns-in-Rest-clause-narrowed : goal.returns-in-Rest-clause-narrowed
+returns-in-Rest-clause-narrowed g c = looks_as c.in_ok-left.ensures.narrowed (λ is. subst (LeavesOld c.args.held.now c.remove_below.new.held) (sym c.in-Rest.is) is)
+
+pub returns-in-Nothing-clause-last : goal.returns-in-Nothing-clause-last
+returns-in-Nothing-clause-last g c honest none = c.in_ok-left.ensures.last honest (ap Ok c.in-Nothing.is)
+
+pub returns-in-Rest-clause-last : goal.returns-in-Rest-clause-last
+returns-in-Rest-clause-last g c honest none =
+    let inside : IsData (length c.args.held.now) c.in-Rest.root.block = subst (LeavesData (length c.args.held.now)) c.in-Rest.is c.in_ok-left.ensures.root in
+    absurd (omega (arith, none, inside.0))
+
+pub returns-in-Nothing-clause-root : goal.returns-in-Nothing-clause-root
+returns-in-Nothing-clause-root g c = inl c.default.ensures.0

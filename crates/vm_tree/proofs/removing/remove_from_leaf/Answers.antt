@@ -1,12 +1,12 @@
-use Rattle.std.proofs.Common.{ℕ, Bool, [], ◌∷◌, ◌++◌, length, sym, subst, refl, arith, rules}
+use Rattle.std.proofs.Common.{ℕ, Bool, List, [], ◌∷◌, ◌++◌, length, ap, sym, subst, refl, arith, rules}
 use Rattle.vm_types.specs.Places.{place}
 use Rattle.vm_block.specs.Changed.{without_place}
-use Rattle.vm_block.specs.Leaf.{RowFits, HasRows}
+use Rattle.vm_block.specs.Leaf.{Row, RowFits, HasRows}
 use Rattle.vm_alloc.proofs.HeldLemmas.{holds_same}
 use Rattle.vm_disk.specs.Disk.{Medium}
 use Rattle.vm_disk.proofs.MomentLemmas.{same_medium}
 use Rattle.vm_tree.specs.Making.{Made}
-use Rattle.vm_tree.specs.Removing.{child_of}
+use Rattle.vm_tree.specs.Removing.{WasThere, child_of}
 use Rattle.vm_tree.specs.Replacing.{IsRenewed, long_of}
 use Rattle.vm_tree.specs.Rows.{StandIn}
 use Rattle.vm_tree.specs.Tree.{IsWithin}
@@ -16,8 +16,10 @@ use Rattle.vm_tree.specs.declared.root.Root.{Root}
 use Rattle.vm_tree.proofs.HandLemmas.{hand_rows}
 use Rattle.vm_tree.proofs.LeafBeside.{long_apart, long_within, none_left, rest_kept, rows_read}
 use Rattle.vm_tree.proofs.LeafRows.{all_absent, all_present, rows_leaf}
-use Rattle.vm_tree.proofs.Looking.{looks_free, looks_write, passed_on}
+use Rattle.vm_tree.proofs.Looking.{looks_free, looks_never, looks_write, passed_on}
 use Rattle.vm_tree.proofs.Leading.{leads_end}
+use Rattle.vm_tree.proofs.OneLeft.{one_row}
+use Rattle.vm_tree.proofs.Renewing.{taken_now}
 use Rattle.vm_tree.proofs.Removal.{without_each, without_rises, without_size}
 use Rattle.vm_tree.proofs.removing.remove_from_leaf.Goals as goal
 
@@ -141,3 +143,17 @@ returns-in_ok-leaf-in-Out-clause-path_in g c fan levels honest rs bs tree begins
     let read = rows_read sizes x limit _ c.args.top.block c.args.top.low rs bs c.blocks-2.ensures.count tree begins in
     let leaf = hand_rows (sym c.at_hand.ensures) (c.in_ok-load_rows.ensures.only (c.in_ok-leaf-in-Out.ensures.writes.goes.earlier honest) read.rows read.at read.begins read.few) in
     long_within sizes x limit _ c.args.top.block c.args.top.low rs bs read (place c.args.key) c.linked.result (c.linked.ensures read.rows leaf)
+
+pub returns-in_ok-leaf-in-Out-clause-narrowed : goal.returns-in_ok-leaf-in-Out-clause-narrowed
+returns-in_ok-leaf-in-Out-clause-narrowed g c =
+    let before = c.args.held.now in
+    let later = c.write_bytes.new.held in
+    let written = c.in_ok-leaf-in-Out.ensures in
+    looks_never (λ is. taken_now before before later c.in_ok-leaf-in-Out.leaf.block (holds_same before) written.free written.device.held_now (subst (λ (root : Root). WasThere before later root) c.root_at.ensures is))
+
+pub returns-in-Last-clause-last : goal.returns-in-Last-clause-last
+returns-in-Last-clause-last g c honest none =
+    let found = c.in_ok-load_rows.ensures.found honest in
+    let out = c.in-Last.ensures.only found.rows (hand_rows (sym c.at_hand.ensures) found.leaf) found.few in
+    let size = without_size (place c.args.key) found.rows in
+    one_row _ c.args.top.block _ found.rows found.bytes_are found.leaf (omega (arith, size.1, ap (λ (ws : List Row). length ws) out.1, found.leaf.some))

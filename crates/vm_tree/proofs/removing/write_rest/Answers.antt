@@ -1,16 +1,18 @@
-use Rattle.std.proofs.Common.{◌≡◌, ◌-◌, ◌<◌, List, [], ◌∷◌, length, get_or, take, ap, sym, subst, arith, rules}
+use Rattle.std.proofs.Common.{◌≡◌, ◌-◌, ◌<◌, List, [], ◌∷◌, length, get_or, take, refl, ap, sym, subst, arith, rules}
 use Rattle.std.specs.List.{AllByRecursion}
+use Rattle.vm_alloc.proofs.HeldLemmas.{holds_same}
 use Rattle.vm_disk.specs.Disk.{Medium}
 use Rattle.vm_disk.proofs.MomentLemmas.{same_medium}
 use Rattle.vm_block.specs.Node.{ChildFits, node_bytes, node_head}
 use Rattle.vm_block.specs.declared.node.Child.{Child}
 use Rattle.vm_tree.specs.Tree.{Children, Subtree}
 use Rattle.vm_tree.specs.Making.{Made}
-use Rattle.vm_tree.specs.Removing.{Narrows, child_of}
+use Rattle.vm_tree.specs.Removing.{Narrows, WasThere, child_of}
 use Rattle.vm_tree.specs.Replacing.{IsRenewed}
 use Rattle.vm_tree.specs.Root.{sizes_of}
 use Rattle.vm_tree.specs.declared.root.Root.{Root}
-use Rattle.vm_tree.proofs.Looking.{looks_free, passed_on}
+use Rattle.vm_tree.proofs.Looking.{looks_free, looks_never, passed_on}
+use Rattle.vm_tree.proofs.Renewing.{taken_now}
 use Rattle.vm_tree.proofs.RemoveLemmas.{one_child, two_children, narrowed_made}
 use Rattle.vm_tree.proofs.removing.write_rest.Goals as goal
 use Rattle.vm_tree.proofs.removing.write_rest.Goals.{then-not-is_root-via-then-not-is_root, then-not-is_root-via-else-not-is_root+then-children-gt1}
@@ -62,3 +64,13 @@ returns-then-not-is_root-clause-wide g c root honest up k ds node =
     let cs = c.args.children.now in
     let two : 1 < length cs = elim c.then-not-is_root.branch [ then-not-is_root-via-then-not-is_root w ↦ search (rules, root, w.if-not-is_root.true) | then-not-is_root-via-else-not-is_root+then-children-gt1 w ↦ w.if-children-gt1.true ] in
     two_children {l = c.args.level} {n = length cs} (ap (take 16) (c.in_ok-node.ensures.written honest)) (omega (arith, c.requires.low)) two (omega (arith, c.requires.few, c.requires.most)) (rw c.root_at.ensures at node)
+
+pub returns-then-not-is_root-clause-narrowed : goal.returns-then-not-is_root-clause-narrowed
+returns-then-not-is_root-clause-narrowed g c =
+    let before = c.args.held.now in
+    let later = c.write_node_block.new.held in
+    let written = c.in_ok-node.ensures in
+    looks_never (λ is. taken_now before before later c.in_ok-node.node.block (holds_same before) written.free written.device.held_now (subst (λ (root : Root). WasThere before later root) c.root_at.ensures is))
+
+pub returns-clause-narrowed : goal.returns-clause-narrowed
+returns-clause-narrowed g c = record { kept = λ is. refl; reads = λ honest is. c.in_ok-root.ensures.looks.reads honest }
