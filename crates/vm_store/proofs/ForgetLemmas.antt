@@ -1,5 +1,5 @@
 -- Blocks that are forgotten one after another.
-use Rattle.std.proofs.Common.{◌≡◌, ◌≢◌, ℕ, zero, suc, ◌<◌, not, Bool, true, false, List, [], ◌∷◌, length, get_or, Err, refl, sym, ap, ◌∙◌, arith}
+use Rattle.std.proofs.Common.{◌≡◌, ◌≢◌, ℕ, zero, suc, ◌<◌, Bool, true, false, List, [], ◌∷◌, length, get_or, Err, refl, sym, ap, ◌∙◌, arith}
 use Rattle.std.proofs.lemmas.Bool.{false≢true}
 use Rattle.vm_disk.specs.Disk.{DiskState, Forgets, Idles, block}
 use Rattle.vm_disk.specs.Moments.{Throughout, TouchesOnly}
@@ -12,7 +12,7 @@ use Rattle.vm_tree.specs.Replacing.{Lacks}
 use Rattle.vm_tree.specs.declared.faults.PutFault.{PutFault}
 use Rattle.vm_tree.specs.declared.faults.PutFault.TheVariants.{Tree, Deep}
 use Rattle.vm_tree.specs.declared.faults.TreeFault.TheVariants.{Device, Damaged}
-use Rattle.vm_tree.proofs.Touching.{dirtied, unsynced_then}
+use Rattle.vm_tree.proofs.Touching.{counted_free, dirtied, unsynced_then}
 
 -- of these blocks those were forgotten that were not held before
 pub record HasForgotten (before : List Bool) (blocks : List ℕ) (old new : DiskState) : Type 0 where
@@ -27,19 +27,19 @@ apart_at n [] i inside lacks same = absurd (omega arith)
 apart_at n (b ∷ blocks) zero inside lacks same = lacks.0 (sym same)
 apart_at n (b ∷ blocks) (suc i) inside lacks same = apart_at n blocks i (omega arith) lacks.1 same
 
-unmarked : (marks : List Bool) (n : ℕ) (told : Bool) → (IsMarked marks n → told ≡ true) → told ≡ false → is_free marks n ≡ true
-unmarked marks n told tells is = by_mark (is_marked marks n) refl
+unmarked : (marks : List Bool) (n : ℕ) (told : Bool) → n < length marks → (IsMarked marks n → told ≡ true) → told ≡ false → is_free marks n ≡ true
+unmarked marks n told inside tells is = by_mark (is_marked marks n) refl
   where
-    by_mark : (b : Bool) → is_marked marks n ≡ b → not (is_marked marks n) ≡ true
+    by_mark : (b : Bool) → is_marked marks n ≡ b → is_free marks n ≡ true
     by_mark true marked = absurd (false≢true (sym is ∙ tells marked))
-    by_mark false free = ap not free
+    by_mark false free = counted_free marks n inside free
 
 -- one block more
-pub forgotten_more : (before : List Bool) (blocks : List ℕ) (i : ℕ) (told : Bool) (old mid new : DiskState) → i < length blocks → (IsMarked before (get_or blocks i 0) → told ≡ true) → told ≡ false
+pub forgotten_more : (before : List Bool) (blocks : List ℕ) (i : ℕ) (told : Bool) (old mid new : DiskState) → i < length blocks → get_or blocks i 0 < length before → (IsMarked before (get_or blocks i 0) → told ≡ true) → told ≡ false
     → HasForgotten before blocks old mid → Idles mid new → (new.honest ≡ true → Forgets (get_or blocks i 0) mid new) → HasForgotten before blocks old new
-forgotten_more before blocks i told old mid new inside tells is so_far idles forgets =
+forgotten_more before blocks i told old mid new inside counted tells is so_far idles forgets =
     let n = get_or blocks i 0 in
-    let free = unmarked before n told tells is in
+    let free = unmarked before n told counted tells is in
     record {
       idles = record {
         same_blocks = idles.same_blocks ∙ so_far.idles.same_blocks;

@@ -1,4 +1,5 @@
 pub mod AddedLemmas
+pub mod AtLemmas
 pub mod CarryLemmas
 pub mod ChangingLemmas
 pub mod EntryTests
@@ -21,9 +22,11 @@ pub mod MovedLemmas
 pub mod OpeningLemmas
 pub mod PairLemmas
 pub mod PerformLemmas
+pub mod QueryLemmas
 pub mod ReachLemmas
 pub mod Removing
 pub mod RestingLemmas
+pub mod RolledLemmas
 pub mod RunLemmas
 pub mod SeriesLemmas
 pub mod SharedLemmas

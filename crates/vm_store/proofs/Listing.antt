@@ -18,20 +18,6 @@ use Rattle.vm_tree.specs.declared.faults.ListFault.TheVariants as list
 use Rattle.vm_tree.specs.declared.faults.TreeFault.TheVariants as fault
 use Rattle.vm_store.proofs.RestingLemmas.{found_entry, named_as, unnamed}
 
-module _ (m : Medium) (limit : ℕ) (slot_name : SlotName) (bits : List Bool) (committed working : List Version) (s : State)
-    (rests : Rests m limit slot_name bits committed working s) (name : List ℕ) where
-  -- the records of an alternative that was found
-  pub records_found : (e : Version) (is : find (is_alternative_of name) working ≡ Some e) (records : Map)
-      → records ≡ (found_entry m limit slot_name bits committed working s rests name e is).filed.current → records_in s.working name ≡ Ok records
-  records_found e is records same =
-      let found = found_entry m limit slot_name bits committed working s rests name e is in
-      let as_named = named_as m limit slot_name bits committed working s rests name found.filed found.found in
-      ap records_of as_named.named ∙ ap Ok (as_named.current ∙ sym same)
-
-  -- there is no such alternative
-  pub records_absent : find (is_alternative_of name) working ≡ None → records_in s.working name ≡ Err NoSuchAlternative
-  records_absent none = ap records_of (unnamed m limit slot_name bits committed working s rests name none)
-
 -- a list that was refused for the device or for memory
 pub list_refused : {T : Type 0} (f : ListFault) (P : T → Type 0) (due : Type 0) → Lists (Err f) P → (refusal_of_list f ≡ Device) ⊎ ((refusal_of_list f ≡ Memory) ⊎ due)
 list_refused (list.Tree fault.Device) P due h = inl refl

@@ -18,9 +18,9 @@ use Rattle.vm_alloc.specs.Held.{IsHeld}
 use Rattle.vm_alloc.proofs.HeldLemmas.{held_inside}
 use Rattle.vm_block.specs.Selector.{named_slot}
 use Rattle.vm_block.specs.declared.selector.SlotName.{SlotName}
-use Rattle.vm_tree.specs.Unsynced.{LeavesDirty, NeverSyncs}
+use Rattle.vm_tree.specs.Unsynced.{NeverSyncs}
 use Rattle.vm_tree.specs.Tree.{IsData}
-use Rattle.vm_tree.proofs.Touching.{all_dirty}
+use Rattle.vm_tree.proofs.Touching.{stays_dirty}
 use Rattle.vm_catalog.specs.Place.{is_used}
 use Rattle.vm_catalog.proofs.PublishLemmas.{names_in}
 use Rattle.vm_store.specs.Answers.{IsGrowDue}
@@ -55,7 +55,7 @@ growing_keeps old new Q larger first last = goes_on old old new Q (started old Q
 pub longer_unsynced : (old new : DiskState) → Enlarges old new → NeverSyncs old new
 longer_unsynced old new larger =
     let longer = larger.longer in
-    growing_keeps old new (LeavesDirty old.now) larger (all_dirty old.now) (record { more = longer.more; dirty = λ n inside dirty. longer.same_dirty n inside ∙ dirty; sure = longer.sure })
+    stays_dirty old new larger.time (record { more = longer.more; dirty = λ n inside dirty. longer.same_dirty n inside ∙ dirty; sure = longer.sure })
 
 -- ---- what a store stands for
 

@@ -1,5 +1,5 @@
 -- What a Merge answers, and what the store stands for after it.
-use Rattle.std.proofs.Common.{◌≡◌, ◌⊎◌, inl, inr, ℕ, ◌*◌, ◌<◌, ◌^◌, nat_lt, Bool, true, false, cond, not, List, [], ◌∷◌, length, Some, None, option_map, unwrap_or, Result, Ok, Err, refl, sym, ap, ◌∙◌, subst}
+use Rattle.std.proofs.Common.{◌≡◌, ◌⊎◌, inl, inr, ℕ, ◌*◌, ◌<◌, ◌^◌, nat_lt, Bool, true, false, cond, List, [], ◌∷◌, length, Some, None, option_map, unwrap_or, Result, Ok, Err, refl, sym, ap, ◌∙◌, subst}
 use Rattle.std.specs.Str.{bytes_eq}
 use Rattle.vm_types.specs.declared.answer.Answer.{Answer}
 use Rattle.vm_types.specs.declared.answer.Answer.TheVariants.{Merged}
@@ -29,6 +29,7 @@ use Rattle.vm_tree.specs.declared.root.Root.{Root}
 use Rattle.vm_tree.specs.declared.faults.PutFault.{PutFault}
 use Rattle.vm_tree.specs.declared.faults.PutFault.TheVariants as put
 use Rattle.vm_tree.specs.declared.faults.TreeFault.TheVariants as fault
+use Rattle.vm_tree.proofs.Touching.{held_not_free}
 use Rattle.vm_store.specs.Answers.{IsMergeDue, IsMergeAnswer, merge_changes}
 use Rattle.vm_store.specs.Changing.{MeetsFullPath, Makes}
 use Rattle.vm_store.specs.Pairs.{IsPair}
@@ -155,7 +156,7 @@ module _ (m : Medium) (limit : ℕ) (slot_name : SlotName) (bits : List Bool) (c
         let first = change_first (is_filed alt) (refiled (λ _. merged)) rests.new in
         let turned = change_first (is_alternative_of alt) (with_current root) working in
         let both = change_first (is_alternative_of alt) (with_base pair.1.current) turned in
-        let above = grown_in (IsHeld bits) (IsHeld after) m.contents now.contents limit (λ n held. spares.same n (ap not held)) more.still pair.1.current parent (parent_there m limit slot_name bits committed working s rests alt pair is).stands.current in
+        let above = grown_in (IsHeld bits) (IsHeld after) m.contents now.contents limit (λ n held. spares.same n (held_not_free bits n held)) more.still pair.1.current parent (parent_there m limit slot_name bits committed working s rests alt pair is).stands.current in
         subst (λ (t : Tree). Rests now limit slot_name after committed both (record s { working = t })) (sym (ap (tree_after s.working) merge_step))
         (rests_on m limit slot_name bits committed working s rests now after both (change_first (is_filed alt) (refiled_both (λ c. c) (λ _. parent)) first) merged_tree spares more
         (subst (SlotFits limit) (sym (slot_changed (is_alternative_of alt) (slot.is_alternative_of alt) (λ v. refl) (with_base pair.1.current) (ledger.with_base pair.1.current.block) (λ v. refl) turned))

@@ -2,13 +2,13 @@
 use Rattle.std.proofs.Common.{◌≡◌, ◌≢◌, ◌↔◌, ◌≤◌, ℕ, Bool, false, length, vec_capacity, Result, Ok, Err, OnErr, IsTrue, refl, sym, subst, ◌∙◌}
 use Rattle.vm_types.specs.declared.answer.Answer.{Answer}
 use Rattle.vm_types.specs.declared.command.Command.{Command}
-use Rattle.vm_types.specs.declared.command.Command.TheVariants.{Back, Checkpoint, Commit, Drop, Grow, Merge, New, NewAt, Post, Put, Reclaim, Remove, Uncheck}
+use Rattle.vm_types.specs.declared.command.Command.TheVariants.{Back, Checkpoint, Commit, Drop, Grow, Merge, New, NewAt, Post, Put, Reclaim, Remove, Rollback, Uncheck}
 use Rattle.vm_types.specs.declared.refusal.Refusal.{Refusal}
 use Rattle.vm_types.specs.declared.sizes.TheConstants.{MAX_BLOCKS, MAX_VERSIONS, MIN_BLOCKS}
 use Rattle.vm_types.specs.declared.refusal.Refusal.TheVariants.{Device, Failed, Memory}
 use Rattle.vm_store.specs.Answers.{ChangesEntriesAlone, IsEarly, IsGrow, TakesMemory}
 use Rattle.vm_store.specs.Running.{CarriesOut, Performs}
-use Rattle.vm_store.specs.Store.{EarlyKeeps, EarlyLeavesDisk, GoesOn, GrowsOn, IsCarriedOut, IsHonest, IsNoLonger, KeepsFree, LeavesBlocks, MarksAll, NewAreFree, ReadsOnly, WritesCommit, disk_of, entries_of, has_failed}
+use Rattle.vm_store.specs.Store.{EarlyKeeps, EarlyLeavesDisk, GoesOn, GrowsOn, IsCarriedOut, IsHonest, IsNoLonger, KeepsFree, LeavesBlocks, MarksAll, NewAreFree, ReadsOnly, RollsBack, WritesCommit, disk_of, entries_of, has_failed}
 use Rattle.vm_store.specs.declared.store.Store.{Store}
 use Rattle.vm_store.proofs.LongerLemmas.{goes_grow}
 use Rattle.vm_store.proofs.RunLemmas.{answers_on, no_failure}
@@ -25,8 +25,8 @@ module _ {D : Type 0} {members : _} where
   -- a command that is no Grow
   pub performs : (old new : Store D members) (c : Command) (a : Result Answer Refusal) → (IsGrow c → ⊥) → IsCarriedOut old new c a → a ≢ Err Failed → (a ≡ Err Memory → TakesMemory c) → GoesOn (a ≡ Err Device) old new
       → OnErr a (entries_of new ≡ entries_of old) → EarlyKeeps a old new → (ChangesEntriesAlone c → LeavesBlocks old new) → (IsHonest new → MarksAll a old new c)
-      → (IsHonest new → ReadsOnly c a old new) → KeepsFree c a old new → (c ≡ Commit → WritesCommit a old new) → Performs old new c a
-  performs old new c a fixed carried only_then memory goes same unchanged blocks marked reads free written = record {
+      → (IsHonest new → ReadsOnly c a old new) → KeepsFree c a old new → (c ≡ Commit → WritesCommit a old new) → (c ≡ Rollback → RollsBack a old new) → Performs old new c a
+  performs old new c a fixed carried only_then memory goes same unchanged blocks marked reads free written back = record {
     carried = carried;
     only_then = only_then;
     memory = memory;
@@ -42,6 +42,7 @@ module _ {D : Type 0} {members : _} where
     free = free;
     written = written;
     grown = λ blocks is. absurd (fixed (subst IsGrow (sym is) tt));
+    back = back;
   }
 
   -- a Grow
@@ -63,6 +64,7 @@ module _ {D : Type 0} {members : _} where
     free = tt;
     written = λ is. cc;
     grown = λ n is. subst (λ (b : ℕ). NewAreFree a old new b) (same_grow blocks n is) grown;
+    back = λ is. cc;
   }
     where
       in_err : (a : Result Answer Refusal) → entries_of new ≡ entries_of old → OnErr a (entries_of new ≡ entries_of old)
@@ -71,9 +73,9 @@ module _ {D : Type 0} {members : _} where
 
 -- a store that differs from another one in whether it has failed alone, and in how its invariant is known
 module _ {D : Type 0} {members : _} (old mid : Store D members) (failed : Bool) (least : MIN_BLOCKS ≤ mid.blocks) (most : mid.blocks ≤ MAX_BLOCKS) (inside : mid.blocks ≤ (members.state (disk_of mid)).blocks)
-    (bits : length mid.held ≡ mid.blocks) (mark_bits : length mid.marks ≡ mid.blocks) (before_bits : length mid.before ≡ mid.blocks) (room : MAX_VERSIONS ≤ vec_capacity mid.entries) where
+    (kept_least : MIN_BLOCKS ≤ mid.kept) (kept_most : mid.kept ≤ mid.blocks) (bits : length mid.held ≡ mid.blocks) (mark_bits : length mid.marks ≡ mid.blocks) (before_bits : length mid.before ≡ mid.blocks) (room : MAX_VERSIONS ≤ vec_capacity mid.entries) where
   abbrev pub new : Store D members
-  new = record mid { failed = failed; least = least; most = most; inside = inside; bits = bits; mark_bits = mark_bits; before_bits = before_bits; room_entries = room }
+  new = record mid { failed = failed; least = least; most = most; inside = inside; kept_least = kept_least; kept_most = kept_most; bits = bits; mark_bits = mark_bits; before_bits = before_bits; room_entries = room }
 
   -- it read as much
   reads_on : (a : Result Answer Refusal) (c : Command) → ReadsOnly c a old mid → ReadsOnly c a old new
@@ -88,6 +90,7 @@ module _ {D : Type 0} {members : _} (old mid : Store D members) (failed : Bool) 
   reads_on a (Merge alt settled) reads = reads
   reads_on a (Post alt) reads = reads
   reads_on a Commit reads = reads
+  reads_on a Rollback reads = reads
   reads_on a Reclaim reads = reads
   reads_on a (Grow blocks) reads = reads
 
@@ -98,6 +101,7 @@ module _ {D : Type 0} {members : _} (old mid : Store D members) (failed : Bool) 
       let was = keeps early in record {
         alloc = was.alloc;
         blocks = was.blocks;
+        kept = was.kept;
         slot_name = was.slot_name;
         entries = was.entries;
         committed = was.committed;
@@ -136,6 +140,15 @@ module _ {D : Type 0} {members : _} (old mid : Store D members) (failed : Bool) 
       free = keeps_on a old mid new (λ honest. honest) refl c did.free;
       written = did.written;
       grown = did.grown;
+      back = λ is.
+          let was = did.back is in record {
+            accepted = was.accepted;
+            disk = was.disk;
+            entries = was.entries;
+            blocks = was.blocks;
+            held = was.held;
+            series = was.series;
+          };
     };
     failed = noted;
   }

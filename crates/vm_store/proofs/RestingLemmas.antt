@@ -1,5 +1,5 @@
 -- What a store stands for, through device calls, crashes, puts and commits.
-use Rattle.std.proofs.Common.{◌≡◌, ◌⊎◌, inl, inr, ℕ, ◌+◌, ◌<◌, ◌≤◌, ◌^◌, not, nat_lt, Bool, true, false, List, [], length, find, Option, Some, None, option_map, unwrap_or, Ok, Err, refl, sym, ap, ◌∙◌, subst, arith}
+use Rattle.std.proofs.Common.{◌≡◌, ◌⊎◌, inl, inr, ℕ, ◌+◌, ◌<◌, ◌≤◌, ◌^◌, nat_lt, Bool, true, false, List, [], length, find, Option, Some, None, option_map, unwrap_or, Ok, Err, refl, sym, ap, ◌∙◌, subst, arith}
 use Rattle.vm_types.specs.declared.answer.Answer.{Answer}
 use Rattle.vm_types.specs.declared.answer.Answer.TheVariants.{Done}
 use Rattle.vm_types.specs.declared.command.Command.TheVariants.{Put, Commit}
@@ -49,14 +49,12 @@ use Rattle.vm_store.specs.Answers.{LacksRoom, IsDue, IsAnswer}
 use Rattle.vm_store.specs.Roots.{current_root}
 use Rattle.vm_store.specs.Versions.{slot_entries, is_alternative_of, with_current}
 use Rattle.vm_store.specs.declared.version.Version.{Version}
+use Rattle.vm_tree.proofs.Touching.{held_not_free}
 use Rattle.vm_store.proofs.FiledLemmas.{is_filed, refiled, recurrent, maps_of, filed_maps, grown_named, grown_changed}
 use Rattle.vm_store.proofs.LedgerLemmas as ledger
 use Rattle.vm_store.proofs.LedgerLemmas.{alike_turned, fits_alike}
 use Rattle.vm_store.proofs.SlotLemmas.{slot_changed}
 use Rattle.vm_store.proofs.StandingLemmas.{standing_in, standing_data, found_as, not_found, FoundAs, standing_changed}
-
-held_not_free : (bits : List Bool) (n : ℕ) → IsHeld bits n → is_free bits n ≡ false
-held_not_free bits n is = ap not is
 
 -- the used blocks of a slot are the store's own
 pub used_low : (slot_name : SlotName) (count n : ℕ) → count ≤ 511 → is_used slot_name count n ≡ true → n < 34

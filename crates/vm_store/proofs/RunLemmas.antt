@@ -3,7 +3,7 @@ use Rattle.std.proofs.Common.{◌≡◌, ◌≢◌, ◌↔◌, ℕ, zero, suc, �
 use Rattle.std.proofs.lemmas.List.{drop-append-le, drop_all, length-append, take-append-le, take_all, take_more}
 use Rattle.vm_types.specs.declared.answer.Answer.{Answer}
 use Rattle.vm_types.specs.declared.command.Command.{Command}
-use Rattle.vm_types.specs.declared.command.Command.TheVariants.{New, NewAt, Drop, Put, Remove, Checkpoint, Uncheck, Back, Merge, Post, Commit, Reclaim, Grow}
+use Rattle.vm_types.specs.declared.command.Command.TheVariants.{New, NewAt, Drop, Put, Remove, Checkpoint, Uncheck, Back, Merge, Post, Commit, Rollback, Reclaim, Grow}
 use Rattle.vm_types.specs.declared.refusal.Refusal.{Refusal}
 use Rattle.vm_types.specs.declared.refusal.Refusal.TheVariants.{Device, Failed, Memory}
 use Rattle.vm_types.specs.Kept.{LeftBy}
@@ -67,6 +67,7 @@ module _ {D : Type 0} {members : _} (old new : Store D members) (s : State) (hol
       subst (λ n. told (members.state (disk_of other)) n) (sym size) (subst (λ (t : DiskState). told t new.blocks) (sym same) answer)
   answers_on other (Post alt) same size answer = answer
   answers_on other Commit same size answer = answer
+  answers_on other Rollback same size answer = answer
   answers_on other Reclaim same size answer = answer
   answers_on other (Grow blocks) same size answer = answer
 

@@ -63,7 +63,7 @@ module _ (m : Medium) (limit : ℕ) (slot_name : SlotName) (bits before : List B
   }
 
   -- it goes on, or begins
-  pub gone_on : (alt : List ℕ) (old : List Bool) (series : Option (List ℕ)) → (series ≡ Some alt × before ≡ old) ⊎ (before ≡ bits) → HoldsWith m limit slot_name bits old series committed working s
+  pub gone_on : {kept : ℕ} (alt : List ℕ) (old : List Bool) (series : Option (List ℕ)) → (series ≡ Some alt × before ≡ old) ⊎ (before ≡ bits) → HoldsWith m limit kept slot_name bits old series committed working s
       → IsInSeries alt m limit slot_name bits before committed working s
   gone_on alt old series (inl same) holds =
       subst (λ held. IsInSeries alt m limit slot_name bits held committed working s) (sym same.1)
@@ -72,19 +72,21 @@ module _ (m : Medium) (limit : ℕ) (slot_name : SlotName) (bits before : List B
       subst (λ held. IsInSeries alt m limit slot_name bits held committed working s) (sym same) (all_held alt holds.rests)
 
   -- it goes on, or begins, or none goes on
-  pub went_on : (alt : List ℕ) (old : List Bool) (series next : Option (List ℕ)) → (next ≡ Some alt) ⊎ (next ≡ None) → (next ≡ Some alt → (series ≡ Some alt × before ≡ old) ⊎ (before ≡ bits)) → HoldsWith m limit slot_name bits old series committed working s
-      → HoldsWith m limit slot_name bits before next committed working s
+  pub went_on : {kept : ℕ} (alt : List ℕ) (old : List Bool) (series next : Option (List ℕ)) → (next ≡ Some alt) ⊎ (next ≡ None) → (next ≡ Some alt → (series ≡ Some alt × before ≡ old) ⊎ (before ≡ bits)) → HoldsWith m limit kept slot_name bits old series committed working s
+      → HoldsWith m limit kept slot_name bits before next committed working s
   went_on alt old series next (inl is) on holds = record {
     rests = holds.rests;
+    keeps = holds.keeps;
     series_kept = subst (λ o. KeepsSeries o m limit slot_name bits before committed working s) (sym is) (gone_on alt old series (on is) holds);
   }
   went_on alt old series next (inr none) on holds = record {
     rests = holds.rests;
+    keeps = holds.keeps;
     series_kept = subst (λ o. KeepsSeries o m limit slot_name bits before committed working s) (sym none) tt;
   }
 
   -- the trees beside that of the alternative stand in blocks that a change of it may not touch
-  pub in_series : (alt : List ℕ) (series : Option (List ℕ)) (stays : List Bool) → (series ≡ Some alt) ⊎ (series ≡ None) → stays ≡ before_of (before_series series before) bits → HoldsWith m limit slot_name bits before series committed working s
+  pub in_series : {kept : ℕ} (alt : List ℕ) (series : Option (List ℕ)) (stays : List Bool) → (series ≡ Some alt) ⊎ (series ≡ None) → stays ≡ before_of (before_series series before) bits → HoldsWith m limit kept slot_name bits before series committed working s
       → IsInSeries alt m limit slot_name bits stays committed working s
   in_series alt series stays (inl is) same holds =
       subst (λ b. IsInSeries alt m limit slot_name bits b committed working s) (sym (same ∙ ap (λ o. before_of (before_series o before) bits) is))
@@ -104,10 +106,11 @@ module _ (m : Medium) (limit : ℕ) (slot_name : SlotName) (bits before : List B
   }
 
   -- the store stands for the same, after calls that write free blocks alone
-  pub holds_more : (series : Option (List ℕ)) (now : Medium) (after : List Bool) → TouchesOnly (is_free bits) m now → HoldsMore bits after
-      → HoldsWith m limit slot_name bits before series committed working s → HoldsWith now limit slot_name after before series committed working s
+  pub holds_more : {kept : ℕ} (series : Option (List ℕ)) (now : Medium) (after : List Bool) → TouchesOnly (is_free bits) m now → HoldsMore bits after
+      → HoldsWith m limit kept slot_name bits before series committed working s → HoldsWith now limit kept slot_name after before series committed working s
   holds_more series now after spares more holds = record {
     rests = rests_more m limit slot_name bits committed working s holds.rests now after spares more;
+    keeps = holds.keeps;
     series_kept = series_more series now after spares more holds.series_kept;
   }
 
@@ -146,10 +149,10 @@ forgot_in_series before bits old mid new wider moments then =
     touches_then before before old mid new (holds_same before) (wrote_in_series before bits old mid wider moments) then
 
 -- reads change nothing
-pub read_holds : (old new : DiskState) (limit : ℕ) (slot_name : SlotName) (bits before : List Bool) (series : Option (List ℕ)) (committed working : List Version) (s : State) → OnlyReads old new
-    → HoldsWith old.now limit slot_name bits before series committed working s → HoldsWith new.now limit slot_name bits before series committed working s
-read_holds old new limit slot_name bits before series committed working s reads holds =
-    subst (λ (m : Medium). HoldsWith m limit slot_name bits before series committed working s) (sym (same_medium old new reads)) holds
+pub read_holds : {kept : ℕ} (old new : DiskState) (limit : ℕ) (slot_name : SlotName) (bits before : List Bool) (series : Option (List ℕ)) (committed working : List Version) (s : State) → OnlyReads old new
+    → HoldsWith old.now limit kept slot_name bits before series committed working s → HoldsWith new.now limit kept slot_name bits before series committed working s
+read_holds {kept} old new limit slot_name bits before series committed working s reads holds =
+    subst (λ (m : Medium). HoldsWith m limit kept slot_name bits before series committed working s) (sym (same_medium old new reads)) holds
 
 and_second : (x y : Bool) → (x && y) ≡ true → y ≡ true
 and_second true y is = is
@@ -189,56 +192,57 @@ kept_marked m limit slot_name bits before after narrowed (Some alt) committed wo
 }
 
 -- the store stands for the same after a marking, and the series goes on
-pub holds_marked : (m now : Medium) (limit : ℕ) (slot_name : SlotName) (bits before after narrowed : List Bool) (series : Option (List ℕ)) (committed working : List Version) (s : State) → now ≡ m → length after ≡ length narrowed
+pub holds_marked : {kept : ℕ} (m now : Medium) (limit : ℕ) (slot_name : SlotName) (bits before after narrowed : List Bool) (series : Option (List ℕ)) (committed working : List Version) (s : State) → now ≡ m → length after ≡ length narrowed
     → ((n : ℕ) → is_held narrowed n ≡ (is_held before n && is_held after n)) → Rests m limit slot_name after committed working s
-    → HoldsWith m limit slot_name bits before series committed working s → HoldsWith now limit slot_name after narrowed series committed working s
-holds_marked m now limit slot_name bits before after narrowed series committed working s read many both rests holds =
-    subst (λ (x : Medium). HoldsWith x limit slot_name after narrowed series committed working s) (sym read)
-    (record { rests = rests; series_kept = kept_marked m limit slot_name bits before after narrowed series committed working s many both rests holds.series_kept })
+    → HoldsWith m limit kept slot_name bits before series committed working s → HoldsWith now limit kept slot_name after narrowed series committed working s
+holds_marked {kept} m now limit slot_name bits before after narrowed series committed working s read many both rests holds =
+    subst (λ (x : Medium). HoldsWith x limit kept slot_name after narrowed series committed working s) (sym read)
+    (record { rests = rests; keeps = holds.keeps; series_kept = kept_marked m limit slot_name bits before after narrowed series committed working s many both rests holds.series_kept })
 
 -- no series goes on
-pub holds_alone : {m : Medium} {limit : ℕ} {slot_name : SlotName} {bits before : List Bool} {committed working : List Version} {s : State} → Rests m limit slot_name bits committed working s
-    → HoldsWith m limit slot_name bits before None committed working s
-holds_alone rests = record { rests = rests; series_kept = tt }
+pub holds_alone : {m : Medium} {limit kept : ℕ} {slot_name : SlotName} {bits before : List Bool} {committed working : List Version} {s : State} → kept ≡ s.kept → Rests m limit slot_name bits committed working s
+    → HoldsWith m limit kept slot_name bits before None committed working s
+holds_alone keeps rests = record { rests = rests; keeps = keeps; series_kept = tt }
 
 -- after a change the series goes on as before it, if one did
-pub holds_then : {m : Medium} {limit : ℕ} {slot_name : SlotName} {bits before marks : List Bool} {committed working : List Version} {s : State} (alt : List ℕ) (series : Option (List ℕ)) (held : List Bool)
+pub holds_then : {m : Medium} {limit kept : ℕ} {slot_name : SlotName} {bits before marks : List Bool} {committed working : List Version} {s : State} (alt : List ℕ) (series : Option (List ℕ)) (held : List Bool)
     → (series ≡ Some alt) ⊎ (series ≡ None) → before ≡ before_of (before_series series marks) held
-    → HoldsWith m limit slot_name bits before (Some alt) committed working s → HoldsWith m limit slot_name bits marks series committed working s
-holds_then {m} {limit} {slot_name} {bits} {before} {marks} {committed} {working} {s} alt series held (inl is) same holds =
-    subst (λ o. HoldsWith m limit slot_name bits marks o committed working s) (sym is)
-    (subst (λ b. HoldsWith m limit slot_name bits b (Some alt) committed working s) (same ∙ ap (λ o. before_of (before_series o marks) held) is) holds)
-holds_then {m} {limit} {slot_name} {bits} {before} {marks} {committed} {working} {s} alt series held (inr none) same holds =
-    subst (λ o. HoldsWith m limit slot_name bits marks o committed working s) (sym none) (holds_alone holds.rests)
+    → HoldsWith m limit kept slot_name bits before (Some alt) committed working s → HoldsWith m limit kept slot_name bits marks series committed working s
+holds_then {m} {limit} {kept} {slot_name} {bits} {before} {marks} {committed} {working} {s} alt series held (inl is) same holds =
+    subst (λ o. HoldsWith m limit kept slot_name bits marks o committed working s) (sym is)
+    (subst (λ b. HoldsWith m limit kept slot_name bits b (Some alt) committed working s) (same ∙ ap (λ o. before_of (before_series o marks) held) is) holds)
+holds_then {m} {limit} {kept} {slot_name} {bits} {before} {marks} {committed} {working} {s} alt series held (inr none) same holds =
+    subst (λ o. HoldsWith m limit kept slot_name bits marks o committed working s) (sym none) (holds_alone holds.keeps holds.rests)
 
 -- a store with a series and entries that are known by other names
-pub holds_as : {m : Medium} {limit : ℕ} {slot_name : SlotName} {bits before : List Bool} {series other : Option (List ℕ)} {committed working changed : List Version} {s : State} → other ≡ series → changed ≡ working
-    → HoldsWith m limit slot_name bits before series committed working s → HoldsWith m limit slot_name bits before other committed changed s
-holds_as {m} {limit} {slot_name} {bits} {before} {series} {other} {committed} {working} {changed} {s} same alike holds =
-    subst (λ o. HoldsWith m limit slot_name bits before o committed changed s) (sym same) (subst (λ (vs : List Version). HoldsWith m limit slot_name bits before series committed vs s) (sym alike) holds)
+pub holds_as : {m : Medium} {limit kept : ℕ} {slot_name : SlotName} {bits before : List Bool} {series other : Option (List ℕ)} {committed working changed : List Version} {s : State} → other ≡ series → changed ≡ working
+    → HoldsWith m limit kept slot_name bits before series committed working s → HoldsWith m limit kept slot_name bits before other committed changed s
+holds_as {m} {limit} {kept} {slot_name} {bits} {before} {series} {other} {committed} {working} {changed} {s} same alike holds =
+    subst (λ o. HoldsWith m limit kept slot_name bits before o committed changed s) (sym same) (subst (λ (vs : List Version). HoldsWith m limit kept slot_name bits before series committed vs s) (sym alike) holds)
 
 module _ (m : Medium) (limit : ℕ) (slot_name : SlotName) (bits before : List Bool) (committed working : List Version) (s : State) (rests : Rests m limit slot_name bits committed working s)
     (name : List ℕ) (e : Version) (is : find (is_alternative_of name) working ≡ Some e) (series : IsInSeries name m limit slot_name bits before committed working s)
     (now : Medium) (after : List Bool) (root : Root) (small : root.block < 2 ^ 32) (spares : TouchesOnly (is_free before) m now) (more : HoldsMore bits after) (key : Key) where
   -- the store stands for other records of the alternative, and the series goes on
-  series_holds : (g : Map → Map) (tree : Tree) → changed s.working name (recurrent g) ≡ tree → IsRootedIn sizes (IsHeld after) now.contents limit root (g (found_entry m limit slot_name bits committed working s rests name e is).filed.current)
-      → HoldsWith now limit slot_name after before (Some name) committed (change_first (is_alternative_of name) (with_current root) working) (record s { working = tree })
-  series_holds g tree same new =
+  series_holds : {kept : ℕ} → kept ≡ s.kept → (g : Map → Map) (tree : Tree) → changed s.working name (recurrent g) ≡ tree → IsRootedIn sizes (IsHeld after) now.contents limit root (g (found_entry m limit slot_name bits committed working s rests name e is).filed.current)
+      → HoldsWith now limit kept slot_name after before (Some name) committed (change_first (is_alternative_of name) (with_current root) working) (record s { working = tree })
+  series_holds {kept} keeps g tree same new =
       let found = found_entry m limit slot_name bits committed working s rests name e is in
       let as_named = named_as m limit slot_name bits committed working s rests name found.filed found.found in
-      subst (λ (t : Tree). HoldsWith now limit slot_name after before (Some name) committed (change_first (is_alternative_of name) (with_current root) working) (record s { working = t })) same
+      subst (λ (t : Tree). HoldsWith now limit kept slot_name after before (Some name) committed (change_first (is_alternative_of name) (with_current root) working) (record s { working = t })) same
       (record {
         rests = series_rests m limit slot_name bits before committed working s name series g now after root spares more (g found.filed.current) small
             (λ a there. let one : a ≡ as_named.alternative = cc (there, as_named.named) in sym (ap (λ (a : Alternative). g a.current) one ∙ ap g as_named.current)) new;
+        keeps = keeps;
         series_kept = series_on m limit slot_name bits before committed working s name series g now after root spares more;
       })
 
   -- after a Put of the series
-  pub put_holds : (value : List ℕ) → IsRootedIn sizes (IsHeld after) now.contents limit root (with_value (found_entry m limit slot_name bits committed working s rests name e is).filed.current key value)
-      → HoldsWith now limit slot_name after before (Some name) committed (change_first (is_alternative_of name) (with_current root) working) (next s (Put name key value) (Ok Done))
-  put_holds value new = series_holds (λ m. with_value m key value) _ (sym (ap (tree_after s.working) (put_step m limit slot_name bits committed working s rests name e is key value))) new
+  pub put_holds : {kept : ℕ} → kept ≡ s.kept → (value : List ℕ) → IsRootedIn sizes (IsHeld after) now.contents limit root (with_value (found_entry m limit slot_name bits committed working s rests name e is).filed.current key value)
+      → HoldsWith now limit kept slot_name after before (Some name) committed (change_first (is_alternative_of name) (with_current root) working) (next s (Put name key value) (Ok Done))
+  put_holds keeps value new = series_holds keeps (λ m. with_value m key value) _ (sym (ap (tree_after s.working) (put_step m limit slot_name bits committed working s rests name e is key value))) new
 
   -- after a Remove of the series
-  pub remove_holds : (value : List ℕ) → Ok (Some value) ≡ value_in s.working name key → IsRootedIn sizes (IsHeld after) now.contents limit root (without (found_entry m limit slot_name bits committed working s rests name e is).filed.current key)
-      → HoldsWith now limit slot_name after before (Some name) committed (change_first (is_alternative_of name) (with_current root) working) (next s (Remove name key) (Ok Done))
-  remove_holds value there new = series_holds (λ m. without m key) _ (sym (ap (tree_after s.working) (step_there s.working name key value there))) new
+  pub remove_holds : {kept : ℕ} → kept ≡ s.kept → (value : List ℕ) → Ok (Some value) ≡ value_in s.working name key → IsRootedIn sizes (IsHeld after) now.contents limit root (without (found_entry m limit slot_name bits committed working s rests name e is).filed.current key)
+      → HoldsWith now limit kept slot_name after before (Some name) committed (change_first (is_alternative_of name) (with_current root) working) (next s (Remove name key) (Ok Done))
+  remove_holds keeps value there new = series_holds keeps (λ m. without m key) _ (sym (ap (tree_after s.working) (step_there s.working name key value there))) new

@@ -240,7 +240,7 @@ module _ {bits : List Bool} {x : Contents} {limit : ℕ} {working : List Version
         let at = standing_found (IsHeld bits) x limit (is_checkpoint_of alt name) (is_filed_saved alt name) (agree_saved (IsHeld bits) x limit alt name) working here.filed c here.stands found in
         record { filed = at.this; found = at.found; stands = at.stands; is = saved_found alt name here.filed ∙ ap (option_map saved_of) at.found }
 
-    saved_absent : (f : Filed) → find (is_checkpoint_of alt name) working ≡ None → saved_as (whole alt here.filed f) name ≡ None
+    pub saved_absent : (f : Filed) → find (is_checkpoint_of alt name) working ≡ None → saved_as (whole alt here.filed f) name ≡ None
     saved_absent f none =
         saved_found alt name here.filed
         ∙ ap (option_map saved_of) (standing_none (IsHeld bits) x limit (is_checkpoint_of alt name) (is_filed_saved alt name) (agree_saved (IsHeld bits) x limit alt name) working here.filed here.stands none)

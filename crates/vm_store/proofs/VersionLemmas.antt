@@ -82,6 +82,16 @@ module _ (m : Medium) (limit : ℕ) (slot_name : SlotName) (bits : List Bool) (c
       plain (Back alt name) alone = refl
       plain command alone = absurd alone
 
+-- such a command commits no other number of blocks
+pub turned_kept : (s : State) (command : Command) → ChangesEntriesAlone command → s.kept ≡ (accepted s command).kept
+turned_kept s (New name parent) alone = refl
+turned_kept s (NewAt name parent checkpoint) alone = refl
+turned_kept s (Drop alt) alone = refl
+turned_kept s (Checkpoint alt name) alone = refl
+turned_kept s (Uncheck alt name) alone = refl
+turned_kept s (Back alt name) alone = refl
+turned_kept s command alone = absurd alone
+
 -- the answer is the one that is due
 module _ {D : Type 0} {members : _} (old new : Store D members) (s : State) (holds : Holds old s) (r : Result Answer Refusal) where
   pub turned_answers : (command : Command) → ChangesEntriesAlone command → Turns old.working new.working command r → Answers old new s holds command r

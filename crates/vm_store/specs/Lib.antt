@@ -7,6 +7,7 @@ pub mod Guarded
 pub mod Marking
 pub mod Opening
 pub mod Pairs
+pub mod Querying
 pub mod Refused
 pub mod Resting
 pub mod Roots

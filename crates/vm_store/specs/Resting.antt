@@ -79,7 +79,8 @@ abbrev pub KeepsSeries : Option (List ℕ) → (m : Medium) (limit : ℕ) (slot_
 KeepsSeries None m limit slot_name bits before committed working s = Unit {0}
 KeepsSeries (Some alt) m limit slot_name bits before committed working s = IsInSeries alt m limit slot_name bits before committed working s
 
--- the same store, in which this series goes on, if one does
-pub record HoldsWith (m : Medium) (limit : ℕ) (slot_name : SlotName) (bits before : List Bool) (series : Option (List ℕ)) (committed working : List Version) (s : State) : Type 0 where
+-- the same store, which knows how many blocks were committed, and in which this series goes on, if one does
+pub record HoldsWith (m : Medium) (limit kept : ℕ) (slot_name : SlotName) (bits before : List Bool) (series : Option (List ℕ)) (committed working : List Version) (s : State) : Type 0 where
   pub rests : Rests m limit slot_name bits committed working s
+  pub keeps : kept ≡ s.kept
   pub series_kept : KeepsSeries series m limit slot_name bits before committed working s

@@ -2,7 +2,7 @@
 use Rattle.std.specs.Prelude.{◌≡◌, ◌≢◌, ◌↔◌, ◌≤◌, ℕ, ◌+◌, ◌-◌, true, false, List, [], ◌∷◌, ◌++◌, Result, Err, OnErr, OnOk, drop, length, take}
 use Rattle.vm_types.specs.declared.answer.Answer.{Answer}
 use Rattle.vm_types.specs.declared.command.Command.{Command}
-use Rattle.vm_types.specs.declared.command.Command.TheVariants.{Commit}
+use Rattle.vm_types.specs.declared.command.Command.TheVariants.{Commit, Rollback}
 use Rattle.vm_types.specs.declared.refusal.Refusal.{Refusal}
 use Rattle.vm_types.specs.declared.refusal.Refusal.TheVariants.{Device, Failed, Memory}
 use Rattle.vm_types.specs.Isolation.{LeavesAlone}
@@ -13,7 +13,7 @@ use Rattle.vm_disk.specs.Disk.{LeftAt, Medium, moment}
 use Rattle.vm_disk.specs.Moments.{Throughout}
 use Rattle.vm_store.specs.Answers.{ChangesEntriesAlone, IsGrow, TakesMemory}
 use Rattle.vm_store.specs.Guarded.{IsGuarded}
-use Rattle.vm_store.specs.Store.{EarlyKeeps, EarlyLeavesDisk, GrowsFree, GrowsNoMore, GrowsOn, Holds, IsAsLong, IsCarriedOut, IsHonest, KeepsFree, LeavesBlocks, MarksAll, ReadsOnly, WritesCommit, disk_of, entries_of, has_failed, held_of}
+use Rattle.vm_store.specs.Store.{EarlyKeeps, EarlyLeavesDisk, GrowsFree, GrowsNoMore, GrowsOn, Holds, IsAsLong, IsCarriedOut, IsHonest, KeepsFree, LeavesBlocks, MarksAll, ReadsOnly, RollsBack, WritesCommit, disk_of, entries_of, has_failed, held_of}
 use Rattle.vm_store.specs.Shown.{Shows}
 use Rattle.vm_store.specs.declared.store.Store.{Store}
 
@@ -51,6 +51,8 @@ module _ {D : Type 0} {members : _} where
     pub written : command ≡ Commit → WritesCommit answer old new
     -- after a Grow the new blocks are free, too
     pub grown : GrowsFree answer old new command
+    -- a Rollback is always accepted, makes no device call, and takes no block
+    pub back : command ≡ Rollback → RollsBack answer old new
 
   -- a store carried out a command
   pub record CarriesOut (old new : Store D members) (command : Command) (answer : Result Answer Refusal) : Type 0 where

@@ -1,6 +1,7 @@
 -- A store, and the state that it stands for.
-use Rattle.std.specs.Prelude.{◌≡◌, ◌≢◌, ℕ, ◌+◌, ◌-◌, ◌<◌, ◌≤◌, ◌⊎◌, Bool, true, false, List, Option, find, Result, Err, IfErr, OnOk}
+use Rattle.std.specs.Prelude.{◌≡◌, ◌≢◌, ℕ, ◌+◌, ◌-◌, ◌<◌, ◌≤◌, ◌⊎◌, Bool, true, false, List, Option, None, find, take, Result, Ok, Err, IfErr, OnOk}
 use Rattle.vm_types.specs.declared.answer.Answer.{Answer}
+use Rattle.vm_types.specs.declared.answer.Answer.TheVariants.{Done}
 use Rattle.vm_types.specs.declared.command.Command.{Command}
 use Rattle.vm_types.specs.declared.command.Command.TheVariants.{Commit, Grow, Merge, Post, Put, Reclaim, Remove}
 use Rattle.vm_types.specs.declared.refusal.Refusal.{Refusal}
@@ -52,6 +53,7 @@ module _ {D : Type 0} {members : _} where
   pub record IsSameButDisk (old new : Store D members) : Type 0 where
     pub alloc : new.alloc ≡ old.alloc
     pub blocks : new.blocks ≡ old.blocks
+    pub kept : new.kept ≡ old.kept
     pub slot_name : new.slot_name ≡ old.slot_name
     pub entries : new.entries ≡ old.entries
     pub committed : new.committed ≡ old.committed
@@ -95,6 +97,10 @@ module _ {D : Type 0} {members : _} where
   abbrev pub blocks_of : Store D members → ℕ
   blocks_of store = store.blocks
 
+  -- how many of them were committed
+  abbrev pub kept_of : Store D members → ℕ
+  kept_of store = store.kept
+
   -- how many blocks are not held
   abbrev pub free_of : Store D members → ℕ
   free_of store = free_count store.held
@@ -102,7 +108,7 @@ module _ {D : Type 0} {members : _} where
   -- the store stands for this state
   abbrev pub Holds : Store D members → State → Type 0
   Holds store s =
-      HoldsWith (members.state (disk_of store)).now store.blocks store.slot_name store.held store.before store.series store.committed store.working s
+      HoldsWith (members.state (disk_of store)).now store.blocks store.kept store.slot_name store.held store.before store.series store.committed store.working s
 
   -- Q holds for each state that a store stands for which has not failed
   abbrev pub InState : Store D members → (State → Type 0) → Type 0
@@ -131,6 +137,16 @@ module _ {D : Type 0} {members : _} where
   -- no device call was made, and no block was taken or given back
   abbrev pub LeavesBlocks : (old new : Store D members) → Type 0
   LeavesBlocks old new = (disk_of new ≡ disk_of old) × (held_of new ≡ held_of old)
+
+  -- what a Rollback does, on any disk: it is accepted, and makes no device call; the committed entries become the working ones, and the
+  -- committed number of blocks the store's; of these blocks it takes none, and gives none back; and a series of changes ends
+  pub record RollsBack (answer : Result Answer Refusal) (old new : Store D members) : Type 0 where
+    pub accepted : answer ≡ Ok Done
+    pub disk : disk_of new ≡ disk_of old
+    pub entries : entries_of new ≡ (old.committed, old.committed)
+    pub blocks : blocks_of new ≡ kept_of old
+    pub held : held_of new ≡ take (kept_of old) (held_of old)
+    pub series : series_of new ≡ None
 
   -- no more reads were made than so many, of a store that stood for a state; the disk is honest after the call
   abbrev pub ReadsAtMost : (old new : Store D members) → ((s : State) → Holds old s → ℕ) → Type 0
@@ -201,7 +217,7 @@ module _ {D : Type 0} {members : _} where
   abbrev pub StaysGuarded : (old new : Store D members) → Type 0
   StaysGuarded old new = Throughout (members.state (disk_of old)) (members.state (disk_of new)) (IsGuarded (held_of new))
 
-  -- nothing is synced: at each moment of the call each block that was dirty is dirty still
+  -- nothing is synced: what was dirty at a moment of the call is so at the next one
   abbrev pub StaysUnsynced : (old new : Store D members) → Type 0
   StaysUnsynced old new = NeverSyncs (members.state (disk_of old)) (members.state (disk_of new))
 

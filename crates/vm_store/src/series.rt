@@ -10,7 +10,7 @@ ghost use Rattle.vm_disk.specs.Disk.{Goes, Idles, block};
 ghost use Rattle.vm_disk.specs.Moments.{Throughout, TouchesOnly};
 ghost use Rattle.vm_alloc.specs.Held.{HoldsMore, IsHeld, free_count};
 ghost use Rattle.vm_tree.specs.Answers.{LacksRoom, Puts, Removes};
-ghost use Rattle.vm_tree.specs.Calls.{LooksIf, LooksIfDamaged, PutsIfDamaged};
+ghost use Rattle.vm_tree.specs.Calls.{LooksIf, LooksIfDamaged, PutsIfDamaged, PutsIfDeep};
 ghost use Rattle.vm_tree.specs.Unsynced.{NeverSyncs};
 ghost use Rattle.vm_tree.specs.Free.{is_free};
 ghost use Rattle.vm_tree.specs.Replacing.{Lacks, long_of, path_under};
@@ -154,7 +154,7 @@ pub fn put_forgetting<D: Disk>(
         (D.state disk.old) (D.state disk.new) }
     ensures still { HoldsMore held.old held.new }
     ensures taken { free_count held.old ≤ free_count held.new + 16 }
-    ensures deep { result ≡ Err PutFault.Deep → held.new ≡ held.old }
+    ensures deep { PutsIfDeep result held.old held.new (D.state disk.old) (D.state disk.new) }
     ensures looks { PutsIfDamaged result held.old held.new (D.state disk.old) (D.state disk.new) }
     ensures block { IfOk result (λ r. r.block < length held.new) }
 

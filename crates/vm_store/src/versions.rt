@@ -10,6 +10,7 @@ ghost use Rattle.vm_store.specs.Versions.{versions_of, slot_entries, IsEarliest,
 
 mod alternatives;
 mod checkpoints;
+mod roots;
 
 use crate::version::{Version, is_alternative_of, is_apart, is_checkpoint_of, is_child_of};
 pub use alternatives::alternatives_among;

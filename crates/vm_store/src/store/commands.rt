@@ -11,6 +11,7 @@ mod post;
 mod put;
 mod reclaim;
 mod remove;
+mod rollback;
 
 use super::Store;
 use vm_disk::Disk;
@@ -29,6 +30,7 @@ impl<D: Disk> Store<D> {
             Command::Merge { alt, settled } => self.merge(alt, settled.as_slice()),
             Command::Post { alt } => self.post(alt),
             Command::Commit => self.commit(),
+            Command::Rollback => Ok(self.rollback()),
             Command::Reclaim => self.reclaim(),
             Command::Grow { blocks } => self.grow(*blocks),
             _ => self.change_entries(command),

@@ -209,6 +209,7 @@ pub fn open<D: Disk>(alloc: Global, disk: D) -> Result<Store<D>, (D, Refusal)>
                 disk,
                 alloc,
                 blocks,
+                kept: blocks,
                 slot_name,
                 entries,
                 committed,

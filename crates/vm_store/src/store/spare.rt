@@ -60,9 +60,7 @@ impl<D: Disk> Store<D> {
         ensures spare { (s : State) (holds : Holds self.now s)
             → IfOk result (λ n. n ≤ spare_of holds.rests) }
     {
-        if self.failed {
-            return Err(Refusal::Failed);
-        }
+        self.ready()?;
         Ok(self.held.free_count())
     }
 

@@ -32,6 +32,7 @@ impl<D: Disk> Store<D> {
         ) {
             Ok(()) => {
                 self.slot_name = self.slot_name.other();
+                self.kept = self.blocks;
                 self.committed.copy_from(&self.working);
                 self.series = None;
                 Ok(Answer::Done)

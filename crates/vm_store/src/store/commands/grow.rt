@@ -19,9 +19,7 @@ impl<D: Disk> Store<D> {
         ensures value { has_failed self.now ≡ false → (s : State) → Holds self.now s
             → result ≡ Ok s.blocks }
     {
-        if self.failed {
-            return Err(Refusal::Failed);
-        }
+        self.ready()?;
         Ok(self.blocks)
     }
 

@@ -21,9 +21,7 @@ impl<D: Disk> Store<D> {
             → IfErr result (λ refusal. refusal ≡ Refusal.Memory) }
         ensures value { InState self.now (λ s. IfOk result (λ list. list.items ≡ shape s.working)) }
     {
-        if self.failed {
-            return Err(Refusal::Failed);
-        }
+        self.ready()?;
         alternatives_among(alloc, self.working.as_slice())
     }
 
@@ -39,9 +37,7 @@ impl<D: Disk> Store<D> {
         ensures none { InState self.now
             (λ s. IfErr result (λ r. IsDueOrMemory r (checkpoints_in s.working alt.now))) }
     {
-        if self.failed {
-            return Err(Refusal::Failed);
-        }
+        self.ready()?;
         if self.working.alternative(alt).is_none() {
             return Err(Refusal::NoSuchAlternative);
         }

@@ -1,21 +1,28 @@
-use Rattle.std.proofs.Common.{inr, arith}
+use Rattle.std.proofs.Common.{◌∙◌, Err, ap, arith, inr, rules}
 use Rattle.vm_tree.proofs.Looking.{passed_on}
 use Rattle.vm_store.proofs.Listing.{listed}
 use Rattle.vm_store.proofs.PairLemmas.{conflicts_lacking, conflicts_there, own_there, parent_there}
 use Rattle.vm_store.proofs.SharedLemmas.{base_rooted, current_rooted, pair_counts}
-use Rattle.vm_store.proofs.SeriesLemmas.{read_holds}
+use Rattle.vm_store.proofs.QueryLemmas.{query_failed, query_read, query_unpaired}
 use Rattle.vm_store.specs.declared.version.Version.{Version}
 use Rattle.vm_store.proofs.store.Store.conflicts.Goals as goal
 
-pub returns-in_err-own-clause-value : goal.returns-in_err-own-clause-value
-returns-in_err-own-clause-value g c honest well s holds =
-    let rests = holds.rests in
-    let lacks = c.in_err-own.ensures.none in
-    rw (passed_on _ c.from_residual.ensures.1)
-    (inr (conflicts_lacking _ _ _ _ _ _ s rests c.args.alt.now c.in_err-own.field-0.0 lacks))
+pub returns-in_err-ready-clause-query : goal.returns-in_err-ready-clause-query
+returns-in_err-ready-clause-query g c =
+    query_failed _ _ _ c.in_err-ready.ensures.err.1 (passed_on _ c.from_residual.ensures.1 ∙ ap Err c.in_err-ready.ensures.err.0)
 
-pub returns-clause-value : goal.returns-clause-value
-returns-clause-value g c honest well s holds =
+pub returns-in_err-own-clause-query : goal.returns-in_err-own-clause-query
+returns-in_err-own-clause-query g c =
+    let lacks = c.in_err-own.ensures.none in
+    let is = passed_on _ c.from_residual-in_err-own.ensures.1 in
+    query_unpaired _ _ _ c.in_ok-ready.ensures.ok c.args.alt.now _ lacks is
+    (λ s holds. rw is (inr (conflicts_lacking _ _ _ _ _ _ s holds.rests c.args.alt.now c.in_err-own.field-0.0 lacks)))
+
+pub returns-clause-query : goal.returns-clause-query
+returns-clause-query g c =
+    let said = c.conflicts_of.ensures in
+    query_read _ _ _ _ c.in_ok-ready.ensures.ok (search rules) said.any said.never said.reads
+    (λ honest well s holds.
     let rests = holds.rests in
     let alt = c.args.alt.now in
     let pair : Version × Version = (c.in_ok-own.own, c.in_ok-own.parent) in
@@ -23,10 +30,7 @@ returns-clause-value g c honest well s holds =
     let own = own_there _ _ _ _ _ _ s rests alt pair is in
     let parent = parent_there _ _ _ _ _ _ s rests alt pair is in
     listed _ _ _ (conflicts_there _ _ _ _ _ _ s rests alt pair is)
-    (c.conflicts_of.ensures.conflicts honest _ _ _ _ _ _ own.stands.base.rooted parent.stands.current.rooted own.stands.current.rooted)
-
-pub returns-clause-state : goal.returns-clause-state
-returns-clause-state g c honest s holds = read_holds _ _ _ _ _ _ _ _ _ s (c.conflicts_of.ensures.reads honest) holds
+    (said.conflicts honest _ _ _ _ _ _ own.stands.base.rooted parent.stands.current.rooted own.stands.current.rooted))
 
 pub returns-clause-bound : goal.returns-clause-bound
 returns-clause-bound g c honest s holds =

@@ -1,4 +1,4 @@
-use Rattle.std.proofs.Common.{rules, inl, inr, ◌≤◌, ℕ, Bool, List, length, refl, subst, sym, arith}
+use Rattle.std.proofs.Common.{rules, inl, inr, ◌∙◌, ◌≤◌, ℕ, Bool, List, length, refl, subst, sym, arith}
 use Rattle.vm_types.specs.declared.command.Command.TheVariants.{Grow}
 use Rattle.vm_types.proofs.Growing.{good_size, no_more_is_bad, too_many_is_bad}
 use Rattle.vm_disk.specs.Disk.{Enlarges}
@@ -40,7 +40,7 @@ pub returns-in_default-reserve-clause-carried : goal.returns-in_default-reserve-
 returns-in_default-reserve-clause-carried g c honest s holds =
     let self = c.args.self.now in
     let is = sym c.reserve.ensures.kept.inner in
-    let holds' = subst (λ d. HoldsWith (g.D.Disk.state d).now self.blocks self.slot_name self.held self.before self.series self.committed self.working s) is holds in
+    let holds' = subst (λ d. HoldsWith (g.D.Disk.state d).now self.blocks self.kept self.slot_name self.held self.before self.series self.committed self.working s) is holds in
     looked _ _ s holds (Grow c.args.blocks) _ (grow_is_accepted s c.args.blocks _ (good_size s.blocks c.args.blocks (omega (arith, c.if-blocks-self.false, holds.rests.blocks)) (omega (arith, c.if-blocks-gt-MAX_BLOCKS.false))) (inr (inl refl)))
     (subst (λ d. OnlyReads (g.D.Disk.state self.disk.inner) (g.D.Disk.state d)) is (started _ _ refl)) holds'.rests (λ _. holds')
 
@@ -68,7 +68,7 @@ returns-clause-carried g c honest s holds =
     let still : (n : ℕ) → IsHeld c.args.self.now.held n → IsHeld c.in-Ok.held n = λ n held. subst (λ (bits : List Bool). IsHeld bits n) (sym c.in-Ok.ensures.blocks) (still_held c.args.self.now.held _ n held) in
     record {
       answers = grow_is_accepted s c.args.blocks _ (good_size s.blocks c.args.blocks (omega (arith, c.if-blocks-self.false, holds.rests.blocks)) (omega (arith, c.if-blocks-gt-MAX_BLOCKS.false))) (inr (inr refl));
-      state = λ fine. holds_alone (rests_renamed new c.args.blocks c.args.self.now.slot_name c.lengthen.new.self.slot_name c.in-Ok.held c.args.self.now.committed c.args.self.now.working c.lengthen.new.self.committed c.lengthen.new.self.working (record s { blocks = c.args.blocks }) same.slot_name same.committed same.working (rests_longer old new longer.longer c.args.self.now.blocks c.args.blocks c.args.self.now.slot_name c.args.self.now.held c.in-Ok.held c.args.self.now.committed c.args.self.now.working s holds.rests still (omega (arith, c.if-blocks-self.false)) inside (omega (arith, c.if-blocks-gt-MAX_BLOCKS.false))));
+      state = λ fine. holds_alone (same.kept ∙ holds.keeps) (rests_renamed new c.args.blocks c.args.self.now.slot_name c.lengthen.new.self.slot_name c.in-Ok.held c.args.self.now.committed c.args.self.now.working c.lengthen.new.self.committed c.lengthen.new.self.working (record s { blocks = c.args.blocks }) same.slot_name same.committed same.working (rests_longer old new longer.longer c.args.self.now.blocks c.args.blocks c.args.self.now.slot_name c.args.self.now.held c.in-Ok.held c.args.self.now.committed c.args.self.now.working s holds.rests still (omega (arith, c.if-blocks-self.false)) inside (omega (arith, c.if-blocks-gt-MAX_BLOCKS.false))));
       crash = longer_crash _ _ longer _ _ _ _ _ s holds.rests (Grow c.args.blocks);
       guarded = longer_guarded _ _ longer _ _ _ _ _ s holds.rests c.in-Ok.held still;
       unsynced = λ other. longer_unsynced _ _ longer;

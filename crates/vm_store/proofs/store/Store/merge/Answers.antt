@@ -99,7 +99,7 @@ returns-clause-carried g c honest s holds =
     let both = c.set_base.ensures ∙ ap (change_first (is_alternative_of alt) (with_base c.in_ok-own.parent.current)) c.set_current.ensures in
     wrote _ _ s holds (Merge c.args.alt.now c.args.settled.now) _ (rw (same) (merges_done s _ _ alt settled _ (merge_step _ _ _ _ _ _ s rests alt pair is settled plan.0) c.len.result many room))
     _ (reads_then _ _ _ read (c.has_spare.ensures.reads (c.in_ok-root.ensures.any.earlier honest))) rests' (c.in_ok-root.ensures.moments honest) (c.in_ok-root.ensures.unsynced honest) c.in_ok-root.ensures.still
-    (λ _. holds_alone (rests_as _ _ _ _ _ _ _ _ (sym both)
+    (λ _. holds_alone holds'.keeps (rests_as _ _ _ _ _ _ _ _ (sym both)
     (merge_rests _ _ _ _ _ _ s rests' alt pair is' settled plan'.0 _ c.make_changes.new.held c.in_ok-root.root (grown_small _ _ _ _ _ mid.most grown)
     (at_end _ _ _ (c.in_ok-root.ensures.moments honest)) c.in_ok-root.ensures.still grown)))
 
@@ -131,7 +131,7 @@ returns-in_err-root-clause-carried g c honest s holds =
     (meets_as _ _ _ _ _ _ _ mid.bits (sym (current_is _ _ _ _ _ _ s rests' alt pair is' settled plan'.0))
     (plan'.1 ∙ sym (merge_is _ _ _ _ _ _ s rests' alt pair is' settled plan'.0)) deep.1)))
     _ (reads_then _ _ _ read (c.has_spare.ensures.reads (c.in_err-root.ensures.any.earlier honest))) rests' (c.in_err-root.ensures.moments honest) (c.in_err-root.ensures.unsynced honest) c.in_err-root.ensures.still
-    (λ _. holds_alone (rests_more _ _ _ _ _ _ s rests' _ _ (at_end _ _ _ (c.in_err-root.ensures.moments honest)) c.in_err-root.ensures.still)))
+    (λ _. holds_alone holds'.keeps (rests_more _ _ _ _ _ _ s rests' _ _ (at_end _ _ _ (c.in_err-root.ensures.moments honest)) c.in_err-root.ensures.still)))
 
 pub returns-in_err-own-clause-reads : goal.returns-in_err-own-clause-reads
 returns-in_err-own-clause-reads g c honest = rw (passed_on _ c.from_residual.ensures.1) (λ first. started _ _ refl)

@@ -64,5 +64,5 @@ returns-clause-carried g c honest s holds =
     let both = c.set_base.ensures ∙ ap (change_first (is_alternative_of alt) (with_base c.in_ok-own.own.current)) c.set_current.ensures in
     looked _ _ s holds (Post c.args.alt.now) _ (answers_done s (spare_of rests) ⊥ (Post alt) _ refl (λ never. never) (post_step _ _ _ _ _ _ s rests alt pair is same))
     read (read_rests _ _ _ _ _ _ _ s read rests)
-    (λ _. holds_alone (read_rests _ _ _ _ _ _ _ _ (c.in_ok-same.ensures.looks.reads honest)
+    (λ _. holds_alone holds.keeps (read_rests _ _ _ _ _ _ _ _ (c.in_ok-same.ensures.looks.reads honest)
     (rests_as _ _ _ _ _ _ _ _ (sym both) (post_rests _ _ _ _ _ _ s rests alt pair is same))))

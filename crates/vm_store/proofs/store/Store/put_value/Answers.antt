@@ -59,7 +59,7 @@ returns-clause-carried g c honest s holds =
     (λ _. holds_as refl c.set_current.ensures
     (holds_then c.args.alt.now _ _ c.go_on.ensures.series stays
     (put_holds _ _ _ _ _ _ _ s rests' c.args.alt.now e is series _ c.put_forgetting.new.held c.in_ok-root.root (omega (arith, c.in_ok-root.ensures.block, c.in_ok-root.ensures.still.same_length, mid.bits, mid.most))
-    (at_end _ _ _ (c.in_ok-root.ensures.moments honest series.wider)) c.in_ok-root.ensures.still c.args.key c.args.value.now grown)))
+    (at_end _ _ _ (c.in_ok-root.ensures.moments honest series.wider)) c.in_ok-root.ensures.still c.args.key holds'.keeps c.args.value.now grown)))
 
 pub returns-in_err-root-clause-carried : goal.returns-in_err-root-clause-carried
 returns-in_err-root-clause-carried g c honest s holds =
@@ -116,7 +116,7 @@ returns-in_err-has_spare-clause-free g c =
 
 pub returns-in_err-root-clause-free : goal.returns-in_err-root-clause-free
 returns-in_err-root-clause-free g c =
-    let taken = put_takes 16 _ _ c.in_err-root.ensures.taken c.in_err-root.field-0.0 (λ b is. (c.in_err-root.ensures.looks b).kept (ap Err is)) (λ is. c.in_err-root.ensures.deep (ap Err is)) in
+    let taken = put_takes 16 _ _ c.in_err-root.ensures.taken c.in_err-root.field-0.0 (λ b is. (c.in_err-root.ensures.looks b).kept (ap Err is)) (λ is. c.in_err-root.ensures.deep.kept (ap Err is)) in
     rw (passed_on _ c.from_residual-in_err-root.ensures.1) (
       λ enough. omega (arith, ap free_of (c.has_spare.ensures.enough enough), taken),
       λ honest few late s holds. omega (arith, c.in_ok-has_spare.ensures.exact (c.in_err-root.ensures.any.earlier honest) few s holds, taken),

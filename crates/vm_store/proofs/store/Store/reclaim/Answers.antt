@@ -9,7 +9,7 @@ use Rattle.vm_store.proofs.store.Store.reclaim.Goals as goal
 pub returns-clause-carried : goal.returns-clause-carried
 returns-clause-carried g c honest s holds =
     let holds' = c.mark_all.ensures.state honest s holds in
-    looked _ _ s holds Reclaim _ (answers_reclaim s _ _ refl tt) (c.mark_all.ensures.reads honest) holds'.rests (λ _. holds_alone holds'.rests)
+    looked _ _ s holds Reclaim _ (answers_reclaim s _ _ refl tt) (c.mark_all.ensures.reads honest) holds'.rests (λ _. holds_alone holds'.keeps holds'.rests)
 
 pub returns-in_err-mark_all-clause-carried : goal.returns-in_err-mark_all-clause-carried
 returns-in_err-mark_all-clause-carried g c honest s holds =

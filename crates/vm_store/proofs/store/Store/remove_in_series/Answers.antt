@@ -39,7 +39,7 @@ returns-clause-carried g c honest s holds reason =
     (λ _. holds_as refl c.set_current.ensures
     (holds_then alt _ _ c.requires.series stays
     (remove_holds _ _ _ _ _ _ _ s rests alt e is series _ c.remove_forgetting.new.held c.in-Some.root (grown_small _ _ _ _ _ self.most grown)
-    (at_end _ _ _ (c.in_ok-removed.ensures.moments honest series.wider)) c.in_ok-removed.ensures.still c.args.key value.0 there grown)))
+    (at_end _ _ _ (c.in_ok-removed.ensures.moments honest series.wider)) c.in_ok-removed.ensures.still c.args.key holds.keeps value.0 there grown)))
 
 pub returns-in_default-clause-carried : goal.returns-in_default-clause-carried
 returns-in_default-clause-carried g c honest s holds reason =

@@ -12,7 +12,7 @@ returns-in-Ok-clause-opened g c honest =
     record {
       seen = found.seen;
       shown = subst (λ (x : Contents). Shows x found.seen) ((c.in-Ok.ensures.synced honest (λ e. cc)).same ∙ ap (λ d. (g.D.Disk.state d).now.contents) c.new-disk.ensures.inner) found.shown;
-      holds = holds_alone found.holds;
+      holds = holds_alone found.holds.blocks found.holds;
       free = λ s holds. found.free s holds.rests;
     }
 

@@ -1,0 +1,32 @@
+use Rattle.std.proofs.Common.{◌<◌, ℕ, Ok, List, refl, ap, arith}
+use Rattle.vm_types.specs.declared.answer.Answer.TheVariants.{Done}
+use Rattle.vm_types.specs.declared.command.Command.TheVariants.{Rollback}
+use Rattle.vm_types.specs.State.{next}
+use Rattle.vm_disk.proofs.MomentLemmas.{started, touches_nothing}
+use Rattle.vm_alloc.proofs.HeldLemmas.{holds_same}
+use Rattle.vm_tree.proofs.Touching.{reads_unsynced}
+use Rattle.vm_store.specs.declared.version.Version.{Version}
+use Rattle.vm_store.proofs.CarryLemmas.{spared}
+use Rattle.vm_store.proofs.RolledLemmas.{held_first, rests_rolled}
+use Rattle.vm_store.proofs.SeriesLemmas.{holds_alone}
+use Rattle.vm_store.proofs.VersionLemmas.{answers_done}
+use Rattle.vm_store.proofs.store.Store.rollback.Goals as goal
+
+pub returns-clause-back : goal.returns-clause-back
+returns-clause-back g c = record {
+  accepted = refl;
+  disk = refl;
+  entries = ap (λ (es : List Version). (c.args.self.now.committed, es)) c.copy_from.ensures;
+  blocks = refl;
+  held = c.truncate.ensures.blocks;
+  series = refl;
+}
+
+pub returns-clause-carried : goal.returns-clause-carried
+returns-clause-carried g c honest s holds =
+    let self = c.args.self.now in
+    let disk = g.D.Disk.state self.disk.inner in
+    let rests = rests_rolled disk.now self.blocks self.kept self.slot_name self.held c.truncate.new.self self.committed self.working c.copy_from.new.self s Done holds.rests holds.keeps
+    (λ n low held. held_first self.kept n self.held c.truncate.new.self c.truncate.ensures.blocks low held) c.copy_from.ensures in
+    spared _ _ s holds Rollback (Ok Done) (answers_done s _ ⊥ Rollback s.working refl (λ never. never) refl)
+    disk (started _ _ refl) (next s Rollback (Ok Done)) refl rests (started _ _ (touches_nothing _ _)) (reads_unsynced _ _ (started _ _ refl)) (holds_same _) (λ _. holds_alone holds.keeps rests)
