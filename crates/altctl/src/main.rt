@@ -6,7 +6,10 @@ use std::marker::Brand;
 use std::process::ExitCode;
 use std::rt::Env;
 use std::{env, io};
-use vm_cli::{Cleared, Progress, RealFiles, refuse_words, run_words, stop};
+use vm_cli::{
+    Cleared, Console, Locking, Progress, RealFiles, lock, refuse_in_use, refuse_words, run_words,
+    stop,
+};
 
 fn main(rt: HostRuntime) -> ExitCode {
     let progress = Progress::new(&rt);
@@ -14,14 +17,18 @@ fn main(rt: HostRuntime) -> ExitCode {
     // Before anything is opened.
     let mut files = RealFiles::<_, Brand>::new(&rt, &progress);
     let status = match words(&rt) {
-        Ok(words) => run_words(
-            rt.alloc(),
-            words.as_slice(),
-            &mut files,
-            &mut Cleared::new(rt.stdin(), &progress),
-            &mut Cleared::new(rt.stdout(), &progress),
-            &mut errors,
-        ),
+        Ok(words) => match lock(&rt, words.as_slice()) {
+            // The lock lasts until the answers are given.
+            Locking::Held(_lock) => run_words(
+                rt.alloc(),
+                words.as_slice(),
+                &mut files,
+                &mut Console::new(&rt, Cleared::new(rt.stdin(), &progress)),
+                &mut Cleared::new(rt.stdout(), &progress),
+                &mut errors,
+            ),
+            Locking::InUse(file) => refuse_in_use(file, &mut errors),
+        },
         Err(error) if error.kind() == ErrorKind::OutOfMemory => stop(&mut errors),
         Err(_) => refuse_words(&mut errors),
     };

@@ -22,7 +22,7 @@ use Rattle.clap.specs.Faults.{fault_of, level_fault, values_fault}
 use Rattle.clap.specs.declared.builder.value_parser.ValueParser.TheVariants as vp
 use Rattle.clap.specs.declared.builder.value_parser.ValueParser.{ValueParser}
 use Rattle.clap.proofs.ValueTestLemmas.{Accepts-accepts, accepts-Accepts}
-use Rattle.vm_cli.specs.Words.{Wanted, altctl, asked_of, blocks_rule, buffer_rule, cache_rule, check_app, create_app, do_app, file_rule, line_rule, number_in, refusal_by, run_app, strict_rule, tree_app}
+use Rattle.vm_cli.specs.Words.{Wanted, altctl, asked_of, blocks_rule, buffer_rule, cache_rule, check_app, create_app, do_app, file_rule, line_rule, no_lock_rule, number_in, refusal_by, run_app, strict_rule, tree_app, wait_rule}
 use Rattle.vm_cli.specs.Given.{input_of}
 use Rattle.vm_cli.specs.Words.Wanted.{check, create, do_lines, draw, run}
 use Rattle.vm_cli.specs.declared.talk.OnRefusal.TheVariants.{Ignore, Tell}
@@ -132,16 +132,16 @@ create_known : Every (IsKnown create_level.rules) create_level.rules
 create_known = (valued refl (lit< tt) refl refl, (valued refl (lit< tt) refl refl, (help refl refl, tt)))
 
 run_known : Every (IsKnown run_level.rules) run_level.rules
-run_known = (valued refl (lit< tt) refl refl, (valued refl (lit< tt) refl refl, (valued refl (lit< tt) refl refl, (flag (codes "true") refl refl refl refl, (help refl refl, tt)))))
+run_known = (valued refl (lit< tt) refl refl, (flag (codes "true") refl refl refl refl, (flag (codes "true") refl refl refl refl, (flag (codes "true") refl refl refl refl, (valued refl (lit< tt) refl refl, (valued refl (lit< tt) refl refl, (help refl refl, tt)))))))
 
 do_known : Every (IsKnown do_level.rules) do_level.rules
-do_known = (valued refl (lit< tt) refl refl, (listed refl (lit< tt) refl refl, (valued refl (lit< tt) refl refl, (valued refl (lit< tt) refl refl, (flag (codes "true") refl refl refl refl, (help refl refl, tt))))))
+do_known = (valued refl (lit< tt) refl refl, (listed refl (lit< tt) refl refl, (flag (codes "true") refl refl refl refl, (flag (codes "true") refl refl refl refl, (flag (codes "true") refl refl refl refl, (valued refl (lit< tt) refl refl, (valued refl (lit< tt) refl refl, (help refl refl, tt))))))))
 
 check_known : Every (IsKnown check_level.rules) check_level.rules
-check_known = (valued refl (lit< tt) refl refl, (help refl refl, tt))
+check_known = (valued refl (lit< tt) refl refl, (flag (codes "true") refl refl refl refl, (flag (codes "true") refl refl refl refl, (help refl refl, tt))))
 
 tree_known : Every (IsKnown tree_level.rules) tree_level.rules
-tree_known = (valued refl (lit< tt) refl refl, (help refl refl, tt))
+tree_known = (valued refl (lit< tt) refl refl, (flag (codes "true") refl refl refl refl, (flag (codes "true") refl refl refl refl, (help refl refl, tt))))
 
 -- the first value of a row that is filled
 first_text : (c : List Rule) (rows : List Row) (id : Text) (r : Row) (filled : IsFilled c r) → find (λ x. bytes_eq x.id id) rows ≡ Some r → first_of id rows ≡ Some filled.first
@@ -228,28 +228,26 @@ module _ (rows : List Row) where
   abbrev with_buffer : List Row
   with_buffer = with_default with_cache buffer_option
 
-  abbrev with_strict : List Row
-  with_strict = with_default with_buffer (filled strict_rule)
-
-  cache_ends : has_row (codes "cache") (with_default with_strict (filled help_rule)) ≡ true
+  cache_ends : has_row (codes "cache") (with_default with_buffer (filled help_rule)) ≡ true
   cache_ends =
       let here : has_row (codes "cache") with_cache ≡ true = has-default cache_option rows (codes "256") [] refl in
-      let then_there : has_row (codes "cache") with_buffer ≡ true = has-stays (codes "cache") buffer_option with_cache here in
-      let there : has_row (codes "cache") with_strict ≡ true = has-stays (codes "cache") (filled strict_rule) with_buffer then_there in
-      subst (λ ends. has_row (codes "cache") ends ≡ true) (sym (no-default (filled help_rule) with_strict refl)) there
+      let there : has_row (codes "cache") with_buffer ≡ true = has-stays (codes "cache") buffer_option with_cache here in
+      subst (λ ends. has_row (codes "cache") ends ≡ true) (sym (no-default (filled help_rule) with_buffer refl)) there
 
-  buffer_ends : has_row (codes "buffer") (with_default with_strict (filled help_rule)) ≡ true
+  buffer_ends : has_row (codes "buffer") (with_default with_buffer (filled help_rule)) ≡ true
   buffer_ends =
-      let here : has_row (codes "buffer") with_buffer ≡ true = has-default buffer_option with_cache (codes "16384") [] refl in
-      let there : has_row (codes "buffer") with_strict ≡ true = has-stays (codes "buffer") (filled strict_rule) with_buffer here in
-      subst (λ ends. has_row (codes "buffer") ends ≡ true) (sym (no-default (filled help_rule) with_strict refl)) there
+      let there : has_row (codes "buffer") with_buffer ≡ true = has-default buffer_option with_cache (codes "16384") [] refl in
+      subst (λ ends. has_row (codes "buffer") ends ≡ true) (sym (no-default (filled help_rule) with_buffer refl)) there
 
--- so it is in both levels
+-- so it is in both levels, where the flags come before these options
+abbrev flag_ends : List Row → List Row
+flag_ends rows = with_default (with_default (with_default rows (filled no_lock_rule)) (filled wait_rule)) (filled strict_rule)
+
 abbrev run_ends : List Row → List Row
-run_ends rows = with_default rows (with_index 1 (filled file_rule))
+run_ends rows = flag_ends (with_default rows (with_index 1 (filled file_rule)))
 
 abbrev do_ends : List Row → List Row
-do_ends rows = with_default (with_default rows (with_index 1 (filled file_rule))) (with_index 2 (filled line_rule))
+do_ends rows = flag_ends (with_default (with_default rows (with_index 1 (filled file_rule))) (with_index 2 (filled line_rule)))
 
 create_asks : Asks create_level
 create_asks words e =

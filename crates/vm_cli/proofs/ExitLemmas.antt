@@ -6,7 +6,7 @@ use Rattle.clap.specs.declared.error.kind.ErrorKind.{ErrorKind}
 use Rattle.clap.specs.declared.error.kind.ErrorKind.TheVariants.{DisplayHelp, DisplayVersion}
 use Rattle.vm_cli.specs.Carried.{WritesStart}
 use Rattle.vm_cli.specs.Drawing.{drawing}
-use Rattle.vm_cli.specs.Exits.{AskTalk, Ends, IsHelp, IsJob, JobEnds, MayEnd, Tells, TellsRefused, check_text, created_text, file_text, status_of}
+use Rattle.vm_cli.specs.Exits.{AskTalk, Ends, IsHelp, IsJob, JobEnds, MayEnd, Tells, TellsRefused, check_text, created_text, named_text, status_of}
 use Rattle.vm_cli.specs.Words.{Wanted, altctl}
 use Rattle.vm_cli.specs.Words.Wanted.{check, create, draw}
 use Rattle.vm_cli.specs.declared.program.Exit.{Exit}
@@ -17,8 +17,8 @@ use Rattle.vm_cli.proofs.CarriedLemmas.{begins-more, begins-then}
 -- ---- a line with the name of a file
 
 -- the words before the name were written in part
-pub file_first : (a b : Option (List ℕ)) (what file : List ℕ) → WritesStart a b what → WritesStart a b (file_text what file)
-file_first a b what file h = begins-more a b what (file ++ 10 ∷ []) h
+pub file_first : (a b : Option (List ℕ)) (what file rest : List ℕ) → WritesStart a b what → WritesStart a b (named_text what file rest)
+file_first a b what file rest h = begins-more a b what (file ++ rest) h
 
 -- they were written whole, and of the rest a beginning
 pub file_then : (a b c : Option (List ℕ)) (what rest : List ℕ) → Appends a b what → WritesStart b c rest → WritesStart a c (what ++ rest)

@@ -208,13 +208,16 @@ module _ {D : Type 0} {members : _} (old new : Store D members) (s : State) wher
   meets_stops : (asked : Request) (text : List ℕ) (was : Done) → has_failed new ≡ true → Meets old new s asked text was → (command : Command) × CarriesOut old new command (Err Device)
   meets_stops (Request.Command command) text None failed meets = absurd meets
   meets_stops (Request.Command command) text (Some (other, answer)) failed meets = carries_device command answer meets.1 failed
-  meets_stops (Request.Get alt key) text was failed meets = absurd (never_both _ meets.1 failed)
-  meets_stops (Request.List alt) text was failed meets = absurd (never_both _ meets.1 failed)
+  meets_stops (Request.Get at key) text was failed meets = absurd (never_both _ meets.1 failed)
+  meets_stops (Request.List at) text was failed meets = absurd (never_both _ meets.1 failed)
   meets_stops Request.Alternatives text was failed meets = absurd (never_both _ meets.1 failed)
   meets_stops (Request.Checkpoints alt) text was failed meets = absurd (never_both _ meets.1 failed)
   meets_stops (Request.Changes alt) text was failed meets = absurd (never_both _ meets.1 failed)
+  meets_stops (Request.Diff first second) text was failed meets = absurd (never_both _ meets.1 failed)
   meets_stops (Request.Conflicts alt) text was failed meets = absurd (never_both _ meets.1 failed)
+  meets_stops (Request.Tally alt) text was failed meets = absurd (never_both _ meets.1 failed)
   meets_stops Request.Free text was failed meets = absurd (never_both _ meets.1 failed)
+  meets_stops Request.Blocks text was failed meets = absurd (never_both _ meets.1 failed)
   meets_stops Request.Nothing text was failed meets = absurd (never_both _ meets.1 failed)
   meets_stops Request.Bad text was failed meets = absurd (never_both _ meets.1 failed)
 

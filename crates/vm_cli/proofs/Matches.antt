@@ -1,6 +1,6 @@
 -- The subcommand of a parse, from its name and its rows.
-use Rattle.std.proofs.Common.{◌≡◌, List, Option, Some, None, option_map, codes, refl}
-use Rattle.std.specs.Prelude.{Box}
+use Rattle.std.proofs.Common.{◌≡◌, List, Option, Some, None, Result, Ok, Err, ap, option_map, codes, refl}
+use Rattle.std.specs.Prelude.{Box, IsErrAnd}
 use Rattle.std.specs.Box.{box_value}
 use Rattle.clap.specs.Words.{Row, Text, all_of, first_of, subcommand_rows}
 use Rattle.clap.specs.declared.parser.matches.ArgMatches.TheViews.{out-SubCommand}
@@ -31,3 +31,8 @@ do_by-lines rows file lines in_memory given number = rw (given, number) refl
 -- without lines it asks for nothing
 pub do_by-none : (rows : List Row) (file : Text) → all_of (codes "line") rows ≡ None → do_by rows file ≡ None
 do_by-none rows file none = rw none refl
+
+-- a fault that was passed on is the one that came
+pub passed_on : {T E : Type 0} {e : E} (result : Result T E) → IsErrAnd result (λ fault. fault ≡ e) → result ≡ Err e
+passed_on (Ok x) is = absurd is
+passed_on (Err fault) is = ap Err is

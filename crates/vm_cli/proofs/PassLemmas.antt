@@ -54,6 +54,7 @@ module _ {D : Type 0} {members : _} where
   same_store store = record {
     alloc = refl;
     blocks = refl;
+    kept = refl;
     slot_name = refl;
     entries = refl;
     committed = refl;

@@ -1,8 +1,9 @@
 -- What words ask for.
 use Rattle.std.proofs.Common.{◌≡◌, ◌∷◌, ℕ, List, [], Option, Some, None, codes, option_map, refl}
+use Rattle.vm_types.specs.declared.at.At.{At}
 use Rattle.vm_types.specs.declared.command.Command.TheVariants.{Back, Checkpoint, New, NewAt, Put, Remove, Uncheck}
 use Rattle.vm_types.specs.declared.key.Key.{Key}
-use Rattle.vm_cli.specs.Requests.{names_of, new_command, new_of, put_asked, put_of, record_of, request_of}
+use Rattle.vm_cli.specs.Requests.{names_of, new_command, new_of, put_asked, put_of, record_at_of, record_of, request_of}
 use Rattle.vm_cli.specs.Asking.{Request}
 
 -- no words
@@ -10,10 +11,10 @@ pub nothing_asked : (words : List (List ℕ)) → words ≡ [] → Request.Nothi
 nothing_asked words none = rw none refl
 
 -- words that ask for a record, or for nothing
-pub get_asks : (words : List (List ℕ)) (asked : List ℕ × Key) → Some asked ≡ record_of words → request_of (codes "get" ∷ words) ≡ Request.Get asked.0 asked.1
+pub get_asks : (words : List (List ℕ)) (asked : At × Key) → Some asked ≡ record_at_of words → request_of (codes "get" ∷ words) ≡ Request.Get asked.0 asked.1
 get_asks words asked is = rw (← is) refl
 
-pub get_is_bad : (words : List (List ℕ)) → None ≡ record_of words → request_of (codes "get" ∷ words) ≡ Request.Bad
+pub get_is_bad : (words : List (List ℕ)) → None ≡ record_at_of words → request_of (codes "get" ∷ words) ≡ Request.Bad
 get_is_bad words is = rw (← is) refl
 
 -- a put, by what its last word spells

@@ -28,6 +28,7 @@ module _ {D : Type 0} {members : _} where
         let b = second.unchanged e in record {
           alloc = b.alloc ∙ a.alloc;
           blocks = b.blocks ∙ a.blocks;
+          kept = b.kept ∙ a.kept;
           slot_name = b.slot_name ∙ a.slot_name;
           entries = b.entries ∙ a.entries;
           committed = b.committed ∙ a.committed;
@@ -46,7 +47,7 @@ module _ {D : Type 0} {members : _} where
   still_holds old new passes honest s holds =
       let same = passes.unchanged refl in
       let medium = same_medium _ _ (passes.reads honest refl) in
-      rw (medium, same.blocks, same.slot_name, same.held, same.before, same.series, same.committed, same.working) holds
+      rw (medium, same.blocks, same.kept, same.slot_name, same.held, same.before, same.series, same.committed, same.working) holds
 
 module _ {D : Type 0} {members : _} (store : Store D members) (s : State) (holds : Holds store s) (listed : List (List ℕ × Option (List ℕ))) (is : listed ≡ shape s.working) where
   -- all are drawn

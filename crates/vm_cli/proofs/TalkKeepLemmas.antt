@@ -44,13 +44,16 @@ module _ {D : Type 0} {members : _} (old new : Store D members) (s : State) (c :
   -- a line that was a command was answered as the store carried it out
   meets_carries : (asked : Request) (text : List ℕ) → Meets old new s asked text (Some (c, a)) → CarriesOut old new c a
   meets_carries (Request.Command command) text meets = subst (λ d. CarriesOut old new d a) (sym meets.0) meets.1
-  meets_carries (Request.Get alt key) text meets = let none = meets.0 in cc
-  meets_carries (Request.List alt) text meets = let none = meets.0 in cc
+  meets_carries (Request.Get at key) text meets = let none = meets.0 in cc
+  meets_carries (Request.List at) text meets = let none = meets.0 in cc
   meets_carries Request.Alternatives text meets = let none = meets.0 in cc
   meets_carries (Request.Checkpoints alt) text meets = let none = meets.0 in cc
   meets_carries (Request.Changes alt) text meets = let none = meets.0 in cc
+  meets_carries (Request.Diff first second) text meets = let none = meets.0 in cc
   meets_carries (Request.Conflicts alt) text meets = let none = meets.0 in cc
+  meets_carries (Request.Tally alt) text meets = let none = meets.0 in cc
   meets_carries Request.Free text meets = let none = meets.0 in cc
+  meets_carries Request.Blocks text meets = let none = meets.0 in cc
   meets_carries Request.Nothing text meets = let none = meets.0 in cc
   meets_carries Request.Bad text meets = let none = meets.0 in cc
 

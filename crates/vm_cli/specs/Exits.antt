@@ -43,9 +43,17 @@ check_text alternatives checkpoints free =
 abbrev pub counts_text : Counts → List ℕ
 counts_text counts = check_text counts.alternatives counts.checkpoints counts.free
 
+-- words, the name of a file, and more words
+abbrev pub named_text : List ℕ → Text → List ℕ → List ℕ
+named_text before file behind = before ++ (file ++ behind)
+
 -- a file could not be made or opened
 abbrev pub file_text : List ℕ → Text → List ℕ
-file_text what file = what ++ (file ++ 10 ∷ [])
+file_text what file = named_text what file (10 ∷ [])
+
+-- another process has locked a file
+abbrev pub in_use_text : Text → List ℕ
+in_use_text file = named_text (codes "altctl: ") file (codes " is in use" ++ 10 ∷ [])
 
 -- a disk is no store, or cannot become one
 abbrev pub refused_text : Refusal → List ℕ
@@ -141,11 +149,19 @@ TalkEnds in_errors on exit output output' errors errors' =
 abbrev pub IsCutShort : {F : Type 0} → (F → Option (List ℕ)) → List ℕ → F → F → Type 0
 IsCutShort {F} in_errors text errors errors' = (said : F) × WritesStart (in_errors errors) (in_errors said) text × WritesStart (in_errors said) (in_errors errors') stopped_text
 
--- the words are not text, and the errors are told so: the status is 2, or 3 where that could not be said
+-- the errors are told a text, and the status is the one that goes with it; or it is 3, where that could not be said
+abbrev pub EndsSaying : {F : Type 0} → (F → Option (List ℕ)) → ℕ → List ℕ → ℕ → F → F → Type 0
+EndsSaying in_errors meant text status errors errors' =
+    ((status ≡ meant) × Appends (in_errors errors) (in_errors errors') text)
+    ⊎ ((status ≡ 3) × IsCutShort in_errors text errors errors')
+
+-- the words are not text, and the errors are told so: the status is 2
 abbrev pub RefusesWords : {F : Type 0} → (F → Option (List ℕ)) → ℕ → F → F → Type 0
-RefusesWords in_errors status errors errors' =
-    ((status ≡ 2) × Appends (in_errors errors) (in_errors errors') unreadable_text)
-    ⊎ ((status ≡ 3) × IsCutShort in_errors unreadable_text errors errors')
+RefusesWords in_errors status errors errors' = EndsSaying in_errors 2 unreadable_text status errors errors'
+
+-- another process has locked the file, and the errors are told so: the status is 1
+abbrev pub RefusesInUse : {F : Type 0} → (F → Option (List ℕ)) → Text → ℕ → F → F → Type 0
+RefusesInUse in_errors file status errors errors' = EndsSaying in_errors 1 (in_use_text file) status errors errors'
 
 -- where memory was wanting for the words, nothing was written to the output or said to the errors, and the program stops
 abbrev pub StopsUnsaid : {W F : Type 0} → Error → Exit → W → W → F → F → Type 0

@@ -2,12 +2,16 @@
 use Rattle.std.specs.Prelude.{◌≡◌, ◌==◌, ◌&&◌, ◌||◌, ℕ, Bool, false, List, [], ◌∷◌, Option, Some, None, codes, if◌then◌else◌, length, nat_le, option_and_then, option_map, unwrap_or}
 use Rattle.std.specs.List.{list_all}
 use Rattle.std.specs.Str.{bytes_eq}
+use Rattle.vm_types.specs.declared.at.At.{At}
+use Rattle.vm_types.specs.declared.at.Of.{Of}
+use Rattle.vm_types.specs.declared.at.Of.TheVariants as meant
 use Rattle.vm_types.specs.declared.command.Command.{Command}
-use Rattle.vm_types.specs.declared.command.Command.TheVariants.{New, NewAt, Drop, Put, Remove, Checkpoint, Uncheck, Back, Merge, Post, Commit, Reclaim, Grow}
+use Rattle.vm_types.specs.declared.command.Command.TheVariants.{New, NewAt, Drop, Put, Remove, Checkpoint, Uncheck, Back, Merge, Post, Commit, Rollback, Reclaim, Grow}
 use Rattle.vm_types.specs.declared.key.Key.{Key}
 use Rattle.vm_cli.specs.Asking.{Request}
 use Rattle.vm_cli.specs.Escapes.{value_of}
 use Rattle.vm_cli.specs.Numbers.{key_of, number_of}
+use Rattle.vm_cli.specs.Pieces.{before_mark, behind_mark}
 use Rattle.vm_cli.specs.Settlements.{settled_of}
 
 -- a byte may stand in a name: an ASCII letter or digit, `_`, `-` or `.`
@@ -33,6 +37,34 @@ named_of _ = None
 abbrev pub names_of : List (List ℕ) → Option (List ℕ × List ℕ)
 names_of (first ∷ second ∷ []) = option_and_then (λ a. option_map (λ b. (a, b)) (name_of second)) (name_of first)
 names_of _ = None
+
+-- the records of an alternative that are meant by what stands behind the `@`: its base, or those of a checkpoint
+abbrev pub meant_behind : List ℕ → Option Of
+meant_behind [] = Some meant.Base
+meant_behind (b ∷ bytes) = option_map meant.Checkpoint (name_of (b ∷ bytes))
+
+-- the records of an alternative that a word means: the current ones, where there is no `@` (64) in it
+abbrev pub meant_of : List ℕ → Option Of
+meant_of word = if length (before_mark 64 word) == length word then Some meant.Current else meant_behind (behind_mark 64 word)
+
+-- the version that a word says: `ALT`, `ALT@` or `ALT@CHECKPOINT`
+abbrev pub at_of : List ℕ → Option At
+at_of word = option_and_then (λ a. option_map (λ of. record { alt = a; of = of }) (meant_of word)) (name_of (before_mark 64 word))
+
+-- `AT TABLE NUMBER`
+abbrev pub record_at_of : List (List ℕ) → Option (At × Key)
+record_at_of (at ∷ table ∷ number ∷ []) = option_and_then (λ a. option_map (λ k. (a, k)) (key_of table number)) (at_of at)
+record_at_of _ = None
+
+-- `AT`
+abbrev pub one_at_of : List (List ℕ) → Option At
+one_at_of (at ∷ []) = at_of at
+one_at_of _ = None
+
+-- `AT AT`
+abbrev pub two_ats_of : List (List ℕ) → Option (At × At)
+two_ats_of (first ∷ second ∷ []) = option_and_then (λ a. option_map (λ b. (a, b)) (at_of second)) (at_of first)
+two_ats_of _ = None
 
 -- the command of two names, or of three
 abbrev pub new_command : List ℕ × List ℕ × Option (List ℕ) → Command
@@ -78,6 +110,7 @@ command_of verb words =
     if bytes_eq verb (codes "put") then put_of words
     else (if bytes_eq verb (codes "remove") then option_map (λ r. Remove r.0 r.1) (record_of words)
     else (if bytes_eq verb (codes "commit") then alone Commit words
+    else (if bytes_eq verb (codes "rollback") then alone Rollback words
     else (if bytes_eq verb (codes "reclaim") then alone Reclaim words
     else (if bytes_eq verb (codes "grow") then grow_of words
     else (if bytes_eq verb (codes "drop") then option_map Drop (named_of words)
@@ -85,18 +118,21 @@ command_of verb words =
     else (if bytes_eq verb (codes "new") then new_of words
     else (if bytes_eq verb (codes "checkpoint") then option_map (λ names. Checkpoint names.0 names.1) (names_of words)
     else (if bytes_eq verb (codes "uncheck") then option_map (λ names. Uncheck names.0 names.1) (names_of words)
-    else (if bytes_eq verb (codes "back") then option_map (λ names. Back names.0 names.1) (names_of words) else None))))))))))
+    else (if bytes_eq verb (codes "back") then option_map (λ names. Back names.0 names.1) (names_of words) else None)))))))))))
 
 -- the query that the words after the first complete
 abbrev pub query_of : List ℕ → List (List ℕ) → Option Request
 query_of verb words =
-    if bytes_eq verb (codes "get") then option_map (λ r. Request.Get r.0 r.1) (record_of words)
-    else (if bytes_eq verb (codes "list") then option_map Request.List (named_of words)
+    if bytes_eq verb (codes "get") then option_map (λ r. Request.Get r.0 r.1) (record_at_of words)
+    else (if bytes_eq verb (codes "list") then option_map Request.List (one_at_of words)
     else (if bytes_eq verb (codes "checks") then option_map Request.Checkpoints (named_of words)
     else (if bytes_eq verb (codes "changes") then option_map Request.Changes (named_of words)
     else (if bytes_eq verb (codes "conflicts") then option_map Request.Conflicts (named_of words)
     else (if bytes_eq verb (codes "alts") then alone Request.Alternatives words
-    else (if bytes_eq verb (codes "free") then alone Request.Free words else None))))))
+    else (if bytes_eq verb (codes "free") then alone Request.Free words
+    else (if bytes_eq verb (codes "diff") then option_map (λ ats. Request.Diff ats.0 ats.1) (two_ats_of words)
+    else (if bytes_eq verb (codes "tally") then option_map Request.Tally (named_of words)
+    else (if bytes_eq verb (codes "blocks") then alone Request.Blocks words else None)))))))))
 
 -- a command, or else a query
 abbrev pub command_or : Option Command → Option Request → Option Request

@@ -10,13 +10,16 @@ use Rattle.vm_types.specs.declared.refusal.Refusal.TheVariants.{Device, Failed, 
 use Rattle.vm_types.specs.Shape.{shape}
 use Rattle.vm_types.specs.State.{State, after, next}
 use Rattle.vm_disk.specs.Moments.{OnlyReads}
-use Rattle.vm_types.specs.Queries.{IsListing, changes_in, checkpoints_in, conflicts_in, records_in, value_in}
-use Rattle.vm_store.specs.Answers.{IsDueOrDevice}
+use Rattle.vm_types.specs.Queries.{IsListing, changes_in, checkpoints_in, conflicts_in}
+use Rattle.vm_types.specs.Versions.{delta_at, map_at, value_at}
+use Rattle.vm_store.specs.Answers.{IsDueOrDevice, IsDueOrWanting}
 use Rattle.vm_store.specs.Resting.{spare_of}
 use Rattle.vm_store.specs.Running.{CarriesOut}
-use Rattle.vm_store.specs.Shared.{unshared_of, unshared_on_sides}
-use Rattle.vm_store.specs.Store.{GrowsOn, Holds, IsSameButDisk, ReadsAtMost, free_of, has_failed, disk_of}
+use Rattle.vm_store.specs.Shared.{unshared_at, unshared_of, unshared_on_sides}
+use Rattle.vm_store.specs.Store.{GrowsOn, Holds, IsSameButDisk, ReadsAtMost, blocks_of, free_of, has_failed, disk_of}
+use Rattle.vm_store.specs.Tallies.{tally_in}
 use Rattle.vm_store.specs.declared.store.Store.{Store}
+use Rattle.vm_store.specs.declared.tally.Tally.{Tally}
 use Rattle.vm_cli.specs.declared.lines.line.TheConstants.{MAX_BYTES}
 use Rattle.vm_cli.specs.Carried.{WritesStart}
 use Rattle.vm_cli.specs.Lines.{lines_of}
@@ -46,6 +49,11 @@ answer_text (Err refusal) = error_text refusal
 abbrev pub value_line : Result (Option (List ℕ)) Refusal → List ℕ
 value_line (Ok value) = found_text value
 value_line (Err refusal) = error_text refusal
+
+-- the line of a tally, or of the refusal
+abbrev pub tally_line : Result Tally Refusal → List ℕ
+tally_line (Ok tally) = reply_text (reply.Tally tally)
+tally_line (Err refusal) = error_text refusal
 
 -- the lines of a list, and its end with their number
 abbrev pub list_text : {X : Type 0} → (X → List ℕ) → List X → List ℕ
@@ -134,6 +142,10 @@ module _ {D : Type 0} {members : _} where
   abbrev pub SaysFree : Store D members → State → List ℕ → Type 0
   SaysFree store s text = (text ≡ reply_text (reply.Free (free_of store))) × ((holds : Holds store s) → free_of store ≤ spare_of holds.rests)
 
+  -- the number of blocks is answered, which is that of the state for which the store stands
+  abbrev pub SaysBlocks : Store D members → State → List ℕ → Type 0
+  SaysBlocks store s text = (text ≡ reply_text (reply.Blocks (blocks_of store))) × (Holds store s → blocks_of store ≡ s.blocks)
+
   -- the text of the answer to a query that reads: on any disk it is Device only where a device call failed, and never Failed; and it is
   -- due where the store stood for the state and the disk is honest after it
   abbrev pub SaysRead : {T : Type 0} → Store D members → Store D members → State → (Result T Refusal → List ℕ) → (Result T Refusal → Type 0) → List ℕ → Type 0
@@ -144,27 +156,34 @@ module _ {D : Type 0} {members : _} where
   abbrev pub SaysNames : {X : Type 0} → Store D members → Store D members → State → (X → List ℕ) → Result (List X) Refusal → List ℕ → Type 0
   SaysNames old new s line due text = (new ≡ old) × SaysAnswer ⊥ (list_lines line) (λ answer. Holds old s → IsListing answer due) text
 
-  -- the text of the answer to what is no command. Any but the first four leave the store as it was, on any disk
+  -- the text of the answer to what is no command. Any but those that read leave the store as it was, on any disk
   abbrev pub Says : Store D members → Store D members → State → Request → List ℕ → Type 0
-  Says old new s (Request.Get alt key) text = SaysRead old new s value_line (λ answer. IsDueOrDevice answer (value_in s.working alt key)) text
-  Says old new s (Request.List alt) text =
-      SaysRead old new s (list_lines (λ (r : Key × List ℕ). record_text r.0 r.1)) (λ answer. IsListing answer (records_in s.working alt)) text
+  Says old new s (Request.Get at key) text = SaysRead old new s value_line (λ answer. IsDueOrDevice answer (value_at s.working at key)) text
+  Says old new s (Request.List at) text =
+      SaysRead old new s (list_lines (λ (r : Key × List ℕ). record_text r.0 r.1)) (λ answer. IsListing answer (map_at s.working at)) text
   Says old new s (Request.Changes alt) text = SaysRead old new s (list_lines change_text) (λ answer. IsListing answer (changes_in s.working alt)) text
+  Says old new s (Request.Diff first second) text =
+      SaysRead old new s (list_lines change_text) (λ answer. IsListing answer (delta_at s.working first second)) text
   Says old new s (Request.Conflicts alt) text =
       SaysRead old new s (list_lines conflict_text) (λ answer. IsListing answer (conflicts_in s.working alt)) text
+  Says old new s (Request.Tally alt) text = SaysRead old new s tally_line (λ answer. IsDueOrWanting answer (tally_in s.working alt)) text
   Says old new s Request.Alternatives text =
       SaysNames old new s (λ (a : List ℕ × Option (List ℕ)). alternative_text a.0 a.1) (Ok (shape s.working)) text
   Says old new s (Request.Checkpoints alt) text = SaysNames old new s checkpoint_text (checkpoints_in s.working alt) text
   Says old new s Request.Free text = (new ≡ old) × SaysFree old s text
+  Says old new s Request.Blocks text = (new ≡ old) × SaysBlocks old s text
   Says old new s Request.Nothing text = (new ≡ old) × (text ≡ [])
   Says old new s Request.Bad text = (new ≡ old) × (text ≡ reply_text reply.BadLine)
   Says old new s (Request.Command command) text = ⊥
 
   -- a query for changes makes no more reads than there are blocks that only one of the base and the current tree of its alternative has,
-  -- and one for conflicts no more than those and the blocks that only one of its base and its parent's current tree has
+  -- one for a difference no more than there are that only one of its two trees has, and one for conflicts or a tally no more than those of
+  -- the changes and the blocks that only one of its base and its parent's current tree has
   abbrev pub ReadsFew : Store D members → Store D members → Request → Type 0
   ReadsFew old new (Request.Changes alt) = ReadsAtMost old new (λ s holds. unshared_of holds.rests alt)
+  ReadsFew old new (Request.Diff first second) = ReadsAtMost old new (λ s holds. unshared_at holds.rests first second)
   ReadsFew old new (Request.Conflicts alt) = ReadsAtMost old new (λ s holds. unshared_on_sides holds.rests alt)
+  ReadsFew old new (Request.Tally alt) = ReadsAtMost old new (λ s holds. unshared_on_sides holds.rests alt)
   ReadsFew old new request = Unit {0}
 
   -- a command is answered as the store carried it out

@@ -51,18 +51,33 @@ cache_rule = amount_rule (codes "cache") (codes "256") MAX_CACHE
 abbrev pub buffer_rule : Rule
 buffer_rule = amount_rule (codes "buffer") (codes "16384") MAX_BUFFER
 
--- whether a line that is refused ends the talk
-abbrev pub strict_rule : Rule
-strict_rule = record (new_rule (codes "strict")) {
-  long = Some (codes "strict");
+-- an option that is given or not
+abbrev pub flag_rule : Text → Rule
+flag_rule name = record (new_rule name) {
+  long = Some name;
   action = Some SetTrue;
 }
 
--- a subcommand with the options of a talk: `[--cache N] [--buffer N] [--strict]`
-abbrev pub with_options : App → App
-with_options app = with_rule (with_rule (with_rule app cache_rule) buffer_rule) strict_rule
+-- whether a line that is refused ends the talk
+abbrev pub strict_rule : Rule
+strict_rule = flag_rule (codes "strict")
 
--- `run [--cache N] [--buffer N] [--strict] FILE`
+-- whether the file's lock is left alone, and whether it is waited for
+abbrev pub no_lock_rule : Rule
+no_lock_rule = flag_rule (codes "no-lock")
+
+abbrev pub wait_rule : Rule
+wait_rule = flag_rule (codes "wait")
+
+-- a subcommand with the options of the file's lock: `[--no-lock] [--wait]`
+abbrev pub with_lock : App → App
+with_lock app = with_rule (with_rule app no_lock_rule) wait_rule
+
+-- a subcommand with the options of a talk: those, and `[--strict] [--cache N] [--buffer N]`
+abbrev pub with_options : App → App
+with_options app = with_rule (with_rule (with_rule (with_lock app) strict_rule) cache_rule) buffer_rule
+
+-- `run [OPTIONS] FILE`
 abbrev pub run_app : App
 run_app = with_options (with_rule (new_app (codes "run")) file_rule)
 
@@ -74,24 +89,24 @@ line_rule = record (new_rule (codes "line")) {
   action = Some Append;
 }
 
--- `do [--cache N] [--buffer N] [--strict] FILE LINE..`
+-- `do [OPTIONS] FILE LINE..`
 abbrev pub do_app : App
 do_app = with_options (with_rule (with_rule (new_app (codes "do")) file_rule) line_rule)
 
--- `check FILE`
+-- `check [--no-lock] [--wait] FILE`
 abbrev pub check_app : App
-check_app = with_rule (new_app (codes "check")) file_rule
+check_app = with_lock (with_rule (new_app (codes "check")) file_rule)
 
--- `tree FILE`
+-- `tree [--no-lock] [--wait] FILE`
 abbrev pub tree_app : App
-tree_app = with_rule (new_app (codes "tree")) file_rule
+tree_app = with_lock (with_rule (new_app (codes "tree")) file_rule)
 
 -- the program without its tasks, one of which has to be named unless its version is asked for
 abbrev pub top_app : App
 top_app = on_top (λ s. record s { subcommand_required = true; has_version = true }) (new_app (codes "altctl"))
 
--- `altctl create FILE BLOCKS`, `altctl run [--cache N] [--buffer N] [--strict] FILE`, `altctl do [--cache N] [--buffer N] [--strict] FILE LINE..`,
--- `altctl check FILE` and `altctl tree FILE`
+-- `altctl create FILE BLOCKS`, `altctl run [OPTIONS] FILE`, `altctl do [OPTIONS] FILE LINE..`, `altctl check [--no-lock] [--wait] FILE` and
+-- `altctl tree [--no-lock] [--wait] FILE`
 abbrev pub altctl : App
 altctl =
     with_subcommand (with_subcommand (with_subcommand (with_subcommand (with_subcommand top_app create_app.top) run_app.top) do_app.top) check_app.top) tree_app.top

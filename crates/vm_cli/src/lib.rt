@@ -11,11 +11,13 @@ mod lines;
 mod program;
 mod talk;
 
+pub use program::console::Console;
+pub use program::locking::{Locking, lock};
 pub use program::mem_files::MemFiles;
 pub use program::place::{Place, RealFiles};
 pub use program::progress::{Cleared, Progress, Watched};
 pub use program::task::{InMemory, Job};
 pub use program::words::job;
-pub use program::{refuse_words, run_words, stop};
+pub use program::{refuse_in_use, refuse_words, run_words, stop};
 pub use talk::{OnRefusal, ServeFault, serve};
 pub use vm_disk::FileDisk;

@@ -6,3 +6,4 @@ pub mod line;
 pub mod number;
 pub mod pieces;
 pub mod settlement;
+pub mod versions;

@@ -1,11 +1,13 @@
 //! All that the program does.
 
 pub mod caching;
+pub mod console;
 pub mod counting;
 pub mod delaying;
 pub mod drawing;
 pub mod given;
 pub mod help;
+pub mod locking;
 pub mod mem_files;
 pub mod place;
 pub mod progress;
@@ -71,7 +73,7 @@ ghost use Rattle.vm_disk.specs.Between.{IfHonest};
 ghost use Rattle.vm_cli.specs.Told.{AnswersOver, FormatsOnly, MakesStore, TellsCount, TellsRefusal};
 ghost use Rattle.vm_cli.specs.Runs.{AnswersIn, CountsIn, DoesIn, LooksOnly, MakesIn, RunsIn, ServesIn, ServesRun, ServesWords, disks};
 ghost use Rattle.vm_cli.specs.Sessions.{end_of as end_of_talk};
-ghost use Rattle.vm_cli.specs.Exits.{Blames, Checks, Ends, Helps, IsDone, IsLineRefused, IsRefused, IsStopped, IsWrong, JobEnds, RefusesOn, RefusesWords, StopsUnsaid, TalkEnds, TellsOn, counts_text, created_text, file_text, refused_text, status_of, stopped_text};
+ghost use Rattle.vm_cli.specs.Exits.{Blames, Checks, Ends, Helps, IsDone, IsLineRefused, IsRefused, IsStopped, IsWrong, JobEnds, RefusesInUse, RefusesOn, RefusesWords, StopsUnsaid, TalkEnds, TellsOn, counts_text, created_text, file_text, named_text, refused_text, status_of, stopped_text};
 ghost use Rattle.vm_cli.specs.Words.Wanted.{check as check_wanted, create as create_wanted, run as run_wanted};
 
 /// Does what the words say, of which the first is the program's name, and gives the exit status.
@@ -116,6 +118,17 @@ pub fn refuse_words<F: Write>(errors: &mut F) -> u8
 {
     match say(errors, b"altctl: the words are not UTF-8\n") {
         Ok(()) => 2,
+        Err(WriteFault) => stop(errors),
+    }
+}
+
+/// Says that another process has locked the file, and gives the exit status: 1, or 3 where that could
+/// not be said.
+pub fn refuse_in_use<F: Write>(file: &str, errors: &mut F) -> u8
+    ensures { RefusesInUse F.contents file.now result errors.old errors.new }
+{
+    match say_with_file(b"altctl: ", file, b" is in use\n", errors) {
+        Ok(()) => 1,
         Err(WriteFault) => stop(errors),
     }
 }
@@ -362,17 +375,24 @@ fn created<W: Write>(blocks: u32, output: &mut W) -> Exit
 pub(crate) fn no_file<F: Write>(what: &[u8], file: &str, errors: &mut F) -> Exit
     ensures { RefusesOn F.contents result errors.old errors.new (file_text what.now file.now) }
 {
-    unless_fault(say_with_file(what, file, errors), Exit::Refused)
+    unless_fault(say_with_file(what, file, b"\n", errors), Exit::Refused)
 }
 
-/// Writes a text and the name of a file as one line, and hands it on.
-fn say_with_file<W: Write>(what: &[u8], file: &str, writer: &mut W) -> Result<(), WriteFault>
-    ensures ok { OnOk result (Gains W.contents (file_text what.now file.now) writer.old writer.new) }
-    ensures err { OnErr result (Begins W.contents (file_text what.now file.now) writer.old writer.new) }
+/// Writes a text with the name of a file in it, and hands it on.
+fn say_with_file<W: Write>(
+    before: &[u8],
+    file: &str,
+    behind: &[u8],
+    writer: &mut W,
+) -> Result<(), WriteFault>
+    ensures ok { OnOk result (Gains W.contents (named_text before.now file.now behind.now)
+        writer.old writer.new) }
+    ensures err { OnErr result (Begins W.contents (named_text before.now file.now behind.now)
+        writer.old writer.new) }
 {
-    put_all(writer, what)?;
+    put_all(writer, before)?;
     put_all(writer, file.as_bytes())?;
-    say(writer, b"\n")
+    say(writer, behind)
 }
 
 /// Says why a disk is no store, or cannot become one.

@@ -22,13 +22,13 @@ use crate::lines::pieces::first_word;
 use commands::{
     reply_to_back, reply_to_checkpoint, reply_to_commit, reply_to_drop, reply_to_grow,
     reply_to_merge, reply_to_new, reply_to_post, reply_to_reclaim, reply_to_remove,
-    reply_to_uncheck,
+    reply_to_rollback, reply_to_uncheck,
 };
 use memchr::memchr;
 use puts::reply_to_put;
 use queries::{
-    reply_to_alts, reply_to_changes, reply_to_checks, reply_to_conflicts, reply_to_free,
-    reply_to_get, reply_to_list,
+    reply_to_alts, reply_to_blocks, reply_to_changes, reply_to_checks, reply_to_conflicts,
+    reply_to_diff, reply_to_free, reply_to_get, reply_to_list, reply_to_tally,
 };
 use std::alloc::{AllocError, Global};
 use std::io::{Read, Write};
@@ -318,6 +318,7 @@ fn reply_to_verb<W: Write, D: Disk>(
             Err(AllocError) => Ok(Reply::Refused(Refusal::Memory)),
         },
         _ if verb == b"commit".as_slice() => Ok(reply_to_commit(rest, store)),
+        _ if verb == b"rollback".as_slice() => Ok(reply_to_rollback(rest, store)),
         _ if verb == b"checkpoint".as_slice() => Ok(reply_to_checkpoint(rest, store)),
         _ if verb == b"uncheck".as_slice() => Ok(reply_to_uncheck(rest, store)),
         _ if verb == b"back".as_slice() => Ok(reply_to_back(rest, store)),
@@ -331,6 +332,9 @@ fn reply_to_verb<W: Write, D: Disk>(
             alloc, rest, text, writer, store,
         ),
         _ if verb == b"free".as_slice() => Ok(reply_to_free(rest, store)),
+        _ if verb == b"diff".as_slice() => reply_to_diff(alloc, rest, text, writer, store),
+        _ if verb == b"tally".as_slice() => Ok(reply_to_tally(alloc, rest, store)),
+        _ if verb == b"blocks".as_slice() => Ok(reply_to_blocks(rest, store)),
         _ if verb.first() == Some(&b'#') => Ok(Reply::Nothing),
         _ => Ok(Reply::BadLine),
     }

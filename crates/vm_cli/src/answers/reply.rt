@@ -3,6 +3,7 @@ ghost use Rattle.std.specs.Prelude.{◌≡◌, ◌≢◌, ◌+◌, ◌≤◌, �
 
 use crate::answers::text::Text;
 use crate::lines::escape;
+use vm_store::Tally;
 use vm_types::{Key, Refusal};
 
 /// What a line is answered.
@@ -15,6 +16,10 @@ pub enum Reply {
     Merged(u32),
     /// The number of free blocks.
     Free(u32),
+    /// The number of blocks.
+    Blocks(u32),
+    /// How far an alternative has gone from its base and from its parent.
+    Tally(Tally),
     /// The end of a list, with the number of its lines before this one.
     End(usize),
     Refused(Refusal),
@@ -46,6 +51,12 @@ impl Reply {
                 text.push_number(u64::from(*count));
                 text.push(b'\n');
             }
+            Reply::Blocks(count) => {
+                text.push_bytes(b"blocks ");
+                text.push_number(u64::from(*count));
+                text.push(b'\n');
+            }
+            Reply::Tally(tally) => push_tally(text, tally),
             Reply::End(count) => {
                 text.push_bytes(b"end ");
                 text.push_number(*count as u64);
@@ -89,6 +100,8 @@ impl Reply {
             Reply::Done => false,
             Reply::Merged(_) => false,
             Reply::Free(_) => false,
+            Reply::Blocks(_) => false,
+            Reply::Tally(_) => false,
             Reply::End(_) => false,
             Reply::Refused(_) => true,
             Reply::Last(_) => true,
@@ -101,7 +114,7 @@ impl Reply {
 ghost use Rattle.std.specs.Prelude.{◌∷◌, [], codes, option_copied, IfSome};
 ghost use Rattle.vm_types.specs.Bytes.{longest};
 ghost use Rattle.vm_types.specs.Texts.{detail_text, key_text, refusal_text};
-ghost use Rattle.vm_cli.specs.Replies.{found_text};
+ghost use Rattle.vm_cli.specs.Replies.{found_text, tally_text};
 
 /// Writes the line of a record's value, or that there is none.
 pub(crate) fn push_found(text: &mut Text, found: Option<&[u8]>)
@@ -117,6 +130,25 @@ pub(crate) fn push_found(text: &mut Text, found: Option<&[u8]>)
             escape::push_spelled(text, value);
             text.push(b'\n');
         }
+    }
+}
+
+/// Writes the line of a tally.
+fn push_tally(text: &mut Text, tally: &Tally)
+    requires { length text.old + 200 ≤ Text.MAX_LEN }
+    ensures { text.new ≡ text.old ++ tally_text tally.now }
+{
+    text.push_bytes(b"tally ");
+    text.push_number(tally.changed as u64);
+    text.push(b' ');
+    text.push_number(tally.unmerged as u64);
+    text.push(b' ');
+    text.push_number(tally.conflicts as u64);
+    text.push(b' ');
+    if tally.can_post {
+        text.push_bytes(b"yes\n");
+    } else {
+        text.push_bytes(b"no\n");
     }
 }
 

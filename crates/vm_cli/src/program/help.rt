@@ -145,6 +145,14 @@ until it ends. What was not committed is gone then.";
 /// The file that `run` opens.
 pub const RUN_FILE: &str = "The file, as altctl create has made it";
 
+/// What `--no-lock` does.
+pub const NO_LOCK: &str = "\
+Takes no lock: for a caller that holds it";
+
+/// What `--wait` does.
+pub const WAIT: &str = "\
+Waits while another process uses the file";
+
 /// How many blocks `run` keeps in memory.
 pub const RUN_CACHE: &str = "How many blocks stay in memory: 0 to 65536";
 
@@ -205,13 +213,18 @@ Lines, by what they are about, each with what it does and its answer:
 
   Store
     commit                      makes all changes last: ok
+    rollback                    undoes all since the last commit: ok
     reclaim                     frees each block that no version needs: ok
     grow BLOCKS                 gives the store so many blocks in all: ok
     free                        the number of free blocks: free N
+    blocks                      the number of all blocks: blocks N
 
   Queries
-    get ALT TABLE NUMBER        reads a record: value VALUE, or none
-    list ALT                    all records:
+    get AT TABLE NUMBER         reads a record: value VALUE, or none
+    tally ALT                   how far it is from its base and its parent:
+                                tally CHANGED UNMERGED CONFLICTS yes, or no
+                                where a post would be refused
+    list AT                     all records:
                                 record TABLE NUMBER VALUE for each
     alts                        all alternatives:
                                 alternative NAME PARENT for each
@@ -219,11 +232,16 @@ Lines, by what they are about, each with what it does and its answer:
                                 checkpoint NAME for each
     changes ALT                 what changed since the base:
                                 change TABLE NUMBER BEFORE AFTER for each
+    diff AT AT                  what differs from the first to the second:
+                                change TABLE NUMBER BEFORE AFTER for each
     conflicts ALT               what is in conflict with the parent:
                                 conflict TABLE NUMBER BASE PARENT MINE for each
 
-The last five end with a line end N, with the number of lines before it. In
+The last six end with a line end N, with the number of lines before it. In
 their lines ~ stands for no value or no parent.
+
+AT is ALT for what the alternative shows, ALT@ for its base, and ALT@CHECKPOINT
+for the records of a checkpoint.
 
 The first alternative is top. A name, ALT and PARENT too, has 1 to 32 ASCII
 letters, digits, _, - and . in it. TABLE is a number from 0 to 65535, NUMBER one

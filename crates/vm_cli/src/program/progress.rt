@@ -2,13 +2,14 @@
 //!
 //! The line stands on the standard error alone, and is no part of any answer: no contract says what
 //! stands there, and a failure to write it is ignored. A file that is watched and a stream over
-//! which the line is cleared are handed on as they are.
+//! which the line is cleared are handed on as they are, but that nothing more is written once a reader
+//! is gone.
 ghost use Rattle.std.specs.Prelude.{◌≡◌};
 ghost use Rattle.vm_cli.specs.Progress.{file_below, stream_below};
 
 use crate::answers::text::Text;
 use std::cell::Cell;
-use std::io::{self, IsTerminal, Read, Write};
+use std::io::{self, ErrorKind, IsTerminal, Read, Write};
 use std::time::{Duration, Instant};
 use vm_disk::{DeviceFault, Positional};
 
@@ -33,6 +34,8 @@ pub struct Progress {
     total: Cell<u64>,
     due: Cell<Option<Instant>>,
     is_shown: Cell<bool>,
+    // A pipe was written to that no one reads any more.
+    is_unread: Cell<bool>,
 }
 
 impl Progress {
@@ -49,6 +52,7 @@ impl Progress {
             total: Cell::new(0),
             due: Cell::new(None),
             is_shown: Cell::new(false),
+            is_unread: Cell::new(false),
         }
     }
 
@@ -182,7 +186,9 @@ impl<F: Positional> Positional for Watched<'_, F> {
     }
 }
 
-/// A stream of the program. The line on the terminal is cleared before it is read or written.
+/// A stream of the program. The line on the terminal is cleared before it is read or written. After a
+/// write to a pipe that has no reader any more, nothing is written to any of the program's streams: it
+/// ends without a word, as `altctl .. | head -1` is meant to.
 #[derive(Drop)]
 pub struct Cleared<'a, S> {
     stream: S,
@@ -195,6 +201,18 @@ impl<'a, S> Cleared<'a, S> {
         ensures { stream_below result ≡ stream }
     {
         Cleared { stream, progress }
+    }
+
+    /// Takes the line away.
+    pub(crate) fn clear(&self) {
+        self.progress.clear();
+    }
+}
+
+impl<S: IsTerminal> Cleared<'_, S> {
+    /// Whether the stream is a terminal.
+    pub(crate) fn is_terminal(&self) -> bool {
+        self.stream.is_terminal()
     }
 }
 
@@ -212,7 +230,16 @@ impl<S: Write> Write for Cleared<'_, S> {
 
     fn write(&mut self, buf: &[u8]) -> io::Result<usize> {
         self.progress.clear();
-        self.stream.write(buf)
+        if self.progress.is_unread.get() {
+            return Err(io::Error::from(ErrorKind::BrokenPipe));
+        }
+        let answer = self.stream.write(buf);
+        if let Err(error) = &answer
+            && error.kind() == ErrorKind::BrokenPipe
+        {
+            self.progress.is_unread.set(true);
+        }
+        answer
     }
 
     fn flush(&mut self) -> io::Result<()> {

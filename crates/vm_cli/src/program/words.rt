@@ -2,10 +2,11 @@
 ghost use Rattle.clap.specs.Words.{FailsBy, app_of, fault_of, found_of, first_of, new_app, rows_of, rule_of, subcommand_rows_of};
 ghost use Rattle.std.specs.Prelude.{◌≡◌, ◌⊎◌, if◌then◌else◌, IfErr, IfOk, None, Some, false, map, ℕ, List, option_map, option_and_then, codes};
 ghost use Rattle.std.specs.String.{string_bytes};
-ghost use Rattle.vm_cli.specs.Words.{AddsTask, IsAsked, IsAskedOf, IsLocal, WordsAsk, altctl, amount_rule, blocks_rule, check_app, create_app, do_app, file_rule, line_rule, is_set, number_by, memory_by, run_app, strict_rule, top_app, tree_app, wanted_of, with_options};
+ghost use Rattle.vm_cli.specs.Words.{AddsTask, IsAsked, IsAskedOf, IsLocal, WordsAsk, altctl, amount_rule, blocks_rule, check_app, create_app, do_app, file_rule, flag_rule, line_rule, is_set, number_by, memory_by, run_app, top_app, tree_app, wanted_of, with_lock, with_options};
 
 use crate::program::given::input_of;
 use crate::program::help;
+use crate::program::locking::{Access, LockWanted};
 use crate::program::task::{InMemory, Job};
 use crate::talk::OnRefusal;
 use clap::{Arg, ArgAction, ArgMatches, Command, Error, value_parser};
@@ -30,6 +31,28 @@ pub fn job<'a>(alloc: Global, words: &'a [String]) -> Result<Job<'a>, Error>
         Some(job) => Ok(job),
         None => unreachable!(),
     }
+}
+
+/// The lock that the words ask for, if the program is to take one: not where they name no task or make a
+/// new file, which is nobody else's yet, where they say that it takes none, or where memory is wanting.
+pub(crate) fn lock_wanted<'a>(alloc: Global, words: &'a [String]) -> Option<LockWanted<'a>> {
+    let matches = command(alloc).ok()?.try_get_matches_from(words).ok()?;
+    let (name, matches) = matches.subcommand()?;
+    let file = matches.get_str("file")?;
+    let access = match name {
+        "run" | "do" => Access::Write,
+        "check" | "tree" => Access::Read,
+        _ => return None,
+    };
+    if is_given(matches, "no-lock") {
+        return None;
+    }
+    let waits = is_given(matches, "wait");
+    Some(LockWanted {
+        file,
+        access,
+        waits,
+    })
 }
 
 /// The job that the matches ask for.
@@ -65,7 +88,7 @@ fn asked_run<'a>(matches: &ArgMatches<'a>, file: &'a str) -> Option<Job<'a>>
     ensures { IsAsked (codes "run") (rows_of (found_of matches.now)) file.now result }
 {
     let in_memory = in_memory(matches)?;
-    let on_refusal = on_refusal(is_strict(matches), OnRefusal::Ignore);
+    let on_refusal = on_refusal(is_given(matches, "strict"), OnRefusal::Ignore);
     Some(Job::Run {
         file,
         in_memory,
@@ -88,7 +111,7 @@ fn asked_do<'a>(
         return Ok(None);
     };
     let input = input_of(alloc, lines)?;
-    let on_refusal = on_refusal(is_strict(matches), OnRefusal::Tell);
+    let on_refusal = on_refusal(is_given(matches, "strict"), OnRefusal::Tell);
     Ok(Some(Job::Do {
         file,
         input,
@@ -106,11 +129,11 @@ fn in_memory(matches: &ArgMatches<'_>) -> Option<InMemory>
     Some(InMemory { cache, buffer })
 }
 
-/// Whether `--strict` was given.
-fn is_strict(matches: &ArgMatches<'_>) -> bool
-    ensures { result ≡ is_set (first_of (codes "strict") (rows_of (found_of matches.now))) }
+/// Whether the flag of this name was given.
+fn is_given(matches: &ArgMatches<'_>, name: &str) -> bool
+    ensures { result ≡ is_set (first_of name.now (rows_of (found_of matches.now))) }
 {
-    match matches.get_str("strict") {
+    match matches.get_str(name) {
         Some(text) => text == "true",
         None => false,
     }
@@ -232,10 +255,20 @@ fn with_options<'a>(alloc: Global, command: Command<'a>) -> Result<Command<'a>, 
     ensures app { IfOk result (λ c. app_of c ≡ with_options (app_of command.entry)) }
     ensures local { IsLocal command.entry → IfOk result (λ c. IsLocal c) }
 {
-    command
+    with_lock(alloc, command)?
+        .arg(flag(alloc, "strict", help::STRICT))?
         .arg(amount(alloc, "cache", help::RUN_CACHE, "256"))?
-        .arg(amount(alloc, "buffer", help::RUN_BUFFER, "16384"))?
-        .arg(strict(alloc))
+        .arg(amount(alloc, "buffer", help::RUN_BUFFER, "16384"))
+}
+
+/// A command with the options of the file's lock.
+fn with_lock<'a>(alloc: Global, command: Command<'a>) -> Result<Command<'a>, AllocError>
+    ensures app { IfOk result (λ c. app_of c ≡ with_lock (app_of command.entry)) }
+    ensures local { IsLocal command.entry → IfOk result (λ c. IsLocal c) }
+{
+    command
+        .arg(flag(alloc, "no-lock", help::NO_LOCK))?
+        .arg(flag(alloc, "wait", help::WAIT))
 }
 
 fn check<'a>(alloc: Global) -> Result<Command<'a>, AllocError>
@@ -243,10 +276,11 @@ fn check<'a>(alloc: Global) -> Result<Command<'a>, AllocError>
     ensures local { IfOk result (λ c. IsLocal c) }
 {
     let about = "Opens a store, changes nothing, and prints what it holds";
-    described(alloc, "check", about, help::CHECK, help::CHECK_AFTER).arg(file(
+    let command = described(alloc, "check", about, help::CHECK, help::CHECK_AFTER).arg(file(
         alloc,
         help::CHECK_FILE,
-    ))
+    ))?;
+    with_lock(alloc, command)
 }
 
 fn tree<'a>(alloc: Global) -> Result<Command<'a>, AllocError>
@@ -254,7 +288,11 @@ fn tree<'a>(alloc: Global) -> Result<Command<'a>, AllocError>
     ensures local { IfOk result (λ c. IsLocal c) }
 {
     let about = "Opens a store, changes nothing, and draws its alternatives as a tree";
-    described(alloc, "tree", about, help::TREE, help::TREE_AFTER).arg(file(alloc, help::CHECK_FILE))
+    let command = described(alloc, "tree", about, help::TREE, help::TREE_AFTER).arg(file(
+        alloc,
+        help::CHECK_FILE,
+    ))?;
+    with_lock(alloc, command)
 }
 
 fn file<'a>(alloc: Global, about: &'a str) -> Arg<'a>
@@ -302,12 +340,12 @@ fn amount<'a>(alloc: Global, name: &'a str, about: &'a str, default: &'a str) ->
         .value_parser(value_parser!(u32).range(0..=65_536))
 }
 
-fn strict<'a>(alloc: Global) -> Arg<'a>
-    ensures rule { rule_of result ≡ strict_rule }
+fn flag<'a>(alloc: Global, name: &'a str, about: &'a str) -> Arg<'a>
+    ensures rule { rule_of result ≡ flag_rule name.entry.now }
     ensures local { result.global ≡ false }
 {
-    Arg::new(alloc, "strict")
-        .long("strict")
-        .help(help::STRICT)
+    Arg::new(alloc, name)
+        .long(name)
+        .help(about)
         .action(ArgAction::SetTrue)
 }

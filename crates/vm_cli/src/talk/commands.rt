@@ -105,6 +105,17 @@ pub(crate) fn reply_to_commit<D: Disk>(rest: &[u8], store: &mut Store<D>) -> Rep
     }
 }
 
+/// `rollback`
+#[inline(never)]
+pub(crate) fn reply_to_rollback<D: Disk>(rest: &[u8], store: &mut Store<D>) -> Reply
+    ensures { HandlesBy (codes "rollback" ∷ words_of rest.now) result store.old store.new }
+{
+    match ends(rest) {
+        Some(()) => reply_to_command(&Command::Rollback, store),
+        None => Reply::BadLine,
+    }
+}
+
 /// `checkpoint ALT NAME`
 #[inline(never)]
 pub(crate) fn reply_to_checkpoint<D: Disk>(rest: &[u8], store: &mut Store<D>) -> Reply

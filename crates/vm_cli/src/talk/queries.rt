@@ -12,12 +12,13 @@ use crate::answers::lists::reply_with_list;
 use crate::answers::reply::{Reply, push_found};
 use crate::answers::text::Text;
 use crate::answers::writing::WriteFault;
-use crate::lines::arguments::{ends, one_name, record};
+use crate::lines::arguments::{ends, one_name};
+use crate::lines::versions::{one_at, record_at, two_ats};
 use std::alloc::Global;
 use std::io::Write;
 use vm_disk::Disk;
 use vm_store::Store;
-use vm_types::{Key, Name};
+use vm_types::{At, Key, Name};
 
 /// Answers a query for the value of a record, of which the words behind the first are given. The
 /// text takes the answer, unless it is a refusal.
@@ -37,15 +38,15 @@ pub(crate) fn reply_to_get<D: Disk>(
     ensures answer { AnswersWith (request_of (codes "get" ∷ words_of rest.now)) result text.new
         store.old store.new }
 {
-    match record(rest) {
-        Some((alt, key)) => get(&alt, key, text, room, store),
+    match record_at(rest) {
+        Some((at, key)) => get(&at, key, text, room, store),
         None => Reply::BadLine,
     }
 }
 
 /// Answers a query for the value of a record. The text takes the answer, unless it is a refusal.
 fn get<D: Disk>(
-    alt: &Name,
+    at: &At,
     key: Key,
     text: &mut Text,
     room: &mut [u8; 4096],
@@ -57,9 +58,9 @@ fn get<D: Disk>(
     ensures failed { has_failed store.new ≡ has_failed store.old }
     ensures last { has_failed store.old ≡ false → ends_talk result ≡ false }
     ensures left { has_failed store.old ≡ true → store.new ≡ store.old }
-    ensures answer { AnswersWith (Request.Get alt.now key) result text.new store.old store.new }
+    ensures answer { AnswersWith (Request.Get at.now key) result text.new store.old store.new }
 {
-    match store.look(alt, key, room) {
+    match store.look_at(at, key, room) {
         Ok(found) => {
             push_found(text, found);
             Reply::Nothing
@@ -68,7 +69,7 @@ fn get<D: Disk>(
     }
 }
 
-/// `list ALT`
+/// `list AT`
 #[inline(never)]
 pub(crate) fn reply_to_list<W: Write, D: Disk>(
     alloc: Global,
@@ -81,8 +82,8 @@ pub(crate) fn reply_to_list<W: Write, D: Disk>(
     ensures { HandlesInto W.contents (codes "list" ∷ words_of rest.now) result
         store.old store.new writer.old writer.new text.new }
 {
-    match one_name(rest) {
-        Some(alt) => reply_with_list(store.list(alloc, &alt), text, writer),
+    match one_at(rest) {
+        Some(at) => reply_with_list(store.list_at(alloc, &at), text, writer),
         None => Ok(Reply::BadLine),
     }
 }
@@ -144,6 +145,25 @@ pub(crate) fn reply_to_changes<W: Write, D: Disk>(
     }
 }
 
+/// `diff AT AT`
+#[inline(never)]
+pub(crate) fn reply_to_diff<W: Write, D: Disk>(
+    alloc: Global,
+    rest: &[u8],
+    text: &mut Text,
+    writer: &mut W,
+    store: &mut Store<D>,
+) -> Result<Reply, WriteFault>
+    requires { text.old ≡ [] }
+    ensures { HandlesInto W.contents (codes "diff" ∷ words_of rest.now) result
+        store.old store.new writer.old writer.new text.new }
+{
+    match two_ats(rest) {
+        Some((first, second)) => reply_with_list(store.diff(alloc, &first, &second), text, writer),
+        None => Ok(Reply::BadLine),
+    }
+}
+
 /// `conflicts ALT`
 #[inline(never)]
 pub(crate) fn reply_to_conflicts<W: Write, D: Disk>(
@@ -160,6 +180,31 @@ pub(crate) fn reply_to_conflicts<W: Write, D: Disk>(
     match one_name(rest) {
         Some(alt) => reply_with_list(store.conflicts(alloc, &alt), text, writer),
         None => Ok(Reply::BadLine),
+    }
+}
+
+/// `tally ALT`
+#[inline(never)]
+pub(crate) fn reply_to_tally<D: Disk>(alloc: Global, rest: &[u8], store: &mut Store<D>) -> Reply
+    ensures { HandlesBy (codes "tally" ∷ words_of rest.now) result store.old store.new }
+{
+    match one_name(rest) {
+        Some(alt) => tally(alloc, &alt, store),
+        None => Reply::BadLine,
+    }
+}
+
+/// Answers a query for the numbers of an alternative.
+fn tally<D: Disk>(alloc: Global, alt: &Name, store: &mut Store<D>) -> Reply
+    ensures goes { GoesOn ⊥ store.old store.new }
+    ensures failed { has_failed store.new ≡ has_failed store.old }
+    ensures last { has_failed store.old ≡ false → ends_talk result ≡ false }
+    ensures left { has_failed store.old ≡ true → store.new ≡ store.old }
+    ensures answer { AnswersBy (Request.Tally alt.now) result store.old store.new }
+{
+    match store.tally(alloc, alt) {
+        Ok(numbers) => Reply::Tally(numbers),
+        Err(refusal) => Reply::from_refusal(refusal),
     }
 }
 
@@ -180,6 +225,27 @@ fn free<D: Disk>(store: &Store<D>) -> Reply
 {
     match store.free() {
         Ok(count) => Reply::Free(count),
+        Err(refusal) => Reply::from_refusal(refusal),
+    }
+}
+
+/// `blocks`
+pub(crate) fn reply_to_blocks<D: Disk>(rest: &[u8], store: &Store<D>) -> Reply
+    ensures { HandlesBy (codes "blocks" ∷ words_of rest.now) result store.now store.now }
+{
+    match ends(rest) {
+        Some(()) => blocks(store),
+        None => Reply::BadLine,
+    }
+}
+
+/// Answers a query for the number of blocks.
+fn blocks<D: Disk>(store: &Store<D>) -> Reply
+    ensures last { has_failed store.now ≡ false → ends_talk result ≡ false }
+    ensures answer { AnswersBy Request.Blocks result store.now store.now }
+{
+    match store.blocks() {
+        Ok(count) => Reply::Blocks(count),
         Err(refusal) => Reply::from_refusal(refusal),
     }
 }

@@ -10,8 +10,8 @@ pub returns-in_err-put_all-clause-err : goal.returns-in_err-put_all-clause-err
 returns-in_err-put_all-clause-err g c =
     let before = g.W.Write.contents c.args.writer.now in
     let after = g.W.Write.contents c.put_all.new.writer in
-    let cut = begins-cut before after c.args.what.now c.in_err-put_all.ensures.err.0 c.in_err-put_all.ensures.err.1 in
-    on_err c.from_residual.result (file_first before after c.args.what.now c.args.file.now cut)
+    let cut = begins-cut before after c.args.before.now c.in_err-put_all.ensures.err.0 c.in_err-put_all.ensures.err.1 in
+    on_err c.from_residual.result (file_first before after c.args.before.now c.args.file.now c.args.behind.now cut)
 
 pub returns-in_err-put_all-2-clause-err : goal.returns-in_err-put_all-2-clause-err
 returns-in_err-put_all-2-clause-err g c =
@@ -21,7 +21,7 @@ returns-in_err-put_all-2-clause-err g c =
     let cut = begins-cut between after _ c.in_err-put_all-2.ensures.err.0 c.in_err-put_all-2.ensures.err.1 in
     let named : WritesStart between after c.args.file.now = subst (WritesStart between after) c.as_bytes.ensures.value cut in
     on_err c.from_residual-in_err-put_all-2.result
-    (file_then before between after c.args.what.now _ c.in_ok-put_all.ensures.ok (begins-more between after c.args.file.now _ named))
+    (file_then before between after c.args.before.now _ c.in_ok-put_all.ensures.ok (begins-more between after c.args.file.now _ named))
 
 pub returns-clause-err : goal.returns-clause-err
 returns-clause-err g c =
@@ -31,4 +31,4 @@ returns-clause-err g c =
     let after = g.W.Write.contents c.say.new.writer in
     let named : Appends first second c.args.file.now = subst (Appends first second) c.as_bytes.ensures.value c.in_ok-put_all-2.ensures.ok in
     on_err_weaker c.say.result
-    (λ end. file_then before first after c.args.what.now _ c.in_ok-put_all.ensures.ok (file_then first second after c.args.file.now _ named end)) c.say.ensures.err
+    (λ end. file_then before first after c.args.before.now _ c.in_ok-put_all.ensures.ok (file_then first second after c.args.file.now _ named end)) c.say.ensures.err

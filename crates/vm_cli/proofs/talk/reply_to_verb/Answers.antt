@@ -72,68 +72,88 @@ returns-then-eq-8 g c =
 
 pub returns-then-eq-9 : goal.returns-then-eq-9
 returns-then-eq-9 g c =
-    let verb : c.args.verb.now ≡ codes "checkpoint" = (bytes_eq-Decides c.args.verb.now (codes "checkpoint")).0 (search rules) in
-    alone_into g.W.Write.contents c.args.store.now c.reply_to_checkpoint.new.store c.args.verb.now (codes "checkpoint") verb (words_of c.args.rest.now) c.reply_to_checkpoint.result c.args.writer.now c.args.text.now c.requires c.reply_to_checkpoint.ensures
+    let verb : c.args.verb.now ≡ codes "rollback" = (bytes_eq-Decides c.args.verb.now (codes "rollback")).0 (search rules) in
+    alone_into g.W.Write.contents c.args.store.now c.reply_to_rollback.new.store c.args.verb.now (codes "rollback") verb (words_of c.args.rest.now) c.reply_to_rollback.result c.args.writer.now c.args.text.now c.requires c.reply_to_rollback.ensures
 
 pub returns-then-eq-10 : goal.returns-then-eq-10
 returns-then-eq-10 g c =
-    let verb : c.args.verb.now ≡ codes "uncheck" = (bytes_eq-Decides c.args.verb.now (codes "uncheck")).0 (search rules) in
-    alone_into g.W.Write.contents c.args.store.now c.reply_to_uncheck.new.store c.args.verb.now (codes "uncheck") verb (words_of c.args.rest.now) c.reply_to_uncheck.result c.args.writer.now c.args.text.now c.requires c.reply_to_uncheck.ensures
+    let verb : c.args.verb.now ≡ codes "checkpoint" = (bytes_eq-Decides c.args.verb.now (codes "checkpoint")).0 (search rules) in
+    alone_into g.W.Write.contents c.args.store.now c.reply_to_checkpoint.new.store c.args.verb.now (codes "checkpoint") verb (words_of c.args.rest.now) c.reply_to_checkpoint.result c.args.writer.now c.args.text.now c.requires c.reply_to_checkpoint.ensures
 
 pub returns-then-eq-11 : goal.returns-then-eq-11
 returns-then-eq-11 g c =
-    let verb : c.args.verb.now ≡ codes "back" = (bytes_eq-Decides c.args.verb.now (codes "back")).0 (search rules) in
-    alone_into g.W.Write.contents c.args.store.now c.reply_to_back.new.store c.args.verb.now (codes "back") verb (words_of c.args.rest.now) c.reply_to_back.result c.args.writer.now c.args.text.now c.requires c.reply_to_back.ensures
+    let verb : c.args.verb.now ≡ codes "uncheck" = (bytes_eq-Decides c.args.verb.now (codes "uncheck")).0 (search rules) in
+    alone_into g.W.Write.contents c.args.store.now c.reply_to_uncheck.new.store c.args.verb.now (codes "uncheck") verb (words_of c.args.rest.now) c.reply_to_uncheck.result c.args.writer.now c.args.text.now c.requires c.reply_to_uncheck.ensures
 
 pub returns-then-eq-12 : goal.returns-then-eq-12
 returns-then-eq-12 g c =
-    let verb : c.args.verb.now ≡ codes "reclaim" = (bytes_eq-Decides c.args.verb.now (codes "reclaim")).0 (search rules) in
-    alone_into g.W.Write.contents c.args.store.now c.reply_to_reclaim.new.store c.args.verb.now (codes "reclaim") verb (words_of c.args.rest.now) c.reply_to_reclaim.result c.args.writer.now c.args.text.now c.requires c.reply_to_reclaim.ensures
+    let verb : c.args.verb.now ≡ codes "back" = (bytes_eq-Decides c.args.verb.now (codes "back")).0 (search rules) in
+    alone_into g.W.Write.contents c.args.store.now c.reply_to_back.new.store c.args.verb.now (codes "back") verb (words_of c.args.rest.now) c.reply_to_back.result c.args.writer.now c.args.text.now c.requires c.reply_to_back.ensures
 
 pub returns-then-eq-13 : goal.returns-then-eq-13
 returns-then-eq-13 g c =
-    let verb : c.args.verb.now ≡ codes "grow" = (bytes_eq-Decides c.args.verb.now (codes "grow")).0 (search rules) in
-    alone_into g.W.Write.contents c.args.store.now c.reply_to_grow.new.store c.args.verb.now (codes "grow") verb (words_of c.args.rest.now) c.reply_to_grow.result c.args.writer.now c.args.text.now c.requires c.reply_to_grow.ensures
+    let verb : c.args.verb.now ≡ codes "reclaim" = (bytes_eq-Decides c.args.verb.now (codes "reclaim")).0 (search rules) in
+    alone_into g.W.Write.contents c.args.store.now c.reply_to_reclaim.new.store c.args.verb.now (codes "reclaim") verb (words_of c.args.rest.now) c.reply_to_reclaim.result c.args.writer.now c.args.text.now c.requires c.reply_to_reclaim.ensures
 
 pub returns-then-eq-14 : goal.returns-then-eq-14
 returns-then-eq-14 g c =
-    let verb : c.args.verb.now ≡ codes "list" = (bytes_eq-Decides c.args.verb.now (codes "list")).0 (search rules) in
-    verb_into g.W.Write.contents c.args.store.now c.reply_to_list.new.store c.args.verb.now (codes "list") verb (words_of c.args.rest.now) c.reply_to_list.result c.args.writer.now c.reply_to_list.new.writer c.reply_to_list.new.text c.reply_to_list.ensures
+    let verb : c.args.verb.now ≡ codes "grow" = (bytes_eq-Decides c.args.verb.now (codes "grow")).0 (search rules) in
+    alone_into g.W.Write.contents c.args.store.now c.reply_to_grow.new.store c.args.verb.now (codes "grow") verb (words_of c.args.rest.now) c.reply_to_grow.result c.args.writer.now c.args.text.now c.requires c.reply_to_grow.ensures
 
 pub returns-then-eq-15 : goal.returns-then-eq-15
 returns-then-eq-15 g c =
-    let verb : c.args.verb.now ≡ codes "alts" = (bytes_eq-Decides c.args.verb.now (codes "alts")).0 (search rules) in
-    verb_into g.W.Write.contents c.args.store.now c.args.store.now c.args.verb.now (codes "alts") verb (words_of c.args.rest.now) c.reply_to_alts.result c.args.writer.now c.reply_to_alts.new.writer c.reply_to_alts.new.text c.reply_to_alts.ensures
+    let verb : c.args.verb.now ≡ codes "list" = (bytes_eq-Decides c.args.verb.now (codes "list")).0 (search rules) in
+    verb_into g.W.Write.contents c.args.store.now c.reply_to_list.new.store c.args.verb.now (codes "list") verb (words_of c.args.rest.now) c.reply_to_list.result c.args.writer.now c.reply_to_list.new.writer c.reply_to_list.new.text c.reply_to_list.ensures
 
 pub returns-then-eq-16 : goal.returns-then-eq-16
 returns-then-eq-16 g c =
-    let verb : c.args.verb.now ≡ codes "checks" = (bytes_eq-Decides c.args.verb.now (codes "checks")).0 (search rules) in
-    verb_into g.W.Write.contents c.args.store.now c.args.store.now c.args.verb.now (codes "checks") verb (words_of c.args.rest.now) c.reply_to_checks.result c.args.writer.now c.reply_to_checks.new.writer c.reply_to_checks.new.text c.reply_to_checks.ensures
+    let verb : c.args.verb.now ≡ codes "alts" = (bytes_eq-Decides c.args.verb.now (codes "alts")).0 (search rules) in
+    verb_into g.W.Write.contents c.args.store.now c.args.store.now c.args.verb.now (codes "alts") verb (words_of c.args.rest.now) c.reply_to_alts.result c.args.writer.now c.reply_to_alts.new.writer c.reply_to_alts.new.text c.reply_to_alts.ensures
 
 pub returns-then-eq-17 : goal.returns-then-eq-17
 returns-then-eq-17 g c =
-    let verb : c.args.verb.now ≡ codes "changes" = (bytes_eq-Decides c.args.verb.now (codes "changes")).0 (search rules) in
-    verb_into g.W.Write.contents c.args.store.now c.reply_to_changes.new.store c.args.verb.now (codes "changes") verb (words_of c.args.rest.now) c.reply_to_changes.result c.args.writer.now c.reply_to_changes.new.writer c.reply_to_changes.new.text c.reply_to_changes.ensures
+    let verb : c.args.verb.now ≡ codes "checks" = (bytes_eq-Decides c.args.verb.now (codes "checks")).0 (search rules) in
+    verb_into g.W.Write.contents c.args.store.now c.args.store.now c.args.verb.now (codes "checks") verb (words_of c.args.rest.now) c.reply_to_checks.result c.args.writer.now c.reply_to_checks.new.writer c.reply_to_checks.new.text c.reply_to_checks.ensures
 
 pub returns-then-eq-18 : goal.returns-then-eq-18
 returns-then-eq-18 g c =
-    let verb : c.args.verb.now ≡ codes "conflicts" = (bytes_eq-Decides c.args.verb.now (codes "conflicts")).0 (search rules) in
-    verb_into g.W.Write.contents c.args.store.now c.reply_to_conflicts.new.store c.args.verb.now (codes "conflicts") verb (words_of c.args.rest.now) c.reply_to_conflicts.result c.args.writer.now c.reply_to_conflicts.new.writer c.reply_to_conflicts.new.text c.reply_to_conflicts.ensures
+    let verb : c.args.verb.now ≡ codes "changes" = (bytes_eq-Decides c.args.verb.now (codes "changes")).0 (search rules) in
+    verb_into g.W.Write.contents c.args.store.now c.reply_to_changes.new.store c.args.verb.now (codes "changes") verb (words_of c.args.rest.now) c.reply_to_changes.result c.args.writer.now c.reply_to_changes.new.writer c.reply_to_changes.new.text c.reply_to_changes.ensures
 
 pub returns-then-eq-19 : goal.returns-then-eq-19
 returns-then-eq-19 g c =
-    let verb : c.args.verb.now ≡ codes "free" = (bytes_eq-Decides c.args.verb.now (codes "free")).0 (search rules) in
-    alone_into g.W.Write.contents c.args.store.now c.args.store.now c.args.verb.now (codes "free") verb (words_of c.args.rest.now) c.reply_to_free.result c.args.writer.now c.args.text.now c.requires c.reply_to_free.ensures
+    let verb : c.args.verb.now ≡ codes "conflicts" = (bytes_eq-Decides c.args.verb.now (codes "conflicts")).0 (search rules) in
+    verb_into g.W.Write.contents c.args.store.now c.reply_to_conflicts.new.store c.args.verb.now (codes "conflicts") verb (words_of c.args.rest.now) c.reply_to_conflicts.result c.args.writer.now c.reply_to_conflicts.new.writer c.reply_to_conflicts.new.text c.reply_to_conflicts.ensures
 
 pub returns-then-eq-20 : goal.returns-then-eq-20
 returns-then-eq-20 g c =
+    let verb : c.args.verb.now ≡ codes "free" = (bytes_eq-Decides c.args.verb.now (codes "free")).0 (search rules) in
+    alone_into g.W.Write.contents c.args.store.now c.args.store.now c.args.verb.now (codes "free") verb (words_of c.args.rest.now) c.reply_to_free.result c.args.writer.now c.args.text.now c.requires c.reply_to_free.ensures
+
+pub returns-then-eq-21 : goal.returns-then-eq-21
+returns-then-eq-21 g c =
+    let verb : c.args.verb.now ≡ codes "diff" = (bytes_eq-Decides c.args.verb.now (codes "diff")).0 (search rules) in
+    verb_into g.W.Write.contents c.args.store.now c.reply_to_diff.new.store c.args.verb.now (codes "diff") verb (words_of c.args.rest.now) c.reply_to_diff.result c.args.writer.now c.reply_to_diff.new.writer c.reply_to_diff.new.text c.reply_to_diff.ensures
+
+pub returns-then-eq-22 : goal.returns-then-eq-22
+returns-then-eq-22 g c =
+    let verb : c.args.verb.now ≡ codes "tally" = (bytes_eq-Decides c.args.verb.now (codes "tally")).0 (search rules) in
+    alone_into g.W.Write.contents c.args.store.now c.reply_to_tally.new.store c.args.verb.now (codes "tally") verb (words_of c.args.rest.now) c.reply_to_tally.result c.args.writer.now c.args.text.now c.requires c.reply_to_tally.ensures
+
+pub returns-then-eq-23 : goal.returns-then-eq-23
+returns-then-eq-23 g c =
+    let verb : c.args.verb.now ≡ codes "blocks" = (bytes_eq-Decides c.args.verb.now (codes "blocks")).0 (search rules) in
+    alone_into g.W.Write.contents c.args.store.now c.args.store.now c.args.verb.now (codes "blocks") verb (words_of c.args.rest.now) c.reply_to_blocks.result c.args.writer.now c.args.text.now c.requires c.reply_to_blocks.ensures
+
+pub returns-then-eq-24 : goal.returns-then-eq-24
+returns-then-eq-24 g c =
     let comment : is_comment c.args.verb.now ≡ true = search rules in
     let words = c.args.verb.now ∷ words_of c.args.rest.now in
     let nothing : request_of words ≡ Request.Nothing = rw comment refl in
     alone_into g.W.Write.contents c.args.store.now c.args.store.now c.args.verb.now c.args.verb.now refl (words_of c.args.rest.now) reply.Nothing c.args.writer.now c.args.text.now c.requires (nothing_by c.args.store.now words nothing)
 
-pub returns-else-eq-20 : goal.returns-else-eq-20
-returns-else-eq-20 g c =
+pub returns-else-eq-24 : goal.returns-else-eq-24
+returns-else-eq-24 g c =
     let words = c.args.verb.now ∷ words_of c.args.rest.now in
     let bad : request_of words ≡ Request.Bad = search rules in
     bad_into g.W.Write.contents c.args.store.now words bad c.args.writer.now c.args.text.now c.requires

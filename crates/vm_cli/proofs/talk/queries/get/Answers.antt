@@ -11,8 +11,8 @@ use Rattle.vm_cli.proofs.talk.queries.get.Goals as goal
 pub returns-in-Ok : goal.returns-in-Ok
 returns-in-Ok g c =
     let old = c.args.store.now in
-    let new = c.look.new.self in
-    let said = c.in-Ok.ensures in
+    let new = c.look_at.new.self in
+    let said = c.in-Ok.ensures.query in
     let found = option_copied c.in-Ok.found in
     let text = c.push_found.new.text in
     let none : length c.args.text.now ≡ 0 = rw c.requires refl in
@@ -25,7 +25,7 @@ returns-in-Ok g c =
       last = λ sound. refl;
       left = said.no_calls;
       answer = λ s. (
-        told old new s (Request.Get c.args.alt.now c.args.key) (passes_reads old new (goes_any _ _ _ said.any) said.reads said.unchanged) said.failed said.no_calls (λ stood. said.state stood.honest s stood.holds)
+        told old new s (Request.Get c.args.at.now c.args.key) (passes_reads old new (goes_any _ _ _ said.any) said.reads said.unchanged) said.failed said.no_calls (λ stood. said.state stood.honest s stood.holds)
             (text ++ []) sound (
               refl,
               said.failed ∙ sound,
@@ -45,8 +45,8 @@ returns-in-Ok g c =
 pub returns-in-Err : goal.returns-in-Err
 returns-in-Err g c =
     let old = c.args.store.now in
-    let new = c.look.new.self in
-    let said = c.in-Err.ensures in
+    let new = c.look_at.new.self in
+    let said = c.in-Err.ensures.query in
     let refusal = c.in-Err.refusal in
     let none : length c.args.text.now ≡ 0 = rw c.requires refl in
     record {
@@ -56,8 +56,8 @@ returns-in-Err g c =
       last = λ sound. c.from_refusal.ensures.last (λ is. said.only_then sound (ap Err is));
       left = said.no_calls;
       answer = λ s.
-          with_nothing (HandlesRequest old new s (Request.Get c.args.alt.now c.args.key)) c.from_refusal.result c.args.text.now c.requires
-          (refusal_handled old new s (Request.Get c.args.alt.now c.args.key) (passes_reads old new (goes_any _ _ _ said.any) said.reads said.unchanged) said.failed said.no_calls (λ stood. said.state stood.honest s stood.holds)
+          with_nothing (HandlesRequest old new s (Request.Get c.args.at.now c.args.key)) c.from_refusal.result c.args.text.now c.requires
+          (refusal_handled old new s (Request.Get c.args.at.now c.args.key) (passes_reads old new (goes_any _ _ _ said.any) said.reads said.unchanged) said.failed said.no_calls (λ stood. said.state stood.honest s stood.holds)
           refusal c.from_refusal.result c.from_refusal.ensures.text c.from_refusal.ensures.last c.from_refusal.ensures.failed (λ failed. let e = said.refused failed in cc) (λ sound is. said.only_then sound (ap Err is))
           (λ text ends is last. (is, last))
           (λ sound. (

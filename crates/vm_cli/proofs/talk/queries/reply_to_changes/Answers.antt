@@ -13,7 +13,7 @@ pub returns-in-Some : goal.returns-in-Some
 returns-in-Some g c =
     let old = c.args.store.now in
     let new = c.changes.new.self in
-    let said = c.changes.ensures in
+    let said = c.changes.ensures.query in
     let text = c.reply_with_list.new.text in
     let query = Request.Changes c.in-Some.alt in
     let passes = passes_reads old new (goes_any _ _ _ said.any) said.reads said.unchanged in
@@ -22,7 +22,7 @@ returns-in-Some g c =
     (λ sound. list_goes_on _ c.changes.result c.reply_with_list.result _ _ _ _ (said.failed ∙ sound) (said.only_then sound) c.reply_with_list.ensures.list)
     (λ s.
     list_handled old new s query passes said.failed said.no_calls (λ stood. said.state stood.honest s stood.holds)
-    (Stood old new s) (Failing old new) change_text (λ list. list) (changes_in s.working c.in-Some.alt) (λ x rest. refl) (λ text sound says. (refl, said.failed ∙ sound, says, said.bound)) (λ text ends is last. (is, last))
+    (Stood old new s) (Failing old new) change_text (λ list. list) (changes_in s.working c.in-Some.alt) (λ x rest. refl) (λ text sound says. (refl, said.failed ∙ sound, says, c.changes.ensures.bound)) (λ text ends is last. (is, last))
     c.changes.result (λ sound. said.any.fault) said.refused said.only_then (λ sound stood. said.value stood.honest sound s stood.holds) c.reply_with_list.result _ _ text c.reply_with_list.ensures.list)
 
 pub returns-in-None : goal.returns-in-None
