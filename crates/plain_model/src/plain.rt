@@ -123,6 +123,7 @@ impl Plain {
             }
             Command::Post { alt } => reply_of(steps::post(alloc, tree, alt)),
             Command::Commit => self.commit(),
+            Command::Rollback => self.rollback(),
             Command::Reclaim => Ok(Answer::Done),
             Command::Grow { blocks } => self.grow(*blocks),
         }
@@ -136,6 +137,20 @@ impl Plain {
             Ok(tree) => {
                 self.committed = tree;
                 self.kept = self.blocks;
+                Ok(Answer::Done)
+            }
+            Err(_) => Err(Refusal::Memory),
+        }
+    }
+
+    fn rollback(&mut self) -> Reply
+        ensures answer { IsAnswer self.old Command.Rollback result }
+        ensures state { self.new ≡ next self.old Command.Rollback result }
+    {
+        match alternative::copy_tree(self.alloc, &self.committed) {
+            Ok(tree) => {
+                self.working = tree;
+                self.blocks = self.kept;
                 Ok(Answer::Done)
             }
             Err(_) => Err(Refusal::Memory),

@@ -20,6 +20,7 @@ mod opening;
 mod over;
 mod posting;
 mod records;
+mod rolling;
 mod running;
 mod script;
 mod series;

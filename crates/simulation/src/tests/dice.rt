@@ -10,7 +10,7 @@ use testkit::top;
 use vm_types::{Command, Conflict, Key, Name, Settled, Side, Value};
 
 /// How many draws make another command than a Drop, Uncheck or Remove.
-const ADDITIONS: u32 = 33;
+const ADDITIONS: u32 = 34;
 
 /// More blocks than a store may have.
 const TOO_MANY: u32 = 1_048_577;
@@ -201,9 +201,15 @@ impl Dice {
         }
     }
 
-    /// A few more blocks than there are, as far as the disk has room, or else a bad size.
+    /// A few more blocks than there are, or now and then many, as far as the disk has room, or else a bad
+    /// size.
     fn grow(&mut self, blocks: u32) -> Command {
-        let more = 1 + self.below(4);
+        let more = 1
+            + if self.once_in(4) {
+                self.below(32)
+            } else {
+                self.below(4)
+            };
         Command::Grow {
             blocks: match self.below(8) {
                 0 => TOO_MANY,
@@ -214,7 +220,7 @@ impl Dice {
         }
     }
 
-    /// Any other command but a Merge, to a store of so many blocks. From 17 on it is a Put.
+    /// Any other command but a Merge, to a store of so many blocks. From 18 on it is a Put.
     fn addition(&mut self, n: u32, blocks: u32) -> Command {
         match n {
             0..=2 => Command::Commit,
@@ -238,6 +244,7 @@ impl Dice {
                 checkpoint: self.checkpoint(),
             },
             16 => self.grow(blocks),
+            17 => Command::Rollback,
             _ => Command::Put {
                 alt: self.alt(),
                 key: self.key(),

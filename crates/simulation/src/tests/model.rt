@@ -28,6 +28,12 @@ pub struct Model {
     pub plain: Plain,
     alloc: Global,
     free: u32,
+    // How many blocks are committed, and how many of these are free: they are taken before those that
+    // came by a Grow since.
+    kept: u32,
+    kept_free: u32,
+    // The nodes that lie in blocks that came by a Grow since the last Commit.
+    behind: Vec<usize>,
     trees: Trees,
     committed: Vec<Roots>,
     working: Vec<Roots>,
@@ -54,6 +60,9 @@ impl Model {
             plain: Plain::new(alloc, blocks)?,
             alloc,
             free: blocks.saturating_sub(FIRST_DATA),
+            kept: blocks,
+            kept_free: blocks.saturating_sub(FIRST_DATA),
+            behind: Vec::new(alloc),
             trees: Trees::new(alloc)?,
             committed: Vec::from_elem(alloc, first, 1)?,
             working: Vec::from_elem(alloc, first, 1)?,
@@ -66,11 +75,14 @@ impl Model {
             plain: self.plain.reopened()?,
             alloc: self.alloc,
             free: 0,
+            kept: self.kept,
+            kept_free: 0,
+            behind: Vec::new(self.alloc),
             trees: self.trees.copy()?,
             committed: Vec::from_slice(self.alloc, &self.committed)?,
             working: Vec::from_slice(self.alloc, &self.committed)?,
         };
-        opened.free = opened.spare()?;
+        opened.mark()?;
         Ok(opened)
     }
 
@@ -115,23 +127,38 @@ impl Model {
         }
     }
 
-    /// How many blocks for data neither the committed maps nor the working ones lie in.
-    fn spare(&self) -> Result<u32, Wrong> {
+    /// Frees all blocks for data in which neither the committed maps nor the working ones lie.
+    fn mark(&mut self) -> Result<(), Wrong> {
         let mut roots = Vec::new(self.alloc);
         for entries in [&self.committed, &self.working] {
             for entry in entries {
                 roots.extend_from_slice(&[entry.current, entry.base])?;
             }
         }
-        let data = self.plain.blocks().saturating_sub(FIRST_DATA);
-        Ok(data.saturating_sub(self.trees.count(&roots)?))
+        let reached = self.trees.reached(&roots)?;
+        let mut behind: u32 = 0;
+        for node in &self.behind {
+            if *node < reached.len() && reached[*node] {
+                behind = behind.saturating_add(1);
+            }
+        }
+        let mut all: u32 = 0;
+        for is_reached in &reached {
+            if *is_reached {
+                all = all.saturating_add(1);
+            }
+        }
+        let own = FIRST_DATA.saturating_add(all);
+        self.free = self.plain.blocks().saturating_sub(own);
+        self.kept_free = self.kept.saturating_sub(own.saturating_sub(behind));
+        Ok(())
     }
 
     /// Whether as many blocks are spare as so many record changes may take. Where fewer are free,
     /// the blocks that maps lie in are marked.
     fn has_room(&mut self, changes: usize) -> Result<bool, Wrong> {
         if !self.has_free(changes) {
-            self.free = self.spare()?;
+            self.mark()?;
         }
         Ok(self.has_free(changes))
     }
@@ -200,8 +227,17 @@ impl Model {
             Command::Commit => {
                 self.committed.clear();
                 self.committed.extend_from_slice(&self.working)?;
+                self.kept = self.plain.blocks();
+                self.kept_free = self.free;
+                self.behind.clear();
             }
-            Command::Reclaim => self.free = self.spare()?,
+            Command::Rollback => {
+                self.working.clear();
+                self.working.extend_from_slice(&self.committed)?;
+                self.free = self.kept_free;
+                self.behind.clear();
+            }
+            Command::Reclaim => self.mark()?,
         }
         Ok(())
     }
@@ -232,7 +268,7 @@ impl Model {
             let blocks = self.trees.blocks();
             let len = value.as_bytes().len();
             self.working[i].current = self.trees.put(self.working[i].current, key, len)?;
-            self.take_new(blocks);
+            self.take_new(blocks)?;
         }
         Ok(())
     }
@@ -241,15 +277,23 @@ impl Model {
         if let Some(i) = position(&self.working, alt, None) {
             let blocks = self.trees.blocks();
             self.working[i].current = self.trees.remove(self.working[i].current, key)?;
-            self.take_new(blocks);
+            self.take_new(blocks)?;
         }
         Ok(())
     }
 
-    /// The blocks that were written since there were so many are not free any more.
-    fn take_new(&mut self, blocks: u32) {
-        let written = self.trees.blocks().saturating_sub(blocks);
-        self.free = self.free.saturating_sub(written);
+    /// The blocks that were written since there were so many are not free any more. Each was the lowest
+    /// free one.
+    fn take_new(&mut self, blocks: u32) -> Result<(), Wrong> {
+        for node in blocks..self.trees.blocks() {
+            self.free = self.free.saturating_sub(1);
+            if self.kept_free > 0 {
+                self.kept_free = self.kept_free.saturating_sub(1);
+            } else {
+                self.behind.push((node as usize).saturating_add(1))?;
+            }
+        }
+        Ok(())
     }
 
     /// After the changes the base lies in the blocks of what the parent shows.

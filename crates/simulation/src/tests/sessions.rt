@@ -37,6 +37,7 @@ fn sight(model: &Model, command: &Command) -> Sight {
     Sight {
         level,
         free: model.free(),
+        blocks: model.plain.blocks(),
     }
 }
 
@@ -60,6 +61,7 @@ fn near(alloc: Global, model: &Model, command: &Command) -> Result<Vec<Name>, Wr
         | Command::Uncheck { alt, .. }
         | Command::Back { alt, .. }
         | Command::Merge { alt, .. } => names.extend_from_slice(&[*alt])?,
+        Command::Rollback => names.extend_from_slice(&alternatives())?,
         Command::Commit | Command::Reclaim | Command::Grow { .. } => {}
     }
     Ok(names)

@@ -4,10 +4,10 @@ use testkit::Reply;
 use vm_types::{Answer, Command, Key, Name, Refusal, Side};
 
 /// How many kinds of commands there are.
-const KINDS: usize = 13;
+const KINDS: usize = 14;
 
 /// How many cases there are.
-const CASES: usize = 13;
+const CASES: usize = 15;
 
 /// What sessions are to meet beside each kind of command and of refusal.
 #[derive(Clone, Copy)]
@@ -38,14 +38,19 @@ pub enum Case {
     LongerDisk,
     /// A crash took blocks that were new.
     CutShort,
+    /// A Rollback took away blocks that came by a Grow.
+    GrowthUndone,
+    /// Some of these were taken.
+    TakenUndone,
 }
 
-/// What a command may change beside records: how many levels its alternative's map has, and how many
-/// blocks are free.
+/// What a command may change beside records: how many levels its alternative's map has, how many blocks
+/// are free, and how many there are.
 #[derive(Clone, Copy)]
 pub struct Sight {
     pub level: u32,
     pub free: u32,
+    pub blocks: u32,
 }
 
 /// How often each was met: refusals by their number, accepted commands by their kind, and the cases.
@@ -78,6 +83,7 @@ fn kind(command: &Command) -> usize {
         Command::Reclaim => 10,
         Command::NewAt { .. } => 11,
         Command::Grow { .. } => 12,
+        Command::Rollback => 13,
     }
 }
 
@@ -115,6 +121,13 @@ impl Tally {
             }
             Command::Post { alt } if answer.is_ok() && self.merged == Some(*alt) => {
                 self.meet(Case::MergedAndPosted);
+            }
+            Command::Rollback if after.blocks < before.blocks => {
+                self.meet(Case::GrowthUndone);
+                let gone = before.blocks.saturating_sub(after.blocks);
+                if before.free.saturating_sub(after.free) < gone {
+                    self.meet(Case::TakenUndone);
+                }
             }
             _ => {}
         }

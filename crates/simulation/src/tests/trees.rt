@@ -286,21 +286,22 @@ impl Trees {
         u32::try_from(self.nodes.len().saturating_sub(1)).unwrap_or(u32::MAX)
     }
 
-    /// How many nodes are reached from these roots.
-    pub(super) fn count(&self, roots: &[usize]) -> Result<u32, AllocError> {
+    /// Which nodes are reached from these roots, but for that of the empty map.
+    pub(super) fn reached(&self, roots: &[usize]) -> Result<Vec<bool>, AllocError> {
         let mut reached = Vec::from_elem(self.alloc, false, self.nodes.len())?;
         for root in roots {
             reach(&mut reached, *root);
         }
-        let mut count: u32 = 0;
         for n in (1..self.nodes.len()).rev() {
             if n < reached.len() && reached[n] {
-                count = count.saturating_add(1);
                 for row in self.rows(n) {
                     reach(&mut reached, row.child);
                 }
             }
         }
-        Ok(count)
+        if !reached.is_empty() {
+            reached[EMPTY] = false;
+        }
+        Ok(reached)
     }
 }

@@ -1,10 +1,10 @@
 //! What an open store answers to a step of a script, as text.
-use super::words::{Wrong, command, key, many_of, name, number, value};
+use super::words::{Wrong, command, key, many_of, name, number, value, version};
 use std::alloc::Global;
 use std::fmt;
 use vm_disk::Disk;
 use vm_store::{Stop, Store};
-use vm_types::{Answer, Command, Key, Refusal, Value};
+use vm_types::{Answer, Changes, Command, Key, Records, Refusal, Value};
 
 /// A value, or none, as a script shows it: `~` for none, `''` for the one without bytes, `61*300` for so
 /// many bytes of one kind.
@@ -49,8 +49,8 @@ fn reply_text(alloc: Global, reply: Result<Answer, Refusal>) -> Result<String, W
     }
 }
 
-fn value_at<D: Disk>(alloc: Global, store: &mut Store<D>, alt: &str, at: &str) -> Given {
-    let found = match store.get(&name(alt)?, key(at)?) {
+fn value_text(alloc: Global, found: Result<Option<Value>, Refusal>) -> Given {
+    let found = match found {
         Ok(found) => found,
         Err(refusal) => return Ok(Err(refusal)),
     };
@@ -60,9 +60,8 @@ fn value_at<D: Disk>(alloc: Global, store: &mut Store<D>, alt: &str, at: &str) -
 }
 
 /// The same, of the bytes in the block in which the value stands.
-fn lent_at<D: Disk>(alloc: Global, store: &mut Store<D>, alt: &str, at: &str) -> Given {
-    let mut room = [0; 4096];
-    let found = match store.look(&name(alt)?, key(at)?, &mut room) {
+fn lent_text(alloc: Global, found: Result<Option<&[u8]>, Refusal>) -> Given {
+    let found = match found {
         Ok(found) => found,
         Err(refusal) => return Ok(Err(refusal)),
     };
@@ -71,8 +70,8 @@ fn lent_at<D: Disk>(alloc: Global, store: &mut Store<D>, alt: &str, at: &str) ->
     Ok(Ok(text))
 }
 
-fn records<D: Disk>(alloc: Global, store: &mut Store<D>, alt: &str) -> Given {
-    let list = match store.list(alloc, &name(alt)?) {
+fn records_text(alloc: Global, list: Result<Records, Refusal>) -> Given {
+    let list = match list {
         Ok(list) => list,
         Err(refusal) => return Ok(Err(refusal)),
     };
@@ -83,8 +82,8 @@ fn records<D: Disk>(alloc: Global, store: &mut Store<D>, alt: &str) -> Given {
     Ok(Ok(text))
 }
 
-fn changes<D: Disk>(alloc: Global, store: &mut Store<D>, alt: &str) -> Given {
-    let list = match store.changes(alloc, &name(alt)?) {
+fn changes_text(alloc: Global, list: Result<Changes, Refusal>) -> Given {
+    let list = match list {
         Ok(list) => list,
         Err(refusal) => return Ok(Err(refusal)),
     };
@@ -162,10 +161,23 @@ fn blocks<D: Disk>(alloc: Global, store: &Store<D>) -> Given {
 
 fn query<D: Disk>(alloc: Global, store: &mut Store<D>, words: &[&str]) -> Given {
     match words {
-        ["get", alt, at] => value_at(alloc, store, alt, at),
-        ["look", alt, at] => lent_at(alloc, store, alt, at),
-        ["list", alt] => records(alloc, store, alt),
-        ["changes", alt] => changes(alloc, store, alt),
+        ["get", alt, at] => value_text(alloc, store.get(&name(alt)?, key(at)?)),
+        ["get_at", it, at] => value_text(alloc, store.get_at(&version(it)?, key(at)?)),
+        ["look", alt, at] => {
+            let mut room = [0; 4096];
+            lent_text(alloc, store.look(&name(alt)?, key(at)?, &mut room))
+        }
+        ["look_at", it, at] => {
+            let mut room = [0; 4096];
+            lent_text(alloc, store.look_at(&version(it)?, key(at)?, &mut room))
+        }
+        ["list", alt] => records_text(alloc, store.list(alloc, &name(alt)?)),
+        ["list_at", it] => records_text(alloc, store.list_at(alloc, &version(it)?)),
+        ["changes", alt] => changes_text(alloc, store.changes(alloc, &name(alt)?)),
+        ["diff", first, second] => {
+            let list = store.diff(alloc, &version(first)?, &version(second)?);
+            changes_text(alloc, list)
+        }
         ["conflicts", alt] => conflicts(alloc, store, alt),
         ["tally", alt] => tally(alloc, store, alt),
         ["alts"] => alternatives(alloc, store),

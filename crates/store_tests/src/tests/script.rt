@@ -7,7 +7,7 @@
 //!
 //! | Step, while a store is open | Answer |
 //! |---|---|
-//! | `new`, `drop`, `put`, `remove`, `checkpoint`, `uncheck`, `back`, `merge`, `post`, `commit`, `reclaim`, `grow` | `ok`, and `ok 1` of a merge |
+//! | `new`, `drop`, `put`, `remove`, `checkpoint`, `uncheck`, `back`, `merge`, `post`, `commit`, `rollback`, `reclaim`, `grow` | `ok`, and `ok 1` of a merge |
 //! | `puts top 1:1 17 v` | `ok`, where all of seventeen puts are answered so |
 //! | `checkpoints top 15` | the same of the checkpoints `k001` to `k015` |
 //! | `kept top 1:1 v 15` | the same, with a put before each |
@@ -15,6 +15,7 @@
 //! | `get a 1:1`, `look a 1:1` | `y` |
 //! | `list a` | `1:1=y 1:2=z` |
 //! | `changes a` | `1:1=x/y`: the value before and after |
+//! | `get_at a@ 1:1`, `look_at a@c 1:1`, `list_at a@c`, `diff a@ a` | the same of versions: `a@` is the base of a, `a@c` its checkpoint c |
 //! | `conflicts a` | `1:1=x/z/y`: the value of the base, the parent's and one's own |
 //! | `tally a` | `2 3 1 no`: records changed since the base, by the parent since then, in conflict, and whether it can be posted |
 //! | `alts` | `top a<top` |

@@ -99,6 +99,33 @@ const IN_MEMORY: &[Row] = &[
         back a c",
     ),
     (
+        "versions are read and compared",
+        NEW,
+        "
+        put top 1:1 x
+        new a top
+        put a 1:1 y
+        checkpoint a c
+        put a 1:2 z
+        get_at a 1:1 -> y
+        get_at a@ 1:1 -> x
+        get_at a@c 1:2 -> ~
+        look_at a@c 1:1 -> y
+        look_at top@ 1:1 -> ~
+        list_at a@ -> 1:1=x
+        list_at a@c -> 1:1=y
+        list_at a -> 1:1=y 1:2=z
+        diff a@ a -> 1:1=x/y 1:2=~/z
+        diff a a@ -> 1:1=y/x 1:2=z/~
+        diff a@c a -> 1:2=~/z
+        diff top a@ -> none
+        get_at b@q 1:1 -> error 1 NoSuchAlternative
+        look_at a@q 1:1 -> error 3 NoSuchCheckpoint
+        list_at top@c -> error 3 NoSuchCheckpoint
+        diff b a@q -> error 1 NoSuchAlternative
+        diff a@q b -> error 3 NoSuchCheckpoint",
+    ),
+    (
         "checkpoints go with their alternative",
         NEW,
         "

@@ -2,7 +2,7 @@
 use std::alloc::{AllocError, Global};
 use std::fmt;
 use vm_disk::DeviceFault;
-use vm_types::{Command, Key, Name, Settled, Side, Value};
+use vm_types::{At, Command, Key, Name, Of, Settled, Side, Value};
 
 /// Why a step has no answer.
 #[derive(Clone, Copy, Debug, PartialEq, Eq)]
@@ -44,6 +44,20 @@ pub(super) fn byte(word: &str) -> Result<u8, Wrong> {
 
 pub(super) fn name(word: &str) -> Result<Name, Wrong> {
     Name::new(word.as_bytes()).ok_or(Wrong::Unreadable)
+}
+
+/// A version: `a`, `a@` for its base, or `a@c` for a checkpoint.
+pub(super) fn version(word: &str) -> Result<At, Wrong> {
+    let Some((alt, behind)) = word.split_once('@') else {
+        let (alt, of) = (name(word)?, Of::Current);
+        return Ok(At { alt, of });
+    };
+    let alt = name(alt)?;
+    let of = match behind {
+        "" => Of::Base,
+        checkpoint => Of::Checkpoint(name(checkpoint)?),
+    };
+    Ok(At { alt, of })
 }
 
 /// Table and number, as in `7:1`.
@@ -138,6 +152,7 @@ pub(super) fn command(alloc: Global, words: &[&str]) -> Result<Option<Command>, 
         ["merge", alt, settlements @ ..] => merge(alloc, alt, settlements)?,
         ["post", alt] => Command::Post { alt: name(alt)? },
         ["commit"] => Command::Commit,
+        ["rollback"] => Command::Rollback,
         ["reclaim"] => Command::Reclaim,
         ["grow", blocks] => Command::Grow {
             blocks: number(blocks)?,
