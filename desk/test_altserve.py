@@ -21,7 +21,7 @@ from pathlib import Path
 sys.dont_write_bytecode = True
 HERE = Path(__file__).resolve().parent
 sys.path[:0] = [str(HERE), str(HERE.parent / "clients" / "python")]
-from altctl import locked
+from service.locking import locked
 from service import limits
 from service.batches import Batch, Batches
 from service.journal import entries, kept_batches
@@ -45,24 +45,19 @@ runpy.run_path({file!r}, run_name="__main__")
 LONG = "%00" * 4000
 
 
-# The program with two words of later versions: `rollback`, and `copy FROM TO`, which leaves a file NAME.copied behind.
-LATER = """#!{python}
+# The program without the word `rollback`, as earlier versions, and with one of later ones: `copy FROM TO`, which leaves a file
+# NAME.copied behind.
+OTHER = """#!{python}
 import shutil, subprocess, sys
-
-def start():
-    return subprocess.Popen([{altctl!r}, *sys.argv[1:]], stdin=subprocess.PIPE, stdout=subprocess.PIPE)
 
 if sys.argv[1] == "copy":
     shutil.copy(sys.argv[-2], sys.argv[-1])
     open(sys.argv[-2] + ".copied", "w").close()
     sys.exit()
-program = start()
+program = subprocess.Popen([{altctl!r}, *sys.argv[1:]], stdin=subprocess.PIPE, stdout=subprocess.PIPE, close_fds=False)
 for line in sys.stdin.buffer:
-    answer = b"ok\\n"
-    if line == b"rollback\\n":
-        program.communicate()
-        program = start()
-    else:
+    answer = b"error 22 BadLine\\n"
+    if line != b"rollback\\n":
         program.stdin.write(line)
         program.stdin.flush()
         answer = program.stdout.readline()
@@ -370,22 +365,31 @@ class BatchTests(ServiceTest):
             self.assertEqual(["value b"], one.ask("get top 1 1"))
         self.assertEqual(["1 put top 1 1 a", "2 put top 1 1 b"], self.log())
 
-    def test_a_later_program_takes_back_and_copies_by_itself(self):
-        program = Path(self.folder, "later")
-        program.write_text(LATER.format(python=sys.executable, altctl=ALTCTL))
+    def refuse_a_batch(self, one):
+        """Has a batch refused, and makes a part of it. Returns whether the program was started again in between."""
+        process = self.program()
+        lines = ["begin", "new north top", "put north 7 1 a", "drop south", "commit"]
+        others = ["error 91 NotDone 3"]
+        self.assertEqual(["ok", *others * 2, "error 1 NoSuchAlternative", *others], one.ask(*lines))
+        self.assertEqual(["alternative top ~", "alternative .service top", "end 2"], one.rows("alts"))
+        self.assertEqual(["ok"] * 4, one.ask("begin", *lines[1:3], "commit"))
+        self.assertEqual(["1 new north top", "1 put north 7 1 a"], self.log())
+        return self.program() != process
+
+    def test_the_program_takes_a_refused_batch_back(self):
+        self.start()
+        with self.planner() as one:
+            self.assertFalse(self.refuse_a_batch(one))
+
+    def test_another_program_is_started_again_or_copies_by_itself(self):
+        program = Path(self.folder, "other")
+        program.write_text(OTHER.format(python=sys.executable, altctl=ALTCTL))
         program.chmod(0o755)
         self.start("--program", str(program))
         with self.planner() as one:
-            process = self.program()
-            lines = ["begin", "new north top", "put north 7 1 a", "drop south", "commit"]
-            others = ["error 91 NotDone 3"]
-            self.assertEqual(["ok", *others * 2, "error 1 NoSuchAlternative", *others], one.ask(*lines))
-            self.assertEqual(["alternative top ~", "alternative .service top", "end 2"], one.rows("alts"))
-            self.assertEqual(["ok"] * 4, one.ask("begin", *lines[1:3], "commit"))
+            self.assertTrue(self.refuse_a_batch(one))
             self.assertEqual("ok", one.ask("backup a")[0].split()[0])
-            self.assertEqual(process, self.program())
         self.assertTrue(os.path.exists(f"{self.file}.copied"))
-        self.assertEqual(["1 new north top", "1 put north 7 1 a"], self.log())
 
     def test_a_batch_is_forgotten(self):
         self.start()

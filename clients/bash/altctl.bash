@@ -7,7 +7,8 @@ _altctl() {
         return
     fi
     case $command in
-    run | do) options='--cache --buffer --strict --help' ;;
+    run | do) options='--cache --buffer --strict --no-lock --wait --help' ;;
+    check | tree) options='--no-lock --wait --help' ;;
     esac
     case $before:$word in
     --cache:* | --buffer:*) ;;

@@ -841,6 +841,11 @@ int alt_commit(alt_store *store)
     return enter(store) == ALT_OK && store->batch != 0 ? end_batch(store, "commit") : command(store, NULL, "commit");
 }
 
+int alt_rollback(alt_store *store)
+{
+    return enter(store) == ALT_OK && store->batch != 0 ? end_batch(store, "rollback") : command(store, NULL, "rollback");
+}
+
 int alt_reclaim(alt_store *store)
 {
     return command(store, NULL, "reclaim");
@@ -906,16 +911,43 @@ int alt_get(alt_store *store, const char *alt, alt_key key, void *buffer, size_t
     return error == ALT_OK ? alt_take_value(store, ticket, buffer, room, length) : error;
 }
 
-int alt_free_blocks(alt_store *store, uint64_t *blocks)
+/* Asks for a number, by a word that its answer begins with, too. */
+static int ask_number(alt_store *store, const char *word, uint64_t *number)
 {
     alt_ticket ticket;
     char *rest;
-    int error = send_line(store, &ticket, "free");
+    int error = send_line(store, &ticket, "%w", word);
     if (error == ALT_OK)
-        error = take_answer(store, ticket, "free", &rest);
+        error = take_answer(store, ticket, word, &rest);
     if (error == ALT_OK)
-        *blocks = strtoull(rest, NULL, 10);
+        *number = strtoull(rest, NULL, 10);
     return error;
+}
+
+int alt_free_blocks(alt_store *store, uint64_t *blocks)
+{
+    return ask_number(store, "free", blocks);
+}
+
+int alt_blocks(alt_store *store, uint64_t *blocks)
+{
+    return ask_number(store, "blocks", blocks);
+}
+
+int alt_tally(alt_store *store, const char *alt, alt_numbers *numbers)
+{
+    alt_ticket ticket;
+    char *rest;
+    int error = send_line(store, &ticket, "tally %w", alt);
+    if (error == ALT_OK)
+        error = take_answer(store, ticket, "tally", &rest);
+    if (error != ALT_OK)
+        return error;
+    numbers->changed = strtoull(rest, &rest, 10);
+    numbers->unmerged = strtoull(rest, &rest, 10);
+    numbers->conflicts = strtoull(rest, &rest, 10);
+    numbers->can_post = strcmp(rest, " yes") == 0;
+    return ALT_OK;
 }
 
 /* Takes the line of a row, or the one that ends them. */
@@ -954,6 +986,13 @@ int alt_changes(alt_store *store, const char *alt, alt_rows **rows)
 {
     alt_ticket ticket = 0;
     int error = send_line(store, &ticket, "changes %w", alt);
+    return begin_rows(store, error, ticket, CHANGES, rows);
+}
+
+int alt_diff(alt_store *store, const char *first, const char *second, alt_rows **rows)
+{
+    alt_ticket ticket = 0;
+    int error = send_line(store, &ticket, "diff %w %w", first, second);
     return begin_rows(store, error, ticket, CHANGES, rows);
 }
 

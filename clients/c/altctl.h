@@ -170,6 +170,9 @@ int alt_uncheck(alt_store *store, const char *alt, const char *name);
 int alt_back(alt_store *store, const char *alt, const char *name);
 int alt_post(alt_store *store, const char *alt);
 int alt_commit(alt_store *store);
+/* Undoes everything since the last commit, also a growth. In a batch of a service it does what `alt_abort` does; outside of
+   one each change is committed, and it undoes nothing. */
+int alt_rollback(alt_store *store);
 int alt_reclaim(alt_store *store);
 int alt_grow(alt_store *store, uint32_t blocks);
 
@@ -194,12 +197,27 @@ int alt_abort(alt_store *store);
 
 /* --- queries --------------------------------------------------------------------------------------- */
 
+/* In place of an alternative, a query for a record, for records or for a difference takes a version of it: "north@" is its base,
+   "north@before" its checkpoint of that name. */
+
 /* Copies the value of a record, and sets *length. ALT_NO_SUCH_RECORD if there is none, ALT_SMALL_BUFFER if it has more than
    `room` bytes; ALT_LONGEST_VALUE bytes are always enough. */
 int alt_get(alt_store *store, const char *alt, alt_key key, void *buffer, size_t room, size_t *length);
 
 /* The number of free blocks. */
 int alt_free_blocks(alt_store *store, uint64_t *blocks);
+
+/* The number of blocks, free ones and others. */
+int alt_blocks(alt_store *store, uint64_t *blocks);
+
+/* How many records an alternative has changed since its base, how many its parent has since then, how many of them are in
+   conflict, and whether a post would be accepted. */
+typedef struct {
+    uint64_t changed, unmerged, conflicts;
+    int can_post;
+} alt_numbers;
+
+int alt_tally(alt_store *store, const char *alt, alt_numbers *numbers);
 
 /* Rows are read one by one as the program writes them, and are not held in memory. Read them by the `alt_next_..` of their
    kind, which returns ALT_OK and a row, or ALT_DONE; nothing else may be asked until they are closed. If a query is refused,
@@ -228,6 +246,7 @@ typedef struct {
 
 int alt_list(alt_store *store, const char *alt, alt_rows **rows);
 int alt_changes(alt_store *store, const char *alt, alt_rows **rows);
+int alt_diff(alt_store *store, const char *first, const char *second, alt_rows **rows); /* as changes */
 int alt_conflicts(alt_store *store, const char *alt, alt_rows **rows);
 int alt_alternatives(alt_store *store, alt_rows **rows);
 int alt_checkpoints(alt_store *store, const char *alt, alt_rows **rows);

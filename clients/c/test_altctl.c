@@ -111,6 +111,26 @@ static void a_record_is_there_after_a_commit(void)
     SAME(ALT_OK, alt_close(store));
 }
 
+static void what_was_not_committed_is_undone(void)
+{
+    alt_store *store = opened();
+    uint64_t blocks;
+    SAME(ALT_OK, put(store, "top", 1, "duct"));
+    SAME(ALT_OK, alt_commit(store));
+    SAME(ALT_OK, put(store, "top", 1, "pipe"));
+    SAME(ALT_OK, put(store, "top", 2, "hose"));
+    SAME(ALT_OK, alt_new(store, "north", "top"));
+    SAME(ALT_OK, alt_grow(store, 128));
+    SAME(ALT_OK, alt_rollback(store));
+    HAS(store, "top", 1, "duct");
+    HAS(store, "top", 2, NULL);
+    SAME(ALT_NO_SUCH_ALTERNATIVE, put(store, "north", 1, "duct"));
+    SAME(ALT_OK, alt_reclaim(store));
+    SAME(ALT_OK, alt_free_blocks(store, &blocks));
+    SAME(29, blocks);
+    SAME(ALT_OK, alt_close(store));
+}
+
 static void each_byte_comes_back(void)
 {
     unsigned char bytes[ALT_LONGEST_VALUE + 1], came[ALT_LONGEST_VALUE];
@@ -193,6 +213,43 @@ static void changes_and_conflicts_are_listed(void)
     SAME_VALUE("pipe", conflict.parent);
     SAME_VALUE("cable A", conflict.mine);
     SAME(ALT_OK, alt_close_rows(rows));
+    SAME(ALT_OK, alt_close(store));
+}
+
+static void versions_are_read_and_compared(void)
+{
+    alt_store *store = with_a_conflict();
+    alt_rows *rows;
+    alt_change change;
+    alt_record record;
+    alt_numbers numbers;
+    uint64_t blocks;
+    SAME(ALT_OK, alt_checkpoint(store, "a", "before"));
+    SAME(ALT_OK, put(store, "a", 1, "rope"));
+    HAS(store, "a", 1, "rope");
+    HAS(store, "a@", 1, "duct");
+    HAS(store, "a@before", 1, "cable A");
+    HAS(store, "top@", 1, NULL);
+    SAME(ALT_OK, alt_list(store, "a@before", &rows));
+    SAME(ALT_OK, alt_next_record(rows, &record));
+    SAME_VALUE("cable A", record.value);
+    SAME(ALT_DONE, alt_next_record(rows, &record));
+    SAME(ALT_OK, alt_close_rows(rows));
+    SAME(ALT_OK, alt_diff(store, "a@", "a@before", &rows));
+    SAME(ALT_OK, alt_next_change(rows, &change));
+    SAME_VALUE("duct", change.before);
+    SAME_VALUE("cable A", change.after);
+    SAME(ALT_DONE, alt_next_change(rows, &change));
+    SAME(ALT_OK, alt_close_rows(rows));
+    SAME(ALT_NO_SUCH_CHECKPOINT, alt_diff(store, "a@nope", "nope", &rows));
+    SAME(ALT_OK, alt_tally(store, "a", &numbers));
+    SAME(1, numbers.changed);
+    SAME(2, numbers.unmerged);
+    SAME(1, numbers.conflicts);
+    SAME(0, numbers.can_post);
+    SAME(ALT_IS_TOP, alt_tally(store, "top", &numbers));
+    SAME(ALT_OK, alt_blocks(store, &blocks));
+    SAME(64, blocks);
     SAME(ALT_OK, alt_close(store));
 }
 
@@ -886,6 +943,8 @@ static void a_service_commits_each_change(void)
     SAME(4, length);
     SAME(ALT_OK, alt_take(store, tickets[0]));
     SAME(ALT_OK, alt_commit(store));
+    SAME(ALT_OK, alt_rollback(store));
+    HAS(store, "north", 1, "duct");
     SAME(ALT_DENIED, alt_put(store, ".service", key(7, 1), "duct", 4));
     SAME_TEXT("90 Denied change .service", alt_error_text(store, ALT_DENIED));
     SAME(ALT_OK, alt_list(store, "north", &rows));
@@ -947,6 +1006,10 @@ static void a_batch_may_be_refused_or_forgotten(void)
     HAS(store, "top", 2, NULL);
     SAME(ALT_OK, alt_begin(store));
     SAME(ALT_OK, put(store, "top", 2, "pipe"));
+    SAME(ALT_OK, alt_rollback(store));
+    HAS(store, "top", 2, NULL);
+    SAME(ALT_OK, alt_begin(store));
+    SAME(ALT_OK, put(store, "top", 2, "pipe"));
     SAME(ALT_OK, alt_close(store));
     end_service(started);
     store = opened();
@@ -974,9 +1037,11 @@ static const struct {
     int needs_service;
 } tests[] = {
     TEST(a_record_is_there_after_a_commit),
+    TEST(what_was_not_committed_is_undone),
     TEST(each_byte_comes_back),
     TEST(percent_signs_come_back),
     TEST(changes_and_conflicts_are_listed),
+    TEST(versions_are_read_and_compared),
     TEST(a_design_is_settled_and_posted),
     TEST(names_are_listed),
     TEST(a_store_grows),

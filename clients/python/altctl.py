@@ -7,15 +7,16 @@
         store.commit()
 
 Values are bytes, 4,000 at most, names are texts, and a key is a table and a number. What was not committed is gone at the end of
-the `with`. docs/FORMATS.md has the lines and their answers, docs/OPERATING.md what helps where one is refused.
+the `with`. Several threads may use one store: each call has its own answer. docs/FORMATS.md has the lines and their answers, docs/OPERATING.md what helps where one is refused.
 """
 import contextlib
-import fcntl
+import errno
 import os
 import re
 import socket
 import subprocess
 import tempfile
+import threading
 from collections import deque
 from typing import NamedTuple, Optional
 
@@ -56,12 +57,22 @@ class Record(NamedTuple):
 
 
 class Change(NamedTuple):
-    """A record that an alternative has changed since its base. None stands for no value."""
+    """A record that differs between two versions, with its value before and after. None stands for no value."""
 
     table: int
     number: int
     before: Optional[bytes]
     after: Optional[bytes]
+
+
+class Tally(NamedTuple):
+    """How many records an alternative has changed since its base, how many its parent has since then, how many of them
+    are in conflict, and whether a post would be accepted."""
+
+    changed: int
+    unmerged: int
+    conflicts: int
+    can_post: bool
 
 
 class Conflict(NamedTuple):
@@ -93,6 +104,8 @@ SPELLED = [chr(it) if 0x21 <= it <= 0x7D and it != 0x25 else f"%{it:02X}" for it
 
 def encode(value):
     """A value as a word of a line."""
+    if not isinstance(value, (bytes, bytearray, memoryview)):
+        raise TypeError(f"a value is bytes, and not {type(value).__name__}")
     if value in (b"", b"-"):
         return "%2D" if value else "-"
     return "".join(map(SPELLED.__getitem__, value))
@@ -123,8 +136,8 @@ def portions(lines, most):
 class Rows:
     """The rows of one answer. They are read as they are asked for; before the next line is written, the rest is."""
 
-    def __init__(self, read, first, make):
-        self._read, self._make, self._waiting, self._is_whole = read, make, deque(), False
+    def __init__(self, read, first, make, turn):
+        self._read, self._make, self._turn, self._waiting, self._is_whole = read, make, turn, deque(), False
         self._take(first)
 
     def _take(self, words):
@@ -141,41 +154,25 @@ class Rows:
         return self
 
     def __next__(self):
-        if not self._waiting and not self._is_whole:
-            self._take(self._read())
-        if not self._waiting:
-            raise StopIteration
-        return self._waiting.popleft()
-
-
-def locked(file):
-    """A descriptor of the file, which holds its lock. Its number is none of the standard streams', also where one of these is
-    closed: in the program the number would be a pipe's, and the lock gone with it."""
-    found = os.open(file, os.O_RDONLY | os.O_NONBLOCK)
-    try:
-        lock = fcntl.fcntl(found, fcntl.F_DUPFD_CLOEXEC, 3)
-    finally:
-        os.close(found)
-    try:
-        fcntl.flock(lock, fcntl.LOCK_EX | fcntl.LOCK_NB)
-    except BaseException:
-        os.close(lock)
-        raise
-    return lock
+        with self._turn:
+            if not self._waiting and not self._is_whole:
+                self._take(self._read())
+            if not self._waiting:
+                raise StopIteration
+            return self._waiting.popleft()
 
 
 class Process:
-    """A process of `altctl run`. It inherits the file's lock, and with it the file is locked as long as it runs."""
+    """A process of `altctl run`, which locks the file as long as it runs. It is in a session of its own: a Ctrl-C that ends a
+    call here does not end it, and what was not committed is there still."""
 
-    def __init__(self, file, program, cache):
-        words = [program, "run", *([] if cache is None else ["--cache", str(cache)]), "--", os.fsdecode(file)]
-        lock = locked(file)
-        try:
-            self._faults = tempfile.TemporaryFile("w+", errors="replace")
-            how = {"pass_fds": [lock], "stderr": self._faults, "encoding": "ascii"}
-            self._program = subprocess.Popen(words, stdin=subprocess.PIPE, stdout=subprocess.PIPE, **how)
-        finally:
-            os.close(lock)
+    def __init__(self, file, program, cache, wait):
+        os.stat(file)
+        options = [*([] if cache is None else ["--cache", str(cache)]), *(["--wait"] if wait else [])]
+        self._faults = tempfile.TemporaryFile("w+", errors="replace")
+        how = {"stderr": self._faults, "encoding": "ascii", "start_new_session": True}
+        words = [program, "run", *options, "--", os.fsdecode(file)]
+        self._program = subprocess.Popen(words, stdin=subprocess.PIPE, stdout=subprocess.PIPE, **how)
         self.lines, self.answers = self._program.stdin, self._program.stdout
 
     def end(self):
@@ -211,18 +208,23 @@ class Service:
 
 
 class Store:
-    """An open store. Its file is locked (`flock`) as long as the program runs: a second one raises BlockingIOError.
+    """An open store. The program locks its file (`flock`) as long as it runs: a second one raises BlockingIOError, or with
+    `wait` it waits.
 
     "unix:PATH" stands for a store that a service works on, for many planners at once. There each change is committed before its
     method returns, except in a `with store.batch()`."""
 
-    def __init__(self, file, program="altctl", cache=None):
-        self._rows, self._batch, self._is_open = None, None, False
+    def __init__(self, file, program="altctl", cache=None, wait=False):
+        self._rows, self._batch, self._is_open, self._turn = None, None, False, threading.RLock()
         is_service = isinstance(file, str) and file.startswith("unix:")
-        self._other = Service(file[5:]) if is_service else Process(file, program, cache)
+        self._other = Service(file[5:]) if is_service else Process(file, program, cache, wait)
         self._is_open = True
         try:
             self.free()
+        except Ended as ended:
+            if ended.status == 1 and ended.said.endswith(" is in use\n"):
+                raise BlockingIOError(errno.EAGAIN, "another process has locked the file", file) from None
+            raise
         except BaseException:
             self.close(quietly=True)
             raise
@@ -255,8 +257,9 @@ class Store:
         finally:
             self._batch = None
         if len(lines) > 2:
-            self._write(lines)
-            answers = [self._read() for _ in lines]
+            with self._turn:
+                self._write(lines)
+                answers = [self._read() for _ in lines]
             # Where one is refused, each of the others is answered `91 NotDone`.
             refused = [it for it in answers if it[0] == "error" and it[1] != "91"]
             if refused:
@@ -297,8 +300,9 @@ class Store:
         line = self._line(*words)
         if self._batch is not None:
             return self._hold(line)
-        self._write([line])
-        answer = self._read()
+        with self._turn:
+            self._write([line])
+            answer = self._read()
         if answer[0] == "error":
             raise refusal_of(answer)
         return answer
@@ -314,8 +318,9 @@ class Store:
             return
         asked = 0
         for portion in portions(lines, most):
-            self._write(portion)
-            answers = [self._read() for _ in portion]
+            with self._turn:
+                self._write(portion)
+                answers = [self._read() for _ in portion]
             for at, answer in enumerate(answers, asked):
                 if answer[0] == "error":
                     raise refusal_of(answer, at)
@@ -323,14 +328,17 @@ class Store:
             asked += len(portion)
 
     def _list(self, make, *words):
-        self._rows = Rows(self._read, self._ask(*words), make)
-        return self._rows
+        with self._turn:
+            rows = Rows(self._read, self._ask(*words), make, self._turn)
+            self._rows = rows
+        return rows
 
     def put(self, alt, table, number, value):
         self._ask("put", alt, table, number, encode(value))
 
     def get(self, alt, table, number):
-        """The value of a record, or None."""
+        """The value of a record, or None. In place of an alternative stands a version of it, too: "north@" for its base,
+        "north@before" for a checkpoint."""
         answer = self._ask("get", alt, table, number)
         return decode(answer[1]) if answer[0] == "value" else None
 
@@ -360,8 +368,8 @@ class Store:
             pass
 
     def list(self, alt, *part):
-        """All records of an alternative, by table and then by number. Where the program knows parts: those of a table, or
-        of a table with numbers from a first to a last one."""
+        """All records of an alternative or of a version of it, by table and then by number. Where the program knows parts:
+        those of a table, or of a table with numbers from a first to a last one."""
         return self._list(lambda words: Record(*map(int, words[:2]), decode(words[2])), "list", alt, *part)
 
     def new(self, name, parent, checkpoint=None):
@@ -384,6 +392,15 @@ class Store:
         """What the alternative has changed since its base, as Change rows."""
         return self._list(lambda words: Change(*map(int, words[:2]), *map(decode, words[2:])), "changes", alt)
 
+    def diff(self, first, second):
+        """What differs from one version to another, as Change rows."""
+        return self._list(lambda words: Change(*map(int, words[:2]), *map(decode, words[2:])), "diff", first, second)
+
+    def tally(self, alt):
+        """How far the alternative has gone from its base and from its parent, as a Tally."""
+        answer = self._ask("tally", alt)
+        return Tally(*map(int, answer[1:4]), answer[4] == "yes")
+
     def conflicts(self, alt):
         """What a merge of the alternative has to settle, as Conflict rows."""
         return self._list(lambda words: Conflict(*map(int, words[:2]), *map(decode, words[2:])), "conflicts", alt)
@@ -401,6 +418,10 @@ class Store:
     def commit(self):
         self._ask("commit")
 
+    def rollback(self):
+        """Undoes everything since the last commit, also a growth. A service commits each change, so there it undoes nothing."""
+        self._ask("rollback")
+
     def reclaim(self):
         self._ask("reclaim")
 
@@ -411,6 +432,10 @@ class Store:
     def free(self):
         """The number of free blocks."""
         return int(self._ask("free")[1])
+
+    def blocks(self):
+        """The number of blocks, free ones and others."""
+        return int(self._ask("blocks")[1])
 
     def alternatives(self):
         return self._list(lambda words: Alternative(words[0], None if words[1] == "~" else words[1]), "alts")

@@ -8,6 +8,7 @@ import os
 import subprocess
 import sys
 import tempfile
+import threading
 import time
 import unittest
 from contextlib import redirect_stdout
@@ -17,7 +18,7 @@ sys.dont_write_bytecode = True
 HERE = Path(__file__).resolve().parent
 sys.path.insert(0, str(HERE))
 import example
-from altctl import Alternative, Change, Conflict, Ended, Record, Refusal, Store, decode, encode
+from altctl import Alternative, Change, Conflict, Ended, Record, Refusal, Store, Tally, decode, encode
 
 F_SETPIPE_SZ = 1031  # fcntl has the name from Python 3.10 on.
 ALTCTL = os.environ.get("ALTCTL", str(HERE.parent.parent / "altctl"))
@@ -52,6 +53,23 @@ class StoreTests(unittest.TestCase):
         with self.open(cache=0) as store:
             self.assertEqual(b"duct", store.get("top", 7, 1))
             self.assertIsNone(store.get("top", 7, 2))
+            self.assertEqual(29, store.free())
+
+    def test_what_was_not_committed_is_undone(self):
+        with self.open() as store:
+            store.put("top", 7, 1, b"duct")
+            store.commit()
+            store.put("top", 7, 1, b"pipe")
+            store.new("north", "top")
+            store.checkpoint("top", "before")
+            store.grow(128)
+            store.rollback()
+            self.assertEqual([Record(7, 1, b"duct")], list(store.list("top")))
+            self.assertEqual(["top"], [it.name for it in store.alternatives()])
+            self.assertEqual([], list(store.checkpoints("top")))
+            store.grow(65)
+            store.rollback()
+            store.reclaim()
             self.assertEqual(29, store.free())
 
     def test_each_byte_comes_back(self):
@@ -104,6 +122,38 @@ class StoreTests(unittest.TestCase):
             store.post("a")
             self.assertEqual([Record(7, 1, b"cable A"), Record(7, 2, b"hose")], list(store.list("top")))
             self.assertEqual([], list(store.changes("a")))
+
+    def test_versions_are_read_and_compared(self):
+        with self.open() as store:
+            store.put("top", 7, 1, b"duct")
+            store.new("north", "top")
+            store.put("north", 7, 1, b"cable")
+            store.checkpoint("north", "before")
+            store.put("north", 7, 2, b"box")
+            store.put("top", 7, 1, b"tube")
+            versions = ["north", "north@", "north@before", "top", "top@"]
+            self.assertEqual([b"cable", b"duct", b"cable", b"tube", None], [store.get(it, 7, 1) for it in versions])
+            self.assertEqual([[b"cable"], [None]], [list(store.get_many(it, [(7, 1)])) for it in ("north@before", "top@")])
+            self.assertEqual([Record(7, 1, b"cable")], list(store.list("north@before")))
+            self.assertEqual([Record(7, 1, b"duct")], list(store.list("north@")))
+            self.assertEqual([], list(store.list("top@")))
+            self.assertEqual([Change(7, 2, None, b"box")], list(store.diff("north@before", "north")))
+            self.assertEqual([Change(7, 2, b"box", None)], list(store.diff("north", "north@before")))
+            self.assertEqual([Change(7, 1, b"duct", b"tube")], list(store.diff("north@", "top")))
+            self.assertEqual(list(store.changes("north")), list(store.diff("north@", "north")))
+            self.assertEqual(Tally(2, 1, 1, False), store.tally("north"))
+            self.refused(6, "IsTop", "", store.tally, "top")
+            self.refused(3, "NoSuchCheckpoint", "", store.get, "top@before", 7, 1)
+            self.refused(1, "NoSuchAlternative", "", store.diff, "south@before", "north@nope")
+            self.refused(22, "BadLine", "", store.put, "north@", 7, 1, b"x")
+
+    def test_blocks_are_counted(self):
+        with self.open() as store:
+            self.assertEqual(64, store.blocks())
+            store.grow(70)
+            self.assertEqual(70, store.blocks())
+        with self.open() as store:
+            self.assertEqual(64, store.blocks())
 
     def test_a_checkpoint_is_gone_back_to(self):
         with self.open() as store:
@@ -283,6 +333,76 @@ class StoreTests(unittest.TestCase):
             self.assertEqual(1, subprocess.run(["flock", "-n", self.file, "true"]).returncode)
         self.open().close()
 
+    def test_a_second_process_waits_where_it_is_to(self):
+        with self.open() as first:
+            first.put("top", 1, 1, b"one")
+            waiting = threading.Thread(target=lambda: self.open(wait=True).close())
+            waiting.start()
+            waiting.join(0.3)
+            self.assertTrue(waiting.is_alive())
+            first.commit()
+        waiting.join(30)
+        self.assertFalse(waiting.is_alive())
+
+    def test_a_caller_that_holds_the_lock_hands_it_down(self):
+        with open(self.file, "rb") as held:
+            fcntl.flock(held, fcntl.LOCK_EX)
+            words = [ALTCTL, "do", self.file, "free"]
+            ran = subprocess.run(words, pass_fds=[held.fileno()], stdout=subprocess.PIPE)
+            self.assertEqual((0, b"free 30\n"), (ran.returncode, ran.stdout))
+            self.assertEqual(1, subprocess.run(words, stderr=subprocess.DEVNULL).returncode)
+
+    def test_threads_get_their_own_answers(self):
+        def work(alt):
+            try:
+                for number in range(200):
+                    store.put(alt, 1, number, f"{alt} {number}".encode())
+                    assert store.get(alt, 1, number) == f"{alt} {number}".encode()
+                values = [it.value for it in store.list(alt)]
+                assert values == [f"{alt} {number}".encode() for number in range(200)]
+            except BaseException as it:
+                failed.append(it)
+
+        failed = []
+        self.grown(4096)
+        with self.open() as store:
+            threads = []
+            for alt in ("a", "b", "c", "d"):
+                store.new(alt, "top")
+                threads.append(threading.Thread(target=work, args=(alt,)))
+            for it in threads:
+                it.start()
+            for it in threads:
+                it.join()
+        self.assertEqual([], failed)
+
+    def test_a_signal_of_the_terminal_leaves_the_work_there(self):
+        program = (
+            "import os, signal\n"
+            "from altctl import Store\n"
+            f"with Store({self.file!r}, {ALTCTL!r}) as store:\n"
+            "    store.put('top', 1, 1, b'one')\n"
+            "    try:\n"
+            "        os.killpg(0, signal.SIGINT)\n"
+            "        signal.pause()\n"
+            "    except KeyboardInterrupt: store.commit()\n"
+        )
+        words = [sys.executable, "-c", program]
+        ran = subprocess.run(words, cwd=HERE, start_new_session=True, stderr=subprocess.PIPE)
+        self.assertEqual((0, b""), (ran.returncode, ran.stderr))
+        with self.open() as store:
+            self.assertEqual(b"one", store.get("top", 1, 1))
+
+    def test_a_value_is_bytes(self):
+        with self.open() as store:
+            for value in ("text", None, 7, [1]):
+                self.assertRaises(TypeError, store.put, "top", 1, 1, value)
+            for value in (b"one", bytearray(b"one"), memoryview(b"one")):
+                store.put("top", 1, 1, value)
+                self.assertEqual(b"one", store.get("top", 1, 1))
+            store.put("top", 1, 1, bytearray(b"-"))
+            self.assertEqual(b"-", store.get("top", 1, 1))
+
     def test_the_lock_is_held_where_a_standard_stream_is_closed(self):
         program = (
             "from altctl import Store\n"
@@ -353,6 +473,7 @@ class ServiceTests(unittest.TestCase):
             self.assertEqual(b"cable A", other.get("north", 7, 1))
             other.put("north", 7, 2, b"")
             other.commit()
+            other.rollback()
             self.assertEqual([Record(7, 1, b"cable A"), Record(7, 2, b"")], list(one.list("north")))
             self.assertEqual([Change(7, 1, None, b"cable A"), Change(7, 2, None, b"")], list(one.changes("north")))
             for row in one.list("north"):
@@ -402,7 +523,7 @@ class ServiceTests(unittest.TestCase):
             with self.assertRaises(KeyError), store.batch():
                 store.put("top", 7, 1, b"a")
                 raise KeyError
-            for call in [lambda: store.get("top", 7, 1), lambda: list(store.list("top")), store.commit, store.batch().__enter__]:
+            for call in [lambda: store.get("top", 7, 1), lambda: list(store.list("top")), store.commit, store.rollback, store.batch().__enter__]:
                 with self.assertRaises(ValueError), store.batch():
                     store.put("top", 7, 1, b"a")
                     call()
