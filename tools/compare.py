@@ -106,6 +106,11 @@ class Store:
         self.disk[1] = bytes([1 if slot == 18 else 0]).ljust(BLOCK, b"\0")
         self.committed, self.kept = [it.copy() for it in self.working], self.blocks
 
+    def rollback(self):
+        """Blocks that came by a growth since the last commit are no blocks of the store any more, whether held or free."""
+        self.working, self.blocks = [it.copy() for it in self.committed], self.kept
+        self.held = {it for it in self.held if it < self.kept}
+
     # --- trees
 
     def decoded(self, block):
@@ -352,6 +357,8 @@ class Store:
             parent.current = it.base = it.current
         elif verb == "commit":
             self.commit()
+        elif verb == "rollback":
+            self.rollback()
         elif verb == "reclaim":
             self.held = self.reached(self.committed) | self.reached(self.working)
         elif verb == "grow":
@@ -365,23 +372,47 @@ class Store:
             raise Refused(12)
         self.working.append(Alternative(tag, name, owner, current, base))
 
+    def version(self, word):
+        """The records that a word means: those of an alternative, of its base, or of a checkpoint of it."""
+        name, mark, behind = word.partition("@")
+        it = self.find(name)
+        if behind:
+            it = self.checkpoint_of(name, behind)
+            if not it:
+                raise Refused(3)
+        return self.records(it.base if mark and not behind else it.current)
+
+    @staticmethod
+    def changed(old, new):
+        """The keys at which maps differ, in order."""
+        return sorted(key for key in {*old, *new} if old.get(key) != new.get(key))
+
+    def differing(self, old, new):
+        return listed(f"change {k[0]} {k[1]} {spelled(old.get(k))} {spelled(new.get(k))}" for k in self.changed(old, new))
+
     def asked(self, verb, rest):
         if verb == "free":
             return f"free {self.free()}"
+        if verb == "blocks":
+            return f"blocks {self.blocks}"
         if verb == "alts":
             return listed(f"alternative {it.name} {it.owner or '~'}" for it in self.working if it.tag == b"A")
-        it = self.find(rest[0])
         if verb == "get":
-            found = self.records(it.current).get(rest[1])
+            found = self.version(rest[0]).get(rest[1])
             return "none" if found is None else f"value {spelled(found)}"
         if verb == "list":
-            return listed(f"record {k[0]} {k[1]} {spelled(v)}" for k, v in sorted(self.records(it.current).items()))
+            return listed(f"record {k[0]} {k[1]} {spelled(v)}" for k, v in sorted(self.version(rest[0]).items()))
+        if verb == "diff":
+            return self.differing(self.version(rest[0]), self.version(rest[1]))
+        it = self.find(rest[0])
         if verb == "checks":
             return listed(f"checkpoint {c.name}" for c in self.working if c.tag == b"C" and c.owner == rest[0])
         if verb == "changes":
-            base, own = self.records(it.base), self.records(it.current)
-            keys = sorted(k for k in {*base, *own} if base.get(k) != own.get(k))
-            return listed(f"change {k[0]} {k[1]} {spelled(base.get(k))} {spelled(own.get(k))}" for k in keys)
+            return self.differing(self.records(it.base), self.records(it.current))
+        if verb == "tally":
+            _, _, base, theirs, own = self.sides(rest[0])
+            numbers = self.changed(base, own), self.changed(base, theirs), self.in_conflict(base, theirs, own)
+            return f"tally {' '.join(str(len(it)) for it in numbers)} {'yes' if base == theirs else 'no'}"
         assert verb == "conflicts"
         found = self.in_conflict(*self.sides(rest[0])[2:])
         return listed(f"conflict {k[0]} {k[1]} {spelled(b)} {spelled(p)} {spelled(o)}" for k, b, p, o in found)
@@ -618,6 +649,9 @@ class Editor:
         self.width = rng.choice([3, 20, 60, 400, 3000])
         self.growth = rng.choice([0, 0.01, 0.04])
 
+    def version(self):
+        return self.rng.choice(self.names) + self.rng.choice(["", "", "@", *("@" + it for it in self.marks)])
+
     def key(self):
         if self.rng.random() < 0.02:
             return self.rng.choice([(65535, 2**64 - 1), (0, 0), (256, 1), (255, 2**63)])
@@ -651,9 +685,11 @@ class Editor:
         return gap(0) + "".join(it + gap(1) for it in words[:-1]) + words[-1] + gap(0) + self.rng.choice(["\n", "\r\n"])
 
     def odd(self):
-        bad = ["PUT top 1 1 a", "get top x 1", "get top 65536 1", "get top 1 18446744073709551616", "commit now", "put top 1 1", "put top 1 1 %z1"]
+        bad = ["PUT top 1 1 a", "get top x 1", "get top 65536 1", "get top 1 18446744073709551616", "commit now", "rollback now", "put top 1 1", "put top 1 1 %z1"]
         bad += ["put top 1 1 " + self.rng.choice(["x", "%61"]) * 4001, "new a", "new a~ top", "new a top c!", "new a top c d", "new " + "n" * 33 + " top", "merge", "merge top 1:1=ours", "get\ttop 1 1", "free\r\r"]
         bad += ["grow", "grow 4294967296", "grow 18446744073709551616", "grow " + "0" * 20 + "1", "grow -1", "grow +70", "grow 70 80", "grow many"]
+        bad += ["get @ 1 1", "get top@~ 1 1", "get top @ 1 1", "list top@@", "list @k", "diff", "diff top@", "diff top @k", "diff top top@ x"]
+        bad += ["put top@ 1 1 a", "remove top@k 1 1", "changes top@", "merge top@", "tally", "tally top@", "blocks 1", "checks top@k"]
         if self.rng.random() < 0.3:
             return self.rng.choice(["", "# note", "   ", "  #x"]) + "\n", None
         return self.rng.choice(bad) + "\n", "error 22 BadLine"
@@ -678,6 +714,7 @@ class Editor:
         if draw < 0.62:
             key = self.key()
             verb = self.rng.choice(["remove", "remove", "get"])
+            name = self.version() if verb == "get" else name
             return self.spaced([verb, name, str(key[0]), str(key[1])]), [verb, name, key]
         if draw < 0.70:
             words = ["new", self.rng.choice(self.names), name, *self.rng.sample(self.marks, self.rng.randrange(2))]
@@ -690,9 +727,10 @@ class Editor:
         elif draw < 0.91:
             words = ["post", name]
         elif draw < 0.97:
-            words = [self.rng.choice(["commit", "commit", "reclaim", "free", "free", "alts"])]
+            words = [self.rng.choice(["commit", "commit", "rollback", "reclaim", "free", "free", "alts", "blocks"])]
         else:
-            words = [self.rng.choice(["list", "changes", "conflicts", "checks"]), name]
+            verb = self.rng.choice(["list", "diff", "changes", "conflicts", "tally", "checks"])
+            words = [verb, *{"list": [self.version()], "diff": [self.version(), self.version()]}.get(verb, [name])]
         return self.spaced(words), words
 
     def merged(self, store, name):

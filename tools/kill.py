@@ -127,7 +127,7 @@ def merged(tree, name, settlements):
 def step(tree, verb, words):
     """What a command is answered, and the tree that it leaves."""
     match verb, words:
-        case ("commit" | "reclaim"), []:
+        case ("commit" | "rollback" | "reclaim"), []:
             return "ok", tree
         case "new", [name, parent]:
             records = find(tree, parent).current
@@ -206,7 +206,7 @@ def row(word, key, values):
     return " ".join([word, *map(str, key), *("~" if value is None else value for value in values)])
 
 
-QUERIES = {"alts", "list", "checks", "changes", "conflicts"}
+QUERIES = {"alts", "list", "checks", "changes", "conflicts", "diff"}
 
 
 def grown(state, blocks):
@@ -298,12 +298,12 @@ def pick(chance, entries, others):
 def change(chance, state, merges):
     """A random line that changes an alternative or the number of blocks, or is refused."""
     tree = state.tree
-    verbs = {"put": 60, "remove": 14, "new": 6, "drop": 3, "checkpoint": 5, "uncheck": 3, "back": 3, "reclaim": 1, "grow": 2}
+    verbs = {"put": 60, "remove": 14, "new": 6, "drop": 3, "checkpoint": 5, "uncheck": 3, "back": 3, "rollback": 1, "reclaim": 1, "grow": 2}
     if merges:
         verbs |= {"merge": 2, "post": 3}
     verb = chance.choices(list(verbs), list(verbs.values()))[0]
     name = pick(chance, tree, NAMES)
-    if verb == "reclaim":
+    if verb in ("rollback", "reclaim"):
         return verb
     if verb == "grow":
         return f"grow {state.blocks + chance.randrange(-1, MOST_NEW + 1)}"
@@ -402,6 +402,8 @@ class Life:
                 state = self.after(state, line, came)
                 if line == "commit":
                     committed = state
+                if line == "rollback":
+                    state = committed
 
     def batch(self, state):
         """The next lines, or None where the program was killed."""
@@ -429,6 +431,7 @@ class Life:
         self.count["merges"] += verb == "merge" and not refused
         self.count["posts"] += verb == "post" and not refused
         self.count["growths"] += verb == "grow" and not refused
+        self.count["rollbacks"] += verb == "rollback" and not refused
         expected, after = answered(state, line)
         if came == ["error 13 Full"] and verb in ("put", "remove", "merge"):
             self.count["refusals for want of blocks"] += 1

@@ -367,7 +367,7 @@ static const byte *record_in(const byte *leaf, struct key key)
 /* --- which blocks are held ----------------------------------------------------------------------- */
 
 static uint64_t *held, *marks;
-static uint32_t blocks, free_blocks, lowest_word;
+static uint32_t blocks, kept_blocks, free_blocks, lowest_word;
 
 static size_t words_of(uint32_t bits)
 {
@@ -382,6 +382,11 @@ static bool is_set(const uint64_t *bits, uint32_t block)
 static void set(uint64_t *bits, uint32_t block)
 {
     bits[block / 64] |= (uint64_t)1 << block % 64;
+}
+
+static void clear(uint64_t *bits, uint32_t block)
+{
+    bits[block / 64] &= ~((uint64_t)1 << block % 64);
 }
 
 /* Holds nothing but the store's own blocks. */
@@ -776,6 +781,7 @@ static void publish(void)
     write_file(1, selector, 1);
     sync_file();
     in_slot_b = !in_slot_b;
+    kept_blocks = blocks;
     committed.count = working.count;
     memcpy(committed.at, working.at, (size_t)working.count * sizeof *working.at);
 }
@@ -911,6 +917,7 @@ static void open_store(void)
         visit_root(&working.at[i].base);
     }
     free(spans);
+    kept_blocks = blocks;
     committed.count = working.count;
     memcpy(committed.at, working.at, (size_t)working.count * sizeof *working.at);
 }
@@ -1375,6 +1382,22 @@ static void do_commit(const struct words *words)
     publish();
 }
 
+/* Goes back to what is committed. The blocks of a growth since then are no blocks of the store any more. */
+static void do_rollback(const struct words *words)
+{
+    (void)words;
+    working.count = committed.count;
+    memcpy(working.at, committed.at, (size_t)committed.count * sizeof *committed.at);
+    for (; blocks > kept_blocks; blocks--) {
+        if (is_set(held, blocks - 1))
+            clear(held, blocks - 1);
+        else
+            free_blocks--;
+    }
+    if (lowest_word > blocks / 64)
+        lowest_word = blocks / 64;
+}
+
 static void do_reclaim(const struct words *words)
 {
     (void)words;
@@ -1459,7 +1482,8 @@ static const struct verb {
     {"new", "nn?", do_new}, {"drop", "n", do_drop}, {"post", "n", do_post}, {"merge", "ns", do_merge},
     {"list", "n", do_list}, {"changes", "n", do_changes}, {"conflicts", "n", do_conflicts}, {"free", "", do_free},
     {"alts", "", do_alternatives}, {"checks", "n", do_checkpoints}, {"checkpoint", "nn", do_checkpoint},
-    {"uncheck", "nn", do_uncheck}, {"back", "nn", do_back}, {"reclaim", "", do_reclaim}, {"grow", "b", do_grow},
+    {"uncheck", "nn", do_uncheck}, {"back", "nn", do_back}, {"rollback", "", do_rollback}, {"reclaim", "", do_reclaim},
+    {"grow", "b", do_grow},
 };
 
 /* The next word of a line, of no bytes where there is none. */

@@ -328,6 +328,41 @@ error 21 BadSize
 > get top 1 1
 value x
 END
+session 'a growth that is rolled back' growing <<'END'
+> new a top
+ok
+> put a 1 2 y
+ok
+> grow 140
+ok
+> free
+free 104
+> rollback
+ok
+> free
+free 92
+> alts
+alternative top ~
+end 1
+> grow 128
+error 21 BadSize
+> rollback all
+error 22 BadLine
+> list top
+record 1 1 x
+end 1
+> put top 1 1 z
+ok
+> rollback
+ok
+> commit
+ok
+> reclaim
+ok
+> free
+free 93
+END
+has_bytes growing 573440
 
 # The smallest store is full with 14 records of one leaf in as many checkpoints, and takes more once it has grown.
 create full 64
@@ -1017,10 +1052,10 @@ unheard 'wrong words' create g many
 unheard 'no UTF-8' run "$(printf '\377')"
 absent 'a full standard error' g
 
-# The reader of the answers is gone.
+# The reader of the answers is gone: nothing is said of it.
 echo free >lines
 echo 3 >status
-echo 'altctl: stopped' >faults
+: >faults
 {
     sleep 1
     came=0
@@ -1029,6 +1064,68 @@ echo 'altctl: stopped' >faults
 } | :
 compare 'a reader that is gone: status' status status.came
 compare 'a reader that is gone: standard error' faults faults.came
+
+# --- the lock of the file --------------------------------------------------------------------------
+
+create locked 64
+mkfifo talk
+"$altctl" run locked <talk >answers.came 2>&1 &
+holder=$!
+exec 9>talk
+echo 'put top 1 1 a' >&9
+# The first answer comes behind the lock.
+until [ -s answers.came ]; do sleep 0.1; done
+cp locked before
+: >lines
+: >output
+for words in 'run locked' 'do locked free' 'check locked' 'tree locked' 'run --strict locked'; do
+    echo 'altctl: locked is in use' >faults
+    program "$words, beside a run" 1 $words
+    compare "$words, beside a run: the file" before locked
+done
+printf 'alternatives 1\ncheckpoints 0\nfree 30\n' >output
+: >faults
+program 'check --no-lock, beside a run' 0 check --no-lock locked
+echo 'get top 1 1' >lines
+"$altctl" run --wait locked <lines >waited.came 2>&1 9>&- &
+waiter=$!
+sleep 0.5
+: >output
+compare 'run --wait, beside a run' output waited.came
+echo commit >&9
+exec 9>&-
+wait "$holder" "$waiter"
+printf 'ok\nok\n' >output
+compare 'the run that held the lock' output answers.came
+echo 'value a' >output
+compare 'run --wait, behind a run' output waited.came
+
+# Whoever holds the lock hands it down, or says that it is held. A shared one lets others read.
+if command -v flock >/dev/null; then
+    : >lines
+    echo 'value a' >output
+    flock -n locked "$altctl" do locked 'get top 1 1' >came 2>&1
+    compare 'a lock that is handed down' output came
+    flock -n -o locked "$altctl" do --no-lock locked 'get top 1 1' >came 2>&1
+    compare 'a lock that is not handed down' output came
+    exec 8<locked
+    flock -s 8
+    printf 'alternatives 1\ncheckpoints 0\nfree 29\n' >output
+    "$altctl" check locked >came 2>&1 8<&-
+    compare 'check beside a shared lock' output came
+    echo 'altctl: locked is in use' >output
+    "$altctl" do locked free >came 2>&1 8<&- || :
+    compare 'do beside a shared lock' output came
+    exec 8<&-
+fi
+# No lock is left behind, and a file that is not there is not made.
+echo 'free 29' >output
+: >faults
+program 'do after all of it' 0 do locked free
+: >output
+echo 'altctl: cannot open nowhere' >faults
+program 'a file that is not there' 1 run --wait nowhere
+absent 'a file that is not there' nowhere
 
 # --- the script that starts the program ------------------------------------------------------------
 
