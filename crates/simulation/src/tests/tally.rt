@@ -7,7 +7,7 @@ use vm_types::{Answer, Command, Key, Name, Refusal, Side};
 const KINDS: usize = 14;
 
 /// How many cases there are.
-const CASES: usize = 15;
+const CASES: usize = 14;
 
 /// What sessions are to meet beside each kind of command and of refusal.
 #[derive(Clone, Copy)]
@@ -40,8 +40,6 @@ pub enum Case {
     CutShort,
     /// A Rollback took away blocks that came by a Grow.
     GrowthUndone,
-    /// Some of these were taken.
-    TakenUndone,
 }
 
 /// What a command may change beside records: how many levels its alternative's map has, how many blocks
@@ -124,10 +122,6 @@ impl Tally {
             }
             Command::Rollback if after.blocks < before.blocks => {
                 self.meet(Case::GrowthUndone);
-                let gone = before.blocks.saturating_sub(after.blocks);
-                if before.free.saturating_sub(after.free) < gone {
-                    self.meet(Case::TakenUndone);
-                }
             }
             _ => {}
         }
