@@ -1,7 +1,7 @@
 //! Tests of the crates below the trees: words, held blocks, block forms and slots.
 //!
-//! They stand in a crate above those, since a crate is proved once more with its tests. It has
-//! nothing else.
+//! They are in a crate above those, since a crate with tests is proved a second time together with
+//! them. This crate has nothing else.
 #![tactic(auto)]
 
 #[cfg(test)]

@@ -1,14 +1,14 @@
 //! What words, disks, held blocks, block forms and slots answer, by hand.
+mod allocation;
 mod caches;
 mod catalog;
 mod delays;
 mod disks;
 mod files;
 mod headers;
-mod holding;
 mod inner_blocks;
 mod leaves;
-mod merging;
+mod merges;
 mod packed;
 mod records;
 mod rows;

@@ -1,17 +1,17 @@
-//! How long a leaf takes to write and to read.
+//! How long it takes to write and to read a leaf.
 ghost use Rattle.vm_block.specs.Changed.{AreStored};
 
 use byteorder::{ByteOrder, LittleEndian};
 use std::io;
 use std::time::{Clock, Instant};
 use vm_block::{Stored, read_leaf, write_leaf};
-use vm_types::Key;
+use vm_types::{Block, Key};
 
 const TIMES: u64 = 100_000;
 
-/// The sixteen rows of a leaf of short values, where nothing is looked at but their own bytes.
+/// The sixteen rows of a leaf of short values, without checking anything but their own bytes.
 #[inline(never)]
-fn decode(block: &[u8; 4096]) -> [(Key, Stored<'_>); 16] {
+fn decode(block: &Block) -> [(Key, Stored<'_>); 16] {
     let mut rows = [(Key::default(), Stored::default()); 16];
     for i in 0..16 {
         let bytes = &block[16 + 252 * i..268 + 252 * i];
@@ -30,7 +30,7 @@ fn key(number: u64) -> Key {
     Key { table: 1, number }
 }
 
-/// The sixteen rows of a leaf, each with this value.
+/// Sixteen rows of a leaf, each with this value.
 fn rows_of(value: &[u8; 240]) -> [(Key, Stored<'_>); 16]
     ensures { AreStored result }
 {
@@ -55,7 +55,7 @@ fn rows_of(value: &[u8; 240]) -> [(Key, Stored<'_>); 16]
     ]
 }
 
-/// Looks at each row, so that it has to be made.
+/// Looks at each row, so that each one has to be made.
 fn sum_of(rows: &[(Key, Stored<'_>)]) -> u64 {
     let mut sum: u64 = 0;
     for (key, stored) in rows {
@@ -69,7 +69,7 @@ fn sum_of(rows: &[(Key, Stored<'_>)]) -> u64 {
     sum
 }
 
-/// Writes a leaf of 16 rows, reads it, and decodes it without a look at its form, many times.
+/// Writes a leaf of 16 rows, reads it, and decodes it without checking its form, many times.
 pub(super) fn measure<R: Print + Clock>(rt: &R) -> io::Result<()> {
     let value = [7; 240];
     let rows = rows_of(&value);

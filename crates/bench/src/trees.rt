@@ -1,4 +1,4 @@
-//! How long changes of one large tree take, and how long its records take to read.
+//! How long it takes to change one large tree, and to read its records.
 ghost use Rattle.std.specs.Prelude.{◌≤◌};
 
 use std::alloc::{AllocError, Global};
@@ -8,13 +8,13 @@ use vm_alloc::{Held, Marks};
 use vm_check::{NotedDisk, mark};
 use vm_disk::{Disk, MemDisk};
 use vm_tree::{Root, get, put};
-use vm_types::{Key, Refusal, Value};
+use vm_types::{Block, Key, Refusal, Value};
 
 const BLOCKS: u32 = 262_144;
 
 const TIMES: u64 = 1_000_000;
 
-/// The order in which keys come.
+/// The order of the keys.
 #[derive(Clone, Copy, Debug)]
 enum Order {
     Rising,
@@ -39,7 +39,7 @@ impl Order {
     }
 }
 
-/// A number that looks random. Each step can be undone, so different numbers stay different.
+/// A number that looks random. Each step is invertible, so different numbers stay different.
 fn mixed(n: u64) -> u64 {
     let mut mixed = n.wrapping_mul(0x9E37_79B9_7F4A_7C15);
     mixed = (mixed ^ (mixed >> 30)).wrapping_mul(0xBF58_476D_1CE4_E5B9);
@@ -73,7 +73,7 @@ impl Plot {
         })
     }
 
-    /// Holds the blocks of the tree, and no other block for data.
+    /// Holds the blocks of the tree, and no other data block.
     fn let_go(&mut self) -> Result<(), Refusal> {
         self.marks.clear();
         if self.marks.blocks() <= self.disk.blocks() {
@@ -105,7 +105,7 @@ impl Plot {
     }
 
     /// Whether the key has a value.
-    fn has(&mut self, key: Key, room: &mut [u8; 4096]) -> Result<bool, Refusal> {
+    fn has(&mut self, key: Key, room: &mut Block) -> Result<bool, Refusal> {
         let blocks = self.disk.blocks();
         let found = get(&mut self.disk, blocks, self.root, key, room)?;
         Ok(found.is_some())
@@ -144,7 +144,8 @@ fn measure_order<R: Print + Clock>(rt: &R, alloc: Global, order: Order) -> io::R
     println!(rt; "get, {name}: {} us for {found}", spent.as_micros())
 }
 
-/// Puts a million records into one tree and gets each: first with rising keys, then with scattered ones.
+/// Puts a million records into one tree and gets each: first with rising keys, then with scattered
+/// ones.
 pub(super) fn measure<R: Print + Clock>(rt: &R, alloc: Global) -> io::Result<()> {
     measure_order(rt, alloc, Order::Rising)?;
     measure_order(rt, alloc, Order::Scattered)

@@ -8,9 +8,9 @@ ghost use Rattle.vm_types.specs.Step.{new_alternative};
 ghost use Rattle.vm_types.specs.Tree.{saved_as};
 ghost use Rattle.vm_types.specs.Outcomes.{gone_back};
 
-use crate::comparing;
 use crate::held::Held;
 use crate::map::{self, Map};
+use crate::map_changes;
 use std::alloc::{AllocError, Global};
 use std::marker::Model;
 use vm_types::{Change, Conflict, Key, Name, Side, Value};
@@ -67,7 +67,7 @@ impl Saved {
     }
 }
 
-/// Where the checkpoint of this name stands.
+/// The position of the checkpoint of this name.
 fn position_of(saved: &[Saved], name: &Name) -> Option<usize>
     ensures found { IfSome result (IsFirst (λ c. bytes_eq c.name name.now) saved.now) }
     ensures none { IfNone result (find (λ c. bytes_eq c.name name.now) saved.now ≡ None) }
@@ -104,15 +104,15 @@ impl Alternative {
         }
     }
 
-    /// A new alternative under this one, which shows its records.
+    /// A new alternative under this one. It shows this one's records.
     pub(super) fn child(&self, alloc: Global, name: &Name) -> Result<Alternative, AllocError>
         ensures { IfOk result (λ child. child ≡ new_alternative name.now self.now self.now.current) }
     {
         self.child_with(alloc, name, &self.current)
     }
 
-    /// A new alternative under this one, which shows the records of the checkpoint of this name, if there
-    /// is one.
+    /// A new alternative under this one. It shows the records of the checkpoint of this name, if
+    /// there is one.
     pub(super) fn child_at(
         &self,
         alloc: Global,
@@ -130,7 +130,7 @@ impl Alternative {
         }
     }
 
-    /// A new alternative under this one, which shows these records.
+    /// A new alternative under this one. It shows these records.
     fn child_with(
         &self,
         alloc: Global,
@@ -148,7 +148,7 @@ impl Alternative {
         })
     }
 
-    /// The same once more.
+    /// A copy of it.
     pub(super) fn copy(&self, alloc: Global) -> Result<Alternative, AllocError>
         ensures { IfOk result (λ copy. copy ≡ self.now) }
     {
@@ -196,7 +196,7 @@ impl Alternative {
         map::get(&self.current, key)
     }
 
-    /// Gives a record a value.
+    /// Sets the value of a record.
     pub(super) fn put(&mut self, alloc: Global, key: Key, value: &Value) -> Result<(), AllocError>
         ensures ok { OnOk result (self.new ≡ record self.old { current = with_value self.old.current key value.now }) }
         ensures err { OnErr result (self.new ≡ self.old) }
@@ -205,7 +205,7 @@ impl Alternative {
         Ok(())
     }
 
-    /// Takes a record out.
+    /// Removes a record.
     pub(super) fn remove(&mut self, alloc: Global, key: Key) -> Result<(), AllocError>
         ensures ok { OnOk result (self.new ≡ record self.old { current = without self.old.current key }) }
         ensures err { OnErr result (self.new ≡ self.old) }
@@ -221,7 +221,7 @@ impl Alternative {
         map::copy(alloc, &self.current)
     }
 
-    /// The same, each value in the place of the greatest one.
+    /// The same, with each value in the space of the longest possible one.
     pub(super) fn values(&self, alloc: Global) -> Result<Vec<(Key, Value)>, AllocError>
         ensures { IfOk result (λ records. records.items ≡ self.now.current) }
     {
@@ -232,10 +232,10 @@ impl Alternative {
     pub(super) fn changes(&self, alloc: Global) -> Result<Vec<Change>, AllocError>
         ensures { IfOk result (λ list. list.items ≡ delta self.now.base self.now.current) }
     {
-        comparing::changes_between(alloc, &self.base, &self.current)
+        map_changes::changes_between(alloc, &self.base, &self.current)
     }
 
-    /// Where it is in conflict with its parent, by rising keys.
+    /// Its conflicts with its parent, by rising keys.
     pub(super) fn conflicts(
         &self,
         alloc: Global,
@@ -243,17 +243,17 @@ impl Alternative {
     ) -> Result<Vec<Conflict>, AllocError>
         ensures { IfOk result (λ list. list.items ≡ conflicts self.now.base parent.now.current self.now.current) }
     {
-        comparing::conflicts(alloc, &self.base, &parent.current, &self.current)
+        map_changes::conflicts(alloc, &self.base, &parent.current, &self.current)
     }
 
     /// Whether its base is what its parent shows.
     pub(super) fn is_merged(&self, parent: &Alternative) -> bool
         ensures { result ≡ same_map self.now.base parent.now.current }
     {
-        comparing::same(&self.base, &parent.current)
+        map_changes::same(&self.base, &parent.current)
     }
 
-    /// What it shows once it is merged with its parent, with conflicts settled so.
+    /// What it shows after a merge with its parent, with conflicts settled so.
     pub(super) fn merged(
         &self,
         alloc: Global,
@@ -262,11 +262,11 @@ impl Alternative {
     ) -> Result<Map, AllocError>
         ensures { IfOk result (λ merged. merged.items ≡ merge self.now.base parent.now.current self.now.current settled.now) }
     {
-        comparing::merge(alloc, &self.base, &parent.current, &self.current, settled)
+        map_changes::merge(alloc, &self.base, &parent.current, &self.current, settled)
     }
 
-    /// How many of its records change where it shows these instead. More changes than a `u32` counts
-    /// take more than a TiB, and are refused as want of memory.
+    /// How many of its records change if it shows these instead. More changes than a `u32` counts
+    /// would take more than a TiB, and are refused as lack of memory.
     pub(super) fn change_count(
         &self,
         alloc: Global,
@@ -274,11 +274,11 @@ impl Alternative {
     ) -> Result<u32, AllocError>
         ensures { IfOk result (λ count. count ≡ length (delta self.now.current records.now)) }
     {
-        let changes = comparing::changes_between(alloc, &self.current, records)?;
+        let changes = map_changes::changes_between(alloc, &self.current, records)?;
         u32::try_from(changes.len()).map_err(|_| AllocError)
     }
 
-    /// Shows these records from now on, and has these as its base.
+    /// Shows these records from now on, and has those as its base.
     pub(super) fn rebase(&mut self, current: Map, base: Map)
         ensures { self.new ≡ record self.old { current = current.items; base = base.items } }
     {
@@ -335,7 +335,7 @@ impl Alternative {
         Ok(())
     }
 
-    /// Takes the checkpoint of this name out, if there is one.
+    /// Removes the checkpoint of this name, if there is one.
     pub(super) fn forget(&mut self, name: &Name)
         ensures { self.new ≡ record self.old { saved = without_first (λ c. bytes_eq c.name name.now) self.old.saved } }
     {
@@ -360,7 +360,7 @@ impl Alternative {
     }
 }
 
-/// The same tree once more.
+/// A copy of the tree.
 pub(super) fn copy_tree(alloc: Global, tree: &[Alternative]) -> Result<Vec<Alternative>, AllocError>
     ensures { IfOk result (λ copy. copy.items ≡ tree.now) }
 {

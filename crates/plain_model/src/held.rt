@@ -6,7 +6,7 @@ use std::alloc::{AllocError, Global};
 use std::marker::Model;
 use vm_types::Value;
 
-/// A value that takes the memory of the bytes that it has.
+/// A value that takes only the memory of its own bytes.
 #[derive(Drop)]
 pub struct Held {
     bytes: Vec<u8>,
@@ -34,7 +34,7 @@ impl Held {
         })
     }
 
-    /// The same once more.
+    /// A copy of it.
     pub(super) fn copy(&self, alloc: Global) -> Result<Held, AllocError>
         ensures { IfOk result (λ copy. copy ≡ self.now) }
     {
@@ -48,7 +48,7 @@ impl Held {
         &self.bytes
     }
 
-    /// The same in the place of the greatest value.
+    /// The same in the space of the longest possible value.
     pub(super) fn value(&self) -> Value
         ensures { result ≡ self.now }
     {

@@ -5,13 +5,13 @@
 #![tactic(auto)]
 
 mod alternative;
-mod comparing;
 mod held;
 mod map;
+mod map_changes;
 mod plain;
-mod settling;
+mod settlements;
 #[tactic(auto, unfolding(vm_types::specs::Step::or_refuse, vm_types::specs::Step::refuse_if, vm_types::specs::Step::refuse_found))]
 mod steps;
 
-pub use comparing::changes;
+pub use map_changes::changes;
 pub use plain::Plain;

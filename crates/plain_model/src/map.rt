@@ -1,4 +1,4 @@
-//! Maps as records by rising keys, each change a whole new copy.
+//! Maps as records by rising keys. Each change makes a whole new copy.
 ghost use Rattle.std.specs.Prelude.{◌≡◌, ℕ, ◌+◌, ◌<◌, ◌≤◌, ◌++◌, ◌∷◌, List, length, take, drop, insert, IfOk, IfErr, MatchResult, OnOk};
 ghost use Rattle.vm_types.specs.Bytes.{longest};
 ghost use Rattle.vm_types.specs.Map.{get, over, with_value, without};
@@ -22,7 +22,7 @@ pub(super) fn of_values(alloc: Global, records: &[(Key, Value)]) -> Result<Map, 
     Ok(map)
 }
 
-/// The records of a map, each value in the place of the greatest one.
+/// The records of a map, with each value in the space of the longest possible one.
 pub(super) fn values(alloc: Global, map: &[(Key, Held)]) -> Result<Vec<(Key, Value)>, AllocError>
     ensures { IfOk result (λ records. records.items ≡ map.now) }
 {
@@ -33,7 +33,7 @@ pub(super) fn values(alloc: Global, map: &[(Key, Held)]) -> Result<Vec<(Key, Val
     Ok(records)
 }
 
-/// The same map once more.
+/// A copy of the map.
 pub(super) fn copy(alloc: Global, map: &[(Key, Held)]) -> Result<Map, AllocError>
     ensures { IfOk result (λ copy. copy.items ≡ map.now) }
 {
@@ -56,8 +56,8 @@ pub(super) fn get(map: &[(Key, Held)], key: Key) -> Option<Value>
     None
 }
 
-/// Where a key stands among the records: Ok with the place of its record, or else Err with the place
-/// at which its record would go.
+/// The index of a key among the records: Ok with the index of its record, or Err with the index
+/// where its record would go.
 fn place_of(map: &[(Key, Held)], key: Key) -> Result<usize, usize>
     ensures within { MatchResult result (λ i. i < length map.now) (λ i. i ≤ length map.now) }
     ensures there { (value : List ℕ) → IfOk result (λ i. with_value map.now key value ≡ take i map.now ++ (key, value) ∷ drop (i + 1) map.now) }
@@ -73,7 +73,7 @@ fn place_of(map: &[(Key, Held)], key: Key) -> Result<usize, usize>
     Err(map.len())
 }
 
-/// Gives the key this value in a map.
+/// Sets the value of a key in a map.
 fn put(alloc: Global, map: &mut Map, key: Key, value: &[u8]) -> Result<(), AllocError>
     requires { length value.now ≤ longest }
     ensures { OnOk result (map.new.items ≡ with_value map.old.items key value.now) }

@@ -1,4 +1,5 @@
-//! The plain model: two trees of alternatives, with whole copies of all maps, and a number of blocks beside each.
+//! The plain model: two trees of alternatives with whole copies of all maps, each with a number of
+//! blocks.
 ghost use Rattle.std.specs.Prelude.{◌≡◌, ◌≢◌, IfOk, OnOk, OnErr};
 ghost use Rattle.vm_types.specs.Shape.{shape};
 ghost use Rattle.vm_types.specs.State.{opened, committed_of, answer_of, outcome, next};
@@ -54,7 +55,7 @@ fn reply_of(reply: Result<Reply, AllocError>) -> Reply
 }
 
 impl Plain {
-    /// The model of a new store of so many blocks.
+    /// The model of a new store of this many blocks.
     pub fn new(alloc: Global, blocks: u32) -> Result<Plain, AllocError>
         ensures { IfOk result (λ plain. plain ≡ opened (record { tree = fresh; blocks = blocks })) }
     {
@@ -67,7 +68,7 @@ impl Plain {
         })
     }
 
-    /// What the store is once it was closed and opened again: what was not committed is gone.
+    /// The store after it was closed and opened again: uncommitted changes are gone.
     pub fn reopened(&self) -> Result<Plain, AllocError>
         ensures { IfOk result (λ plain. plain ≡ opened (committed_of self.now)) }
     {
@@ -80,7 +81,7 @@ impl Plain {
         })
     }
 
-    /// The same once more.
+    /// A copy of it.
     pub fn copy(&self) -> Result<Plain, AllocError>
         ensures { IfOk result (λ copy. copy ≡ self.now) }
     {
@@ -93,7 +94,7 @@ impl Plain {
         })
     }
 
-    /// Carries out one command. Where there is no memory for it, it changes nothing.
+    /// Carries out one command. If there is no memory for it, it changes nothing.
     pub fn apply(&mut self, command: &Command) -> Reply
         ensures answer { IsAnswer self.old command.now result }
         ensures state { self.new ≡ next self.old command.now result }
@@ -231,7 +232,7 @@ impl Plain {
         }
     }
 
-    /// Where an alternative is in conflict with its parent, in the working state, by rising keys.
+    /// The conflicts of an alternative with its parent, in the working state, by rising keys.
     pub fn conflicts(&self, alt: &Name) -> Result<Vec<Conflict>, Refusal>
         ensures conflicts { IsList result (conflicts_in self.now.working alt.now) }
         ensures device { result ≢ Err Refusal.Device }

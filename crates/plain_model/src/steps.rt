@@ -1,4 +1,4 @@
-//! What each command does to a tree of alternatives. Where there is no memory the tree is as before.
+//! What each command does to a tree of alternatives. If there is no memory, the tree is as before.
 ghost use Rattle.std.specs.Prelude.{◌≡◌, ℕ, ◌<◌, false, slice_index_or, find, Some, None, is_some, IfSome, IfNone, IfOk, IfErr, OnErr, bytes_eq};
 ghost use Rattle.vm_types.specs.declared.command.Command.{Command};
 ghost use Rattle.vm_types.specs.Firsts.{IsFirst};
@@ -8,14 +8,14 @@ ghost use Rattle.vm_types.specs.Outcomes.{IsOutcome};
 ghost use Rattle.plain_model.specs.Plain.{IsUnder, parent_refusal};
 
 use crate::alternative::Alternative;
-use crate::settling;
+use crate::settlements;
 use std::alloc::{AllocError, Global};
 use vm_types::{Answer, Key, MAX_VERSIONS, Name, Refusal, Side, Value};
 
-/// What a command is answered.
+/// The answer to a command.
 pub type Reply = Result<Answer, Refusal>;
 
-/// Where the alternative of this name stands.
+/// The position of the alternative of this name.
 pub(super) fn position_of(tree: &[Alternative], name: &Name) -> Option<usize>
     ensures found { IfSome result (IsFirst (λ a. bytes_eq a.name name.now) tree.now) }
     ensures earlier { IfSome result (λ i. (k : ℕ) (d : Alternative) → k < i → bytes_eq (slice_index_or tree.now k d).name name.now ≡ false) }
@@ -35,7 +35,7 @@ fn is_there(tree: &[Alternative], name: &Name) -> bool
     position_of(tree, name).is_some()
 }
 
-/// Where the alternative of this name and its parent stand.
+/// The positions of the alternative of this name and of its parent.
 pub(super) fn with_parent(tree: &[Alternative], alt: &Name) -> Result<(usize, usize), Refusal>
     ensures places { IfOk result (λ places. IsUnder tree.now alt.now places.0 places.1) }
     ensures refusal { IfErr result (λ refusal. parent_refusal tree.now (named tree.now alt.now) ≡ Some refusal) }
@@ -241,7 +241,7 @@ pub(super) fn merge(
         Err(refusal) => return Ok(Err(refusal)),
     };
     let conflicts = tree[i].conflicts(alloc, &tree[j])?;
-    if let Some(refusal) = settling::refusal(settled, &conflicts) {
+    if let Some(refusal) = settlements::refusal(settled, &conflicts) {
         return Ok(Err(refusal));
     }
     let merged = tree[i].merged(alloc, &tree[j], settled)?;

@@ -1,13 +1,13 @@
-//! What crates of tests have in common: why a test went wrong, the words of a script, and a disk that
+//! What test crates have in common: why a test went wrong, the words of a script, and a disk that
 //! records what is done to it.
 //!
 //! It stands on `vm_types` and `vm_disk`, and no library stands on it.
 #![tactic(auto)]
 
-mod recording;
+mod recording_disk;
 mod words;
 mod wrong;
 
-pub use recording::{Fill, RecordingDisk};
+pub use recording_disk::{Fill, RecordingDisk};
 pub use words::{byte, key, many_of, name, number, top, value};
 pub use wrong::{Reply, Wrong};

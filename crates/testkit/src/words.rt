@@ -1,4 +1,4 @@
-//! What the words of a script stand for.
+//! What the words of a script mean.
 use crate::wrong::Wrong;
 use vm_types::{Key, Name, Value};
 
@@ -32,7 +32,7 @@ pub fn key(word: &str) -> Result<Key, Wrong> {
     })
 }
 
-/// A value, where `''` is the one without bytes, and `61*300` one of so many bytes of one kind.
+/// A value: `''` is the empty one, and `61*300` has this many bytes of one kind.
 pub fn value(word: &str) -> Result<Value, Wrong> {
     let Some((digits, count)) = word.split_once('*') else {
         let text = if word == "''" { "" } else { word };
@@ -43,7 +43,7 @@ pub fn value(word: &str) -> Result<Value, Wrong> {
     bytes.and_then(Value::new).ok_or(Wrong::Unreadable)
 }
 
-/// The byte of which alone these are a hundred or more, if there is one.
+/// The byte that these consist of, if they are a hundred or more of one kind.
 pub fn many_of(bytes: &[u8]) -> Option<u8> {
     let first = *bytes.first()?;
     let same = [first; 4096];

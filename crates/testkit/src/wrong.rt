@@ -1,4 +1,4 @@
-//! Why a test has no result, or another one than is due.
+//! Why a test has no result, or another one than expected.
 use std::alloc::{AllocError, AllocFailed};
 use std::fmt;
 use std::num::ParseIntError;
@@ -6,33 +6,33 @@ use std::str::Utf8Error;
 use vm_disk::DeviceFault;
 use vm_types::{Answer, Refusal};
 
-/// What a command is answered.
+/// The answer to a command.
 pub type Reply = Result<Answer, Refusal>;
 
 /// What went wrong.
 #[derive(Clone, Copy, Debug, PartialEq, Eq)]
 pub enum Wrong {
-    /// No memory for the test itself.
+    /// Memory for the test itself could not be allocated.
     Memory,
     /// A device call of the test itself failed.
     Device,
-    /// The words of a step stand for nothing.
+    /// The words of a step mean nothing.
     Unreadable,
-    /// A call was refused, where it should serve.
+    /// A call was refused that should have been served.
     Refused(Refusal),
-    /// A command is answered so, and not what is due, which comes second.
+    /// A command was answered with the first, and not with the second, which was expected.
     Answer(Reply, Reply),
-    /// Something else is shown than is due.
+    /// Something else is shown than expected.
     Shown,
-    /// The same, where the test counts: this is its number.
+    /// The same, for a test that counts: this is its number.
     Differs(u32),
-    /// A store is shown where there is none, or none where there is one.
+    /// A store is shown where there should be none, or none where there should be one.
     NoStore,
-    /// The store has another number of blocks than this.
+    /// The store does not have this number of blocks.
     Blocks(u32),
-    /// The store has another number of free blocks than this.
+    /// The store does not have this number of free blocks.
     Free(u32),
-    /// The device failed, and no call is answered so.
+    /// The device failed, and no call answered so.
     Hidden,
 }
 
@@ -42,7 +42,7 @@ impl From<AllocError> for Wrong {
     }
 }
 
-/// So that `list.push(item)?` stands where a test's function ends.
+/// Lets a test's function end with `list.push(item)?`.
 impl<T: Drop> From<AllocFailed<T>> for Wrong {
     fn from(_: AllocFailed<T>) -> Wrong {
         Wrong::Memory
@@ -79,7 +79,7 @@ impl From<Refusal> for Wrong {
     }
 }
 
-/// What `open` and `format` answer where they refuse: the disk comes back, and the test ends.
+/// What `open` and `format` return when they refuse: the disk comes back, and the test ends.
 impl<D: Drop> From<(D, Refusal)> for Wrong {
     fn from(refused: (D, Refusal)) -> Wrong {
         Wrong::Refused(refused.1)

@@ -5,9 +5,9 @@ use crate::flags::Flags;
 use crate::held::Held;
 use std::alloc::{AllocError, Global};
 use std::marker::Model;
-use vm_types::MAX_BLOCKS;
+use vm_types::{BlockNumber, MAX_BLOCKS};
 
-/// The blocks that were held at one time, but for those that were let go since.
+/// The blocks that were held at one time, except those that were let go since.
 #[derive(Drop)]
 pub struct Baseline {
     flags: Flags,
@@ -22,7 +22,7 @@ impl Model for Baseline {
 }
 
 impl Baseline {
-    /// It has no block. The only call that takes memory.
+    /// Starts with no block. The only call that takes memory.
     pub fn new(alloc: Global, blocks: u32) -> Result<Baseline, AllocError>
         requires few { blocks ≤ MAX_BLOCKS }
         ensures { IfOk result (λ baseline. baseline ≡ replicate blocks false) }
@@ -32,7 +32,7 @@ impl Baseline {
         })
     }
 
-    /// Leaves out the blocks from this number on.
+    /// Drops the blocks from this number on.
     pub fn truncate(&mut self, blocks: u32)
         requires { blocks ≤ length self.old }
         ensures blocks { self.new ≡ take blocks self.old }
@@ -49,15 +49,15 @@ impl Baseline {
         self.flags.len() as u32
     }
 
-    /// Whether it has the block.
-    pub fn has(&self, n: u32) -> bool
+    /// Whether it contains the block.
+    pub fn has(&self, n: BlockNumber) -> bool
         requires { n < length self.now }
         ensures { IsTrue result ↔ IsHeld self.now n }
     {
         self.flags.get(n as usize)
     }
 
-    /// From now on it has the blocks that are held, and no other.
+    /// Replaces its blocks by the ones that are held now.
     pub fn take(&mut self, held: &Held)
         requires { length held.now ≡ length self.old }
         ensures { self.new ≡ held.now }
@@ -65,7 +65,7 @@ impl Baseline {
         self.flags.copy_from(held.flags());
     }
 
-    /// Leaves out the blocks that are not held any longer.
+    /// Drops the blocks that are no longer held.
     pub fn keep_held(&mut self, held: &Held)
         requires { length held.now ≡ length self.old }
         ensures count { length self.new ≡ length self.old }

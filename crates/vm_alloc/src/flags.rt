@@ -1,4 +1,4 @@
-//! A fixed number of flags, of which a contract sees the list.
+//! A fixed number of flags. A contract sees them as a list.
 ghost use Rattle.std.specs.Prelude.{◌≡◌, ℕ, ◌-◌, ◌<◌, ◌≤◌, ◌++◌, ◌&&◌, true, false, not, length, replicate, take, drop, count_by, slice_index_or, slice_set, IfOk};
 
 use crate::words::{
@@ -36,7 +36,7 @@ impl Flags {
         })
     }
 
-    /// A copy with so many flags in all, of which those behind its own are clear.
+    /// A copy extended to `count` flags, with the new ones clear.
     pub(crate) fn extended(&self, alloc: Global, count: usize) -> Result<Flags, AllocError>
         requires longer { length self.now ≤ count }
         requires few { count ≤ MAX_BLOCKS }
@@ -48,7 +48,7 @@ impl Flags {
         Ok(Flags { words, count })
     }
 
-    /// Leaves out the flags from `count` on.
+    /// Drops the flags from `count` on.
     pub(crate) fn truncate(&mut self, count: usize)
         requires { count ≤ length self.old }
         ensures { self.new ≡ take count self.old }
@@ -109,7 +109,7 @@ impl Flags {
         self.words.copy_from_slice(other.words.as_slice());
     }
 
-    /// Clears each flag that is clear among the others.
+    /// Clears each flag that is clear in `others`.
     pub(crate) fn clear_but(&mut self, others: &Flags)
         requires { length others.now ≡ length self.old }
         ensures count { length self.new ≡ length self.old }
@@ -132,7 +132,8 @@ impl Flags {
         clear
     }
 
-    /// The lowest clear flag, or their number where all are set. The search starts at flag `from`.
+    /// The lowest clear flag, or the number of flags if all are set. The search starts at flag
+    /// `from`.
     pub(crate) fn first_clear(&self, from: usize) -> usize
         requires { (k : ℕ) → k < from → slice_index_or self.now k false ≡ true }
         ensures before { (k : ℕ) → k < result → slice_index_or self.now k false ≡ true }

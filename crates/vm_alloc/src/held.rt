@@ -6,14 +6,15 @@ use crate::flags::Flags;
 use crate::marks::Marks;
 use std::alloc::{AllocError, Global};
 use std::marker::Model;
-use vm_types::{FIRST_DATA, MAX_BLOCKS, MIN_BLOCKS};
+use vm_types::{BlockNumber, FIRST_DATA, MAX_BLOCKS, MIN_BLOCKS};
 
-/// Which blocks of a store are held: never written until they are let go. The others are free.
+/// Which blocks of a store are held. A held block is never written until it is let go. The others
+/// are free.
 #[derive(Drop)]
 pub struct Held {
     flags: Flags,
     free: u32,
-    // No block before this one is free.
+    // All blocks before this one are held.
     lowest: usize,
 }
 
@@ -29,7 +30,7 @@ impl Model for Held {
 }
 
 impl Held {
-    /// Blocks 0 to 33 are held. No call but this one and `extended` takes memory.
+    /// Blocks 0 to 33 are held. Only this call and `extended` take memory.
     pub fn new(alloc: Global, blocks: u32) -> Result<Held, AllocError>
         requires enough { MIN_BLOCKS ≤ blocks }
         requires few { blocks ≤ MAX_BLOCKS }
@@ -45,7 +46,7 @@ impl Held {
         })
     }
 
-    /// A copy with so many blocks in all, of which the new ones are free.
+    /// A copy extended to `blocks` blocks, with the new ones free.
     pub fn extended(&self, alloc: Global, blocks: u32) -> Result<Held, AllocError>
         requires longer { length self.now ≤ blocks }
         requires few { blocks ≤ MAX_BLOCKS }
@@ -61,7 +62,7 @@ impl Held {
         })
     }
 
-    /// Leaves out the blocks from this number on, held or free.
+    /// Drops the blocks from this number on, held or free.
     pub fn truncate(&mut self, blocks: u32)
         requires enough { MIN_BLOCKS ≤ blocks }
         requires fewer { blocks ≤ length self.old }
@@ -92,7 +93,7 @@ impl Held {
         self.free
     }
 
-    pub fn is_held(&self, n: u32) -> bool
+    pub fn is_held(&self, n: BlockNumber) -> bool
         requires { n < length self.now }
         ensures held { IsTrue result ↔ IsHeld self.now n }
         ensures system { (n : ℕ) → n < FIRST_DATA → IsHeld self.now n }
@@ -106,7 +107,7 @@ impl Held {
         ensures lowest { IfSome result (λ n. (k : ℕ) → k < n → IsHeld self.old k) }
         ensures taken { IfSome result (λ n. self.new ≡ slice_set self.old n true) }
 
-        // None exactly where every block is held.
+        // None exactly when every block is held.
         ensures none { IsNone result ↔ (free_count self.old ≡ 0) }
         ensures kept { IfNone result (self.new ≡ self.old) }
 
@@ -123,7 +124,7 @@ impl Held {
         Some(n as u32)
     }
 
-    /// Holds the marked blocks and the store's own, and no other.
+    /// Holds the marked blocks and the store's own, and no others.
     pub fn replace(&mut self, marks: &Marks)
         requires { length marks.now ≡ length self.old }
         ensures count { length self.new ≡ length self.old }

@@ -1,9 +1,9 @@
 //! Which blocks of a store are held and which are free.
 //!
-//! It stands on `vm_types`, of which it has the sizes of a store, and knows neither a disk nor what
-//! lies in a block. Its one promise: `take` gives the lowest block that was not held, and None
-//! exactly where all are held. A contract sees `Held`, and `Marks` and `Baseline` beside it, as one
-//! flag a block.
+//! It stands on `vm_types`, which gives it the sizes of a store, and knows neither a disk nor the
+//! contents of a block. Its one promise: `take` returns the lowest block that was not held, and
+//! None exactly when all are held. A contract sees `Held`, `Marks` and `Baseline` as one flag per
+//! block.
 #![tactic(auto)]
 
 mod baseline;

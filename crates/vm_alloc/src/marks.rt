@@ -5,13 +5,13 @@ ghost use Rattle.vm_alloc.specs.Marks.{IsMarked};
 use crate::flags::Flags;
 use std::alloc::{AllocError, Global};
 use std::marker::Model;
-use vm_types::{FIRST_DATA, MAX_BLOCKS, MIN_BLOCKS};
+use vm_types::{BlockNumber, FIRST_DATA, MAX_BLOCKS, MIN_BLOCKS};
 
-/// Which blocks of a store are marked, as those that are still in use.
+/// Which blocks of a store are marked as still in use.
 #[derive(Drop)]
 pub struct Marks {
     flags: Flags,
-    // How many blocks from `FIRST_DATA` on are not marked.
+    // The number of unmarked blocks from `FIRST_DATA` on.
     unmarked: u32,
 }
 
@@ -27,7 +27,7 @@ impl Model for Marks {
 }
 
 impl Marks {
-    /// No block is marked. No call but this one and `extended` takes memory.
+    /// No block is marked. Only this call and `extended` take memory.
     pub fn new(alloc: Global, blocks: u32) -> Result<Marks, AllocError>
         requires enough { MIN_BLOCKS ≤ blocks }
         requires few { blocks ≤ MAX_BLOCKS }
@@ -39,7 +39,7 @@ impl Marks {
         })
     }
 
-    /// A copy with so many blocks in all, of which the new ones are not marked.
+    /// A copy extended to `blocks` blocks, with the new ones not marked.
     pub fn extended(&self, alloc: Global, blocks: u32) -> Result<Marks, AllocError>
         requires longer { length self.now ≤ blocks }
         requires few { blocks ≤ MAX_BLOCKS }
@@ -52,7 +52,7 @@ impl Marks {
         })
     }
 
-    /// Leaves out the blocks from this number on, marked or not.
+    /// Drops the blocks from this number on, marked or not.
     pub fn truncate(&mut self, blocks: u32)
         requires enough { MIN_BLOCKS ≤ blocks }
         requires fewer { blocks ≤ length self.old }
@@ -73,14 +73,14 @@ impl Marks {
         self.flags.len() as u32
     }
 
-    pub fn is_set(&self, n: u32) -> bool
+    pub fn is_set(&self, n: BlockNumber) -> bool
         requires { n < length self.now }
         ensures { IsTrue result ↔ IsMarked self.now n }
     {
         self.flags.get(n as usize)
     }
 
-    pub fn set(&mut self, n: u32)
+    pub fn set(&mut self, n: BlockNumber)
         requires { n < length self.old }
         ensures { self.new ≡ slice_set self.old n true }
     {
@@ -91,8 +91,8 @@ impl Marks {
         self.flags.set(at);
     }
 
-    /// Takes the mark of one block away, if it has one.
-    pub fn unset(&mut self, n: u32)
+    /// Clears the mark of one block, if it is set.
+    pub fn unset(&mut self, n: BlockNumber)
         requires { n < length self.old }
         ensures { self.new ≡ slice_set self.old n false }
     {

@@ -1,4 +1,4 @@
-//! Bits that lie 64 in a word.
+//! Bits packed 64 to a word.
 ghost use Rattle.std.specs.Prelude.{◌≡◌, ◌≢◌, ℕ, ◌+◌, ◌*◌, ◌/◌, ◌^◌, ◌<◌, ◌≤◌, ◌&&◌, true, false, length};
 ghost use Rattle.vm_alloc.specs.Words.{is_bit_set};
 
@@ -36,7 +36,7 @@ pub(crate) fn set_first_bits(words: &mut [u64], count: u32)
     words[0] |= (1 << count) - 1;
 }
 
-/// Clears each bit that is clear in the other words.
+/// Clears each bit that is clear in `others`.
 pub(crate) fn clear_bits_but(words: &mut [u64], others: &[u64])
     requires { length others.now ≡ length words.old }
     ensures { (k : ℕ) → is_bit_set words.new k ≡ (is_bit_set words.old k && is_bit_set others.now k) }
@@ -46,7 +46,7 @@ pub(crate) fn clear_bits_but(words: &mut [u64], others: &[u64])
     }
 }
 
-/// Clears the bits from `count` on. Bit `count` is one of the last word, or behind it.
+/// Clears the bits from `count` on. Bit `count` lies in the last word or past the end.
 pub(crate) fn clear_bits_from(words: &mut [u64], count: usize)
     requires { length words.old ≤ count / 64 + 1 }
     ensures before { (k : ℕ) → k < count → is_bit_set words.new k ≡ is_bit_set words.old k }
@@ -58,7 +58,7 @@ pub(crate) fn clear_bits_from(words: &mut [u64], count: usize)
     }
 }
 
-/// The lowest clear bit, or the number of bits where all are set.
+/// The lowest clear bit, or the number of bits if all are set.
 pub(crate) fn first_clear_bit(words: &[u64], from: usize) -> usize
     requires few { length words.now < 2 ^ 50 }
     requires set { (k : ℕ) → k < from → is_bit_set words.now k ≡ true }

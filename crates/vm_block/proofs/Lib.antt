@@ -8,6 +8,7 @@ pub mod LongLemmas
 pub mod NodeLemmas
 pub mod Pieces
 pub mod RecordLemmas
+pub mod RelinkLemmas
 pub mod RowLemmas
 pub mod Rows
 pub mod SlotLemmas

@@ -5,14 +5,15 @@ use Rattle.vm_types.specs.declared.key.Key.{Key}
 use Rattle.vm_types.specs.declared.sizes.TheConstants.{BLOCK_SIZE}
 use Rattle.vm_types.specs.Places.{KeyFits, place, value_at, with_record}
 use Rattle.vm_block.specs.Padding.{zeros}
-use Rattle.vm_block.specs.Leaf.{Record, Row, RowFits, HasRows, StoredFits, leaf_bytes, record_bytes, stored_bytes}
+use Rattle.vm_block.specs.Leaf.{Record, Row, RowFits, HasRows, StoredFits, leaf_bytes, link_bytes, record_bytes, stored_bytes}
+use Rattle.vm_block.specs.declared.stored.Link.{Link}
 use Rattle.vm_block.specs.declared.stored.Stored.{Stored}
 use Rattle.vm_block.specs.Node.{ChildFits, IsNode, node_bytes}
 use Rattle.vm_block.specs.declared.node.Child.{Child}
-use Rattle.vm_block.specs.declared.changing.Placed.{Placed}
-use Rattle.vm_block.specs.declared.changing.Placed.TheVariants.{Put, Full, NoLeaf}
-use Rattle.vm_block.specs.declared.taking.Taken.{Taken}
-use Rattle.vm_block.specs.declared.taking.Taken.TheVariants.{Out, Last, Absent, NoLeaf as NoLeafTaken}
+use Rattle.vm_block.specs.declared.edits.Placed.{Placed}
+use Rattle.vm_block.specs.declared.edits.Placed.TheVariants.{Put, Full, NoLeaf}
+use Rattle.vm_block.specs.declared.row_removal.Taken.{Taken}
+use Rattle.vm_block.specs.declared.row_removal.Taken.TheVariants.{Out, Last, Absent, NoLeaf as NoLeafTaken}
 
 -- a list with x in the place of what stands at i
 abbrev pub with_at : {X : Type 0} → ℕ → X → List X → List X
@@ -51,6 +52,12 @@ Seals count old new = (ws : List Row) → HasBody old ws → AllByRecursion RowF
 -- a leaf of so many rows that has one at i has this one there
 abbrev pub SetsRow : ℕ → ℕ → Row → List ℕ → List ℕ → Type 0
 SetsRow count i w old new = (ws : List Row) → HasRows old ws → count ≡ length ws → i < length ws → RowFits w → new ≡ leaf_bytes (with_at i w ws)
+
+-- a leaf of so many rows that has one at i is a leaf still, and has this link there, under the same key
+abbrev pub SetsLink : ℕ → ℕ → Link → List ℕ → List ℕ → Type 0
+SetsLink count i link old new =
+    (ws : List Row) (d : Row) → HasRows old ws → count ≡ length ws → i < length ws
+    → HasRows new (with_at i ((slice_index_or ws i d).0, link_bytes link) ws)
 
 -- a leaf of so many rows has this one more, before what stood at i
 abbrev pub InsertsRow : ℕ → ℕ → Row → List ℕ → List ℕ → Type 0

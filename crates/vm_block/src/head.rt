@@ -8,7 +8,7 @@ ghost use Rattle.vm_block.specs.Told.{IfHasRows};
 use crate::node::is_in_range;
 use crate::sizes::{MAX_ROWS, MAX_SHORT};
 use byteorder::{ByteOrder, LittleEndian};
-use vm_types::Value;
+use vm_types::{Block, Value};
 
 /// The letters LEAF as a number.
 const LEAF: u32 = 0x4641_454C;
@@ -22,7 +22,7 @@ const NODE: u32 = 0x4544_4F4E;
 /// The letters LONG as a number.
 const LONG: u32 = 0x474E_4F4C;
 
-/// The first sixteen bytes of a block.
+/// The first 16 bytes of a block.
 #[derive(Clone, Copy)]
 struct Head {
     letters: u32,
@@ -43,7 +43,7 @@ fn read_head(bytes: &[u8]) -> Head
     }
 }
 
-/// Whether a leaf of these letters and of so many rows at most may have this head.
+/// Whether a leaf with these letters and at most `most` rows may have this head.
 fn is_leaf(head: Head, letters: u32, most: usize) -> bool
     ensures { IsTrue result ↔ IsHeadOfLeaf letters most head }
 {
@@ -60,9 +60,9 @@ fn is_node(head: Head) -> bool
     head.letters == NODE && is_in_range(head.level, head.count) && head.zero == 0
 }
 
-/// Whether a leaf has a long row by its head, and how many rows it has. None where the bytes begin
-/// with the head of no leaf of so many rows at most.
-pub(crate) fn rows_head(bytes: &[u8; 4096], most: usize) -> Option<(bool, usize)>
+/// Whether a leaf has a long row, according to its head, and how many rows it has. None if the
+/// bytes do not begin with the head of a leaf of at most `most` rows.
+pub(crate) fn rows_head(bytes: &Block, most: usize) -> Option<(bool, usize)>
     requires { most ≤ MAX_ROWS }
     ensures found { IfSome result (λ head. IsRowsHead bytes.now most head.0 head.1) }
     ensures only { (long : Bool) (n : ℕ) → IsRowsHead bytes.now most long n → result ≡ Some (long, n) }
@@ -77,17 +77,17 @@ pub(crate) fn rows_head(bytes: &[u8; 4096], most: usize) -> Option<(bool, usize)
     }
 }
 
-/// Whether the first four letters of a block are LEF2, as those of a leaf with a long row.
-pub fn is_long_leaf(bytes: &[u8; 4096]) -> bool
+/// Whether the first four letters of a block are LEF2, as in a leaf with a long row.
+pub fn is_long_leaf(bytes: &Block) -> bool
     ensures letters { IsTrue result ↔ (take 4 bytes.now ≡ codes "LEF2") }
     ensures rows { IfHasRows bytes.now (λ ws. result ≡ list_any is_long ws) }
 {
     LittleEndian::read_u32(bytes) == LEF2
 }
 
-/// The level of an inner block by its head, and how many children it has. None where the bytes
-/// begin with the head of no inner block.
-pub(crate) fn node_numbers(bytes: &[u8; 4096]) -> Option<(u8, usize)>
+/// The level of an inner block and how many children it has, according to its head. None if the
+/// bytes do not begin with the head of an inner block.
+pub(crate) fn node_numbers(bytes: &Block) -> Option<(u8, usize)>
     ensures found { IfSome result (λ numbers. IsNodeHead bytes.now numbers.0 numbers.1) }
     ensures only { (level n : ℕ) → IsNodeHead bytes.now level n → result ≡ Some (level, n) }
 {
@@ -99,9 +99,9 @@ pub(crate) fn node_numbers(bytes: &[u8; 4096]) -> Option<(u8, usize)>
     }
 }
 
-/// How many bytes a long value has by the head of its block. None where the bytes begin with the
-/// head of none.
-pub(crate) fn long_len(bytes: &[u8; 4096]) -> Option<usize>
+/// How many bytes a long value has, according to the head of its block. None if the bytes do not
+/// begin with such a head.
+pub(crate) fn long_len(bytes: &Block) -> Option<usize>
     ensures found { IfSome result (IsLongHead bytes.now) }
     ensures only { (n : ℕ) → IsLongHead bytes.now n → result ≡ Some n }
 {

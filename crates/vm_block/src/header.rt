@@ -1,14 +1,15 @@
-//! Block 0, by which a store is known.
+//! Block 0, which identifies a store.
 ghost use Rattle.std.specs.Prelude.{◌≡◌, ◌↔◌, IsTrue};
 ghost use Rattle.vm_block.specs.Header.{header_bytes, IsHeader};
 
-use crate::spelling::{put, put_zeros};
+use crate::bytes::{put, put_zeros};
+use vm_types::Block;
 
-/// The letters ALTSTORE, the number 1 and the size of a block.
+/// The letters ALTSTORE, the number 1 and the block size.
 const FRONT: [u8; 16] = *b"ALTSTORE\x01\0\0\0\0\x10\0\0";
 
 /// Writes the header of a store.
-pub fn write_header(out: &mut [u8; 4096])
+pub fn write_header(out: &mut Block)
     ensures { out.new ≡ header_bytes }
 {
     put(&FRONT, out);
@@ -16,7 +17,7 @@ pub fn write_header(out: &mut [u8; 4096])
 }
 
 /// Whether the block is the header of a store.
-pub fn is_header(bytes: &[u8; 4096]) -> bool
+pub fn is_header(bytes: &Block) -> bool
     ensures { IsTrue result ↔ IsHeader bytes.now }
 {
     let mut header = [0; 4096];

@@ -1,8 +1,9 @@
-//! Laws of the forms: what the bytes of blocks say is one thing, and what is written is a form.
+//! Laws of the forms: the bytes of a block have one meaning, and what is written is of a form.
 ghost use Rattle.vm_block.specs.Laws.{EntriesAreOne, HeadsAreOne, LongsAreOne, NoNodeIsLong, NoRowsAreANode, NoRowsAreLong, NodesAreOne, RowsAreOne, SlotsAreOne, WrittenEntriesAreEntries, WrittenHeadsAreHeads, WrittenLongsAreLong, WrittenNodesAreNodes, WrittenRowsAreRows};
 
-/// The same bytes are one leaf, one inner block or one block of a long value, and never two of
-/// these; one head, one entry, and the same blocks are one slot's entries.
+/// Bytes spell at most one leaf, one inner block or one block of a long value, and never two of
+/// these kinds; at most one head, and at most one entry; and the same blocks spell the entries of
+/// at most one slot.
 pub fn one_form()
     ensures rows { RowsAreOne }
     ensures node { NodesAreOne }
@@ -15,7 +16,7 @@ pub fn one_form()
     ensures slot { SlotsAreOne }
 {}
 
-/// What is written is a form, where what it spells is within its limits.
+/// What is written is of its form, if what it spells is within its limits.
 pub fn written_is_a_form()
     ensures rows { WrittenRowsAreRows }
     ensures node { WrittenNodesAreNodes }

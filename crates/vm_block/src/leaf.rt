@@ -1,19 +1,19 @@
-//! A leaf: the block of a tree that has the records, or says of those with a long value which block
-//! has it.
+//! A leaf: the block of a tree that has the records. For a record with a long value it says which
+//! block has the value.
 ghost use Rattle.std.specs.Prelude.{◌≡◌, ◌≤◌, ◌*◌, ◌++◌, length, drop, map, IfSome, IsSomeAnd};
 ghost use Rattle.std.specs.List.{flat_map};
 ghost use Rattle.vm_block.specs.Changed.{AreStored, row_of};
 ghost use Rattle.vm_block.specs.Leaf.{HasRows, leaf_bytes, leaf_head, leaf_letters, record_bytes};
 ghost use Rattle.vm_block.specs.Told.{IfHasRows};
 
+use crate::block_kind::{record_key, rows_size};
+use crate::bytes::{put, put_zeros};
 use crate::leaf_rows::{seal, stored_at};
 use crate::sizes::MAX_ROWS;
-use crate::spelling::{put, put_zeros};
 use crate::stored::{Stored, write_row};
-use crate::telling::{record_key, rows_size};
 use arrayvec::ArrayVec;
 use byteorder::{ByteOrder, LittleEndian};
-use vm_types::Key;
+use vm_types::{Block, Key};
 
 fn write_letters(long: bool, out: &mut [u8])
     requires { 4 ≤ length out.old }
@@ -46,8 +46,8 @@ fn write_each(rows: &[(Key, Stored<'_>)], out: &mut [u8])
     }
 }
 
-/// Writes the leaf of these rows. Its letters say whether one of them is long.
-pub fn write_leaf(rows: &[(Key, Stored<'_>)], out: &mut [u8; 4096])
+/// Writes the leaf of these rows. Its letters say whether any of them is long.
+pub fn write_leaf(rows: &[(Key, Stored<'_>)], out: &mut Block)
     requires few { length rows.now ≤ MAX_ROWS }
     requires fit { AreStored rows.now }
     ensures { out.new ≡ leaf_bytes (map row_of rows.now) }
@@ -57,8 +57,8 @@ pub fn write_leaf(rows: &[(Key, Stored<'_>)], out: &mut [u8; 4096])
     seal(out, rows.len());
 }
 
-/// The rows of a leaf. None exactly where the bytes are none.
-pub fn read_leaf(bytes: &[u8; 4096]) -> Option<ArrayVec<(Key, Stored<'_>), 16>>
+/// The rows of a leaf. None exactly when the bytes are not a leaf.
+pub fn read_leaf(bytes: &Block) -> Option<ArrayVec<(Key, Stored<'_>), 16>>
     ensures found { IfSome result (λ rows. HasRows bytes.now (map row_of rows.items)) }
     ensures stored { IfSome result (λ rows. AreStored rows.items) }
     ensures only { IfHasRows bytes.now (λ ws. IsSomeAnd result (λ rows. map row_of rows.items ≡ ws)) }

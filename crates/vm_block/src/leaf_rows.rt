@@ -11,8 +11,9 @@ use crate::row::record_row;
 use crate::sizes::{MAX_ROWS, MAX_SHORT};
 use crate::stored::{Stored, read_stored};
 use byteorder::{ByteOrder, LittleEndian};
+use vm_types::Block;
 
-/// Whether the row at i is long, of the rows with which the bytes begin.
+/// Whether row `i` is long, of the rows that the bytes begin with.
 fn is_long_row(bytes: &[u8], i: usize) -> bool
     requires few { i < MAX_ROWS }
     requires room { 252 * i + 252 ≤ length bytes.now }
@@ -22,7 +23,7 @@ fn is_long_row(bytes: &[u8], i: usize) -> bool
     LittleEndian::read_u16(&row[10..]) > MAX_SHORT
 }
 
-/// Whether one of so many rows, with which the bytes begin, is long.
+/// Whether any of the `count` rows that the bytes begin with is long.
 fn has_long(bytes: &[u8], count: usize) -> bool
     requires few { count ≤ MAX_ROWS }
     requires room { 252 * count ≤ length bytes.now }
@@ -36,7 +37,7 @@ fn has_long(bytes: &[u8], count: usize) -> bool
     false
 }
 
-/// Whether letters say of so many rows, with which the bytes begin, what is so.
+/// Whether `long` tells correctly if any of the `count` rows that the bytes begin with is long.
 pub(crate) fn is_sealed(bytes: &[u8], count: usize, long: bool) -> bool
     requires few { count ≤ MAX_ROWS }
     requires room { 252 * count ≤ length bytes.now }
@@ -45,8 +46,8 @@ pub(crate) fn is_sealed(bytes: &[u8], count: usize, long: bool) -> bool
     has_long(bytes, count) == long
 }
 
-/// Writes the head of the leaf of so many rows, which stand behind it.
-pub(crate) fn seal(bytes: &mut [u8; 4096], count: usize)
+/// Writes the head of the leaf of the `count` rows that follow it.
+pub(crate) fn seal(bytes: &mut Block, count: usize)
     requires { count ≤ MAX_ROWS }
     ensures { Seals count bytes.old bytes.new }
 {
@@ -54,8 +55,8 @@ pub(crate) fn seal(bytes: &mut [u8; 4096], count: usize)
     write_leaf_head(long, count as u32, bytes);
 }
 
-/// What the row at i has of its value. None just where there stands no row.
-pub fn stored_at(bytes: &[u8; 4096], i: usize) -> Option<Stored<'_>>
+/// What row `i` has of its value. None exactly when the bytes there are not a row.
+pub fn stored_at(bytes: &Block, i: usize) -> Option<Stored<'_>>
     requires { i < MAX_ROWS }
     ensures found { IfSome result (IsInRow (leaf_row bytes.now i)) }
     ensures only { IsRowOf (leaf_row bytes.now i) result }

@@ -1,14 +1,14 @@
-//! The block of a long value, which has its key, too.
+//! The block of a long value. It also has the key.
 ghost use Rattle.std.specs.Prelude.{◌≡◌, ◌≤◌, ◌++◌, List, ℕ, length, drop, IfSome, IsSomeAnd};
 ghost use Rattle.vm_types.specs.declared.key.Key.{Key};
 ghost use Rattle.vm_types.specs.Bytes.{longest};
 ghost use Rattle.vm_block.specs.Long.{IsLong, long_bytes, long_head};
 
+use crate::bytes::{are_zero, put, put_zeros};
 use crate::head::long_len;
 use crate::keys::{read_key, write_key};
-use crate::spelling::{are_zero, put, put_zeros};
 use byteorder::{ByteOrder, LittleEndian};
-use vm_types::Key;
+use vm_types::{Block, Key};
 
 fn write_long_head(key: Key, len: u32, out: &mut [u8])
     requires { 26 ≤ length out.old }
@@ -22,7 +22,7 @@ fn write_long_head(key: Key, len: u32, out: &mut [u8])
 
 /// Writes the block of this key and its value.
 #[tactic(auto, unfolding(crate::specs::Long::long_bytes))]
-pub fn write_long(key: Key, value: &[u8], out: &mut [u8; 4096])
+pub fn write_long(key: Key, value: &[u8], out: &mut Block)
     requires { length value.now ≤ longest }
     ensures { out.new ≡ long_bytes key value.now }
 {
@@ -31,8 +31,9 @@ pub fn write_long(key: Key, value: &[u8], out: &mut [u8; 4096])
     put_zeros(&mut out[26 + value.len()..]);
 }
 
-/// The key and the value of a block of a long value. None exactly where the bytes are none.
-pub fn read_long(bytes: &[u8; 4096]) -> Option<(Key, &[u8])>
+/// The key and the value of a block of a long value. None exactly when the bytes are not such a
+/// block.
+pub fn read_long(bytes: &Block) -> Option<(Key, &[u8])>
     ensures found { IfSome result (λ read. IsLong bytes.now read.0 read.1.now) }
     ensures only { (key : Key) (value : List ℕ) → IsLong bytes.now key value → IsSomeAnd result (λ read. (read.0 ≡ key) × (read.1.now ≡ value)) }
 {

@@ -6,18 +6,18 @@ ghost use Rattle.vm_block.specs.Padding.{padded};
 ghost use Rattle.vm_block.specs.Node.{IsNode, ChildFits, lows, child_bytes, node_head, node_bytes};
 ghost use Rattle.vm_block.specs.Told.{IfNode, IsNodeWith};
 
+use crate::bytes::{is_framed, put, put_zeros};
 use crate::keys::{read_key, write_key};
 use crate::sizes::MAX_CHILDREN;
-use crate::spelling::{is_framed, put, put_zeros};
 use arrayvec::ArrayVec;
 use byteorder::{ByteOrder, LittleEndian};
-use vm_types::Key;
+use vm_types::{Block, BlockNumber, Key};
 
 /// A block one level below, and the lowest key under it.
 #[derive(Clone, Copy, Debug, Default, PartialEq, Eq)]
 pub struct Child {
     pub low: Key,
-    pub block: u32,
+    pub block: BlockNumber,
 }
 
 /// An inner block: its level above the leaves, and its children.
@@ -66,7 +66,7 @@ fn write_node_into(level: u8, children: &[Child], out: &mut [u8])
 
 /// Writes the inner block of this level and these children.
 #[tactic(auto, unfolding(crate::specs::Node::node_bytes))]
-pub fn write_node(level: u8, children: &[Child], out: &mut [u8; 4096])
+pub fn write_node(level: u8, children: &[Child], out: &mut Block)
     requires { length children.now ≤ MAX_CHILDREN }
     ensures { out.new ≡ node_bytes level children.now }
 {
@@ -99,7 +99,7 @@ pub(crate) fn read_child(bytes: &[u8]) -> Child
     }
 }
 
-/// Puts so many children, with which the bytes begin, into an empty list.
+/// Reads the `count` children that the bytes begin with into an empty list.
 fn read_children(bytes: &[u8], count: usize, children: &mut ArrayVec<Child, 256>)
     requires few { count ≤ MAX_CHILDREN }
     requires room { 14 * count ≤ length bytes.now }
@@ -113,9 +113,9 @@ fn read_children(bytes: &[u8], count: usize, children: &mut ArrayVec<Child, 256>
     }
 }
 
-/// So many children, as they are spelled behind the head of an inner block: those that it has,
-/// where the bytes are one with so many, and else what stands there.
-pub fn spelled_children(bytes: &[u8; 4096], count: usize) -> ArrayVec<Child, 256>
+/// The `count` children that are spelled behind the head of an inner block. If the bytes are an
+/// inner block of `count` children, these are its children; otherwise they are whatever is there.
+pub fn spelled_children(bytes: &Block, count: usize) -> ArrayVec<Child, 256>
     requires { count ≤ MAX_CHILDREN }
     ensures many { length result.items ≡ count }
     ensures fit { AllByRecursion ChildFits result.items }
@@ -127,15 +127,15 @@ pub fn spelled_children(bytes: &[u8; 4096], count: usize) -> ArrayVec<Child, 256
     children
 }
 
-/// Whether an inner block may have this level and so many children.
+/// Whether an inner block may have this level and this many children.
 pub(crate) fn is_in_range(level: u32, count: u32) -> bool
     ensures { IsTrue result ↔ ((0 < level) × (level ≤ 7) × (0 < count) × (count ≤ MAX_CHILDREN)) }
 {
     (1..=7).contains(&level) && (1..=256).contains(&count)
 }
 
-/// The inner block, where the bytes are one.
-pub fn read_node(bytes: &[u8; 4096]) -> Option<Node>
+/// The inner block, if the bytes are one.
+pub fn read_node(bytes: &Block) -> Option<Node>
     ensures found { IfSome result (λ node. IsNode bytes.now node.level node.children.items) }
     ensures only { IfNode bytes.now (λ level cs. IsSomeAnd result (IsNodeWith level cs)) }
 {

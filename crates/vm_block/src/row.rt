@@ -1,4 +1,4 @@
-//! The rows of a block as they stand in its bytes, of which nothing is copied out.
+//! The rows of a block as they are in its bytes. Nothing is copied out.
 ghost use Rattle.std.specs.Prelude.{◌≡◌, ◌<◌, ◌≤◌, length};
 ghost use Rattle.vm_block.specs.Leaf.{IsShort};
 ghost use Rattle.vm_block.specs.Row.{leaf_row, node_row, record_of};
@@ -6,9 +6,10 @@ ghost use Rattle.vm_block.specs.Told.{IfLeafRowAt};
 
 use crate::sizes::{MAX_CHILDREN, MAX_ROWS, MAX_SHORT};
 use byteorder::{ByteOrder, LittleEndian};
+use vm_types::Block;
 
-/// The bytes of the value of the row at i, where a leaf has it, and it is short.
-pub fn record_value(bytes: &[u8; 4096], i: usize) -> &[u8]
+/// The bytes of the value of row `i`, if the bytes are a leaf that has it and it is short.
+pub fn record_value(bytes: &Block, i: usize) -> &[u8]
     requires { i < MAX_ROWS }
     ensures short { length result.now ≤ MAX_SHORT }
     ensures stands { result.now ≡ (record_of (leaf_row bytes.now i)).1 }
@@ -22,8 +23,8 @@ pub fn record_value(bytes: &[u8; 4096], i: usize) -> &[u8]
     &row[12..12 + usize::from(len)]
 }
 
-/// The bytes in which the row at i stands, where a leaf has it.
-pub fn record_row(bytes: &[u8; 4096], i: usize) -> &[u8]
+/// The bytes of row `i`, if the bytes are a leaf that has it.
+pub fn record_row(bytes: &Block, i: usize) -> &[u8]
     requires { i < MAX_ROWS }
     ensures whole { length result.now ≡ 252 }
     ensures row { result.now ≡ leaf_row bytes.now i }
@@ -31,8 +32,8 @@ pub fn record_row(bytes: &[u8; 4096], i: usize) -> &[u8]
     &bytes[16 + 252 * i..268 + 252 * i]
 }
 
-/// The bytes in which the child at i stands, where an inner block has it.
-pub fn child_row(bytes: &[u8; 4096], i: usize) -> &[u8]
+/// The bytes of child `i`, if the bytes are an inner block that has it.
+pub fn child_row(bytes: &Block, i: usize) -> &[u8]
     requires { i < MAX_CHILDREN }
     ensures whole { length result.now ≡ 14 }
     ensures row { result.now ≡ node_row bytes.now i }

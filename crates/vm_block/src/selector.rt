@@ -2,7 +2,8 @@
 ghost use Rattle.std.specs.Prelude.{◌≡◌};
 ghost use Rattle.vm_block.specs.Selector.{named_slot, other_slot, selector_byte, selector_bytes};
 
-use crate::spelling::put_zeros;
+use crate::bytes::put_zeros;
+use vm_types::Block;
 
 /// One of the two slots.
 #[derive(Clone, Copy, Debug, PartialEq, Eq)]
@@ -33,8 +34,8 @@ impl SlotName {
     }
 }
 
-/// The slot that the block names; any bytes name one.
-pub fn read_selector(bytes: &[u8; 4096]) -> SlotName
+/// The slot that the block names. Any bytes name one.
+pub fn read_selector(bytes: &Block) -> SlotName
     ensures { result ≡ named_slot bytes.now }
 {
     if bytes[0] % 2 == 1 {
@@ -45,7 +46,7 @@ pub fn read_selector(bytes: &[u8; 4096]) -> SlotName
 }
 
 /// Writes the selector that names a slot.
-pub fn write_selector(slot_name: SlotName, out: &mut [u8; 4096])
+pub fn write_selector(slot_name: SlotName, out: &mut Block)
     ensures { out.new ≡ selector_bytes slot_name }
 {
     put_zeros(out);

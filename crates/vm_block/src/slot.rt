@@ -6,11 +6,11 @@ ghost use Rattle.vm_block.specs.declared.slot.Kind.{Kind};
 ghost use Rattle.vm_block.specs.declared.slot.SlotFormat.{SlotFormat};
 ghost use Rattle.vm_block.specs.Slot.{tag_of, name_bytes, owner_bytes, entry_bytes, EntryFits, IsEntry, format_number, has_long, head_bytes, HeadFits, IsHead};
 
-use crate::spelling::put;
+use crate::bytes::put;
 use byteorder::{ByteOrder, LittleEndian};
 use vm_types::{MAX_BLOCKS, MAX_VERSIONS, MIN_BLOCKS, Name};
 
-/// What an entry of a slot stands for.
+/// What an entry of a slot represents.
 #[derive(Clone, Copy, Debug, PartialEq, Eq)]
 pub enum Kind {
     Alternative,
@@ -28,12 +28,13 @@ pub struct Entry {
     pub base: u32,
 }
 
-/// The format of a slot, which its head says by a number.
+/// The format of a slot. The slot's head gives it as a number.
 #[derive(Clone, Copy, Debug, PartialEq, Eq)]
 pub enum SlotFormat {
-    /// Written by programs before long values: no block of its trees is a leaf with a long value.
+    /// Written by programs that knew no long values: no block of its trees is a leaf with a long
+    /// value.
     One,
-    /// The format that is written.
+    /// The format that is written today.
     Two,
 }
 
@@ -48,7 +49,7 @@ impl SlotFormat {
         }
     }
 
-    /// The number by which the head of a slot says it.
+    /// The number that the head of a slot has for it.
     fn number(self) -> u32
         ensures { result ≡ format_number self }
     {
@@ -58,7 +59,7 @@ impl SlotFormat {
         }
     }
 
-    /// The format of this number, where it is the number of one.
+    /// The format with this number, if there is one.
     fn of_number(number: u32) -> Option<SlotFormat>
         ensures { (format : SlotFormat) → number ≡ format_number format → result ≡ Some format }
     {
@@ -81,7 +82,7 @@ pub struct SlotHead {
 }
 
 impl SlotHead {
-    /// Whether a store has so many blocks, and a slot so many entries.
+    /// Whether a store may have this many blocks, and a slot this many entries.
     fn fits(self) -> bool
         ensures { IsTrue result ↔ HeadFits self.blocks self.entries }
     {
@@ -102,7 +103,7 @@ pub fn write_slot_head(head: SlotHead, out: &mut [u8])
     put(&[0; 112], &mut out[16..]);
 }
 
-/// The head of a slot, where the bytes are one.
+/// The head of a slot, if the bytes are one.
 pub fn read_slot_head(bytes: &[u8]) -> Option<SlotHead>
     requires { length bytes.now ≡ 128 }
     ensures found { IfSome result (λ head. IsHead bytes.now head.format head.blocks head.entries) }
@@ -147,7 +148,7 @@ fn write_owner(owner: Option<Name>, out: &mut [u8])
     }
 }
 
-/// The name in the first 33 bytes, whatever follows its own bytes there.
+/// The name in the first 33 bytes, whatever follows it there.
 fn read_name(bytes: &[u8]) -> Option<Name>
     requires { 33 ≤ length bytes.now }
     ensures found { IfSome result IsName }
@@ -160,7 +161,7 @@ fn read_name(bytes: &[u8]) -> Option<Name>
     Name::new(&bytes[1..1 + len])
 }
 
-/// The owner in the first 33 bytes, whatever follows its own bytes there; Some(None) where it has none.
+/// The owner in the first 33 bytes, whatever follows it there. Some(None) if there is no owner.
 fn read_owner(bytes: &[u8]) -> Option<Option<Name>>
     requires { 33 ≤ length bytes.now }
     ensures found { IfSome result (λ owner. IfSome owner IsName) }
@@ -175,7 +176,7 @@ fn read_owner(bytes: &[u8]) -> Option<Option<Name>>
     }
 }
 
-/// The letter by which an entry begins.
+/// The letter that an entry begins with.
 fn tag(kind: Kind) -> u8
     ensures { result ≡ tag_of kind }
 {
@@ -208,7 +209,7 @@ pub fn write_entry(entry: &Entry, out: &mut [u8])
     put(&[0; 53], &mut out[75..]);
 }
 
-/// What the fields of an entry say, whatever stands in its zero bytes.
+/// What the fields of an entry say, whatever its zero bytes hold.
 fn read_fields(bytes: &[u8]) -> Option<Entry>
     requires { length bytes.now ≡ 128 }
     ensures found { IfSome result EntryFits }
@@ -232,7 +233,7 @@ fn read_fields(bytes: &[u8]) -> Option<Entry>
     })
 }
 
-/// The entry of a slot, where the bytes are one.
+/// The entry of a slot, if the bytes are one.
 pub fn read_entry(bytes: &[u8]) -> Option<Entry>
     requires { length bytes.now ≡ 128 }
     ensures found { IfSome result (λ e. IsEntry bytes.now e) }

@@ -4,30 +4,30 @@ ghost use Rattle.vm_types.specs.Bytes.{longest};
 ghost use Rattle.vm_block.specs.Leaf.{LinkFits, StoredFits, link_bytes, record_bytes, stored_bytes, value_bytes};
 ghost use Rattle.vm_block.specs.Told.{IsInRow, IsLength, IsRowOf};
 
+use crate::bytes::{are_zero, put, put_zeros};
 use crate::keys::write_key;
 use crate::sizes::MAX_SHORT;
-use crate::spelling::{are_zero, put, put_zeros};
 use byteorder::{ByteOrder, LittleEndian};
-use vm_types::{Key, Value};
+use vm_types::{BlockNumber, Key, Value};
 
-/// The most bytes of a value.
+/// The maximum length of a value in bytes.
 const MAX_LONG: u16 = Value::MAX_LEN as u16;
 
-/// Where a long value stands.
+/// Where a long value is stored.
 #[derive(Clone, Copy, Debug, PartialEq, Eq)]
 pub struct Link {
     /// How many bytes the value has.
     pub len: u16,
     /// The block that has them.
-    pub block: u32,
+    pub block: BlockNumber,
 }
 
 /// What a leaf has of a value.
 #[derive(Clone, Copy, Debug, PartialEq, Eq)]
 pub enum Stored<'a> {
-    /// A short value, of 240 bytes at most, itself.
+    /// A short value itself, of at most 240 bytes.
     Short(&'a [u8]),
-    /// Where a long value stands, of 241 to 4,000 bytes.
+    /// Where a long value is stored, of 241 to 4,000 bytes.
     Long(Link),
 }
 
@@ -40,7 +40,7 @@ impl Default for Stored<'_> {
     }
 }
 
-/// Writes a short value behind its key, and zero bytes behind it.
+/// Writes a short value after its key, and zero bytes after it.
 fn write_short(value: &[u8], out: &mut [u8])
     requires short { length value.now ≤ MAX_SHORT }
     requires room { 242 ≤ length out.old }
@@ -51,7 +51,7 @@ fn write_short(value: &[u8], out: &mut [u8])
     put_zeros(&mut out[2 + value.len()..242]);
 }
 
-/// Writes a link behind its key, and zero bytes behind it.
+/// Writes a link after its key, and zero bytes after it.
 fn write_link(link: Link, out: &mut [u8])
     requires fits { LinkFits link }
     requires room { 242 ≤ length out.old }
@@ -75,7 +75,7 @@ pub(crate) fn write_row(key: Key, stored: Stored<'_>, out: &mut [u8])
     }
 }
 
-/// The short value of so many bytes in a row, where zero bytes stand behind it.
+/// The short value of `len` bytes in a row, if only zero bytes follow it.
 #[inline(always)]
 fn read_short(row: &[u8], len: usize) -> Option<Stored<'_>>
     requires whole { length row.now ≡ 252 }
@@ -92,7 +92,7 @@ fn read_short(row: &[u8], len: usize) -> Option<Stored<'_>>
     }
 }
 
-/// The link in a row to a value of so many bytes, where zero bytes stand behind it.
+/// The link in a row to a value of `len` bytes, if only zero bytes follow it.
 fn read_link<'a>(row: &[u8], len: u16) -> Option<Stored<'a>>
     requires whole { length row.now ≡ 252 }
     requires counted { IsLength row.now len }
@@ -109,7 +109,7 @@ fn read_link<'a>(row: &[u8], len: u16) -> Option<Stored<'a>>
     }
 }
 
-/// What a row has of its value. None just where the bytes are no row.
+/// What a row has of its value. None exactly when the bytes are not a row.
 #[inline(always)]
 pub(crate) fn read_stored(row: &[u8]) -> Option<Stored<'_>>
     requires { length row.now ≡ 252 }

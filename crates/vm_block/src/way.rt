@@ -1,4 +1,4 @@
-//! The way down to a key in the bytes of blocks, which are not read whole for it.
+//! The descent to a key in the bytes of blocks, which are not read whole for it.
 ghost use Rattle.std.specs.Prelude.{◌≡◌, ℕ, Bool, ◌+◌, ◌*◌, ◌<◌, ◌≤◌, None, length, take, drop, IfSome, IsSomeAnd, slice_index_or};
 ghost use Rattle.vm_types.specs.Places.{KeyFits, place, value_at};
 ghost use Rattle.vm_block.specs.Head.{IsNodeHead, IsRowsHead};
@@ -13,7 +13,7 @@ use crate::keys::read_key;
 use crate::node::{Child, read_child};
 use crate::sizes::{MAX_CHILDREN, MAX_ROWS};
 use crate::stored::{Stored, read_stored};
-use vm_types::{BLOCK_SIZE, Key};
+use vm_types::{BLOCK_SIZE, Block, Key};
 
 /// Where a descent to a key goes in an inner block.
 #[derive(Clone, Copy, Debug, PartialEq, Eq)]
@@ -22,15 +22,15 @@ pub struct Way {
     pub level: u8,
     /// How many children it has.
     pub count: usize,
-    /// Which of them is taken.
+    /// Which of them the descent takes.
     pub index: usize,
     pub child: Child,
 }
 
-/// Which of so many rows of one size, that rise by the keys which they begin with, a descent to a
-/// place takes: the last whose key is not above it, or else the first.
+/// Which of `count` rows of one size a descent to a place takes: the last row whose key is not
+/// above the place, or else the first. The rows rise by the keys that they begin with.
 #[inline(always)]
-pub(crate) fn choose(bytes: &[u8; 4096], size: usize, count: usize, place: u128) -> usize
+pub(crate) fn choose(bytes: &Block, size: usize, count: usize, place: u128) -> usize
     requires some { 0 < count }
     requires keyed { 10 ≤ size }
     requires room { 16 + size * count ≤ BLOCK_SIZE }
@@ -50,8 +50,8 @@ pub(crate) fn choose(bytes: &[u8; 4096], size: usize, count: usize, place: u128)
     low
 }
 
-/// The child at i, where an inner block has it.
-pub fn child_at(bytes: &[u8; 4096], i: usize) -> Child
+/// Child `i`, if the bytes are an inner block that has it.
+pub fn child_at(bytes: &Block, i: usize) -> Child
     requires { i < MAX_CHILDREN }
     ensures fits { ChildFits result }
     ensures spelled { node_row bytes.now i ≡ child_bytes result }
@@ -61,14 +61,15 @@ pub fn child_at(bytes: &[u8; 4096], i: usize) -> Child
     read_child(&bytes[at..at + 14])
 }
 
-/// Where a descent to the key goes in an inner block. None just where the bytes begin with the
-/// head of none; behind its head an inner block is not looked at but for the keys on the way.
-pub fn find_child(bytes: &[u8; 4096], key: Key) -> Option<Way>
+/// Where a descent to the key goes in an inner block. None exactly when the bytes do not begin with
+/// the head of one. Behind the head, it looks only at the keys on the way.
+pub fn find_child(bytes: &Block, key: Key) -> Option<Way>
     ensures range { IfSome result IsWay }
     ensures fits { IfSome result (λ way. ChildFits way.child) }
 
-    // On any bytes: Some just where they begin with the head of an inner block, whose level and count it tells; and
-    // the child is what is spelled at its index, which is the one that the keys of the children lead to.
+    // On any bytes: Some exactly when they begin with the head of an inner block, and then with the
+    // level and count of that head. The child is the one spelled at its index, and the keys of the
+    // children lead to that index.
     ensures head { IfSome result (λ way. IsNodeHead bytes.now way.level way.count) }
     ensures headed { TellsHead bytes.now result }
     ensures spelled { IfSome result (λ way. node_row bytes.now way.index ≡ child_bytes way.child) }
@@ -90,8 +91,8 @@ pub fn find_child(bytes: &[u8; 4096], key: Key) -> Option<Way>
     }
 }
 
-/// The lowest key of an inner block, that of its first child, or of a leaf.
-pub fn lowest_key(bytes: &[u8; 4096]) -> Key
+/// The lowest key of an inner block, which is that of its first child, or of a leaf.
+pub fn lowest_key(bytes: &Block) -> Key
     ensures fits { KeyFits result }
     ensures spelled { take 10 (drop 16 bytes.now) ≡ key_bytes result }
     ensures node { IfNode bytes.now (λ level cs. Lowest result cs) }
@@ -100,10 +101,11 @@ pub fn lowest_key(bytes: &[u8; 4096]) -> Key
     read_key(&bytes[16..])
 }
 
-/// What a leaf has of the key's value. None where the bytes begin with the head of none, and else
-/// only where a row is none.
-pub fn find_row(bytes: &[u8; 4096], key: Key) -> Option<Option<Stored<'_>>>
-    // On any bytes: None where they begin with the head of no leaf, and else only where a row is none.
+/// What a leaf has of the key's value. None if the bytes do not begin with the head of a leaf;
+/// otherwise None only if one of its rows is malformed.
+pub fn find_row(bytes: &Block, key: Key) -> Option<Option<Stored<'_>>>
+    // On any bytes: None if they do not begin with the head of a leaf, and otherwise only if one of
+    // its rows is malformed.
     ensures head { IfSome result (λ found. (long : Bool) × (n : ℕ) × IsRowsHead bytes.now MAX_ROWS long n) }
     ensures headed { (long : Bool) (n : ℕ) → IsRowsHead bytes.now MAX_ROWS long n → result ≡ None → LacksRow bytes.now n }
     ensures stands { IfSome result (λ found. IfSome found (StandsAmong bytes.now)) }

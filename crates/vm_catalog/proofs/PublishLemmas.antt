@@ -16,7 +16,7 @@ use Rattle.vm_block.specs.declared.selector.SlotName.TheVariants.{A, B}
 use Rattle.vm_catalog.specs.Place.{blocks_from, region, slot_at, selected, is_turned, is_used}
 use Rattle.vm_catalog.specs.Written.{IsAsWritten, slot_blocks}
 use Rattle.vm_catalog.specs.Catalog.{SlotAt, Names, AtRest}
-use Rattle.vm_catalog.specs.Publishing.{IsPublished, PublishLeaves, IsTurning, IsSafelyPublishing}
+use Rattle.vm_catalog.specs.Publication.{IsPublished, PublishLeaves, IsTurning, IsSafelyPublishing}
 use Rattle.vm_catalog.proofs.SlotLaw.{written_slot}
 use Rattle.vm_catalog.proofs.PlaceLemmas.{blocks_same, apart, no_data, used_front, used_slot, slot_high}
 

@@ -12,7 +12,7 @@ use Rattle.vm_block.proofs.Rows.{all_push, rows_read, length-rows}
 use Rattle.vm_disk.specs.Disk.{Contents, block}
 use Rattle.vm_catalog.specs.Place.{blocks_from, slot_at}
 use Rattle.vm_catalog.specs.Written.{joined}
-use Rattle.vm_catalog.specs.Reading.{cell_of, HasEntry, HasTaken, FitsSoFar, BeginsSlot, Loads}
+use Rattle.vm_catalog.specs.SlotReads.{cell_of, HasEntry, HasTaken, FitsSoFar, BeginsSlot, Loads}
 use Rattle.vm_catalog.specs.Catalog.{SlotAt}
 use Rattle.vm_catalog.specs.declared.reader.LoadFault.{LoadFault}
 use Rattle.vm_catalog.specs.declared.reader.LoadFault.TheVariants.{Device, Memory, Damaged}

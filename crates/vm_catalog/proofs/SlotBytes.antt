@@ -11,7 +11,7 @@ use Rattle.vm_block.proofs.EachLemmas.{each_front, each_back}
 use Rattle.vm_block.proofs.Rows.{length-rows, found_at}
 use Rattle.vm_catalog.specs.Place.{blocks_from}
 use Rattle.vm_catalog.specs.Written.{joined}
-use Rattle.vm_catalog.specs.Reading.{cell_of, HasEntry, BeginsSlot}
+use Rattle.vm_catalog.specs.SlotReads.{cell_of, HasEntry, BeginsSlot}
 use Rattle.vm_catalog.proofs.PlaceLemmas.{blocks_split, length-blocks}
 use Rattle.vm_block.proofs.SlotLemmas.{length-head, length-entry}
 

@@ -12,7 +12,7 @@ use Rattle.vm_disk.specs.Disk.{Contents, block}
 use Rattle.vm_catalog.specs.Place.{blocks_from, slot_at, selected}
 use Rattle.vm_catalog.specs.Written.{joined}
 use Rattle.vm_catalog.specs.Catalog.{SlotAt, Names}
-use Rattle.vm_catalog.specs.Reading.{BeginsSlot}
+use Rattle.vm_catalog.specs.SlotReads.{BeginsSlot}
 use Rattle.vm_catalog.proofs.SlotBytes.{head_is, begins_head}
 
 -- entries of one spelling are one

@@ -12,8 +12,8 @@ use Rattle.vm_block.specs.declared.slot.SlotHead.{SlotHead}
 use Rattle.vm_catalog.specs.Place.{blocks_from, region, slot_at}
 use Rattle.vm_catalog.specs.Written.{slot_blocks}
 use Rattle.vm_catalog.specs.Catalog.{AtRest, SlotAt}
-use Rattle.vm_catalog.specs.Publishing.{IsPublished, IsSafelyPublishing, PublishLeaves}
-use Rattle.vm_catalog.specs.Reading.{BeginsSlot, HasEntry, Loads}
+use Rattle.vm_catalog.specs.Publication.{IsPublished, IsSafelyPublishing, PublishLeaves}
+use Rattle.vm_catalog.specs.SlotReads.{BeginsSlot, HasEntry, Loads}
 use Rattle.vm_catalog.specs.declared.reader.LoadFault.{LoadFault}
 use Rattle.vm_catalog.specs.declared.reader.LoadFault.TheVariants.{Damaged}
 use Rattle.vm_catalog.specs.declared.reader.Slot.{Slot}

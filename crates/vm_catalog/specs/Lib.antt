@@ -2,6 +2,6 @@ pub mod Calls
 pub mod Catalog
 pub mod Laws
 pub mod Place
-pub mod Publishing
-pub mod Reading
+pub mod Publication
+pub mod SlotReads
 pub mod Written

@@ -1,4 +1,4 @@
-//! Which entries may stand in a slot, and in which order.
+//! Which entries a slot may have, and in which order.
 ghost use Rattle.std.specs.Prelude.{◌≡◌, ◌<◌, ◌↔◌, length, take, drop, codes, false, IsTrue};
 ghost use Rattle.std.specs.List.{list_any};
 ghost use Rattle.vm_block.specs.Slot.{is_alternative, is_alternative_of, is_called_as, MayFollow, Follows, IsTopEntry, IsLedger};
@@ -16,7 +16,7 @@ fn is_alternative_of(name: &Name, entry: &Entry) -> bool
     entry.kind == Kind::Alternative && entry.name == *name
 }
 
-/// Whether two entries are called the same: two alternatives, or two checkpoints of one owner.
+/// Whether two entries have the same name: two alternatives, or two checkpoints of one owner.
 fn is_called_as(entry: &Entry, other: &Entry) -> bool
     ensures { result ≡ is_called_as entry.now other.now }
 {
@@ -25,7 +25,7 @@ fn is_called_as(entry: &Entry, other: &Entry) -> bool
         && (entry.kind == Kind::Alternative || entry.owner == other.owner)
 }
 
-/// Whether the entry is `top`: an alternative without parent, with the empty base.
+/// Whether the entry is `top`: an alternative without a parent, with the empty base.
 fn is_top(entry: &Entry) -> bool
     ensures { IsTrue result ↔ IsTopEntry entry.now }
 {
@@ -35,21 +35,21 @@ fn is_top(entry: &Entry) -> bool
         && entry.base == 0
 }
 
-/// Whether the alternative of this name is among them.
+/// Whether the alternative of this name is among the entries.
 fn has_alternative(entries: &[Entry], name: &Name) -> bool
     ensures { result ≡ list_any (is_alternative_of name.now) entries.now }
 {
     entries.iter().any(|e| is_alternative_of(name, e))
 }
 
-/// Whether one among them is called the same as the entry.
+/// Whether one of the entries has the same name as this one.
 fn has_called_as(entries: &[Entry], entry: &Entry) -> bool
     ensures { result ≡ list_any (is_called_as entry.now) entries.now }
 {
     entries.iter().any(|e| is_called_as(entry, e))
 }
 
-/// Whether a checkpoint of `top` has the empty base.
+/// Whether the entry, if it is a checkpoint of `top`, has the empty base.
 fn has_base_of_top(entry: &Entry, owner: &Name) -> bool
     ensures { IsTrue result
         ↔ (is_alternative entry.now.kind ≡ false → owner.now ≡ codes "top" → entry.now.base ≡ 0) }
@@ -71,7 +71,7 @@ fn may_follow(earlier: &[Entry], entry: &Entry) -> bool
     }
 }
 
-/// Whether each entry but the first may follow those before it.
+/// Whether each entry except the first may follow those before it.
 fn all_follow(entries: &[Entry]) -> bool
     requires { 0 < length entries.now }
     ensures { IsTrue result ↔ Follows (take 1 entries.now) (drop 1 entries.now) }

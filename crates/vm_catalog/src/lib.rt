@@ -1,9 +1,10 @@
-//! The catalog of a store: the list of alternatives and checkpoints with their roots, which stands
-//! in one of two slots on a disk, and the selector, which names that slot.
+//! The catalog of a store: the list of alternatives and checkpoints with their roots, which is in
+//! one of two slots on a disk, and the selector, which names that slot.
 //!
 //! It stands on `vm_types` for names, on `vm_disk` for disks and on `vm_block` for the forms of
-//! blocks. Its one promise: `load` gives exactly the entries of a slot and only reads; and whenever
-//! `publish` is stopped, a disk shows the entries from before it or the new ones, never a mixture.
+//! blocks. Its one promise: `load` returns exactly the entries of a slot and only reads; and
+//! whenever `publish` is stopped, a disk shows the entries from before it or the new ones, never a
+//! mixture.
 #![tactic(auto)]
 
 mod laws;

@@ -1,4 +1,4 @@
-//! Where the slots stand on a disk.
+//! Where the slots are on a disk.
 ghost use Rattle.std.specs.Prelude.{◌≡◌, ◌≤◌};
 ghost use Rattle.vm_block.specs.Slot.{used_blocks};
 ghost use Rattle.vm_catalog.specs.Place.{slot_at};
@@ -16,7 +16,7 @@ pub fn first_block(slot_name: SlotName) -> u32
     }
 }
 
-/// How many blocks of a slot are used where it has so many entries, beside its head.
+/// How many blocks of a slot are used by its head and this many entries.
 pub(crate) fn used_blocks(entries: usize) -> u32
     requires { entries ≤ MAX_VERSIONS }
     ensures { result ≡ used_blocks entries }

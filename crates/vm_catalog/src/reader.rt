@@ -1,11 +1,11 @@
-//! How a slot is loaded.
+//! Loading a slot.
 ghost use Rattle.std.specs.Prelude.{◌≡◌, ℕ, ◌+◌, ◌*◌, ◌<◌, ◌≤◌, true, min, [], length, take, Some, OnOk, IfOk, IfSome, vec_len, vec_capacity};
 ghost use Rattle.std.specs.Bool.{OnTrue};
 ghost use Rattle.vm_disk.specs.Disk.{Goes, block};
 ghost use Rattle.vm_disk.specs.Moments.{OnlyReads};
 ghost use Rattle.vm_block.specs.Slot.{SlotFits, used_blocks, IsHead, IsEntry};
 ghost use Rattle.vm_catalog.specs.Calls.{FindsFront, HasFront, LoadsAll, LoadsHeld, ReadsFront, ReadsOthers, ReadsUsed, TakesSlot};
-ghost use Rattle.vm_catalog.specs.Reading.{cell_of, HasEntry, HasTaken, FitsSoFar};
+ghost use Rattle.vm_catalog.specs.SlotReads.{cell_of, HasEntry, HasTaken, FitsSoFar};
 
 use crate::ledger::is_ledger;
 use crate::place::{first_block, used_blocks};
@@ -19,9 +19,9 @@ use vm_types::{BLOCK_SIZE, FIRST_DATA, MAX_VERSIONS};
 pub enum LoadFault {
     /// The device failed in a read.
     Device,
-    /// No memory was given for the entries.
+    /// Memory for the entries could not be allocated.
     Memory,
-    /// The blocks are no slot.
+    /// The blocks are not a slot.
     Damaged,
 }
 
@@ -35,7 +35,7 @@ pub struct Slot {
     pub entries: Vec<Entry>,
 }
 
-/// The entry in a cell of the block, where it is one.
+/// The entry in a cell of the block, if it is one.
 fn entry_at(block: &[u8], cell: usize) -> Option<Entry>
     requires { 128 * (cell + 1) ≤ length block.now }
     ensures found { IfSome result (λ e. IsEntry (cell_of block.now cell) e) }
@@ -44,8 +44,8 @@ fn entry_at(block: &[u8], cell: usize) -> Option<Entry>
     read_entry(&block[128 * cell..128 * cell + 128])
 }
 
-/// Reads so many entries, from a cell of the block on, behind those that were read before.
-/// Where one is no entry, it answers false.
+/// Reads `count` entries, from cell `first` of the block on, and appends them. False if a cell
+/// holds no entry.
 fn read_entries<A: Allocator>(
     block: &[u8],
     first: usize,
@@ -67,7 +67,7 @@ fn read_entries<A: Allocator>(
     true
 }
 
-/// Reads the head of a slot from its first block, and the entries behind it.
+/// Reads the head of a slot from its first block, and the entries after it.
 fn read_front(block: &[u8], entries: &mut Vec<Entry>) -> Option<SlotHead>
     requires whole { length block.now ≡ BLOCK_SIZE }
     requires none { entries.old.items ≡ [] }
@@ -78,12 +78,12 @@ fn read_front(block: &[u8], entries: &mut Vec<Entry>) -> Option<SlotHead>
     ensures only { FindsFront result block.now }
 {
     let head = read_slot_head(&block[..128])?;
-    // Behind the head a block has room for 31 entries.
+    // After the head, a block has room for 31 entries.
     let count = (head.entries as usize).min(31);
     read_entries(block, 1, count, entries).then_some(head)
 }
 
-/// Reads the first block of a slot: its head, and the entries behind it.
+/// Reads the first block of a slot: its head, and the entries after it.
 fn read_first<D: Disk>(
     disk: &mut D,
     slot_name: SlotName,
@@ -146,19 +146,20 @@ fn read_others<D: Disk>(
     Ok(())
 }
 
-/// Loads the entries of a slot. It reads the used blocks of that slot, each once
-/// and in order, and reserves room for as many entries as a slot can have.
+/// Loads the entries of a slot. Reads the used blocks of that slot, each once and in order, and
+/// allocates memory for as many entries as a slot can have.
 pub fn load<D: Disk>(alloc: Global, disk: &mut D, slot_name: SlotName) -> Result<Slot, LoadFault>
     requires { FIRST_DATA ≤ (D.state disk.old).blocks }
     ensures any { Goes (result ≡ Err LoadFault.Device) (D.state disk.old) (D.state disk.new) }
     ensures reads { (D.state disk.new).honest ≡ true
         → OnlyReads (D.state disk.old) (D.state disk.new) }
 
-    // It makes no more reads than a slot has blocks, and at Ok one for each used block.
+    // It makes at most as many reads as a slot has blocks, and with Ok one for each used block.
     ensures once { (D.state disk.new).reads ≤ (D.state disk.old).reads + 16 }
     ensures whole { ReadsUsed result (D.state disk.old) (D.state disk.new) }
 
-    // On any disk what is loaded are entries that a slot may have, with room for as many as it can.
+    // On any disk, the loaded entries are ones that a slot may have, with memory for as many as it
+    // can have.
     ensures fits { IfOk result (λ slot. SlotFits slot.blocks slot.entries.items) }
     ensures reserved { IfOk result (λ slot. MAX_VERSIONS ≤ vec_capacity slot.entries) }
 

@@ -8,8 +8,7 @@ ghost use Rattle.vm_catalog.specs.Catalog.{Selects};
 use vm_block::{SlotName, is_header, read_selector, write_selector};
 use vm_disk::{DeviceFault, Disk};
 
-/// The slot in use; None where block 0 is no header. It reads block 0, and behind
-/// a header block 1.
+/// The slot in use, or None if block 0 is not a header. Reads block 0, and after a header block 1.
 pub fn slot_in_use<D: Disk>(disk: &mut D) -> Result<Option<SlotName>, DeviceFault>
     requires { 2 ≤ (D.state disk.old).blocks }
     ensures any { Goes (IsErr result) (D.state disk.old) (D.state disk.new) }
@@ -27,7 +26,7 @@ pub fn slot_in_use<D: Disk>(disk: &mut D) -> Result<Option<SlotName>, DeviceFaul
     Ok(Some(read_selector(&block)))
 }
 
-/// Makes the selector name a slot. It syncs nothing.
+/// Makes the selector name a slot. Syncs nothing.
 pub fn select_slot<D: Disk>(disk: &mut D, slot_name: SlotName) -> Result<(), DeviceFault>
     requires { 2 ≤ (D.state disk.old).blocks }
     ensures any { Counts 0 result (D.state disk.old) (D.state disk.new) }

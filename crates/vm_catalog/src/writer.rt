@@ -1,4 +1,4 @@
-//! How new entries take the place of those in use.
+//! Replacing the entries in use by new ones.
 ghost use Rattle.std.specs.Prelude.{◌≡◌, ◌+◌, ◌*◌, ◌<◌, ◌≤◌, ◌++◌, [], length, take, drop, slice_index_or, IsErr};
 ghost use Rattle.vm_disk.specs.Disk.{Goes};
 ghost use Rattle.vm_block.specs.Padding.{padded};
@@ -11,7 +11,7 @@ use crate::place::{first_block, used_blocks};
 use crate::selection::select_slot;
 use vm_block::{Entry, SlotFormat, SlotHead, SlotName, write_entry, write_slot_head};
 use vm_disk::{DeviceFault, Disk};
-use vm_types::{FIRST_DATA, MAX_VERSIONS};
+use vm_types::{Block, FIRST_DATA, MAX_VERSIONS};
 
 /// The head of a slot is its cell 0, and its entries are those from 1 on.
 fn write_cell(format: SlotFormat, blocks: u32, entries: &[Entry], cell: usize, out: &mut [u8])
@@ -32,7 +32,7 @@ fn write_cell(format: SlotFormat, blocks: u32, entries: &[Entry], cell: usize, o
     }
 }
 
-/// So many cells, with zero bytes behind them.
+/// `count` cells, followed by zero bytes.
 fn write_cells(
     format: SlotFormat,
     blocks: u32,
@@ -54,7 +54,7 @@ fn write_cells(
 }
 
 /// Block `index` of the slot with these entries.
-fn write_block(format: SlotFormat, blocks: u32, entries: &[Entry], index: u32, out: &mut [u8; 4096])
+fn write_block(format: SlotFormat, blocks: u32, entries: &[Entry], index: u32, out: &mut Block)
     requires few { length entries.now ≤ MAX_VERSIONS }
     requires used { index < used_blocks (length entries.now) }
     ensures { out.new ≡ slice_index_or (slot_blocks format blocks entries.now) index [] }
@@ -65,9 +65,9 @@ fn write_block(format: SlotFormat, blocks: u32, entries: &[Entry], index: u32, o
     write_cells(format, blocks, entries, first, count, out);
 }
 
-/// Writes these entries into a slot: its used blocks, in order, and no other
-/// block. It syncs nothing. `format` is the format of the slot and `blocks` the block count of the
-/// store; the slot says both.
+/// Writes these entries into a slot: its used blocks, in order, and no other block. Syncs nothing.
+/// `format` is the format of the slot and `blocks` the block count of the store; the slot records
+/// both.
 pub fn write_slot<D: Disk>(
     disk: &mut D,
     slot_name: SlotName,
@@ -90,12 +90,12 @@ pub fn write_slot<D: Disk>(
     Ok(())
 }
 
-/// Puts these entries in the place of those in use: writes them into the slot that is not in use,
-/// syncs, makes the selector name that slot, and syncs. It takes no memory and touches no data block.
+/// Replaces the entries in use by these: writes them into the slot that is not in use, syncs, makes
+/// the selector name that slot, and syncs. Takes no memory and touches no data block.
 ///
 /// `in_use` is the slot that the selector names now, `format` the format of the slot that is
 /// written, and `blocks` the block count of the store. After an error the old entries or the new
-/// ones are in use; only a new look at the disk tells which.
+/// ones are in use; only reading the disk again tells which.
 pub fn publish<D: Disk>(
     disk: &mut D,
     in_use: SlotName,
@@ -107,17 +107,18 @@ pub fn publish<D: Disk>(
     requires room { FIRST_DATA ≤ (D.state disk.old).blocks }
     ensures any { Goes (IsErr result) (D.state disk.old) (D.state disk.new) }
 
-    // At Ok the new entries alone are named, no block is dirty, and the data blocks are as they were.
+    // With Ok, only the new entries are named, no block is dirty, and the data blocks are as they
+    // were.
     ensures done { Publishes (D.state disk.old) (D.state disk.new) in_use format blocks entries.now result }
 
-    // At each moment what the selector may name is whole and clean, and nothing writes it.
+    // At each moment, what the selector may name is complete and clean, and nothing writes it.
     ensures moments { PublishesSafely (D.state disk.old) (D.state disk.new) in_use format blocks entries.now }
 
-    // So a crash at any moment leaves the old entries or the new, with their data blocks.
+    // So a crash at any moment leaves the old entries or the new ones, with their data blocks.
     ensures any_moment { CrashLeavesOne (D.state disk.old) (D.state disk.new) in_use format blocks entries.now }
 
-    // On any honest disk: at Ok the used blocks of the other slot, and the selector, are byte by byte as they are to be
-    // written, and at no moment another block is touched.
+    // On any honest disk: with Ok the used blocks of the other slot, and the selector, are byte for
+    // byte what they should be, and no other block is touched at any moment.
     ensures written { WritesBoth result (D.state disk.new) (other_slot in_use) format blocks entries.now }
     ensures touched { TouchesBoth (D.state disk.old) (D.state disk.new) (other_slot in_use) entries.now }
 {

@@ -1,7 +1,7 @@
 pub mod Disk
 pub mod Between
 pub mod Past
-pub mod Filling
+pub mod Fill
 pub mod Memory
 pub mod Following
 pub mod Fuse
@@ -14,5 +14,5 @@ pub mod Layers
 pub mod Delayed
 pub mod Positional
 pub mod File
-pub mod Syncing
+pub mod Syncs
 pub mod System

@@ -4,7 +4,7 @@ use Rattle.vm_types.specs.declared.sizes.TheConstants.{BLOCK_SIZE}
 use Rattle.vm_disk.specs.declared.memory.Platter.{Platter}
 use Rattle.vm_disk.specs.declared.memory.MemDisk.{MemDisk}
 use Rattle.vm_disk.specs.Disk.{Medium, DiskState, IsClean, block}
-use Rattle.vm_disk.specs.Filling.{filled_up}
+use Rattle.vm_disk.specs.Fill.{filled_up}
 use Rattle.vm_disk.specs.Past.{noted}
 
 -- its blocks, which are dirty, and how many are sure

@@ -6,7 +6,7 @@ use Rattle.vm_disk.specs.declared.system.Call.TheVariants.{Created, Measured, Re
 use Rattle.vm_disk.specs.declared.system.SystemFile.{SystemFile}
 use Rattle.vm_disk.specs.Past.{noted}
 use Rattle.vm_disk.specs.Positional.{FileState, IfHonestFile, overwritten, joined}
-use Rattle.vm_disk.specs.Syncing.{counts_as_synced}
+use Rattle.vm_disk.specs.Syncs.{counts_as_synced}
 
 -- what stands in a file after these calls, the newest first, where it held these bytes at first, and failed writes left those
 abbrev pub bytes_after : List ℕ → (ℕ → List ℕ) → List Call → List ℕ

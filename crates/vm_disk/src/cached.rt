@@ -1,4 +1,4 @@
-//! A disk that keeps the blocks which were used last.
+//! A disk that caches the most recently used blocks of another.
 ghost use Rattle.std.specs.Prelude.{◌≡◌, ◌+◌, ◌<◌, ◌≤◌, true, false, Some, length, nat_eq, IfOk, IfErr, OnOk, OnErr, IsOk};
 ghost use Rattle.std.specs.Map.{lookup, remove_entry};
 ghost use Rattle.vm_disk.specs.Between.{Between, IfHonest};
@@ -12,18 +12,18 @@ use crate::kept::Kept;
 use crate::rooms::Room;
 use std::alloc::Global;
 use std::num::NonZeroUsize;
+use vm_types::{Block, BlockNumber};
 
-/// Keeps the blocks of the disk below that were used last. A read of a kept block does not reach the
-/// disk below; each write does, and each sync.
+/// Keeps the most recently used blocks of the disk below. A read of a kept block does not reach the
+/// disk below; every write and every sync does.
 ///
-/// Memory for the bytes of a block is taken when it is kept, until the cache is full. From there a block
-/// that is new takes the spare room, and that of the one that goes is spare then. Where memory is
-/// refused, the block is not kept, and the call is served.
+/// Memory for the bytes of a block is taken when it is kept, until the cache is full. From then on,
+/// a new block takes the spare frame, and the frame of the evicted block becomes the spare one. If
+/// memory is refused, the block is not kept, and the call is served.
 ///
-/// A block that comes from below is read onto the desk, a room that is kept with it then, for another
-/// one that takes its place. One that is got to hand and needed once stays on the desk, and no other
-/// one goes for it. At hand is the block that was used last, or the one on the desk, where it was not
-/// kept.
+/// A block from below is read into the desk, a frame that is then kept with it and replaced by
+/// another one. A block from below that is loaded with `Need::Once` stays on the desk and evicts
+/// nothing. The loaded block is the one used last, or the one on the desk if that was not kept.
 #[derive(Drop)]
 pub struct CachedDisk<D: Disk> {
     inner: D,
@@ -37,8 +37,8 @@ pub struct CachedDisk<D: Disk> {
 impl<D: Disk> CachedDisk<D> {
     ghost use Rattle.vm_disk.specs.Cached.{inner_of, IsEmptyOver};
 
-    /// Keeps up to `capacity` blocks of the disk below. Takes memory for the order of all of them and for the
-    /// bytes of two; where it is refused, the disk comes back.
+    /// Keeps up to `capacity` blocks of the disk below. Takes memory for the order of all of them
+    /// and for the bytes of two. If memory is refused, the disk comes back.
     pub fn new(alloc: Global, inner: D, capacity: usize) -> Result<CachedDisk<D>, D>
         requires { 0 < capacity }
         ensures ok { IfOk result (IsEmptyOver inner capacity) }
@@ -66,7 +66,7 @@ impl<D: Disk> CachedDisk<D> {
         &self.inner
     }
 
-    /// The disk below. The kept blocks are given up.
+    /// The disk below. The kept blocks are dropped.
     pub fn into_inner(self) -> D
         ensures { result ≡ inner_of self }
     {
@@ -90,16 +90,16 @@ impl<D: Disk> Disk for CachedDisk<D> {
         self.inner.blocks()
     }
 
-    fn read(&mut self, n: u32, into: &mut [u8; 4096]) -> Result<(), DeviceFault>
+    fn read(&mut self, n: BlockNumber, into: &mut Block) -> Result<(), DeviceFault>
         requires { n < (cached_state D.state self.old).blocks }
         ensures any { Between (cached_state D.state) (Counts 1 result) self.old self.new }
         ensures honest { IfHonest (cached_state D.state) (Reads n into.new result) self.old self.new }
 
-        // A kept block is copied out, and the disk below is not asked.
+        // A kept block is copied out, without asking the disk below.
         ensures hit { keeps n (kept_of self.old) ≡ true
             → Recalls n into.new result self.old self.new }
 
-        // Else it is asked once.
+        // For any other block, the disk below is asked once.
         ensures miss { keeps n (kept_of self.old) ≡ false
             → Below D.state (Counts 1 result) self.old self.new }
         ensures kept { OnOk result (Uses n into.new self.old self.new) }
@@ -110,22 +110,22 @@ impl<D: Disk> Disk for CachedDisk<D> {
         Ok(())
     }
 
-    fn load(&mut self, n: u32, need: Need) -> Result<(), DeviceFault>
+    fn load(&mut self, n: BlockNumber, need: Need) -> Result<(), DeviceFault>
         requires { n < (cached_state D.state self.old).blocks }
         ensures any { Between (cached_state D.state) (Counts 1 result) self.old self.new }
         ensures honest { IfHonest (cached_state D.state) (Reads n (cached_hand self.new) result)
             self.old self.new }
 
-        // A kept block is at hand at once, and the disk below is not asked.
+        // A kept block is loaded at once, without asking the disk below.
         ensures hit { keeps n (kept_of self.old) ≡ true
             → Recalls n (cached_hand self.new) result self.old self.new }
 
-        // Else it is asked once.
+        // For any other block, the disk below is asked once.
         ensures miss { keeps n (kept_of self.old) ≡ false
             → Below D.state (Counts 1 result) self.old self.new }
         ensures kept { need ≡ Need.Again → OnOk result (Uses n (cached_hand self.new) self.old self.new) }
 
-        // A block that is needed once stays kept, if it was, and else takes the place of no other one.
+        // A block that is loaded with `Once` stays kept if it was, and otherwise evicts nothing.
         ensures stays { keeps n (kept_of self.old) ≡ true → Uses n (cached_hand self.new) self.old self.new }
         ensures once { need ≡ Need.Once → keeps n (kept_of self.old) ≡ false
             → KeepsJust (kept_of self.old) self.old self.new }
@@ -149,7 +149,7 @@ impl<D: Disk> Disk for CachedDisk<D> {
         }
     }
 
-    fn at_hand(&self) -> &[u8; 4096] {
+    fn at_hand(&self) -> &Block {
         if self.on_desk {
             return &self.desk;
         }
@@ -159,7 +159,7 @@ impl<D: Disk> Disk for CachedDisk<D> {
         }
     }
 
-    fn write(&mut self, n: u32, from: &[u8; 4096]) -> Result<(), DeviceFault>
+    fn write(&mut self, n: BlockNumber, from: &Block) -> Result<(), DeviceFault>
         requires { n < (cached_state D.state self.old).blocks }
         ensures any { Between (cached_state D.state) (Counts 0 result) self.old self.new }
         ensures honest { IfHonest (cached_state D.state) (Writes n from.now result) self.old self.new }
@@ -183,16 +183,16 @@ impl<D: Disk> Disk for CachedDisk<D> {
         }
     }
 
-    fn write_run(&mut self, n: u32, blocks: &[[u8; 4096]]) -> Result<(), DeviceFault>
+    fn write_run(&mut self, n: BlockNumber, blocks: &[Block]) -> Result<(), DeviceFault>
         requires { n + length blocks.now ≤ (cached_state D.state self.old).blocks }
         ensures any { Between (cached_state D.state) (Counts 0 result) self.old self.new }
         ensures honest { IfHonest (cached_state D.state) (WritesRun n blocks.now result) self.old self.new }
 
-        // The disk below counts no read for it.
+        // This counts no read of the disk below.
         ensures passed { Below D.state (Counts 0 result) self.old self.new }
         ensures kept { OnOk result (UsesRun n blocks.now self.old self.new) }
 
-        // Where that failed, none of them is kept.
+        // If that failed, none of them is kept.
         ensures lost { OnErr result (LosesRun n (length blocks.now) self.old self.new) }
     {
         match self.inner.write_run(n, blocks) {
@@ -207,7 +207,7 @@ impl<D: Disk> Disk for CachedDisk<D> {
         }
     }
 
-    fn forget(&mut self, n: u32)
+    fn forget(&mut self, n: BlockNumber)
         requires { n < (cached_state D.state self.old).blocks }
         ensures any { Between (cached_state D.state) Idles self.old self.new }
         ensures honest { IfHonest (cached_state D.state) (Forgets n) self.old self.new }

@@ -1,4 +1,4 @@
-//! A disk that writes late.
+//! A disk that delays its writes.
 ghost use Rattle.std.specs.Prelude.{◌≡◌, ◌<◌, ◌≤◌, ◌++◌, true, IfOk, IfErr, map};
 ghost use Rattle.vm_disk.specs.Past.{noted};
 ghost use Rattle.vm_disk.specs.Between.{Between, IfHonest};
@@ -12,17 +12,19 @@ use crate::layers::Layers;
 use std::alloc::Global;
 use std::num::NonZeroUsize;
 use std::snapshot::Snapshot;
+use vm_types::{Block, BlockNumber};
 
-/// Has written blocks wait, and writes them to the disk below at a sync, or where too many would wait:
-/// then the one goes out that was written, or got to hand, the longest ago, with those that wait right
-/// before and behind it. A read looks among those that wait first, and then among those that were
-/// written. These stay until their room is needed, or all go, where a write below fails or memory for
-/// one more to wait is refused; and one that is forgotten goes.
+/// Lets written blocks wait, and writes them to the disk below at a sync, or when too many would
+/// wait. In that case the block that was written or loaded the longest ago is written out, together
+/// with the waiting blocks right before and after it. A read looks among the waiting blocks first,
+/// and then among the written ones. Written blocks stay until their frames are needed. All of them
+/// go if a write below fails or if memory for one more waiting block is refused; a block that is
+/// forgotten goes, too.
 ///
-/// A block waits in the room of one that waits no longer: a spare one, or else that of the block which
-/// was written out first. Where there is none, memory is taken; where that is refused, the block is
-/// written at once, and the call is served. A fault of the disk below is answered by the call in
-/// which it is met, and the blocks that wait then still do, or were written.
+/// A waiting block takes the frame of one that no longer waits: a spare frame, or else that of the
+/// block that was written out first. If there is none, memory is taken; if that is refused, the
+/// block is written at once, and the call is served. A fault of the disk below is the answer of the
+/// call that meets it. The blocks that waited then still wait, or were written.
 #[derive(Drop)]
 pub struct DelayedDisk<D: Disk> {
     layers: Layers<D>,
@@ -37,8 +39,8 @@ pub struct DelayedDisk<D: Disk> {
 impl<D: Disk> DelayedDisk<D> {
     ghost use Rattle.vm_disk.specs.Delayed.{inner_of, delayed_state, IsIdleOver, FollowsBelow};
 
-    /// Has up to `capacity` blocks wait. Takes memory for the order of all of them; where it is refused,
-    /// the disk comes back.
+    /// Lets up to `capacity` blocks wait. Takes memory for the order of all of them. If memory is
+    /// refused, the disk comes back.
     pub fn new(alloc: Global, inner: D, capacity: usize) -> Result<DelayedDisk<D>, D>
         requires { 0 < capacity }
         ensures ok { IfOk result (IsIdleOver D.state inner capacity) }
@@ -57,8 +59,9 @@ impl<D: Disk> DelayedDisk<D> {
         })
     }
 
-    /// The disk below, to look at. What a crash of it leaves, one of this disk may leave, at the moment
-    /// that it was at or on the way from; and while no block is dirty here, both hold the same.
+    /// The disk below, to look at. Whatever a crash of it leaves, a crash of this disk may leave,
+    /// too, at the moment that the disk below was at or on its way from. While no block is dirty
+    /// here, both hold the same.
     pub fn inner(&self) -> &D
         ensures inner { result.now ≡ inner_of self.now }
         ensures below { (delayed_state D.state self.now).honest ≡ true → FollowsBelow D.state self.now }
@@ -66,7 +69,7 @@ impl<D: Disk> DelayedDisk<D> {
         &self.layers.inner
     }
 
-    /// The disk below. The blocks that wait are given up, as by a crash of this disk.
+    /// The disk below. The waiting blocks are lost, as in a crash of this disk.
     pub fn into_inner(self) -> D
         ensures inner { result ≡ inner_of self }
         ensures below { (delayed_state D.state self).honest ≡ true → FollowsBelow D.state self }
@@ -90,13 +93,13 @@ impl<D: Disk> Disk for DelayedDisk<D> {
         self.layers.inner.blocks()
     }
 
-    fn read(&mut self, n: u32, into: &mut [u8; 4096]) -> Result<(), DeviceFault>
+    fn read(&mut self, n: BlockNumber, into: &mut Block) -> Result<(), DeviceFault>
         requires { n < (delayed_state D.state self.old).blocks }
         ensures any { Between (delayed_state D.state) (Counts 1 result) self.old self.new }
         ensures honest { IfHonest (delayed_state D.state) (Reads n into.new result)
             self.old self.new }
 
-        // Where the block waits, the disk below is not asked.
+        // If the block waits, the disk below is not asked.
         ensures hit { AnswersHere n result self.old self.new }
         ensures limit { KeepsLimit self.old self.new }
         ensures apart { TouchesBelow D.state self.old self.new }
@@ -106,7 +109,7 @@ impl<D: Disk> Disk for DelayedDisk<D> {
         self.layers.read(n, into)
     }
 
-    fn load(&mut self, n: u32, need: Need) -> Result<(), DeviceFault>
+    fn load(&mut self, n: BlockNumber, need: Need) -> Result<(), DeviceFault>
         requires { n < (delayed_state D.state self.old).blocks }
         ensures any { Between (delayed_state D.state) (Counts 1 result) self.old self.new }
         ensures honest { IfHonest (delayed_state D.state) (Reads n (delayed_hand D.hand self.new) result)
@@ -121,11 +124,11 @@ impl<D: Disk> Disk for DelayedDisk<D> {
         self.layers.load(n, need)
     }
 
-    fn at_hand(&self) -> &[u8; 4096] {
+    fn at_hand(&self) -> &Block {
         self.layers.at_hand()
     }
 
-    fn write(&mut self, n: u32, from: &[u8; 4096]) -> Result<(), DeviceFault>
+    fn write(&mut self, n: BlockNumber, from: &Block) -> Result<(), DeviceFault>
         requires { n < (delayed_state D.state self.old).blocks }
         ensures any { Between (delayed_state D.state) (Counts 0 result) self.old self.new }
         ensures honest { IfHonest (delayed_state D.state) (Writes n from.now result)
@@ -138,7 +141,7 @@ impl<D: Disk> Disk for DelayedDisk<D> {
         self.layers.write(n, from)
     }
 
-    fn forget(&mut self, n: u32)
+    fn forget(&mut self, n: BlockNumber)
         requires { n < (delayed_state D.state self.old).blocks }
         ensures any { Between (delayed_state D.state) Idles self.old self.new }
         ensures honest { IfHonest (delayed_state D.state) (Forgets n) self.old self.new }

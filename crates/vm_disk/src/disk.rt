@@ -3,62 +3,64 @@ ghost use Rattle.std.specs.Prelude.{◌≡◌, ◌+◌, ◌<◌, ◌≤◌, ◌^
 ghost use Rattle.vm_disk.specs.Moments.{WritesRun};
 ghost use Rattle.vm_disk.specs.Disk.{DiskState, Counts, Reads, Writes, Idles, Forgets, Syncs, Extends, Enlarges};
 
+use vm_types::{Block, BlockNumber};
+
 /// The device failed in this call.
 #[derive(Clone, Copy, Debug, PartialEq, Eq)]
 pub struct DeviceFault;
 
-/// Whether a block that is got to hand will be needed again, as far as its caller knows. It tells a disk
-/// what is worth keeping, and nothing else.
+/// Whether a loaded block will be needed again, as far as the caller knows. It tells a disk what is
+/// worth keeping, and nothing else.
 #[derive(Clone, Copy, Debug, PartialEq, Eq)]
 pub enum Need {
-    /// Soon again.
+    /// It will be needed again soon.
     Again,
-    /// This time alone.
+    /// It is needed only this time.
     Once,
 }
 
 /// A disk of blocks of 4,096 bytes, numbered from 0.
 ///
-/// Of a disk that is not honest only the clauses `any` say something: what it holds is then unknown.
+/// If a disk is not honest, only the clauses `any` say anything about it: its contents are unknown.
 pub trait Disk {
     /// What is known of it, for contracts alone.
     ghost state: { Self → DiskState };
 
-    /// The bytes of the block at hand.
+    /// The bytes of the loaded block.
     ghost hand: { Self → List ℕ };
 
     /// How many blocks it has.
     fn blocks(&self) -> u32
         ensures { result ≡ (state self.now).blocks };
 
-    /// Reads block n. Where it fails, `into` may hold any bytes.
-    fn read(&mut self, n: u32, into: &mut [u8; 4096]) -> Result<(), DeviceFault>
+    /// Reads block n. On failure, `into` may hold any bytes.
+    fn read(&mut self, n: BlockNumber, into: &mut Block) -> Result<(), DeviceFault>
         requires { n < (state self.old).blocks }
         ensures any { Counts 1 result (state self.old) (state self.new) }
         ensures honest { (state self.new).honest ≡ true
             → Reads n into.new result (state self.old) (state self.new) };
 
-    /// Gets block n to hand, where it stays until the next call that may change the disk. Where it fails,
-    /// any bytes are at hand. What is needed changes none of this.
-    fn load(&mut self, n: u32, need: Need) -> Result<(), DeviceFault>
+    /// Loads block n. It stays loaded until the next call that may change the disk. On failure, the
+    /// loaded block may have any bytes. `need` changes none of this.
+    fn load(&mut self, n: BlockNumber, need: Need) -> Result<(), DeviceFault>
         requires { n < (state self.old).blocks }
         ensures any { Counts 1 result (state self.old) (state self.new) }
         ensures honest { (state self.new).honest ≡ true
             → Reads n (hand self.new) result (state self.old) (state self.new) };
 
-    /// The block at hand, where it is.
-    fn at_hand(&self) -> &[u8; 4096]
+    /// The loaded block, by reference.
+    fn at_hand(&self) -> &Block
         ensures { result.now ≡ hand self.now };
 
-    /// Writes block n. Until the next sync that succeeds, a crash may leave any bytes there.
-    fn write(&mut self, n: u32, from: &[u8; 4096]) -> Result<(), DeviceFault>
+    /// Writes block n. Until the next successful sync, a crash may leave any bytes there.
+    fn write(&mut self, n: BlockNumber, from: &Block) -> Result<(), DeviceFault>
         requires { n < (state self.old).blocks }
         ensures any { Counts 0 result (state self.old) (state self.new) }
         ensures honest { (state self.new).honest ≡ true
             → Writes n from.now result (state self.old) (state self.new) };
 
     /// Writes blocks in a row, from block n on, as single writes do.
-    fn write_run(&mut self, n: u32, blocks: &[[u8; 4096]]) -> Result<(), DeviceFault>
+    fn write_run(&mut self, n: BlockNumber, blocks: &[Block]) -> Result<(), DeviceFault>
         requires { n + length blocks.now ≤ (state self.old).blocks }
         ensures any { Counts 0 result (state self.old) (state self.new) }
         ensures honest { (state self.new).honest ≡ true
@@ -72,33 +74,34 @@ pub trait Disk {
         Ok(())
     }
 
-    /// Says that what block n holds is not needed before it is written again. From then on it holds any
-    /// bytes, as after a write that failed.
-    fn forget(&mut self, n: u32)
+    /// Says that the contents of block n are not needed before it is written again. From then on it
+    /// holds any bytes, as after a failed write.
+    fn forget(&mut self, n: BlockNumber)
         requires { n < (state self.old).blocks }
         ensures any { Idles (state self.old) (state self.new) }
         ensures honest { (state self.new).honest ≡ true
             → Forgets n (state self.old) (state self.new) };
 
-    /// Makes each write so far last.
+    /// Makes all writes so far durable.
     fn sync(&mut self) -> Result<(), DeviceFault>
         ensures any { Counts 0 result (state self.old) (state self.new) }
         ensures honest { (state self.new).honest ≡ true
             → Syncs result (state self.old) (state self.new) };
 
-    /// Gives it more blocks, so many in all. A new one holds any bytes, and is dirty. Until the next sync
-    /// that succeeds, a crash may leave any number of the new blocks. Where it fails, some may be there.
+    /// Lengthens the disk to `blocks` blocks in all. A new block holds any bytes, and is dirty.
+    /// Until the next successful sync, a crash may leave any number of the new blocks. On failure,
+    /// some of them may be there.
     fn extend(&mut self, blocks: u32) -> Result<(), DeviceFault>
         requires { (state self.old).blocks ≤ blocks }
         ensures any { Extends blocks result (state self.old) (state self.new) }
         ensures honest { (state self.new).honest ≡ true
             → Enlarges (state self.old) (state self.new) };
 
-    /// An honest disk holds each of its blocks.
+    /// An honest disk holds all of its blocks.
     ghost whole: { (disk : Self)
         → (state disk).honest ≡ true
         → length (state disk).now.contents ≡ (state disk).blocks };
 
-    /// A number of a block fits 32 bits.
+    /// A block number fits 32 bits.
     ghost small: { (disk : Self) → (state disk).blocks < 2 ^ 32 };
 }

@@ -9,15 +9,15 @@ use crate::disk::{DeviceFault, Disk, Need};
 use crate::history::History;
 use crate::positional::Positional;
 use std::snapshot::Snapshot;
-use vm_types::BLOCK_SIZE;
+use vm_types::{BLOCK_SIZE, Block, BlockNumber};
 
-/// How many bytes a block has.
+/// The size of a block in bytes.
 const BLOCK: u64 = BLOCK_SIZE as u64;
 
-/// How many zero blocks are written at once.
+/// How many zero blocks are written with one call.
 const AT_ONCE: u32 = 16;
 
-/// What a disk over a file was before a call, for contracts alone.
+/// The state of a disk over a file before a call, for contracts alone.
 struct Earlier<F> {
     file: Snapshot<F>,
     blocks: u32,
@@ -36,8 +36,8 @@ impl<F> Drop for Earlier<F> {
     }
 }
 
-/// A file as a disk: block n is the 4,096 bytes from 4096 n on. It knows how many blocks the file had
-/// when it was last synced, or was opened. It has room for the block at hand.
+/// A file as a disk: block n is the 4,096 bytes at offset 4096 n. It knows how many blocks the file
+/// had when it was last synced or was opened. It has a buffer for the loaded block.
 #[derive(Drop)]
 pub struct FileDisk<F> {
     file: F,
@@ -46,20 +46,24 @@ pub struct FileDisk<F> {
     forgotten: History<u32>,
     past: History<Earlier<F>>,
     reads: History<()>,
-    room: [u8; 4096],
+    room: Block,
     ghost small: { blocks < 2 ^ 32 },
     ghost known: { sure ≤ blocks },
 }
 
 /// Where a block begins.
-fn offset_of(n: u32) -> u64
+fn offset_of(n: BlockNumber) -> u64
     ensures { result ≡ BLOCK_SIZE * n }
 {
     u64::from(n) * BLOCK
 }
 
 /// Reads block n of a file into these bytes.
-fn read_block<F: Positional>(file: &mut F, n: u32, into: &mut [u8; 4096]) -> Result<(), DeviceFault>
+fn read_block<F: Positional>(
+    file: &mut F,
+    n: BlockNumber,
+    into: &mut Block,
+) -> Result<(), DeviceFault>
     ensures any { CountsFailures result (F.state file.old) (F.state file.new) }
     ensures full { length into.new ≡ BLOCK_SIZE }
     ensures honest { IfHonestFile F.state (ReadsAt (BLOCK_SIZE * n) into.new result) file.old file.new }
@@ -70,8 +74,8 @@ fn read_block<F: Positional>(file: &mut F, n: u32, into: &mut [u8; 4096]) -> Res
 impl<F: Positional> FileDisk<F> {
     ghost use Rattle.vm_disk.specs.File.{file_left, file_of, file_state, part_of, part_then, part_with, IsPart, IsOver, IsOverFile, IsMadeFile, OpensFile, StartsZero, EndsItsFile, AddsZerosIn, KeepsBehindIn};
 
-    /// The whole blocks of a file, at most 4,294,967,295. Where the file does not tell how many bytes it
-    /// has, it comes back.
+    /// A disk of the whole blocks of a file, at most 4,294,967,295. If the file does not tell its
+    /// length, it comes back.
     pub fn open(mut file: F) -> Result<FileDisk<F>, F>
         ensures any { CountsFailures result (F.state file) (F.state (file_left result)) }
         ensures over { IfOk result (λ disk. IsOverFile F.state disk.blocks disk) }
@@ -84,8 +88,8 @@ impl<F: Positional> FileDisk<F> {
         Ok(FileDisk::over(file, blocks))
     }
 
-    /// Writes zero blocks to a file with no bytes, and makes it a disk of them, none of which is sure
-    /// before a sync. Where they could not all be written, the file comes back.
+    /// Writes zero blocks to an empty file and makes it a disk of them. None of them is sure before
+    /// a sync. If they could not all be written, the file comes back.
     pub fn create(mut file: F, blocks: u32) -> Result<FileDisk<F>, F>
         ensures any { CountsFailures result (F.state file) (F.state (file_left result)) }
         ensures made { IfOk result (IsMadeFile F.state blocks) }
@@ -98,7 +102,7 @@ impl<F: Positional> FileDisk<F> {
         }
     }
 
-    /// The first blocks of a file that was there, which may be fewer than it has.
+    /// The first blocks of an existing file, which may have more.
     pub fn over(file: F, blocks: u32) -> FileDisk<F>
         ensures file { file_of result ≡ file }
         ensures over { IsOver blocks (F.state file) (file_state F.state result) }
@@ -106,7 +110,7 @@ impl<F: Positional> FileDisk<F> {
         FileDisk::part(file, blocks, blocks)
     }
 
-    /// The first blocks of a file, of which so many are sure.
+    /// The first `blocks` blocks of a file. `sure` of them are sure.
     fn part(file: F, blocks: u32, sure: u32) -> FileDisk<F>
         requires { sure ≤ blocks }
         ensures file { file_of result ≡ file }
@@ -123,7 +127,7 @@ impl<F: Positional> FileDisk<F> {
         }
     }
 
-    /// What it is now, to be noted.
+    /// Its state now, to be noted.
     fn earlier(&self) -> Earlier<F>
         ensures { part_then F.state result ≡ part_of F.state self.now }
     {
@@ -135,8 +139,8 @@ impl<F: Positional> FileDisk<F> {
         }
     }
 
-    /// Writes zero blocks to a file, several at once, from where so many are done up to so many, and
-    /// nothing behind them. It counts those that were written.
+    /// Writes zero blocks to a file, several per call, from block `done` up to block `blocks`, and
+    /// nothing behind them. `done` counts the blocks that were written.
     fn write_zeros(file: &mut F, done: &mut u32, blocks: u32) -> Result<(), DeviceFault>
         requires { done.old ≤ blocks }
         ensures any { CountsFailures result (F.state file.old) (F.state file.new) }
@@ -178,7 +182,7 @@ impl<F: Positional> Disk for FileDisk<F> {
         self.blocks
     }
 
-    fn read(&mut self, n: u32, into: &mut [u8; 4096]) -> Result<(), DeviceFault>
+    fn read(&mut self, n: BlockNumber, into: &mut Block) -> Result<(), DeviceFault>
         requires { n < (file_state F.state self.old).blocks }
         ensures any { Between (file_state F.state) (Counts 1 result) self.old self.new }
         ensures honest { IfHonest (file_state F.state) (Reads n into.new result) self.old self.new }
@@ -191,7 +195,7 @@ impl<F: Positional> Disk for FileDisk<F> {
         self.file.read_at(into, offset_of(n))
     }
 
-    fn load(&mut self, n: u32, _: Need) -> Result<(), DeviceFault>
+    fn load(&mut self, n: BlockNumber, _: Need) -> Result<(), DeviceFault>
         requires { n < (file_state F.state self.old).blocks }
         ensures any { Between (file_state F.state) (Counts 1 result) self.old self.new }
         ensures honest { IfHonest (file_state F.state) (Reads n (file_hand self.new) result)
@@ -205,16 +209,16 @@ impl<F: Positional> Disk for FileDisk<F> {
         read_block(&mut self.file, n, &mut self.room)
     }
 
-    fn at_hand(&self) -> &[u8; 4096] {
+    fn at_hand(&self) -> &Block {
         &self.room
     }
 
-    fn write(&mut self, n: u32, from: &[u8; 4096]) -> Result<(), DeviceFault>
+    fn write(&mut self, n: BlockNumber, from: &Block) -> Result<(), DeviceFault>
         requires { n < (file_state F.state self.old).blocks }
         ensures any { Between (file_state F.state) (Counts 0 result) self.old self.new }
         ensures honest { IfHonest (file_state F.state) (Writes n from.now result) self.old self.new }
 
-        // What stands in the file behind the disk is as it was.
+        // The bytes of the file behind the disk do not change.
         ensures behind { LeavesBehind F.state (file_state F.state self.old).blocks self.old self.new }
         ensures stays { StaysHonest F.state self.old self.new }
     {
@@ -223,12 +227,12 @@ impl<F: Positional> Disk for FileDisk<F> {
         self.file.write_at(from, offset_of(n))
     }
 
-    fn write_run(&mut self, n: u32, blocks: &[[u8; 4096]]) -> Result<(), DeviceFault>
+    fn write_run(&mut self, n: BlockNumber, blocks: &[Block]) -> Result<(), DeviceFault>
         requires { n + length blocks.now ≤ (file_state F.state self.old).blocks }
         ensures any { Between (file_state F.state) (Counts 0 result) self.old self.new }
         ensures honest { IfHonest (file_state F.state) (WritesRun n blocks.now result) self.old self.new }
 
-        // What stands in the file behind the disk is as it was.
+        // The bytes of the file behind the disk do not change.
         ensures behind { LeavesBehind F.state (file_state F.state self.old).blocks self.old self.new }
         ensures stays { StaysHonest F.state self.old self.new }
     {
@@ -237,7 +241,7 @@ impl<F: Positional> Disk for FileDisk<F> {
         self.file.write_blocks_at(blocks, offset_of(n))
     }
 
-    fn forget(&mut self, n: u32)
+    fn forget(&mut self, n: BlockNumber)
         requires { n < (file_state F.state self.old).blocks }
         ensures any { Between (file_state F.state) Idles self.old self.new }
         ensures honest { IfHonest (file_state F.state) (Forgets n) self.old self.new }

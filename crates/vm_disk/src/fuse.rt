@@ -1,20 +1,21 @@
-//! A disk that fails at a call which a test picks.
+//! A disk that fails at a call chosen by a test.
 ghost use Rattle.std.specs.Prelude.{◌≡◌, ◌+◌, ◌-◌, ◌<◌, ◌≤◌, ◌^◌, ◌||◌, true, false, min, if◌then◌else◌, length, IsErr};
 ghost use Rattle.vm_disk.specs.Between.{Between, IfHonest};
 ghost use Rattle.vm_disk.specs.Disk.{block, Counts, Reads, Writes, Idles, Forgets, Syncs, Extends, Enlarges};
 
 use crate::disk::{DeviceFault, Disk, Need};
 use crate::history::History;
+use vm_types::{Block, BlockNumber};
 
-/// Passes so many device calls to the disk below, and then fails the next one and goes on, or fails
-/// each from there. A call that it fails does not reach the disk below, but for a write, which
-/// leaves other bytes in its block. Its device calls take no memory.
+/// Passes a given number of device calls to the disk below, and then either fails the next one and
+/// goes on, or fails every call from there. A failed call does not reach the disk below, except
+/// that a failed write leaves other bytes in its block. Its device calls take no memory.
 #[derive(Drop)]
 pub struct FuseDisk<D: Disk> {
     inner: D,
     passes: u32,
     stops: bool,
-    torn: [u8; 4096],
+    torn: Block,
     calls: u32,
     blown: bool,
     failed: History<()>,
@@ -25,9 +26,9 @@ impl<D: Disk> FuseDisk<D> {
     ghost use Rattle.vm_disk.specs.Past.{noted};
     ghost use Rattle.vm_disk.specs.Fuse.{inner_of, passes_of, is_stop, torn_of, calls_of, is_blown, failed_of, fails_next, IsSet, fuse_state};
 
-    /// Passes k device calls, fails the next, and goes on. The greatest u32 is no k, since the count of
-    /// calls stays there.
-    pub fn once(inner: D, k: u32, torn: [u8; 4096]) -> FuseDisk<D>
+    /// Passes `k` device calls, fails the next, and goes on. `k` must not be the greatest u32,
+    /// because the count of calls stops there.
+    pub fn once(inner: D, k: u32, torn: Block) -> FuseDisk<D>
         requires { k < 2 ^ 32 - 1 }
         ensures set { IsSet inner k false torn result }
         ensures state { fuse_state D.state result ≡ D.state inner }
@@ -35,8 +36,8 @@ impl<D: Disk> FuseDisk<D> {
         FuseDisk::set(inner, k, false, torn)
     }
 
-    /// Passes k device calls, and fails each from there.
-    pub fn stop(inner: D, k: u32, torn: [u8; 4096]) -> FuseDisk<D>
+    /// Passes `k` device calls, and fails every one from there.
+    pub fn stop(inner: D, k: u32, torn: Block) -> FuseDisk<D>
         requires { k < 2 ^ 32 - 1 }
         ensures set { IsSet inner k true torn result }
         ensures state { fuse_state D.state result ≡ D.state inner }
@@ -44,7 +45,7 @@ impl<D: Disk> FuseDisk<D> {
         FuseDisk::set(inner, k, true, torn)
     }
 
-    fn set(inner: D, passes: u32, stops: bool, torn: [u8; 4096]) -> FuseDisk<D>
+    fn set(inner: D, passes: u32, stops: bool, torn: Block) -> FuseDisk<D>
         ensures set { IsSet inner passes stops torn result }
         ensures state { fuse_state D.state result ≡ D.state inner }
     {
@@ -60,7 +61,7 @@ impl<D: Disk> FuseDisk<D> {
         }
     }
 
-    /// How many device calls were made so far. It stays at the greatest u32.
+    /// How many device calls were made so far. The count stops at the greatest u32.
     pub fn calls(&self) -> u32
         ensures { result ≡ calls_of self.now }
     {
@@ -129,7 +130,7 @@ impl<D: Disk> Disk for FuseDisk<D> {
         self.inner.blocks()
     }
 
-    fn read(&mut self, n: u32, into: &mut [u8; 4096]) -> Result<(), DeviceFault>
+    fn read(&mut self, n: BlockNumber, into: &mut Block) -> Result<(), DeviceFault>
         requires { n < (fuse_state D.state self.old).blocks }
         ensures any { Between (fuse_state D.state) (Counts 1 result) self.old self.new }
         ensures honest { IfHonest (fuse_state D.state) (Reads n into.new result) self.old self.new }
@@ -146,7 +147,7 @@ impl<D: Disk> Disk for FuseDisk<D> {
         self.inner.read(n, into)
     }
 
-    fn load(&mut self, n: u32, need: Need) -> Result<(), DeviceFault>
+    fn load(&mut self, n: BlockNumber, need: Need) -> Result<(), DeviceFault>
         requires { n < (fuse_state D.state self.old).blocks }
         ensures any { Between (fuse_state D.state) (Counts 1 result) self.old self.new }
         ensures honest { IfHonest (fuse_state D.state) (Reads n (fuse_hand D.hand self.new) result)
@@ -164,11 +165,11 @@ impl<D: Disk> Disk for FuseDisk<D> {
         self.inner.load(n, need)
     }
 
-    fn at_hand(&self) -> &[u8; 4096] {
+    fn at_hand(&self) -> &Block {
         self.inner.at_hand()
     }
 
-    fn write(&mut self, n: u32, from: &[u8; 4096]) -> Result<(), DeviceFault>
+    fn write(&mut self, n: BlockNumber, from: &Block) -> Result<(), DeviceFault>
         requires { n < (fuse_state D.state self.old).blocks }
         ensures any { Between (fuse_state D.state) (Counts 0 result) self.old self.new }
         ensures honest { IfHonest (fuse_state D.state) (Writes n from.now result) self.old self.new }
@@ -177,7 +178,7 @@ impl<D: Disk> Disk for FuseDisk<D> {
         ensures passed { Passes D.state (Counts 0 result) self.old self.new }
         ensures failed { fails_next self.old ≡ true → IsErr result }
 
-        // Where the write of those bytes fails below too, the block holds any bytes.
+        // If the write of those bytes fails below, too, the block holds any bytes.
         ensures torn { Tears D.state n self.old self.new }
     {
         if self.fails() {
@@ -187,7 +188,7 @@ impl<D: Disk> Disk for FuseDisk<D> {
         self.inner.write(n, from)
     }
 
-    fn forget(&mut self, n: u32)
+    fn forget(&mut self, n: BlockNumber)
         requires { n < (fuse_state D.state self.old).blocks }
         ensures any { Between (fuse_state D.state) Idles self.old self.new }
         ensures honest { IfHonest (fuse_state D.state) (Forgets n) self.old self.new }

@@ -1,10 +1,11 @@
-//! Values that contracts alone see, kept without bytes.
+//! Values that only contracts see, kept without bytes.
 ghost use Rattle.std.specs.Prelude.{◌≡◌, [], ◌∷◌, reverse};
 
 use std::mem;
 use std::snapshot::Snapshot;
+use vm_types::Block;
 
-/// A value that was there, and those before it. It has no bytes.
+/// A value that was noted, and those before it. It has no bytes.
 struct Past<T> {
     last: Snapshot<T>,
     before: Snapshot<Option<Past<T>>>,
@@ -16,8 +17,8 @@ impl<T> Drop for Past<T> {
     }
 }
 
-/// The values that were noted, the newest first, for contracts alone. It has no bytes, so noting one
-/// takes no memory and no time.
+/// The values that were noted, the newest first, for contracts alone. It has no bytes, so noting a
+/// value takes no memory and no time.
 pub struct History<T> {
     newest: Snapshot<Option<Past<T>>>,
 }
@@ -65,7 +66,7 @@ pub fn noted_bytes(bytes: &[u8]) -> History<u8>
 }
 
 /// Blocks, as if each had been noted in turn.
-pub(crate) fn noted_blocks(blocks: &[[u8; 4096]]) -> History<[u8; 4096]>
+pub(crate) fn noted_blocks(blocks: &[Block]) -> History<Block>
     ensures { reverse (noted result) ≡ blocks.now }
 {
     let mut kept = History::new();

@@ -11,13 +11,14 @@ use lru::LruCache;
 use std::alloc::{AllocError, Global};
 use std::mem;
 use std::num::NonZeroUsize;
+use vm_types::{Block, BlockNumber};
 
-/// Blocks with their bytes, in the order of their last use. Where one more would be too many, the
-/// one that was used longest ago goes, and the next block that is new takes its room.
+/// Blocks with their bytes, in the order of their last use. When one more would be too many, the
+/// least recently used one goes, and the next new block takes its frame.
 #[derive(Drop)]
 pub(crate) struct Kept {
     alloc: Global,
-    rooms: LruCache<u32, Room>,
+    rooms: LruCache<BlockNumber, Room>,
     spare: Option<Room>,
     refused: History<()>,
 }
@@ -39,8 +40,8 @@ impl Kept {
         })
     }
 
-    /// Makes a kept block the one used last, and tells whether there is one.
-    pub(crate) fn promote(&mut self, n: u32) -> bool
+    /// Makes a kept block the one used last, and tells whether block n is kept.
+    pub(crate) fn promote(&mut self, n: BlockNumber) -> bool
         ensures answer { result ≡ keeps n (entries_of self.old) }
         ensures found { OnTrue result
             (lookup (nat_eq n) (entries_of self.old) ≡ Some (first_or [] (entries_of self.new))) }
@@ -52,13 +53,13 @@ impl Kept {
     }
 
     /// The bytes of the block used last.
-    pub(crate) fn first(&self) -> Option<&[u8; 4096]>
+    pub(crate) fn first(&self) -> Option<&Block>
         ensures { option_copied result ≡ first_in (entries_of self.now) }
     {
         newest(&self.rooms)
     }
 
-    /// Room for a block that is new. In a full cache it is the spare one.
+    /// A frame for a new block. In a full cache it is the spare one.
     fn empty_room(&mut self) -> Option<Room>
         ensures rooms { self.new.rooms ≡ self.old.rooms }
         ensures settings { Settings self.old self.new }
@@ -69,9 +70,9 @@ impl Kept {
         self.spare.take()
     }
 
-    /// Keeps a block with the room on the desk, which has its bytes, and puts another room there; or
-    /// tells that there is no memory for it.
-    pub(crate) fn keep_room(&mut self, n: u32, desk: &mut Room) -> bool
+    /// Keeps a block in the frame on the desk, which has its bytes, and puts another frame there.
+    /// Tells whether there was memory for it.
+    pub(crate) fn keep_room(&mut self, n: BlockNumber, desk: &mut Room) -> bool
         ensures limit { limit_of self.new ≡ limit_of self.old }
         ensures kept { OnTrue result ((refusals_in self.new ≡ refusals_in self.old)
             × ComesFirst n desk.old.value self.old self.new) }
@@ -97,8 +98,8 @@ impl Kept {
         }
     }
 
-    /// Gives a kept block these bytes, in its place, and tells whether there is one.
-    pub(crate) fn change(&mut self, n: u32, bytes: &[u8; 4096]) -> bool
+    /// Gives a kept block these bytes, in place, and tells whether block n is kept.
+    pub(crate) fn change(&mut self, n: BlockNumber, bytes: &Block) -> bool
         ensures answer { result ≡ keeps n (entries_of self.old) }
         ensures first { OnTrue result (ComesFirst n bytes.now self.old self.new) }
         ensures missed { OnFalse result (entries_of self.new ≡ entries_of self.old) }
@@ -113,8 +114,8 @@ impl Kept {
         }
     }
 
-    /// Room with these bytes, unless memory for it is refused.
-    fn room(&mut self, bytes: &[u8; 4096]) -> Option<Room>
+    /// A frame with these bytes, unless memory for it is refused.
+    fn room(&mut self, bytes: &Block) -> Option<Room>
         ensures bytes { IfSome result (λ room. room.value ≡ bytes.now) }
         ensures rooms { self.new.rooms ≡ self.old.rooms }
         ensures settings { Settings self.old self.new }
@@ -125,7 +126,7 @@ impl Kept {
     }
 
     /// Keeps a block with these bytes, if there is memory for it.
-    pub(crate) fn keep(&mut self, n: u32, bytes: &[u8; 4096])
+    pub(crate) fn keep(&mut self, n: BlockNumber, bytes: &Block)
         ensures limit { limit_of self.new ≡ limit_of self.old }
         ensures kept { ComesFirstOrNot n bytes.now self.old self.new }
     {
@@ -143,8 +144,9 @@ impl Kept {
         }
     }
 
-    /// Gives block n these bytes: in its place where it is kept, or else as a new one, if there is memory.
-    pub(crate) fn set(&mut self, n: u32, bytes: &[u8; 4096])
+    /// Gives block n these bytes: in place if it is kept, and otherwise as a new block, if there is
+    /// memory.
+    pub(crate) fn set(&mut self, n: BlockNumber, bytes: &Block)
         ensures { UsesBlock n bytes.now self.old self.new }
     {
         if !self.change(n, bytes) {
@@ -152,8 +154,8 @@ impl Kept {
         }
     }
 
-    /// Does so with the blocks in a row from block n on, one after another.
-    pub(crate) fn set_run(&mut self, n: u32, blocks: &[[u8; 4096]])
+    /// Does the same with adjacent blocks from block n on, one after another.
+    pub(crate) fn set_run(&mut self, n: BlockNumber, blocks: &[Block])
         requires { n + length blocks.now < 2 ^ 32 }
         ensures { UsesBlocks n blocks.now (length blocks.now) self.old self.new }
     {
@@ -164,8 +166,8 @@ impl Kept {
         }
     }
 
-    /// Keeps block n no longer.
-    pub(crate) fn forget(&mut self, n: u32)
+    /// Stops keeping block n.
+    pub(crate) fn forget(&mut self, n: BlockNumber)
         ensures entries { entries_of self.new ≡ remove_entry (nat_eq n) (entries_of self.old) }
         ensures gone { keeps n (entries_of self.new) ≡ false }
         ensures settings { Settings self.old self.new }
@@ -177,8 +179,8 @@ impl Kept {
         }
     }
 
-    /// Keeps so many blocks in a row no longer, from the first one on.
-    pub(crate) fn forget_run(&mut self, first: u32, count: u32)
+    /// Stops keeping `count` adjacent blocks, from the first one on.
+    pub(crate) fn forget_run(&mut self, first: BlockNumber, count: u32)
         requires { first + count < 2 ^ 32 }
         ensures entries { entries_of self.new ≡ without_run first count (entries_of self.old) }
         ensures gone { (i : ℕ) → i < count → keeps (first + i) (entries_of self.new) ≡ false }

@@ -1,4 +1,4 @@
-//! A disk with blocks over it that wait to be written, or were.
+//! A disk, and over it the blocks that wait to be written or were written.
 ghost use Rattle.std.specs.Prelude.{◌≡◌, ◌<◌, ◌≤◌, ℕ, true, false, None, IfOk, IfErr, OnOk, OnErr, IsOk};
 ghost use Rattle.vm_disk.specs.Between.{Between};
 ghost use Rattle.vm_disk.specs.Disk.{Counts, Reads, Writes, Idles, Forgets, Syncs, Extends, Enlarges};
@@ -10,9 +10,10 @@ use crate::disk::{DeviceFault, Disk, Need};
 use crate::waiting::Waiting;
 use std::alloc::Global;
 use std::num::NonZeroUsize;
+use vm_types::{Block, BlockNumber};
 
-/// Where the block at hand is: the one used last of those that wait, a written one that is kept, or the
-/// one at hand below.
+/// Where the loaded block is: the waiting block used last, a kept written block, or the block
+/// loaded below.
 #[derive(Clone, Copy)]
 enum Hand {
     Waits,
@@ -20,14 +21,14 @@ enum Hand {
     Below,
 }
 
-/// A disk, and blocks that wait to be written to it. Those in a row are copied, and written then. Of the
-/// blocks that were written, the disk below holds what is kept.
+/// A disk, and the blocks that wait to be written to it. Adjacent ones are copied and then written.
+/// For the written blocks that are kept, the disk below holds the same bytes.
 #[derive(Drop)]
 pub(crate) struct Layers<D: Disk> {
     pub(crate) inner: D,
     waiting: Waiting,
     at: Hand,
-    run: Vec<[u8; 4096]>,
+    run: Vec<Block>,
     ghost inside: { (n : ℕ) → waits waiting n ≡ true → n < (D.state inner).blocks },
     ghost right: { (D.state inner).honest ≡ true
         → AreOf (D.state inner).now.contents (written_in waiting) },
@@ -36,7 +37,7 @@ pub(crate) struct Layers<D: Disk> {
 impl<D: Disk> Layers<D> {
     ghost use Rattle.vm_disk.specs.Layers.{lower_of, waiting_of, layers_state, layers_hand, AnswersHere, FewerWait, IfHonestBelow, IsApart, KeepsLimit, Sends, WaitNoMore};
 
-    /// No block waits yet. Where memory is refused, the disk comes back.
+    /// No block waits yet. If memory is refused, the disk comes back.
     pub(crate) fn new(alloc: Global, inner: D, capacity: NonZeroUsize) -> Result<Layers<D>, D>
         ensures ok { IfOk result (λ layers. lower_of layers ≡ inner) }
         ensures empty { IfOk result (λ layers. (n : ℕ) → bytes_for (waiting_of layers) n ≡ None) }
@@ -56,7 +57,7 @@ impl<D: Disk> Layers<D> {
     }
 
     /// Writes block n out, if it waits.
-    fn send_alone(&mut self, n: u32) -> Result<(), DeviceFault>
+    fn send_alone(&mut self, n: BlockNumber) -> Result<(), DeviceFault>
         ensures any { Between (layers_state D.state) (Counts 0 result) self.old self.new }
         ensures honest { (D.state (lower_of self.new)).honest ≡ true → Sends D.state self.old self.new }
         ensures fewer { OnOk result (FewerWait n self.old self.new) }
@@ -78,9 +79,9 @@ impl<D: Disk> Layers<D> {
         }
     }
 
-    /// Writes block n out, if it waits, together with those that wait around it. One that waits alone is
-    /// not copied for that.
-    fn send(&mut self, n: u32) -> Result<(), DeviceFault>
+    /// Writes block n out, if it waits, together with the waiting blocks around it. A block that
+    /// waits alone is not copied for that.
+    fn send(&mut self, n: BlockNumber) -> Result<(), DeviceFault>
         ensures any { Between (layers_state D.state) (Counts 0 result) self.old self.new }
         ensures honest { (D.state (lower_of self.new)).honest ≡ true → Sends D.state self.old self.new }
         ensures fewer { OnOk result (FewerWait n self.old self.new) }
@@ -108,8 +109,8 @@ impl<D: Disk> Layers<D> {
         }
     }
 
-    /// Writes the block out that was not used for the longest time, with its neighbours, unless one more
-    /// may wait without that.
+    /// Writes out the least recently used waiting block with its neighbours, unless one more block
+    /// may wait anyway.
     fn make_place(&mut self) -> Result<(), DeviceFault>
         ensures any { Between (layers_state D.state) (Counts 0 result) self.old self.new }
         ensures honest { (D.state (lower_of self.new)).honest ≡ true → Sends D.state self.old self.new }
@@ -125,7 +126,7 @@ impl<D: Disk> Layers<D> {
         }
     }
 
-    /// Writes out each block that waits.
+    /// Writes out every waiting block.
     fn send_all(&mut self) -> Result<(), DeviceFault>
         ensures any { Between (layers_state D.state) (Counts 0 result) self.old self.new }
         ensures honest { (D.state (lower_of self.new)).honest ≡ true → Sends D.state self.old self.new }
@@ -138,8 +139,8 @@ impl<D: Disk> Layers<D> {
         Ok(())
     }
 
-    /// Reads block n, from those that wait or are kept, or else from the disk below.
-    pub(crate) fn read(&mut self, n: u32, into: &mut [u8; 4096]) -> Result<(), DeviceFault>
+    /// Reads block n from the waiting or kept blocks, or else from the disk below.
+    pub(crate) fn read(&mut self, n: BlockNumber, into: &mut Block) -> Result<(), DeviceFault>
         requires { n < (layers_state D.state self.old).blocks }
         ensures any { Between (layers_state D.state) (Counts 0 result) self.old self.new }
         ensures honest { IfHonestBelow D.state (Reads n into.new result) self.old self.new }
@@ -157,8 +158,8 @@ impl<D: Disk> Layers<D> {
         }
     }
 
-    /// Gets block n to hand, from those that wait or are kept, or else from the disk below.
-    pub(crate) fn load(&mut self, n: u32, need: Need) -> Result<(), DeviceFault>
+    /// Loads block n from the waiting or kept blocks, or else from the disk below.
+    pub(crate) fn load(&mut self, n: BlockNumber, need: Need) -> Result<(), DeviceFault>
         requires { n < (layers_state D.state self.old).blocks }
         ensures any { Between (layers_state D.state) (Counts 0 result) self.old self.new }
         ensures honest { IfHonestBelow D.state (Reads n (layers_hand D.hand self.new) result)
@@ -184,8 +185,8 @@ impl<D: Disk> Layers<D> {
         }
     }
 
-    /// The block at hand.
-    pub(crate) fn at_hand(&self) -> &[u8; 4096]
+    /// The loaded block.
+    pub(crate) fn at_hand(&self) -> &Block
         ensures { result.now ≡ layers_hand D.hand self.now }
     {
         let used_last = match self.at {
@@ -199,10 +200,10 @@ impl<D: Disk> Layers<D> {
         }
     }
 
-    /// Has block n wait with these bytes, in its place where it waits already. Where too many would wait,
-    /// the one not used for the longest time is written out for it, and where memory is refused, it is
-    /// itself.
-    pub(crate) fn write(&mut self, n: u32, from: &[u8; 4096]) -> Result<(), DeviceFault>
+    /// Lets block n wait with these bytes, in place if it already waits. If too many would wait,
+    /// the least recently used one is written out first. If memory is refused, block n itself is
+    /// written.
+    pub(crate) fn write(&mut self, n: BlockNumber, from: &Block) -> Result<(), DeviceFault>
         requires { n < (layers_state D.state self.old).blocks }
         ensures any { Between (layers_state D.state) (Counts 0 result) self.old self.new }
         ensures honest { IfHonestBelow D.state (Writes n from.now result) self.old self.new }
@@ -218,7 +219,7 @@ impl<D: Disk> Layers<D> {
         }
         if let Err(fault) = self.make_place() {
             self.waiting.forget_all_written();
-            // So that this block is dirty, too.
+            // This makes block n dirty, too.
             let _ = self.inner.write(n, from);
             return Err(fault);
         }
@@ -229,8 +230,8 @@ impl<D: Disk> Layers<D> {
         self.inner.write(n, from)
     }
 
-    /// Has block n wait no longer, nor be kept, and forgets it below.
-    pub(crate) fn forget(&mut self, n: u32)
+    /// Drops block n from the waiting and the written blocks, and forgets it below.
+    pub(crate) fn forget(&mut self, n: BlockNumber)
         requires { n < (layers_state D.state self.old).blocks }
         ensures any { Between (layers_state D.state) Idles self.old self.new }
         ensures honest { IfHonestBelow D.state (Forgets n) self.old self.new }
@@ -243,7 +244,7 @@ impl<D: Disk> Layers<D> {
         self.inner.forget(n);
     }
 
-    /// Writes out each block that waits, and syncs the disk below.
+    /// Writes out every waiting block, and syncs the disk below.
     pub(crate) fn sync(&mut self) -> Result<(), DeviceFault>
         ensures any { Between (layers_state D.state) (Counts 0 result) self.old self.new }
         ensures honest { IfHonestBelow D.state (Syncs result) self.old self.new }
@@ -255,7 +256,7 @@ impl<D: Disk> Layers<D> {
         self.inner.sync()
     }
 
-    /// Gives the disk below more blocks.
+    /// Lengthens the disk below.
     pub(crate) fn extend(&mut self, blocks: u32) -> Result<(), DeviceFault>
         requires { (layers_state D.state self.old).blocks ≤ blocks }
         ensures any { Between (layers_state D.state) (Extends blocks result) self.old self.new }

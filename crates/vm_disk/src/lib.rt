@@ -1,11 +1,11 @@
 //! Disks of blocks of 4,096 bytes: the trait that the layers above are written against, what it
-//! promises while the device is honest and when it is not, and disks that keep the promise: in memory,
-//! over a file, one that fails where a test asks it to, one that keeps the blocks of another which
-//! were used last, and one that writes the blocks of another late.
+//! promises while the device is honest and when it is not, and disks that keep the promise: one in
+//! memory, one over a file, one that fails where a test asks it to, one that caches the most
+//! recently used blocks of another, and one that delays the writes to another.
 //!
-//! It stands on `vm_types`, of which it has the size of a block, and on `lru` for the order of the
-//! blocks that are kept, wait or were written. Its one promise: what an honest disk holds at each
-//! moment is known to contracts, and with it everything that a crash at that moment may leave.
+//! It stands on `vm_types`, which gives it the block size, and on `lru` for the order of the blocks
+//! that are kept, wait or were written. Its one promise: contracts know what an honest disk holds
+//! at each moment, and with it everything that a crash at that moment may leave.
 #![tactic(auto)]
 
 mod cached;

@@ -1,22 +1,22 @@
 //! A disk in memory, for tests.
 ghost use Rattle.std.specs.Prelude.{◌≡◌, ◌<◌, ◌≤◌, ◌&&◌, ◌==◌, ◌^◌, ◌+◌, ◌-◌, ℕ, true, false, if◌then◌else◌, [], ◌++◌, length, take, replicate, slice_index_or, vec_capacity, IfOk, OnOk, OnErr, IsOk, IsErr};
-ghost use Rattle.vm_disk.specs.Filling.{filled_up};
+ghost use Rattle.vm_disk.specs.Fill.{filled_up};
 ghost use Rattle.vm_disk.specs.Between.{Between, IfHonest};
 ghost use Rattle.vm_disk.specs.Disk.{block, IsClean, MayLeave, Counts, Reads, Writes, Idles, Forgets, Syncs, Extends, Enlarges};
 
 use crate::disk::{DeviceFault, Disk, Need};
 use crate::history::History;
 use std::alloc::{AllocError, Global};
-use vm_types::BLOCK_SIZE;
+use vm_types::{BLOCK_SIZE, Block, BlockNumber};
 
-/// What each byte of a block is once it was forgotten.
+/// The value of every byte of a block that was forgotten.
 const FORGOTTEN: u8 = 0xa5;
 
-/// Blocks, which of them are not synced, how many there were at the last sync, and for how many there
-/// is room.
+/// Blocks, which of them are not synced, how many there were at the last sync, and how many there
+/// is room for.
 #[derive(Drop)]
 struct Platter {
-    blocks: Vec<[u8; 4096]>,
+    blocks: Vec<Block>,
     dirty: Vec<bool>,
     sure: u32,
     room: u32,
@@ -31,8 +31,9 @@ struct Platter {
     ghost room_of_marks: { room ≤ vec_capacity dirty },
 }
 
-/// A disk in memory, always honest, which fails only where it is to get longer than its room. Its device
-/// calls take no memory. At hand is the block that was got last, as it is.
+/// A disk in memory. It is always honest, and fails only if it is to grow beyond its room. Its
+/// device calls take no memory. The loaded block is the one that was loaded last, as it is on the
+/// disk.
 #[derive(Drop)]
 pub struct MemDisk {
     platter: Platter,
@@ -42,7 +43,7 @@ pub struct MemDisk {
     failed: History<()>,
 }
 
-/// Adds an element until there are so many, in room that is there.
+/// Appends an element until there are `count`, in memory that is already allocated.
 fn fill_up<T: Copy>(items: &mut Vec<T>, item: T, count: usize)
     requires { count ≤ vec_capacity items.old }
     ensures items { items.new.items ≡ filled_up count item items.old.items }
@@ -56,7 +57,7 @@ fn fill_up<T: Copy>(items: &mut Vec<T>, item: T, count: usize)
 impl Platter {
     ghost use Rattle.vm_disk.specs.Memory.{medium_of, IsRefilled, IsRefilledAt};
 
-    /// Room for so many blocks, and none of them.
+    /// Memory for `room` blocks, with no block yet.
     fn with_room(alloc: Global, room: u32) -> Result<Platter, AllocError>
         ensures blocks { IfOk result (λ platter. platter.blocks.items ≡ []) }
         ensures room { IfOk result (λ platter. platter.room ≡ room) }
@@ -69,7 +70,7 @@ impl Platter {
         })
     }
 
-    /// Adds zero blocks, which are dirty, until there are so many.
+    /// Appends zero blocks, which are dirty, until there are `blocks`.
     fn lengthen(&mut self, blocks: u32)
         requires { blocks ≤ self.old.room }
         ensures blocks { self.new.blocks.items
@@ -84,7 +85,7 @@ impl Platter {
         fill_up(&mut self.dirty, true, count);
     }
 
-    /// Takes the last blocks away, down to so many.
+    /// Removes the last blocks, down to `blocks`.
     fn shorten(&mut self, blocks: u32)
         requires sure { self.old.sure ≤ blocks }
         requires fewer { blocks ≤ length self.old.blocks.items }
@@ -97,14 +98,14 @@ impl Platter {
         self.dirty.truncate(blocks as usize);
     }
 
-    fn is_dirty(&self, n: u32) -> bool
+    fn is_dirty(&self, n: BlockNumber) -> bool
         ensures { result ≡ (medium_of self.now).dirty n }
     {
         let at = n as usize;
         at < self.dirty.len() && self.dirty[at]
     }
 
-    fn refill_block(&mut self, n: u32, bytes: &[u8; 4096])
+    fn refill_block(&mut self, n: BlockNumber, bytes: &Block)
         ensures dirty { self.new.dirty ≡ self.old.dirty }
         ensures sure { self.new.sure ≡ self.old.sure }
         ensures room { self.new.room ≡ self.old.room }
@@ -116,7 +117,7 @@ impl Platter {
         }
     }
 
-    /// All blocks are synced.
+    /// Makes all blocks synced.
     fn settle(&mut self)
         ensures blocks { self.new.blocks ≡ self.old.blocks }
         ensures clean { IsClean (medium_of self.new) }
@@ -127,8 +128,8 @@ impl Platter {
         self.dirty.fill(false);
     }
 
-    /// Each dirty block takes the bytes of its last entry.
-    fn refill(&mut self, fill: &[(u32, [u8; 4096])])
+    /// Gives each dirty block the bytes of its last entry.
+    fn refill(&mut self, fill: &[(u32, Block)])
         ensures dirty { self.new.dirty ≡ self.old.dirty }
         ensures sure { self.new.sure ≡ self.old.sure }
         ensures room { self.new.room ≡ self.old.room }
@@ -144,7 +145,7 @@ impl Platter {
 impl MemDisk {
     ghost use Rattle.vm_disk.specs.Memory.{memory_state, room_of, IsBlank, IsRefilled, IsRefilledBelow};
 
-    /// A disk of zero bytes, all of it synced. It has no more room than its blocks take.
+    /// A disk of zero bytes, all of it synced. It has no room for more blocks.
     pub fn new(alloc: Global, blocks: u32) -> Result<MemDisk, AllocError>
         ensures blank { IfOk result (λ disk. IsBlank blocks (memory_state disk)) }
         ensures room { IfOk result (λ disk. room_of disk ≡ blocks) }
@@ -152,7 +153,7 @@ impl MemDisk {
         MemDisk::with_room(alloc, blocks, blocks)
     }
 
-    /// A disk of zero bytes, all of it synced, with room for so many blocks.
+    /// A disk of zero bytes, all of it synced, with room for `room` blocks.
     pub fn with_room(alloc: Global, blocks: u32, room: u32) -> Result<MemDisk, AllocError>
         requires { blocks ≤ room }
         ensures blank { IfOk result (λ disk. IsBlank blocks (memory_state disk)) }
@@ -170,23 +171,24 @@ impl MemDisk {
         })
     }
 
-    /// How many blocks a crash surely leaves.
+    /// How many blocks a crash is sure to leave.
     pub fn sure(&self) -> u32
         ensures { result ≡ (memory_state self.now).now.sure }
     {
         self.platter.sure
     }
 
-    /// Whether a crash may lose what block n holds. A number past the end names no dirty block.
-    pub fn is_dirty(&self, n: u32) -> bool
+    /// Whether a crash may lose the contents of block n. A number past the end names no dirty
+    /// block.
+    pub fn is_dirty(&self, n: BlockNumber) -> bool
         ensures { result ≡ (memory_state self.now).now.dirty n }
     {
         self.platter.is_dirty(n)
     }
 
-    /// The disk after a crash. A dirty block takes the bytes of its last entry, or keeps its own.
-    /// Entries for other blocks, and for numbers past the end, are ignored.
-    pub fn crash(self, fill: &[(u32, [u8; 4096])]) -> MemDisk
+    /// The disk after a crash. A dirty block gets the bytes of its last entry, or else keeps its
+    /// own. Entries for other blocks and for numbers past the end are ignored.
+    pub fn crash(self, fill: &[(u32, Block)]) -> MemDisk
         ensures blocks { (memory_state result).blocks ≡ (memory_state self).blocks }
         ensures clean { IsClean (memory_state result).now }
         ensures filled { IsRefilled fill.now (memory_state self).now (memory_state result).now }
@@ -214,9 +216,10 @@ impl MemDisk {
         }
     }
 
-    /// The disk after a crash that leaves so many blocks, at least those that are sure. Of these, a dirty
-    /// block takes the bytes of its last entry, or keeps its own. Other entries are ignored.
-    pub fn crash_short(mut self, fill: &[(u32, [u8; 4096])], blocks: u32) -> MemDisk
+    /// The disk after a crash that leaves `blocks` blocks, at least those that are sure. Of these,
+    /// a dirty block gets the bytes of its last entry, or else keeps its own. Other entries are
+    /// ignored.
+    pub fn crash_short(mut self, fill: &[(u32, Block)], blocks: u32) -> MemDisk
         requires sure { (memory_state self).now.sure ≤ blocks }
         requires fewer { blocks ≤ (memory_state self).blocks }
         ensures blocks { (memory_state result).blocks ≡ blocks }
@@ -250,7 +253,7 @@ impl Disk for MemDisk {
         self.platter.blocks.len() as u32
     }
 
-    fn read(&mut self, n: u32, into: &mut [u8; 4096]) -> Result<(), DeviceFault>
+    fn read(&mut self, n: BlockNumber, into: &mut Block) -> Result<(), DeviceFault>
         requires { n < (memory_state self.old).blocks }
         ensures any { Between memory_state (Counts 1 result) self.old self.new }
         ensures honest { IfHonest memory_state (Reads n into.new result) self.old self.new }
@@ -264,7 +267,7 @@ impl Disk for MemDisk {
         Ok(())
     }
 
-    fn load(&mut self, n: u32, _: Need) -> Result<(), DeviceFault>
+    fn load(&mut self, n: BlockNumber, _: Need) -> Result<(), DeviceFault>
         requires { n < (memory_state self.old).blocks }
         ensures any { Between memory_state (Counts 1 result) self.old self.new }
         ensures honest { IfHonest memory_state (Reads n (memory_hand self.new) result) self.old self.new }
@@ -278,14 +281,14 @@ impl Disk for MemDisk {
         Ok(())
     }
 
-    fn at_hand(&self) -> &[u8; 4096] {
+    fn at_hand(&self) -> &Block {
         match self.platter.blocks.get(self.at as usize) {
             Some(block) => block,
             None => &[0; 4096],
         }
     }
 
-    fn write(&mut self, n: u32, from: &[u8; 4096]) -> Result<(), DeviceFault>
+    fn write(&mut self, n: BlockNumber, from: &Block) -> Result<(), DeviceFault>
         requires { n < (memory_state self.old).blocks }
         ensures any { Between memory_state (Counts 0 result) self.old self.new }
         ensures honest { IfHonest memory_state (Writes n from.now result) self.old self.new }
@@ -299,12 +302,12 @@ impl Disk for MemDisk {
         Ok(())
     }
 
-    fn forget(&mut self, n: u32)
+    fn forget(&mut self, n: BlockNumber)
         requires { n < (memory_state self.old).blocks }
         ensures any { Between memory_state Idles self.old self.new }
         ensures honest { IfHonest memory_state (Forgets n) self.old self.new }
 
-        // Other bytes stand there then, so that a test finds who reads them.
+        // The block then has other bytes, so that a test finds whoever reads them.
         ensures other { block (memory_state self.new).now.contents n ≡ replicate BLOCK_SIZE FORGOTTEN }
         ensures room { room_of self.new ≡ room_of self.old }
     {
@@ -335,7 +338,7 @@ impl Disk for MemDisk {
         ensures within { blocks ≤ room_of self.old → IsOk result }
         ensures zero { OnOk result (Between memory_state (GetsZeros blocks) self.old self.new) }
 
-        // Beyond it, it fails, and changes nothing but the count of failures.
+        // Beyond it, it fails, and changes nothing except the count of failures.
         ensures beyond { room_of self.old < blocks → IsErr result }
         ensures refused { OnErr result (Between memory_state JustFails self.old self.new) }
         ensures room { room_of self.new ≡ room_of self.old }

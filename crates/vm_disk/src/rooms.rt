@@ -1,4 +1,4 @@
-//! Rooms for the bytes of blocks, by the numbers of these.
+//! Frames for the bytes of blocks, by block number.
 ghost use Rattle.std.specs.Prelude.{◌≡◌, ℕ, nat_eq};
 ghost use Rattle.std.specs.Bool.{OnTrue};
 ghost use Rattle.std.specs.Map.{lookup};
@@ -6,12 +6,13 @@ ghost use Rattle.std.specs.Option.{option_copied};
 ghost use Rattle.vm_disk.specs.Kept.{first_in, keeps, rooms_in};
 
 use lru::LruCache;
+use vm_types::{Block, BlockNumber};
 
-/// Room for the bytes of one block.
-pub(crate) type Room = Box<[u8; 4096]>;
+/// A frame: room for the bytes of one block.
+pub(crate) type Room = Box<Block>;
 
-/// The bytes of block n, if it is one of these.
-pub(crate) fn find(rooms: &LruCache<u32, Room>, n: u32) -> Option<&[u8; 4096]>
+/// The bytes of block n, if it is among these.
+pub(crate) fn find(rooms: &LruCache<BlockNumber, Room>, n: BlockNumber) -> Option<&Block>
     ensures { option_copied result ≡ lookup (nat_eq n) (rooms_in rooms.now) }
 {
     if rooms.is_empty() {
@@ -23,8 +24,8 @@ pub(crate) fn find(rooms: &LruCache<u32, Room>, n: u32) -> Option<&[u8; 4096]>
     }
 }
 
-/// Makes block n the one used last of these, and tells whether it is one of them.
-pub(crate) fn promote(rooms: &mut LruCache<u32, Room>, n: u32) -> bool
+/// Makes block n the most recently used of these, and tells whether it is among them.
+pub(crate) fn promote(rooms: &mut LruCache<BlockNumber, Room>, n: BlockNumber) -> bool
     ensures answer { result ≡ keeps n (rooms_in rooms.old) }
     ensures first { OnTrue result
         (first_in (rooms_in rooms.new) ≡ lookup (nat_eq n) (rooms_in rooms.old)) }
@@ -37,16 +38,16 @@ pub(crate) fn promote(rooms: &mut LruCache<u32, Room>, n: u32) -> bool
     rooms.promote(&n)
 }
 
-/// The bytes of the one used last of these.
-pub(crate) fn newest(rooms: &LruCache<u32, Room>) -> Option<&[u8; 4096]>
+/// The bytes of the most recently used of these.
+pub(crate) fn newest(rooms: &LruCache<BlockNumber, Room>) -> Option<&Block>
     ensures { option_copied result ≡ first_in (rooms_in rooms.now) }
 {
     let (_, room) = rooms.peek_mru()?;
     Some(room)
 }
 
-/// Gives a room these bytes.
-pub(crate) fn fill(room: &mut Room, bytes: &[u8; 4096])
+/// Gives a frame these bytes.
+pub(crate) fn fill(room: &mut Room, bytes: &Block)
     ensures { room.new.value ≡ bytes.now }
 {
     **room = *bytes;

@@ -5,7 +5,7 @@ ghost use Rattle.std.specs.Fs.{asks_write};
 ghost use Rattle.vm_disk.specs.Past.{noted};
 ghost use Rattle.vm_disk.specs.Positional.{joined, zeros, CountsFailures, ReadsAt, WritesIn, SyncsFile, Measures};
 ghost use Rattle.vm_disk.specs.Between.{Between};
-ghost use Rattle.vm_disk.specs.Syncing.{counts_as_synced};
+ghost use Rattle.vm_disk.specs.Syncs.{counts_as_synced};
 
 use crate::disk::DeviceFault;
 use crate::history::{History, noted_blocks, noted_bytes};
@@ -17,7 +17,7 @@ use std::os::fd::{AsRawFd, RawFd};
 use std::os::unix::fs::{FileExt, FileTypeExt, MetadataExt};
 use std::rt::Files;
 use std::snapshot::Snapshot;
-use vm_types::BLOCK_SIZE;
+use vm_types::{BLOCK_SIZE, Block};
 
 /// The standard input, output and error have the descriptors 0, 1 and 2.
 pub const LAST_STANDARD: RawFd = 2;
@@ -31,14 +31,14 @@ const OUTPUT: &str = "/proc/self/fd/1";
 /// What the system answers to a sync of a file that has nothing to sync.
 const EINVAL: i32 = 22;
 
-/// What no program can know of the files of a system, said for contracts alone. It has no functions:
-/// code that is written for any world is proved for each.
+/// What no program can know about the files of a system, stated for contracts alone. It has no
+/// functions: code that is written for any world is proved for every one.
 pub trait World {
-    /// What the file of a name held when so many files had been opened; None where there was none.
+    /// What the file of a name held when this many files had been opened. None if there was none.
     ghost held: { ℕ → List ℕ → Option (List ℕ) };
 
-    /// What a write that failed left in the file of a name, by how many files had been opened before it
-    /// was, and how many calls of it came before that write.
+    /// What a failed write left in the file of a name, by how many files had been opened before it
+    /// was, and how many calls on it came before that write.
     ghost torn: { ℕ → List ℕ → ℕ → List ℕ };
 }
 
@@ -48,16 +48,15 @@ impl World for Brand {
     ghost torn = { λ opened name calls. [] };
 }
 
-/// A call that was made of a file. Torn is a write that failed, Withheld one that was not made,
-/// Synced a sync with what the system answered to it, and Failed any other call that failed, which
-/// did nothing.
+/// A call that was made on a file. Torn is a failed write, Withheld a write that was not made,
+/// Synced a sync with the system's answer, and Failed any other failed call, which did nothing.
 #[derive(Drop)]
 enum Call {
     Created,
     Measured(u64),
-    Read(u64, Snapshot<[u8; 4096]>),
-    Written(u64, Snapshot<[u8; 4096]>),
-    Blocks(u64, History<[u8; 4096]>),
+    Read(u64, Snapshot<Block>),
+    Written(u64, Snapshot<Block>),
+    Blocks(u64, History<Block>),
     Zeroed(u64, usize),
     Torn(u64, usize),
     Withheld(u64, usize),
@@ -65,8 +64,8 @@ enum Call {
     Failed,
 }
 
-/// Whether a plain file or a block device has this name: no folder, and no pipe or other device,
-/// whose opening alone may wait for others, or do something.
+/// Whether this is the name of a plain file or a block device: not a folder, and not a pipe or
+/// another device, where opening alone may wait for others or have an effect.
 fn has_blocks(rt: &impl Files, path: &str) -> bool {
     match fs::metadata(rt, path) {
         Ok(metadata) => is_plain_or_device(&metadata),
@@ -87,7 +86,8 @@ fn is_open_on(rt: &impl Files, stream: &str, metadata: &Metadata) -> bool {
     }
 }
 
-/// How many bytes a file has. Of a block device the system tells it by the place of its end alone.
+/// The length of a file in bytes. For a block device, the system gives it only as the position of
+/// the end.
 fn length_of(mut file: &File) -> io::Result<u64> {
     let metadata = file.metadata()?;
     if metadata.is_file() {
@@ -96,9 +96,8 @@ fn length_of(mut file: &File) -> io::Result<u64> {
     file.seek(SeekFrom::End(0))
 }
 
-/// Whether all writes last after a sync that was answered so. Some file systems that cannot be
-/// written answer that there is nothing to sync; that counts for a file that was opened to be read
-/// alone.
+/// Whether all writes are durable after a sync with this answer. Some file systems that cannot be
+/// written answer that there is nothing to sync. That counts for a file that was opened read only.
 fn is_synced(reads_alone: bool, answer: &io::Result<()>) -> bool
     ensures { result ≡ counts_as_synced reads_alone answer.now }
 {
@@ -108,16 +107,16 @@ fn is_synced(reads_alone: bool, answer: &io::Result<()>) -> bool
     }
 }
 
-/// A file of the system. It holds what the world says that it held when it was opened, with the writes
-/// so far over that, and it is honest as long as each read gives these bytes, and its length is told so.
-/// What contracts know of it takes no memory and no time.
+/// A file of the system. It holds what the world says that it held when it was opened, with the
+/// writes so far on top. It is honest as long as each read gives these bytes, and its length
+/// agrees. What contracts know of it takes no memory and no time.
 ///
-/// Assumed, and in no contract: which bytes a sync makes last, and that no one else writes the file
-/// between two openings.
+/// Assumed, and in no contract: which bytes a sync makes durable, and that no one else writes the
+/// file between two openings.
 ///
-/// Its descriptor is none of the standard ones, and the standard output is not open on it, nor the
-/// standard input on one that may be written, where the system shows that: what is written and read
-/// there never is the file. One that was opened to be read alone is never written.
+/// Its descriptor is none of the standard ones. As far as the system shows, the standard output is
+/// not open on it, nor is the standard input if it may be written: what is written and read there
+/// never is the file. A file that was opened read only is never written.
 #[derive(Drop)]
 pub struct SystemFile<W> {
     file: File,
@@ -132,9 +131,9 @@ pub struct SystemFile<W> {
 impl<W: World> SystemFile<W> {
     ghost use Rattle.vm_disk.specs.System.{system_state, fresh, name_of, opening_of, is_read_alone, IsAfter, IsFresh};
 
-    /// Opens a plain file or a block device that is there, to be read and written, after so many others.
-    /// None where it cannot be opened, is neither of these, has a standard descriptor, or is what the
-    /// standard input or output is open on.
+    /// Opens an existing plain file or block device for reading and writing, after the `opened`
+    /// others. None if it cannot be opened, is neither of these, has a standard descriptor, or is
+    /// what the standard input or output is open on.
     pub fn open(
         rt: &impl Files<File = File>,
         path: &str,
@@ -153,8 +152,8 @@ impl<W: World> SystemFile<W> {
         SystemFile::opened(rt, &how, path, opened, History::new())
     }
 
-    /// Opens a plain file or a block device that is there, to be read alone, after so many others: each
-    /// write fails, and none is made. None where it cannot be opened, is neither of these, has a
+    /// Opens an existing plain file or block device read only, after the `opened` others: each
+    /// write fails, and none is made. None if it cannot be opened, is neither of these, has a
     /// standard descriptor, or is what the standard output is open on.
     pub fn open_to_read(
         rt: &impl Files<File = File>,
@@ -174,8 +173,8 @@ impl<W: World> SystemFile<W> {
         SystemFile::opened(rt, &how, path, opened, History::new())
     }
 
-    /// Makes a file that is not there yet, with no bytes, to be read and written, after so many others
-    /// were opened. None where it cannot be made, or has a standard descriptor.
+    /// Creates an empty file that does not exist yet, for reading and writing, after the `opened`
+    /// others. None if it cannot be created, or has a standard descriptor.
     pub fn create(
         rt: &impl Files<File = File>,
         path: &str,
@@ -193,10 +192,10 @@ impl<W: World> SystemFile<W> {
         SystemFile::opened(rt, &how, path, opened, calls)
     }
 
-    /// Opens a file in this way, after so many others, of which these calls are known. It is to be
-    /// read alone where the way asks for no writes. None where it cannot be opened, is neither a
-    /// plain file nor a block device after all, has a standard descriptor, or is what the standard output
-    /// is open on, or, where it may be written, the standard input.
+    /// Opens a file in this way, after the `opened` others. These calls on it are known. It is read
+    /// only if the way asks for no writes. None if it cannot be opened, is neither a plain file nor
+    /// a block device after all, has a standard descriptor, is what the standard output is open on,
+    /// or, if it may be written, what the standard input is open on.
     fn opened(
         rt: &impl Files<File = File>,
         how: &OpenOptions,
@@ -250,7 +249,7 @@ impl<W: World> Positional for SystemFile<W> {
         Ok(count)
     }
 
-    fn read_at(&mut self, into: &mut [u8; 4096], offset: u64) -> Result<(), DeviceFault>
+    fn read_at(&mut self, into: &mut Block, offset: u64) -> Result<(), DeviceFault>
         ensures any { Between (system_state W.held W.torn) (CountsFailures result) self.old self.new }
         ensures honest { IfHonestIn W.held W.torn (ReadsAt offset into.new result) self.old self.new }
 
@@ -266,7 +265,7 @@ impl<W: World> Positional for SystemFile<W> {
         Ok(())
     }
 
-    fn write_at(&mut self, from: &[u8; 4096], offset: u64) -> Result<(), DeviceFault>
+    fn write_at(&mut self, from: &Block, offset: u64) -> Result<(), DeviceFault>
         ensures any { Between (system_state W.held W.torn) (CountsFailures result) self.old self.new }
         ensures honest { IfHonestIn W.held W.torn (WritesIn offset from.now result) self.old self.new }
 
@@ -286,7 +285,7 @@ impl<W: World> Positional for SystemFile<W> {
         Ok(())
     }
 
-    fn write_blocks_at(&mut self, from: &[[u8; 4096]], offset: u64) -> Result<(), DeviceFault>
+    fn write_blocks_at(&mut self, from: &[Block], offset: u64) -> Result<(), DeviceFault>
         ensures any { Between (system_state W.held W.torn) (CountsFailures result) self.old self.new }
         ensures honest { IfHonestIn W.held W.torn
             (WritesIn offset (joined from.now) result) self.old self.new }

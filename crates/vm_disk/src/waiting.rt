@@ -1,4 +1,5 @@
-//! The blocks that wait to be written, and those that were, as long as their room is not needed.
+//! The blocks that wait to be written, and those that were written, as long as their frames are not
+//! needed.
 ghost use Rattle.std.specs.Prelude.{◌≡◌, ◌+◌, ◌<◌, ◌≤◌, ◌||◌, ◌&&◌, ℕ, None, Some, true, false, if◌then◌else◌, [], length, slice_index_or, nat_lt, nat_le, nat_eq, is_some, option_map, IfOk, IfSome, IfNone};
 ghost use Rattle.std.specs.Bool.{OnTrue, OnFalse};
 ghost use Rattle.std.specs.Map.{update};
@@ -10,25 +11,26 @@ use crate::rooms::{Room, fill, find, newest, promote};
 use lru::LruCache;
 use std::alloc::{AllocError, Global};
 use std::num::NonZeroUsize;
+use vm_types::{Block, BlockNumber};
 
-/// How many blocks in a row are written with one call at most.
+/// The maximum number of adjacent blocks that one call writes.
 const AT_ONCE: u32 = 64;
 
-/// Blocks with their bytes, in the order in which they were written or got to hand last. The room of
-/// one that waits no longer is used again: where nothing is spare, that of the block which was written
-/// out first. Memory is taken where there is none.
+/// Blocks with their bytes, in the order in which they were last written or loaded. The frame of a
+/// block that no longer waits is used again. If none is spare, it is the frame of the block that
+/// was written out first. Memory is taken if there is none.
 #[derive(Drop)]
 pub(crate) struct Waiting {
     alloc: Global,
-    rooms: LruCache<u32, Room>,
-    written: LruCache<u32, Room>,
+    rooms: LruCache<BlockNumber, Room>,
+    written: LruCache<BlockNumber, Room>,
     spare: Vec<Room>,
 }
 
 impl Waiting {
     ghost use Rattle.vm_disk.specs.Waiting.{bytes_for, known_for, waits, written_for, written_in, count_of, limit_of, ChangesOne, Drops, Gains, IsRun, KeepsNoMore, LosesRun, Settles};
 
-    /// No blocks yet. Takes memory for the order of so many.
+    /// No blocks yet. Takes memory for the order of `capacity` blocks.
     pub(crate) fn new(alloc: Global, capacity: NonZeroUsize) -> Result<Waiting, AllocError>
         ensures empty { IfOk result (λ waiting. (n : ℕ) → bytes_for waiting n ≡ None) }
         ensures limit { IfOk result (λ waiting. limit_of waiting ≡ non_zero_usize_get capacity) }
@@ -43,21 +45,21 @@ impl Waiting {
     }
 
     /// The bytes that wait for block n.
-    pub(crate) fn bytes(&self, n: u32) -> Option<&[u8; 4096]>
+    pub(crate) fn bytes(&self, n: BlockNumber) -> Option<&Block>
         ensures { option_copied result ≡ bytes_for self.now n }
     {
         find(&self.rooms, n)
     }
 
     /// The bytes with which block n was written, if it is kept.
-    pub(crate) fn written_bytes(&self, n: u32) -> Option<&[u8; 4096]>
+    pub(crate) fn written_bytes(&self, n: BlockNumber) -> Option<&Block>
         ensures { option_copied result ≡ written_for self.now n }
     {
         find(&self.written, n)
     }
 
     /// The bytes that wait for block n, or else those with which it was written.
-    pub(crate) fn known(&self, n: u32) -> Option<&[u8; 4096]>
+    pub(crate) fn known(&self, n: BlockNumber) -> Option<&Block>
         ensures { option_copied result ≡ known_for self.now n }
     {
         match self.bytes(n) {
@@ -66,8 +68,8 @@ impl Waiting {
         }
     }
 
-    /// Makes block n the one used last of those that wait, and tells whether it does.
-    pub(crate) fn use_waiting(&mut self, n: u32) -> bool
+    /// Makes block n the most recently used waiting block, and tells whether it waits.
+    pub(crate) fn use_waiting(&mut self, n: BlockNumber) -> bool
         ensures answer { result ≡ waits self.old n }
         ensures first { OnTrue result (first_in (rooms_in self.new.rooms) ≡ bytes_for self.old n) }
         ensures same { (k : ℕ) → bytes_for self.new k ≡ bytes_for self.old k }
@@ -77,14 +79,14 @@ impl Waiting {
         promote(&mut self.rooms, n)
     }
 
-    /// The bytes of the one used last of those that wait.
-    pub(crate) fn newest_waiting(&self) -> Option<&[u8; 4096]>
+    /// The bytes of the most recently used waiting block.
+    pub(crate) fn newest_waiting(&self) -> Option<&Block>
         ensures { option_copied result ≡ first_in (rooms_in self.now.rooms) }
     {
         newest(&self.rooms)
     }
 
-    /// The block that was not used for the longest time.
+    /// The least recently used waiting block.
     pub(crate) fn oldest(&self) -> Option<u32>
         ensures some { IfSome result (λ n. waits self.now n ≡ true) }
         ensures none { IfNone result ((n : ℕ) → waits self.now n ≡ false) }
@@ -102,8 +104,8 @@ impl Waiting {
         self.rooms.len() < self.rooms.cap().get()
     }
 
-    /// Room with these bytes, unless memory for it is refused.
-    fn room(&mut self, bytes: &[u8; 4096]) -> Option<Room>
+    /// A frame with these bytes, unless memory for it is refused.
+    fn room(&mut self, bytes: &Block) -> Option<Room>
         ensures bytes { IfSome result (λ room. room.value ≡ bytes.now) }
         ensures rooms { self.new.rooms ≡ self.old.rooms }
         ensures no_more { KeepsNoMore self.old self.new }
@@ -121,9 +123,9 @@ impl Waiting {
         }
     }
 
-    /// Gives block n these bytes, if it waits, and tells whether it does: then its last write is the
-    /// newest.
-    pub(crate) fn change(&mut self, n: u32, bytes: &[u8; 4096]) -> bool
+    /// Gives block n these bytes, if it waits, and tells whether it does. Its last write is then
+    /// the newest.
+    pub(crate) fn change(&mut self, n: BlockNumber, bytes: &Block) -> bool
         ensures answer { result ≡ waits self.old n }
         ensures changed { OnTrue result (ChangesOne n (Some bytes.now) self.old self.new) }
         ensures missed { OnFalse result (self.new ≡ self.old) }
@@ -139,9 +141,9 @@ impl Waiting {
         }
     }
 
-    /// Has block n wait with these bytes, and tells whether it does: not where no more may wait, or
-    /// memory for it is refused.
-    pub(crate) fn put(&mut self, n: u32, bytes: &[u8; 4096]) -> bool
+    /// Lets block n wait with these bytes, and tells whether it does. It does not if no more may
+    /// wait, or if memory for it is refused.
+    pub(crate) fn put(&mut self, n: BlockNumber, bytes: &Block) -> bool
         ensures placed { OnTrue result (ChangesOne n (Some bytes.now) self.old self.new) }
         ensures refused { OnFalse result (self.new.rooms ≡ self.old.rooms) }
         ensures limit { limit_of self.new ≡ limit_of self.old }
@@ -166,8 +168,8 @@ impl Waiting {
         }
     }
 
-    /// The room of block n, which waits no longer, if it did.
-    fn take(&mut self, n: u32) -> Option<Room>
+    /// The frame of block n, if it waited. It waits no longer.
+    fn take(&mut self, n: BlockNumber) -> Option<Room>
         ensures bytes { option_map (λ room. room.value) result ≡ bytes_for self.old n }
         ensures gone { ChangesOne n None self.old self.new }
         ensures fewer { waits self.old n ≡ true → count_of self.new < count_of self.old }
@@ -181,8 +183,8 @@ impl Waiting {
         self.rooms.pop(&n)
     }
 
-    /// Has block n wait no longer, nor be kept as a written one.
-    pub(crate) fn forget(&mut self, n: u32)
+    /// Drops block n from the waiting and the written blocks.
+    pub(crate) fn forget(&mut self, n: BlockNumber)
         ensures gone { ChangesOne n None self.old self.new }
         ensures drops { Drops n self.old self.new }
         ensures limit { limit_of self.new ≡ limit_of self.old }
@@ -193,8 +195,8 @@ impl Waiting {
         }
     }
 
-    /// Keeps block n as a written one no longer.
-    fn forget_written(&mut self, n: u32)
+    /// Stops keeping block n as a written one.
+    fn forget_written(&mut self, n: BlockNumber)
         ensures rooms { self.new.rooms ≡ self.old.rooms }
         ensures drops { Drops n self.old self.new }
     {
@@ -205,7 +207,7 @@ impl Waiting {
         }
     }
 
-    /// Keeps no written block any longer.
+    /// Stops keeping any written block.
     pub(crate) fn forget_all_written(&mut self)
         ensures rooms { self.new.rooms ≡ self.old.rooms }
         ensures none { written_in self.new ≡ [] }
@@ -213,9 +215,9 @@ impl Waiting {
         self.written.clear()
     }
 
-    /// Keeps block n with this room, which has its bytes, as the one written last, if there is memory
-    /// for its place.
-    fn keep_written(&mut self, n: u32, room: Room)
+    /// Keeps block n in this frame, which has its bytes, as the one written last, if there is
+    /// memory for its entry.
+    fn keep_written(&mut self, n: BlockNumber, room: Room)
         ensures rooms { self.new.rooms ≡ self.old.rooms }
         ensures gains { Gains n room.value self.old self.new }
     {
@@ -231,8 +233,9 @@ impl Waiting {
         }
     }
 
-    /// Has block n, which was written as it waits, wait no longer, and keeps it as a written one.
-    pub(crate) fn settle(&mut self, n: u32)
+    /// Marks block n, which was written as it waits, as no longer waiting, and keeps it as a
+    /// written one.
+    pub(crate) fn settle(&mut self, n: BlockNumber)
         ensures gone { ChangesOne n None self.old self.new }
         ensures fewer { waits self.old n ≡ true → count_of self.new < count_of self.old }
         ensures most { count_of self.new ≤ count_of self.old }
@@ -246,7 +249,7 @@ impl Waiting {
     }
 
     /// Settles the blocks of a row, from the first one up to the one before the end.
-    pub(crate) fn settle_run(&mut self, first: u32, end: u32)
+    pub(crate) fn settle_run(&mut self, first: BlockNumber, end: BlockNumber)
         requires { first ≤ end }
         ensures gone { LosesRun first end self.old self.new }
         ensures limit { limit_of self.new ≡ limit_of self.old }
@@ -260,8 +263,8 @@ impl Waiting {
         }
     }
 
-    /// Where the row of waiting blocks around block n begins, or a block behind that in the row.
-    pub(crate) fn begin_run(&self, n: u32) -> u32
+    /// Where the row of waiting blocks around block n begins, or a later block of that row.
+    pub(crate) fn begin_run(&self, n: BlockNumber) -> u32
         ensures waits { waits self.now n ≡ true → waits self.now result ≡ true }
     {
         let mut first = n;
@@ -271,9 +274,9 @@ impl Waiting {
         first
     }
 
-    /// Copies the blocks out that wait in a row from this one on, up to so many as one call writes.
-    /// They are fewer where memory is refused.
-    pub(crate) fn copy_run(&self, first: u32, run: &mut Vec<[u8; 4096]>)
+    /// Copies out the blocks that wait in a row from this one on, up to as many as one call writes.
+    /// There are fewer if memory is refused.
+    pub(crate) fn copy_run(&self, first: BlockNumber, run: &mut Vec<Block>)
         ensures { IsRun first run.new.items self.now }
     {
         run.clear();

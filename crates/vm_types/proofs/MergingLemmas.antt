@@ -20,7 +20,7 @@ use Rattle.vm_types.specs.Step.{first_repeated}
 use Rattle.vm_types.proofs.Keys.{keys_total, exact_keys, same_key-Decides, same_maps, is_less}
 use Rattle.vm_types.proofs.Maps.{same_value-Decides, keys_of-any, tabulated, get-tabulated, IsMap-tabulated, IsMap-over, IsMap-merge, get-merge}
 use Rattle.vm_types.proofs.ChangeLemmas.{is_below, is_below-lower, is_below-head, IsMap-tail, get_below, change_of}
-use Rattle.vm_types.specs.Merging.{from_key, first_at, clash, chosen, taken}
+use Rattle.vm_types.specs.Merge.{from_key, first_at, clash, chosen, taken}
 
 pub or_true_left : (s t : Bool) → s ≡ true → (s || t) ≡ true
 or_true_left true t h = refl

@@ -1,11 +1,14 @@
 -- Parts of maps: what one has at each key, what parts of two maps have of their differences, and parts of joined records.
-use Rattle.std.proofs.Common.{◌≡◌, ℕ, Bool, true, false, cond, List, [], ◌∷◌, map, filter, filter_map, Option, Some, None, refl, sym, ap, ◌∙◌}
-use Rattle.std.specs.List.{cons_option}
+use Rattle.std.proofs.Common.{◌≡◌, ◌≢◌, ℕ, ◌<◌, ◌≤◌, ◌&&◌, nat_le, Bool, true, false, cond, List, [], ◌∷◌, ◌++◌, map, filter, filter_map, Option, Some, None, refl, sym, ap, ◌∙◌, arith}
+use Rattle.std.specs.List.{AllByRecursion, cons_option}
 use Rattle.std.specs.FinMap.Entries as entries
+use Rattle.std.proofs.lemmas.Bool.{and_from, and_left, and_right, lt-leb}
+use Rattle.std.proofs.lemmas.List.Elements.{filter-append}
 use Rattle.vm_types.specs.declared.key.Key.{Key}
 use Rattle.vm_types.specs.declared.change.Change.{Change}
 use Rattle.vm_types.specs.Map.{key_cmp, same_key, Map, IsMap, get, with_value, same_value, over, keys_of, change_at, delta}
 use Rattle.vm_types.specs.Parts.{is_within, part, changes_part}
+use Rattle.vm_types.specs.Places.{place}
 use Rattle.vm_types.proofs.Keys.{exact_keys, get-with_value, holding, IsMap-with_value, passed, same_key-Decides, same_maps}
 
 -- a test that passes only where another does, before it
@@ -99,3 +102,31 @@ module _ (low high : ℕ) where
   changes_part-delta m n h =
       sym (changes_at_part m n (keys_of m n))
       ∙ ap (filter_map (change_at (part low high m) (part low high n))) (sym (keys_part (over m n)) ∙ ap (map (λ r. r.0)) (part_over m n h))
+
+  -- ---- parts of joined records
+
+  pub part-append : (m n : Map) → part low high (m ++ n) ≡ part low high m ++ part low high n
+  part-append m n = filter-append (λ r. is_within low high r.0) m n
+
+  -- a record of the part, before others
+  pub part_in : (r : Key × List ℕ) (m : Map) → is_within low high r.0 ≡ true → part low high (r ∷ m) ≡ r ∷ part low high m
+  part_in r m is = ap (λ t. cond t (r ∷ part low high m) (part low high m)) is
+
+  -- and one that is not
+  pub part_out : (r : Key × List ℕ) (m : Map) → is_within low high r.0 ≡ false → part low high (r ∷ m) ≡ part low high m
+  part_out r m is = ap (λ t. cond t (r ∷ part low high m) (part low high m)) is
+
+  pub is_before : (key : Key) → place key < low → is_within low high key ≡ false
+  is_before key lt = and_left (nat_le low (place key)) (nat_le (place key) high) (lt-leb low (place key) lt)
+
+  pub is_behind : (key : Key) → high < place key → is_within low high key ≡ false
+  is_behind key lt = and_right (nat_le low (place key)) (nat_le (place key) high) (lt-leb (place key) high lt)
+
+  -- records before the part, and records behind it
+  pub part_before : (m : Map) → AllByRecursion (λ r. place r.0 < low) m → part low high m ≡ []
+  part_before [] all = refl
+  part_before (r ∷ m) all = part_out r m (is_before r.0 all.0) ∙ part_before m all.1
+
+  pub part_behind : (m : Map) → AllByRecursion (λ r. high < place r.0) m → part low high m ≡ []
+  part_behind [] all = refl
+  part_behind (r ∷ m) all = part_out r m (is_behind r.0 all.0) ∙ part_behind m all.1

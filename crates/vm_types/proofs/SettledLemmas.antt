@@ -23,7 +23,7 @@ use Rattle.vm_types.specs.Step.{settled_refusal, first_repeated}
 use Rattle.vm_types.proofs.Keys.{keys_total, exact_keys, is_less}
 use Rattle.vm_types.proofs.Maps.{IsMap-over}
 use Rattle.vm_types.proofs.ChangeLemmas.{is_below-head, IsMap-tail}
-use Rattle.vm_types.specs.Merging.{from_key, first_at, settled_from, chosen, taken}
+use Rattle.vm_types.specs.Merge.{from_key, first_at, settled_from, chosen, taken}
 use Rattle.vm_types.proofs.MergingLemmas.{or_true_left, or_true_right, above_all, appended, key-change_at, side_by_side}
 
 -- ---- keys that rise

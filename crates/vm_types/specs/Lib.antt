@@ -5,7 +5,7 @@ pub mod Isolation
 pub mod Kept
 pub mod Laws
 pub mod Map
-pub mod Merging
+pub mod Merge
 pub mod Moments
 pub mod Name
 pub mod Outcomes

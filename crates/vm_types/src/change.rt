@@ -1,4 +1,4 @@
-//! Where two maps, or three, differ.
+//! Differences between two maps or among three.
 use crate::{Key, Value};
 
 /// A key at which two maps differ, with both values. Absence counts as a value.

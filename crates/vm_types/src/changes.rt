@@ -17,8 +17,8 @@ struct ChangeRow {
     after: Option<Piece>,
 }
 
-/// A list of changes that takes the memory of what they have: 64 bytes each and those of their
-/// values. The values lie in one run of bytes, behind one another.
+/// A list of changes that takes memory only for what it holds: 64 bytes per change, and the bytes
+/// of their values. The values lie one after another in a single run of bytes.
 #[derive(Debug, Drop)]
 pub struct Changes {
     rows: Vec<ChangeRow>,
@@ -39,7 +39,7 @@ impl Model for Changes {
 }
 
 impl Changes {
-    /// No changes. It takes no memory.
+    /// An empty list. Takes no memory.
     pub fn new(alloc: Global) -> Self
         ensures { result ≡ [] }
     {
@@ -61,7 +61,7 @@ impl Changes {
         self.rows.is_empty()
     }
 
-    /// Adds a change behind the others. Where no memory is found, it changes nothing.
+    /// Appends a change. If memory cannot be allocated, the list does not change.
     pub fn push(
         &mut self,
         key: Key,
@@ -84,7 +84,7 @@ impl Changes {
         Ok(())
     }
 
-    /// The key of the change at i.
+    /// The key of change `i`.
     pub fn key(&self, i: usize) -> Key
         requires { i < length self.now }
         ensures { (d : Change) → result ≡ (slice_index_or self.now i d).key }
@@ -92,7 +92,7 @@ impl Changes {
         self.rows[i].key
     }
 
-    /// The bytes of its value before, if there is one.
+    /// The bytes of its value before, if it has one.
     pub fn before(&self, i: usize) -> Option<&[u8]>
         requires { i < length self.now }
         ensures value { (d : Change) → option_copied result ≡ (slice_index_or self.now i d).before }
@@ -101,7 +101,7 @@ impl Changes {
         self.values.get_if_any(self.rows[i].before)
     }
 
-    /// The bytes of its value after, if there is one.
+    /// The bytes of its value after, if it has one.
     pub fn after(&self, i: usize) -> Option<&[u8]>
         requires { i < length self.now }
         ensures value { (d : Change) → option_copied result ≡ (slice_index_or self.now i d).after }
@@ -120,7 +120,7 @@ impl Changes {
         }
     }
 
-    /// The change at i, if there are so many.
+    /// Change `i`, if there is one.
     pub fn at(&self, i: usize) -> Option<Change>
         ensures { result ≡ slice_get self.now i }
     {
@@ -134,7 +134,7 @@ impl Changes {
         })
     }
 
-    /// The same list, each value in the place of the greatest one.
+    /// The same list, with each value in the space of the longest possible one.
     pub fn to_vec(&self, alloc: Global) -> Result<Vec<Change>, AllocError>
         ensures { IfOk result (λ changes. changes.items ≡ self.now) }
     {
@@ -148,7 +148,7 @@ impl Changes {
     }
 }
 
-/// The changes of a list from one on.
+/// The changes of a list, from an index on.
 #[derive(Clone, Copy)]
 pub struct ChangesIter<'a> {
     changes: &'a Changes,

@@ -2,7 +2,7 @@
 use crate::{Key, Name, Value};
 use std::marker::Model;
 
-/// How a conflict is settled: by one's own value, or by the parent's.
+/// How a conflict is settled: with the alternative's own value, or with the parent's.
 #[derive(Clone, Copy, Debug, PartialEq, Eq, Hash)]
 pub enum Side {
     Mine,
@@ -28,14 +28,14 @@ impl Model for Settled {
 impl Settled {
     ghost use Rattle.std.specs.Prelude.{◌≡◌};
 
-    /// Settlements from a list. It takes no memory.
+    /// Settlements from a list. Takes no memory.
     pub fn from_vec(sides: Vec<(Key, Side)>) -> Self
         ensures { result ≡ sides.items }
     {
         Settled { sides }
     }
 
-    /// The list, given back. It takes no memory.
+    /// Gives the list back. Takes no memory.
     pub fn into_vec(self) -> Vec<(Key, Side)>
         ensures { result.items ≡ self }
     {
@@ -52,28 +52,28 @@ impl Settled {
 /// A command to the store.
 #[derive(Debug, Drop)]
 pub enum Command {
-    /// A new alternative under the parent, which shows the parent's current records.
+    /// Creates an alternative under the parent. It shows the parent's current records.
     New {
         name: Name,
         parent: Name,
     },
-    /// A new alternative under the parent, which shows the current records of a checkpoint of the parent.
+    /// Creates an alternative under the parent. It shows the records of a checkpoint of the parent.
     NewAt {
         name: Name,
         parent: Name,
         checkpoint: Name,
     },
-    /// Takes out an alternative that has no children, and its checkpoints.
+    /// Removes an alternative that has no children, together with its checkpoints.
     Drop {
         alt: Name,
     },
-    /// Gives a record of the alternative a value.
+    /// Sets the value of a record of the alternative.
     Put {
         alt: Name,
         key: Key,
         value: Value,
     },
-    /// Takes a record out of the alternative.
+    /// Removes a record from the alternative.
     Remove {
         alt: Name,
         key: Key,
@@ -83,7 +83,7 @@ pub enum Command {
         alt: Name,
         name: Name,
     },
-    /// Takes a checkpoint out.
+    /// Removes a checkpoint.
     Uncheck {
         alt: Name,
         name: Name,
@@ -104,11 +104,11 @@ pub enum Command {
     },
     /// Makes the working state the committed one.
     Commit,
-    /// Makes the committed state the working one: what was not committed is gone.
+    /// Makes the committed state the working one: uncommitted changes are gone.
     Rollback,
     /// Frees each block that neither state needs.
     Reclaim,
-    /// Gives the store so many blocks in all, more than it has.
+    /// Grows the store to this many blocks in all, more than it has.
     Grow {
         blocks: u32,
     },

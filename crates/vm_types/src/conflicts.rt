@@ -18,8 +18,8 @@ struct ConflictRow {
     mine: Option<Piece>,
 }
 
-/// A list of conflicts that takes the memory of what they have: 88 bytes each and those of their
-/// values. The values lie in one run of bytes, behind one another.
+/// A list of conflicts that takes memory only for what it holds: 88 bytes per conflict, and the
+/// bytes of their values. The values lie one after another in a single run of bytes.
 #[derive(Debug, Drop)]
 pub struct Conflicts {
     rows: Vec<ConflictRow>,
@@ -40,7 +40,7 @@ impl Model for Conflicts {
 }
 
 impl Conflicts {
-    /// No conflicts. It takes no memory.
+    /// An empty list. Takes no memory.
     pub fn new(alloc: Global) -> Self
         ensures { result ≡ [] }
     {
@@ -62,7 +62,7 @@ impl Conflicts {
         self.rows.is_empty()
     }
 
-    /// Adds a conflict behind the others. Where no memory is found, it changes nothing.
+    /// Appends a conflict. If memory cannot be allocated, the list does not change.
     pub fn push(
         &mut self,
         key: Key,
@@ -94,7 +94,7 @@ impl Conflicts {
         Ok(())
     }
 
-    /// The key of the conflict at i.
+    /// The key of conflict `i`.
     pub fn key(&self, i: usize) -> Key
         requires { i < length self.now }
         ensures { (d : Conflict) → result ≡ (slice_index_or self.now i d).key }
@@ -120,7 +120,7 @@ impl Conflicts {
         self.values.get_if_any(self.rows[i].parent)
     }
 
-    /// The bytes of one's own value, if there is one.
+    /// The bytes of the alternative's own value, if there is one.
     pub fn mine(&self, i: usize) -> Option<&[u8]>
         requires { i < length self.now }
         ensures value { (d : Conflict) → option_copied result ≡ (slice_index_or self.now i d).mine }
@@ -129,7 +129,8 @@ impl Conflicts {
         self.values.get_if_any(self.rows[i].mine)
     }
 
-    /// Each conflict, its key with the values in the base, in the parent and one's own, in order.
+    /// Each conflict in order: its key with the values in the base, in the parent and in the
+    /// alternative.
     pub fn iter(&self) -> ConflictsIter<'_>
         ensures { conflicts_left result ≡ self.now }
     {
@@ -139,7 +140,7 @@ impl Conflicts {
         }
     }
 
-    /// The conflict at i, if there are so many.
+    /// Conflict `i`, if there is one.
     pub fn at(&self, i: usize) -> Option<Conflict>
         ensures { result ≡ slice_get self.now i }
     {
@@ -154,7 +155,7 @@ impl Conflicts {
         })
     }
 
-    /// The same list, each value in the place of the greatest one.
+    /// The same list, with each value in the space of the longest possible one.
     pub fn to_vec(&self, alloc: Global) -> Result<Vec<Conflict>, AllocError>
         ensures { IfOk result (λ conflicts. conflicts.items ≡ self.now) }
     {
@@ -168,7 +169,7 @@ impl Conflicts {
     }
 }
 
-/// The conflicts of a list from one on.
+/// The conflicts of a list, from an index on.
 #[derive(Clone, Copy)]
 pub struct ConflictsIter<'a> {
     conflicts: &'a Conflicts,

@@ -12,7 +12,7 @@ pub struct Key {
 }
 
 impl Key {
-    /// Where the key stands among all keys, as one number.
+    /// The key's rank among all keys, as one number.
     pub fn place(self) -> u128
         ensures place { result ≡ place self }
         ensures small { result < 2 ^ 80 }

@@ -1,5 +1,5 @@
-//! Laws of the model. Each function does nothing: its contract is the law, which is so proved for every tree, map or list
-//! of commands.
+//! Laws of the model. Each function does nothing: its contract is the law, and so the law is proved
+//! for every tree, map or list of commands.
 ghost use Rattle.vm_types.specs.Laws.{StepsKeepTreesWellFormed, MergesAreThreeWay, DeltasTellEquality, DiffsArePartwise, StoresOnlyGrow, AlternativesAreIsolated, ChangesBeginAtBases};
 
 /// Names stay distinct, parents stay earlier, and `top` stays first and keeps the empty base.
@@ -17,12 +17,12 @@ pub fn deltas_tell_equality()
     ensures { DeltasTellEquality }
 {}
 
-/// What differs in a part is what differs of it.
+/// The differences in a part are the differences of the whole that lie in it.
 pub fn diffs_are_partwise()
     ensures { DiffsArePartwise }
 {}
 
-/// No command takes blocks away from what is committed. What commands work on loses none but by a
+/// No command takes blocks away from the committed state. The working state loses blocks only by a
 /// Rollback, which goes back to the committed number.
 pub fn stores_only_grow()
     ensures { StoresOnlyGrow }
@@ -33,7 +33,8 @@ pub fn alternatives_are_isolated()
     ensures { AlternativesAreIsolated }
 {}
 
-/// What changed in an alternative is what differs from its base to what it shows. The base of `top` is empty.
+/// An alternative's changes are the differences from its base to what it shows. The base of `top`
+/// is empty.
 pub fn changes_begin_at_bases()
     ensures { ChangesBeginAtBases }
 {}

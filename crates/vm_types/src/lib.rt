@@ -1,9 +1,9 @@
 //! The words of the store: keys, values, names, commands, answers and refusals, the model that
-//! every crate above is proved against, what a merge makes of two lists of changes, and the sizes that
-//! all keep to.
+//! every crate above is proved against, the result of merging two lists of changes, and the sizes
+//! that all crates keep to.
 //!
-//! It stands on the standard library alone and knows nothing of disks. Its one promise: the limits of
-//! a value and of a name hold exactly, and keys are ordered by table, then by number.
+//! It stands on the standard library alone and knows nothing of disks. Its one promise: the limits
+//! of a value and of a name hold exactly, and keys are ordered by table, then by number.
 #![tactic(auto)]
 
 mod answer;
@@ -14,11 +14,11 @@ mod command;
 mod conflicts;
 mod key;
 pub mod laws;
-mod merging;
+mod merge;
 mod name;
 mod records;
 mod refusal;
-mod settling;
+mod settlements;
 mod sizes;
 mod value;
 mod values;
@@ -30,10 +30,10 @@ pub use changes::{Changes, ChangesIter};
 pub use command::{Command, Settled, Side};
 pub use conflicts::{Conflicts, ConflictsIter};
 pub use key::Key;
-pub use merging::{changes_by_merge, conflicts_between, keys_in_conflict};
+pub use merge::{changes_by_merge, conflicts_between, keys_in_conflict};
 pub use name::Name;
 pub use records::{Records, RecordsIter};
 pub use refusal::Refusal;
-pub use settling::settled_refusal;
-pub use sizes::{BLOCK_SIZE, FIRST_DATA, MAX_BLOCKS, MAX_VERSIONS, MIN_BLOCKS};
+pub use settlements::settled_refusal;
+pub use sizes::{BLOCK_SIZE, Block, BlockNumber, FIRST_DATA, MAX_BLOCKS, MAX_VERSIONS, MIN_BLOCKS};
 pub use value::Value;

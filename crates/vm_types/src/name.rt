@@ -1,4 +1,4 @@
-//! What an alternative or a checkpoint is called.
+//! The names of alternatives and checkpoints.
 ghost use Rattle.std.specs.Prelude.{◌≡◌, ◌≤◌, ◌<◌, ◌↔◌, length, IsSome, IfSome, IsTrue};
 ghost use Rattle.vm_types.specs.Name.{IsName, IsNameByte};
 ghost use Rattle.vm_types.specs.Bytes.{padded};
@@ -8,7 +8,7 @@ use std::marker::Model;
 use std::{fmt, str};
 
 /// The name of an alternative or of a checkpoint: 1 to 32 ASCII letters, digits, `_`, `-` and `.`.
-/// It holds its bytes in place. Names are ordered by their bytes.
+/// It holds its bytes inline. Names are ordered by their bytes.
 #[derive(Clone, Copy)]
 pub struct Name {
     bytes: [u8; 32],
@@ -31,14 +31,14 @@ impl Model for Name {
     ghost inverse_ok = { λ v h. λ i. record { bytes = padded-counted 32 v.len v.bytes h.padding i; len = length-counted 32 v.len v.bytes h.padding i } };
 }
 
-/// Whether a byte may stand in a name.
+/// Whether a name may contain this byte.
 fn is_name_byte(byte: u8) -> bool
     ensures { IsTrue result ↔ IsNameByte byte }
 {
     matches!(byte, b'a'..=b'z' | b'A'..=b'Z' | b'0'..=b'9' | b'_' | b'-' | b'.')
 }
 
-/// Whether bytes keep the rule of names.
+/// Whether these bytes are a valid name.
 fn is_name(bytes: &[u8]) -> bool
     ensures { IsTrue result ↔ IsName bytes.now }
 {
@@ -46,10 +46,10 @@ fn is_name(bytes: &[u8]) -> bool
 }
 
 impl Name {
-    /// The greatest number of bytes of a name.
+    /// The maximum length of a name in bytes.
     pub const MAX_LEN: usize = 32;
 
-    /// The name of these bytes, where they keep the rule of names.
+    /// The name with these bytes, if they are a valid name.
     pub fn new(bytes: &[u8]) -> Option<Self>
         ensures name { IsSome result ↔ IsName bytes.now }
         ensures value { IfSome result (λ name. name ≡ bytes.now) }
@@ -72,7 +72,7 @@ impl Name {
         &self.bytes[..self.len as usize]
     }
 
-    /// The bytes, and zero bytes behind them up to the greatest length.
+    /// The bytes, padded with zero bytes to the maximum length.
     pub fn padded(&self) -> &[u8; 32]
         ensures bytes { result.now ≡ padded 32 self.now }
         ensures name { IsName self.now }

@@ -9,8 +9,8 @@ use crate::{Key, Value};
 use std::alloc::{AllocError, Global};
 use std::marker::Model;
 
-/// A list of records that takes the memory of what they have: 32 bytes each and those of its value.
-/// The values lie in one run of bytes, behind one another.
+/// A list of records that takes memory only for what it holds: 32 bytes per record, and the bytes
+/// of its value. The values lie one after another in a single run of bytes.
 #[derive(Debug, Drop)]
 pub struct Records {
     rows: Vec<(Key, Piece)>,
@@ -31,7 +31,7 @@ impl Model for Records {
 }
 
 impl Records {
-    /// No records. It takes no memory.
+    /// An empty list. Takes no memory.
     pub fn new(alloc: Global) -> Self
         ensures { result ≡ [] }
     {
@@ -53,7 +53,7 @@ impl Records {
         self.rows.is_empty()
     }
 
-    /// Adds a record behind the others. Where no memory is found, it changes nothing.
+    /// Appends a record. If memory cannot be allocated, the list does not change.
     pub fn push(&mut self, key: Key, value: &[u8]) -> Result<(), AllocError>
         requires { length value.now ≤ longest }
         ensures ok { OnOk result (self.new ≡ self.old ++ (key, value.now) ∷ []) }
@@ -65,7 +65,7 @@ impl Records {
         Ok(())
     }
 
-    /// The key of the record at i.
+    /// The key of record `i`.
     pub fn key(&self, i: usize) -> Key
         requires { i < length self.now }
         ensures { (d : Key × List ℕ) → result ≡ (slice_index_or self.now i d).0 }
@@ -83,7 +83,7 @@ impl Records {
         self.values.get(piece)
     }
 
-    /// Each record, a key and the bytes of its value, in order.
+    /// Each record in order: a key and the bytes of its value.
     pub fn iter(&self) -> RecordsIter<'_>
         ensures { left_of result ≡ self.now }
     {
@@ -93,7 +93,7 @@ impl Records {
         }
     }
 
-    /// The record at i, if there are so many.
+    /// Record `i`, if there is one.
     pub fn at(&self, i: usize) -> Option<(Key, Value)>
         ensures { result ≡ slice_get self.now i }
     {
@@ -106,7 +106,7 @@ impl Records {
         Some((self.key(i), value))
     }
 
-    /// The same list, each value in the place of the greatest one.
+    /// The same list, with each value in the space of the longest possible one.
     pub fn to_vec(&self, alloc: Global) -> Result<Vec<(Key, Value)>, AllocError>
         ensures { IfOk result (λ records. records.items ≡ self.now) }
     {
@@ -120,7 +120,7 @@ impl Records {
     }
 }
 
-/// The records of a list from one on.
+/// The records of a list, from an index on.
 #[derive(Clone, Copy)]
 pub struct RecordsIter<'a> {
     records: &'a Records,

@@ -9,21 +9,21 @@ use std::fmt;
 pub enum Refusal {
     /// The named alternative or parent isn't there.
     NoSuchAlternative,
-    /// A new alternative has a name that is there already.
+    /// The name of the new alternative is already in use.
     AlternativeExists,
     /// The alternative has no such checkpoint.
     NoSuchCheckpoint,
-    /// The alternative has a checkpoint of this name already.
+    /// The alternative already has a checkpoint of this name.
     CheckpointExists,
     /// The record to be removed is absent.
     NoSuchRecord,
-    /// The first alternative can't be dropped, merged or posted, and has no conflicts.
+    /// The first alternative cannot be dropped, merged or posted, and it has no conflicts.
     IsTop,
-    /// The alternative to be dropped is a parent.
+    /// The alternative to be dropped has children.
     HasChildren,
     /// The base of the alternative to be posted isn't its parent's current state.
     NotMerged,
-    /// So many conflicts have no settlement.
+    /// This many conflicts have no settlement.
     Unsettled(u64),
     /// A settlement names a key that is in no conflict.
     NotInConflict(Key),
@@ -33,21 +33,23 @@ pub enum Refusal {
     TooMany,
     /// Too few spare blocks are left for the record changes.
     Full,
-    /// The tree has its greatest number of levels, and the whole path to the new record is full.
+    /// The tree has its maximum number of levels, and every block on the path to the new record is
+    /// full.
     Deep,
     /// The device failed during this call.
     Device,
-    /// A growth of memory was refused during this call.
+    /// A request for memory was refused during this call.
     Memory,
     /// An earlier command was answered by `Device`.
     Failed,
-    /// This block is not what the layout demands.
+    /// This block violates the layout.
     Damaged(u32),
     /// The disk is too small for a store, or its first block is no header.
     NotAStore,
     /// The disk to be formatted is a store already.
     AlreadyAStore,
-    /// A count of blocks is out of range, above the disk's, or, for a store that is to grow, not above its own.
+    /// The block count is out of range, exceeds the disk, or (for a store that grows) does not
+    /// exceed its current size.
     BadSize,
 }
 
@@ -83,7 +85,7 @@ impl Refusal {
         }
     }
 
-    /// Its name, without the number, key or block that it may have.
+    /// Its name, without any count, key or block that it carries.
     pub fn name(&self) -> &'static str
         ensures { result.now ≡ name_of self.now }
     {
@@ -113,7 +115,7 @@ impl Refusal {
     }
 }
 
-/// Its number and its name, as `7 HasChildren`, and what it has beside them, as `18 Damaged 34`.
+/// Its number and its name, as in `7 HasChildren`, and then what it carries, as in `18 Damaged 34`.
 impl fmt::Display for Refusal {
     ghost use Rattle.std.specs.Prelude.{Some};
     ghost use Rattle.vm_types.specs.Texts.{refusal_text};

@@ -4,8 +4,8 @@ ghost use Rattle.vm_types.specs.Bytes.{longest, padded};
 
 use std::marker::Model;
 
-/// The value of a record: 0 to 4,000 bytes, which it holds in place. A list of values is packed, as
-/// [`Records`](crate::Records) is, so that it takes no room for 4,000 bytes each.
+/// The value of a record: 0 to 4,000 bytes, held inline. A list of values is packed, as in
+/// [`Records`](crate::Records), and does not take 4,000 bytes for each.
 #[derive(Clone, Copy, Debug)]
 pub struct Value {
     bytes: [u8; Self::MAX_LEN],
@@ -28,10 +28,10 @@ impl Model for Value {
 }
 
 impl Value {
-    /// The greatest number of bytes of a value.
+    /// The maximum length of a value in bytes.
     pub const MAX_LEN: usize = 4000;
 
-    /// A value of these bytes, where there are at most 4,000.
+    /// A value with these bytes, if there are at most 4,000.
     pub fn new(bytes: &[u8]) -> Option<Self>
         ensures short { IsSome result ↔ (length bytes.now ≤ longest) }
         ensures value { IfSome result (λ v. v ≡ bytes.now) }
@@ -54,7 +54,7 @@ impl Value {
         &self.bytes[..usize::from(self.len)]
     }
 
-    /// The bytes, and zero bytes behind them up to the greatest length.
+    /// The bytes, padded with zero bytes to the maximum length.
     pub fn padded(&self) -> &[u8; Self::MAX_LEN]
         ensures bytes { result.now ≡ padded longest self.now }
         ensures short { length self.now ≤ longest }

@@ -1,4 +1,4 @@
-//! Values that lie behind one another in one run of bytes.
+//! Values that lie one after another in one run of bytes.
 ghost use Rattle.std.specs.Prelude.{◌≡◌, ◌≤◌, ◌++◌, ℕ, List, [], length, option_copied, IfOk, IfSome, OnErr};
 ghost use Rattle.vm_types.specs.Bytes.{longest};
 ghost use Rattle.vm_types.specs.Pieces.{IsAdded, LiesIn, MayBeAdded, MayLieIn, optional_in, value_in};
@@ -29,7 +29,7 @@ impl Model for Values {
 }
 
 impl Values {
-    /// No values. It takes no memory.
+    /// No values. Takes no memory.
     pub(crate) fn new(alloc: Global) -> Self
         ensures { result ≡ [] }
     {
@@ -38,7 +38,7 @@ impl Values {
         }
     }
 
-    /// Puts a value behind the others. Where no memory is found, it changes nothing.
+    /// Appends a value. If memory cannot be allocated, nothing changes.
     pub(crate) fn add(&mut self, value: &[u8]) -> Result<Piece, AllocError>
         requires { length value.now ≤ longest }
         ensures ok { IfOk result (IsAdded self.old value.now self.new) }
@@ -52,7 +52,7 @@ impl Values {
         })
     }
 
-    /// The same of a value that may be absent.
+    /// The same for a value that may be absent.
     pub(crate) fn add_if_any(&mut self, value: Option<&[u8]>) -> Result<Option<Piece>, AllocError>
         requires { IfSome value (λ bytes. length bytes.now ≤ longest) }
         ensures ok { IfOk result (MayBeAdded self.old (option_copied value.entry) self.new) }
@@ -73,7 +73,7 @@ impl Values {
         &self.bytes[piece.start..piece.start + usize::from(piece.len)]
     }
 
-    /// The same of a value that may be absent.
+    /// The same for a value that may be absent.
     pub(crate) fn get_if_any(&self, piece: Option<Piece>) -> Option<&[u8]>
         requires { MayLieIn (length self.now) piece }
         ensures value { option_copied result ≡ optional_in self.now piece }

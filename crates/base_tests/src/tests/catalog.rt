@@ -1,11 +1,11 @@
-//! What stands on a disk after a publish, byte by byte, and which slots are refused.
+//! What is on a disk after a publish, byte by byte, and which slots are refused.
 use std::alloc::Global;
 use std::process::Abort;
 use std::test::Fail;
 use vm_block::{Entry, Kind, SlotFormat, SlotName, write_header};
 use vm_catalog::{LoadFault, Slot, load, publish, select_slot, slot_in_use, write_slot};
 use vm_disk::{DeviceFault, Disk, FuseDisk, MemDisk};
-use vm_types::{MAX_VERSIONS, Name};
+use vm_types::{Block, MAX_VERSIONS, Name};
 
 /// The name `n` and four digits.
 fn numbered(n: usize) -> Option<Name> {
@@ -23,7 +23,7 @@ fn top() -> Option<Entry> {
     })
 }
 
-/// `top`, and so many entries in all, the others children of `top`.
+/// `top` and its children, this many entries in all.
 fn family(alloc: Global, count: usize) -> Option<Vec<Entry>> {
     let top = top()?;
     let mut entries = Vec::new(alloc);
@@ -73,7 +73,7 @@ fn found<D: Disk>(disk: &mut D) -> Result<Option<SlotName>, DeviceFault> {
     slot_in_use(disk)
 }
 
-fn bytes_of<D: Disk>(disk: &mut D, n: u32) -> Result<[u8; 4096], DeviceFault> {
+fn bytes_of<D: Disk>(disk: &mut D, n: u32) -> Result<Block, DeviceFault> {
     let mut bytes = [0; 4096];
     if n < disk.blocks() {
         disk.read(n, &mut bytes)?;
@@ -93,7 +93,7 @@ fn set<D: Disk>(disk: &mut D, n: u32, at: usize, byte: u8) -> Result<(), DeviceF
     Ok(())
 }
 
-/// Whether slot A, written with these entries and then changed at one byte, is still a slot.
+/// Whether slot A, written with these entries and then changed in one byte, is still a slot.
 fn stands_after(
     alloc: Global,
     entries: &[Entry],
@@ -111,7 +111,7 @@ fn stands_after(
     }
 }
 
-/// These entries are those of slot B.
+/// These entries must be those of slot B.
 fn expect_loaded<R: AllocGlobal + Abort>(rt: &R, disk: &mut FuseDisk<MemDisk>, entries: &[Entry]) {
     match get(rt.alloc(), disk, SlotName::B) {
         Ok(slot) => {
@@ -124,7 +124,8 @@ fn expect_loaded<R: AllocGlobal + Abort>(rt: &R, disk: &mut FuseDisk<MemDisk>, e
     }
 }
 
-/// Entries are published over slot A in use, and loaded: so many blocks are written, and read.
+/// Publishes entries while slot A is in use, and loads them: this many blocks are written, and
+/// read.
 fn expect_published<R: AllocGlobal + Abort>(
     rt: &R,
     disk: &mut FuseDisk<MemDisk>,
@@ -163,7 +164,7 @@ fn slot_b_has_the_bytes_of_one_entry(rt: HostRuntime) -> Result<(), Fail> {
     Ok(())
 }
 
-/// This is the slot in use.
+/// This must be the slot in use.
 fn expect_found(rt: &impl Abort, disk: &mut MemDisk, due: Option<SlotName>) {
     match found(disk) {
         Ok(slot) => assert_eq!(rt; slot, due),
@@ -202,14 +203,14 @@ fn damaged_slots_are_refused(rt: HostRuntime) -> Result<(), Fail> {
         // No entries, and one more than a slot holds.
         (&one, 2, 12, 0, false),
         (&forty, 2, 13, 2, false),
-        // Formats: 0 and 3 are none, and 2 is one.
+        // Formats: 0 and 3 do not exist, and 2 does.
         (&one, 2, 4, 0, false),
         (&one, 2, 4, 3, false),
         (&forty, 2, 4, 2, true),
-        // A byte of the head that has to be zero, and a tag that is none, in the second block.
+        // A byte of the head that has to be zero, and an invalid tag in the second block.
         (&one, 2, 16, 1, false),
         (&forty, 3, 128, b'B', false),
-        // What stands behind the last entry is ignored.
+        // What follows the last entry is ignored.
         (&one, 2, 256, 255, true),
         (&forty, 3, 4095, 255, true),
     ] {

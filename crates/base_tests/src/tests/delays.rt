@@ -1,11 +1,11 @@
-//! Which blocks a disk that writes late has written, by hand.
+//! Which blocks a disk that delays writes has written, by hand.
 use super::script::{NEVER, Row, on_a_late_disk, plays};
 use super::seen::{cached, fused, late, memory, memory_with_room};
 use std::process::Abort;
 use std::test::Fail;
 use vm_disk::FuseDisk;
 
-/// Plays a row on a late disk over a disk in memory.
+/// Plays a row on a delayed disk over a disk in memory.
 fn plays_row<R: AllocGlobal + Abort>(rt: &R, row: &Row) -> Result<(), Fail> {
     let memory = memory_with_room(rt.alloc(), row.blocks, row.room)?;
     match row.fails {
@@ -187,7 +187,7 @@ fn late_disk_holds_and_writes_out_what_waits(rt: HostRuntime) -> Result<(), Fail
     Ok(())
 }
 
-/// Those over a cache of two blocks.
+/// Rows over a cache of two blocks.
 const OVER_A_CACHE: [Row; 2] = [
     Row {
         name: "a forgotten block takes no place in a cache below",
@@ -265,8 +265,8 @@ const ALL_WRITTEN: &str = "
     dirty 0 1 2 -> no no no
     holds 0 1 2 -> 1 2 3";
 
-/// The write of block 0 or 1, which go out to make room for block 2, that of block 2 at the sync,
-//// or the sync fails once. Call 2 is the read of block 0, whose room block 2 took.
+/// What fails once: the write of block 0 or 1, which go out to make room for block 2; the write of
+/// block 2 at the sync; or the sync. Call 2 is the read of block 0, whose frame block 2 took.
 const FAILING: [Row; 5] = [
     Row {
         name: "what waits outlives a write of block 0 that fails",
@@ -365,7 +365,7 @@ fn a_crash_below_loses_what_waits_alone(rt: HostRuntime) -> Result<(), Fail> {
         fill 2 4";
     plays(&rt, "before the crash", &mut disk, row);
 
-    // Block 0 went out, and was not synced. Block 2 still waits.
+    // Block 0 was written out, and not synced. Block 2 still waits.
     let mut left = disk.into_inner().crash(&[(0, [9; 4096]), (2, [9; 4096])]);
     plays(&rt, "after it", &mut left, "holds 0 1 2 3 -> 9 2 0 0");
     Ok(())

@@ -3,6 +3,7 @@ use super::script::plays;
 use super::seen::{fused, memory, memory_with_room};
 use std::test::Fail;
 use vm_disk::{Disk, FuseDisk, MemDisk};
+use vm_types::Block;
 
 /// Each row: its name, how many blocks the disk has and has room for, and its steps.
 const IN_MEMORY: [(&str, (u32, u32), &str); 5] = [
@@ -71,7 +72,7 @@ fn memory_holds_what_was_written(rt: HostRuntime) -> Result<(), Fail> {
     Ok(())
 }
 
-/// What is played on a disk that fails once, and then on the disk in memory below.
+/// Played on a disk that fails once, and then on the disk in memory below.
 struct FuseRow {
     name: &'static str,
     /// How many blocks the disk in memory has, and has room for.
@@ -205,8 +206,8 @@ fn crash_fills_dirty_blocks_alone(rt: HostRuntime) -> Result<(), Fail> {
     Ok(())
 }
 
-/// The disk after a crash that leaves so many blocks, if it may.
-fn left_with(disk: MemDisk, entries: &[(u32, [u8; 4096])], blocks: u32) -> Result<MemDisk, Fail> {
+/// The disk after a crash that leaves this many blocks, if it may.
+fn left_with(disk: MemDisk, entries: &[(u32, Block)], blocks: u32) -> Result<MemDisk, Fail> {
     if disk.sure() <= blocks && blocks <= disk.blocks() {
         return Ok(disk.crash_short(entries, blocks));
     }

@@ -6,9 +6,10 @@ use std::marker::Brand;
 use std::process::Abort;
 use std::test::Fail;
 use vm_disk::{DeviceFault, FileDisk, History, Positional, SystemFile};
+use vm_types::Block;
 
-/// A file in memory, of which contracts know how many calls failed, and no more. Where it is to
-/// fail, each call of it does, and zeros past its room are not written.
+/// A file in memory. Contracts know how many of its calls failed, and no more. When it is set to
+/// fail, every call fails. Zeros past its room are not written.
 #[derive(Drop)]
 struct Bytes {
     bytes: Vec<u8>,
@@ -18,7 +19,7 @@ struct Bytes {
 }
 
 /// Copies bytes from an offset on, unless they end before.
-fn copy_from(bytes: &[u8], offset: u64, into: &mut [u8; 4096]) -> Result<(), DeviceFault> {
+fn copy_from(bytes: &[u8], offset: u64, into: &mut Block) -> Result<(), DeviceFault> {
     for (k, to) in into.iter_mut().enumerate() {
         *to = *bytes
             .get((offset as usize).saturating_add(k))
@@ -48,7 +49,7 @@ impl Bytes {
     ghost use Rattle.std.specs.Prelude.{◌≡◌, ◌<◌, length, OnErr, OnOk};
     ghost use Rattle.vm_disk.specs.Past.{noted};
 
-    /// Hands an answer on, or a fault where each call is to fail. A fault is noted.
+    /// Returns an answer, or a fault if every call is set to fail. A fault is noted.
     fn told(&mut self, answer: Result<(), DeviceFault>) -> Result<(), DeviceFault>
         ensures fault { OnErr result (length (noted self.old.failed) < length (noted self.new.failed)) }
         ensures fine { OnOk result (noted self.new.failed ≡ noted self.old.failed) }
@@ -72,18 +73,18 @@ impl Positional for Bytes {
         Ok(self.bytes.len() as u64)
     }
 
-    fn read_at(&mut self, into: &mut [u8; 4096], offset: u64) -> Result<(), DeviceFault> {
+    fn read_at(&mut self, into: &mut Block, offset: u64) -> Result<(), DeviceFault> {
         let answer = copy_from(&self.bytes, offset, into);
         self.told(answer)
     }
 
-    fn write_at(&mut self, from: &[u8; 4096], offset: u64) -> Result<(), DeviceFault> {
+    fn write_at(&mut self, from: &Block, offset: u64) -> Result<(), DeviceFault> {
         self.told(Ok(()))?;
         let answer = set_all(&mut self.bytes, from, offset);
         self.told(answer)
     }
 
-    fn write_blocks_at(&mut self, from: &[[u8; 4096]], offset: u64) -> Result<(), DeviceFault> {
+    fn write_blocks_at(&mut self, from: &[Block], offset: u64) -> Result<(), DeviceFault> {
         self.told(Ok(()))?;
         let answer = set_all(&mut self.bytes, from.as_flattened(), offset);
         self.told(answer)
@@ -104,7 +105,7 @@ impl Positional for Bytes {
     }
 }
 
-/// A file of so many bytes: 1 in each byte of block 0, 2 in those of block 1, and so on.
+/// A file of this many bytes: 1 in each byte of block 0, 2 in those of block 1, and so on.
 fn numbered(alloc: Global, count: usize) -> Result<Bytes, AllocError> {
     let mut bytes = Vec::new(alloc);
     for k in 0..count {
@@ -123,7 +124,7 @@ fn over_numbered(alloc: Global, count: usize) -> Result<FileDisk<Bytes>, Fail> {
     FileDisk::open(numbered(alloc, count)?).map_err(|_| Fail::new("no disk"))
 }
 
-/// Plays a text on the disk over such a file, and gives what the file holds then.
+/// Plays a text on the disk over such a file, and returns what the file holds then.
 fn on_numbered<R: AllocGlobal + Abort>(rt: &R, count: usize, text: &str) -> Vec<u8> {
     match over_numbered(rt.alloc(), count) {
         Ok(mut disk) => {
@@ -222,7 +223,7 @@ fn file_that_fails(rt: HostRuntime) -> Result<(), Fail> {
 /// A file of the system.
 type OnSystem = SystemFile<Brand>;
 
-/// A disk of 17 blocks over a file that is made.
+/// A disk of 17 blocks over a new file.
 fn made(rt: &HostRuntime, path: &str) -> Result<FileDisk<OnSystem>, Fail> {
     match OnSystem::create(rt, path, &History::new()) {
         Some(file) => FileDisk::create(file, 17).map_err(|_| Fail::new("not written")),
@@ -230,7 +231,7 @@ fn made(rt: &HostRuntime, path: &str) -> Result<FileDisk<OnSystem>, Fail> {
     }
 }
 
-/// A disk over a file that is there.
+/// A disk over an existing file.
 fn opened(rt: &HostRuntime, path: &str) -> Result<FileDisk<OnSystem>, Fail> {
     let mut opened = History::new();
     opened.note(&());
@@ -240,7 +241,7 @@ fn opened(rt: &HostRuntime, path: &str) -> Result<FileDisk<OnSystem>, Fail> {
     }
 }
 
-/// The same to be read alone.
+/// The same, read only.
 fn opened_to_read(rt: &HostRuntime, path: &str) -> Result<FileDisk<OnSystem>, Fail> {
     match OnSystem::open_to_read(rt, path, &History::new()) {
         Some(file) => FileDisk::open(file).map_err(|_| Fail::new("not measured")),
@@ -248,7 +249,7 @@ fn opened_to_read(rt: &HostRuntime, path: &str) -> Result<FileDisk<OnSystem>, Fa
     }
 }
 
-/// Whether a file is there that can be opened so.
+/// Whether there is a file that can be opened this way.
 fn is_opened(rt: &HostRuntime, path: &str) -> bool {
     OnSystem::open(rt, path, &History::new()).is_some()
 }

@@ -1,10 +1,11 @@
-//! Inner blocks: their bytes, bytes that are none, the way down, and a child replaced.
+//! Inner blocks: their bytes, bytes that are not one, the descent, and a child replaced.
 use super::spelled::{is_block, key};
 use std::process::Abort;
 use vm_block::{
     Child, Way, child_at, divide_child, find_child, lowest_key, node_size, read_leaf, read_node,
     rows_size, set_child, write_node,
 };
+use vm_types::Block;
 
 fn child(table: u16, number: u64, block: u32) -> Child {
     Child {
@@ -14,7 +15,7 @@ fn child(table: u16, number: u64, block: u32) -> Child {
 }
 
 /// Whether a block is an inner block of this level and these children.
-fn has(block: &[u8; 4096], level: u8, children: &[Child]) -> bool {
+fn has(block: &Block, level: u8, children: &[Child]) -> bool {
     match read_node(block) {
         Some(node) => node.level == level && node.children.as_slice() == children,
         None => false,
@@ -45,7 +46,7 @@ fn inner_block_with_one_child_is_read(rt: HostRuntime) {
     assert!(rt; read_node(&block).is_some());
 }
 
-/// Whether the inner block of two children is none once this byte is put at this place.
+/// Whether the inner block of two children is no longer one with this byte at this offset.
 fn is_refused_with(rt: &impl Abort, at: usize, byte: u8) -> bool {
     let mut block = [0; 4096];
     write_node(7, &[child(1, 1, 35), child(1, 10, 36)], &mut block);

@@ -1,10 +1,11 @@
-//! Leaves: their bytes, bytes that are none, and a row put in one.
+//! Leaves: their bytes, bytes that are not one, and a row put into one.
 use super::spelled::{is_block, is_leaf, key};
 use std::process::Abort;
 use vm_block::{
     Placed, Stored, find_row, lowest_key, node_size, put_row, read_leaf, read_node, record_key,
     record_value, rows_size, stored_at, write_leaf,
 };
+use vm_types::Block;
 
 #[test]
 fn leaf_is_spelled_and_read(rt: HostRuntime) {
@@ -23,7 +24,7 @@ fn leaf_is_spelled_and_read(rt: HostRuntime) {
 }
 
 /// A leaf of two rows.
-fn two_rows() -> [u8; 4096] {
+fn two_rows() -> Block {
     let mut block = [0; 4096];
     let rows = [
         (key(7, 1), Stored::Short(b"duct")),
@@ -33,7 +34,7 @@ fn two_rows() -> [u8; 4096] {
     block
 }
 
-/// Whether the leaf of two rows is none once this byte is put at this place.
+/// Whether the leaf of two rows is no longer one with this byte at this offset.
 fn is_refused_with(rt: &impl Abort, at: usize, byte: u8) -> bool {
     let mut block = two_rows();
     assert!(rt; at < 4096);
@@ -65,13 +66,14 @@ fn bytes_that_are_no_leaf_are_refused(rt: HostRuntime) {
     }
 }
 
-/// What comes of a row of table 7 with a value of four bytes, in a leaf of three at most.
-fn put(block: &mut [u8; 4096], number: u64, value: &[u8; 4]) -> Placed {
+/// What becomes of a row of table 7 with a value of four bytes, put into a leaf of at most three
+/// rows.
+fn put(block: &mut Block, number: u64, value: &[u8; 4]) -> Placed {
     put_row(block, 3, key(7, number), Stored::Short(value))
 }
 
 /// Whether the leaf has this value at table 7 and this number.
-fn is_found(block: &[u8; 4096], number: u64, due: &[u8]) -> bool {
+fn is_found(block: &Block, number: u64, due: &[u8]) -> bool {
     find_row(block, key(7, number)) == Some(Some(Stored::Short(due)))
 }
 

@@ -7,7 +7,7 @@ use vm_types::{Change, Changes, Conflict, Conflicts, Key, Value};
 
 const LONG: [u8; 4000] = [7; 4000];
 
-/// A record put in, one changed, one taken out, and one that is empty before.
+/// A record added, one changed, one removed, and one that is empty before.
 fn some_changes(alloc: Global) -> Result<Changes, AllocError> {
     let mut changes = Changes::new(alloc);
     changes.push(key(1, 9), None, Some(b"duct"))?;
@@ -17,7 +17,8 @@ fn some_changes(alloc: Global) -> Result<Changes, AllocError> {
     Ok(changes)
 }
 
-/// A record that the alternative took out, one that both put in, and one that both changed, or one of them.
+/// A record that the alternative removed, one that both added, and one that both changed, or one of
+/// them.
 fn some_conflicts(alloc: Global) -> Result<Conflicts, AllocError> {
     let mut conflicts = Conflicts::new(alloc);
     conflicts.push(key(1, 9), Some(b"a"), Some(&LONG), None)?;
@@ -35,7 +36,7 @@ fn change(key: Key, before: Option<&[u8]>, after: Option<&[u8]>) -> Change {
     }
 }
 
-/// What the list of changes is to have.
+/// The expected list of changes.
 fn due_changes() -> [Change; 4] {
     [
         change(key(1, 9), None, Some(b"duct")),
@@ -55,7 +56,7 @@ fn conflict(key: Key, base: Option<&[u8]>, parent: Option<&[u8]>, mine: Option<&
     }
 }
 
-/// What the list of conflicts is to have.
+/// The expected list of conflicts.
 fn due_conflicts() -> [Conflict; 3] {
     [
         conflict(key(1, 9), Some(b"a"), Some(&LONG), None),
@@ -84,7 +85,7 @@ fn new_lists_are_empty(rt: HostRuntime) -> Result<(), Fail> {
     Ok(())
 }
 
-/// The change at i is this one, by its parts and whole.
+/// Change `i` must be this one, by its parts and as a whole.
 fn expect_change(rt: &impl Abort, changes: &Changes, i: usize, due: Change) {
     assert!(rt; i < changes.len(), "no change {i}");
     let given = change(changes.key(i), changes.before(i), changes.after(i));
@@ -103,7 +104,7 @@ fn changes_are_given_in_the_order_of_the_pushes(rt: HostRuntime) -> Result<(), F
     Ok(())
 }
 
-/// How many changes are walked until one is another than is due.
+/// How many changes the walk passes until one is not the expected one.
 fn walked_changes(changes: &Changes, due: &[Change]) -> usize {
     let mut walked = 0;
     for (key, before, after) in changes {
@@ -130,7 +131,7 @@ fn changes_are_the_same_in_a_vec(rt: HostRuntime) -> Result<(), Fail> {
     Ok(())
 }
 
-/// The conflict at i is this one, by its parts and whole.
+/// Conflict `i` must be this one, by its parts and as a whole.
 fn expect_conflict(rt: &impl Abort, conflicts: &Conflicts, i: usize, due: Conflict) {
     assert!(rt; i < conflicts.len(), "no conflict {i}");
     let (base, parent) = (conflicts.base(i), conflicts.parent(i));
@@ -150,7 +151,7 @@ fn conflicts_are_given_in_the_order_of_the_pushes(rt: HostRuntime) -> Result<(),
     Ok(())
 }
 
-/// How many conflicts are walked until one is another than is due.
+/// How many conflicts the walk passes until one is not the expected one.
 fn walked_conflicts(conflicts: &Conflicts, due: &[Conflict]) -> usize {
     let mut walked = 0;
     for (key, base, parent, mine) in conflicts {

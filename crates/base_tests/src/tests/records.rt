@@ -5,7 +5,7 @@ use std::process::Abort;
 use std::test::Fail;
 use vm_types::{Key, Records, Value};
 
-/// Values of 0, 4,000 and 4 bytes, with an empty one behind them.
+/// Values of 0, 4,000 and 4 bytes, and then an empty one.
 fn some_records(alloc: Global) -> Result<Records, AllocError> {
     let mut records = Records::new(alloc);
     records.push(key(1, 9), b"")?;
@@ -20,7 +20,7 @@ fn record(key: Key, bytes: &[u8]) -> (Key, Value) {
     (key, Value::new(bytes).unwrap_or_default())
 }
 
-/// What the list is to have.
+/// The expected list.
 fn due_records() -> [(Key, Value); 4] {
     [
         record(key(1, 9), b""),
@@ -43,7 +43,7 @@ fn new_list_is_empty(rt: HostRuntime) -> Result<(), Fail> {
     Ok(())
 }
 
-/// The record at i is this one, by its parts and whole.
+/// Record `i` must be this one, by its parts and as a whole.
 fn expect_record(rt: &impl Abort, records: &Records, i: usize, due: (Key, Value)) {
     assert!(rt; i < records.len(), "no record {i}");
     assert_eq!(rt; records.key(i), due.0, "record {i}");
@@ -72,7 +72,7 @@ fn records_are_given_in_the_order_of_the_pushes(rt: HostRuntime) -> Result<(), F
     Ok(())
 }
 
-/// How many records are walked until one is another than is due.
+/// How many records the walk passes until one is not the expected one.
 fn walked(records: &Records, due: &[(Key, Value)]) -> usize {
     let mut walked = 0;
     for (key, value) in records {

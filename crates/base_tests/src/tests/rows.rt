@@ -6,8 +6,9 @@ use vm_block::{
     Link, Placed, Stored, Taken, find_row, put_row, read_leaf, read_long, read_node, record_key,
     remove_row, rows_size, split_rows, stored_at, write_leaf, write_long,
 };
+use vm_types::Block;
 
-/// Where a value of 300 bytes stands.
+/// The link to a value of 300 bytes.
 fn link() -> Stored<'static>
     ensures { StoredFits result }
 {
@@ -30,7 +31,7 @@ fn long_value_is_spelled_and_read(rt: HostRuntime) {
     assert!(rt; read_node(&block).is_none());
 }
 
-/// Whether a block of zero bytes behind the head of a long value of so many is read.
+/// Whether a block of zero bytes after the head of a long value of this length can be read.
 fn is_long(len: u16) -> bool {
     let mut block = [0; 4096];
     write_long(key(7, 1), &[0; 300], &mut block);
@@ -38,7 +39,7 @@ fn is_long(len: u16) -> bool {
     read_long(&block).is_some()
 }
 
-/// Whether the block of a long value is read once this byte is put at this place.
+/// Whether the block of a long value can be read with this byte at this offset.
 fn is_read_with(at: usize, byte: u8) -> bool {
     let mut block = [0; 4096];
     write_long(key(7, 1), &[0; 300], &mut block);
@@ -65,9 +66,8 @@ fn bytes_that_are_no_long_value_are_refused(rt: HostRuntime) {
     }
 }
 
-/// Whether a block is the leaf of the one row that is a link, which is found by its place and its
-/// key.
-fn has_the_link_alone(block: &[u8; 4096]) -> bool {
+/// Whether a block is the leaf whose only row is a link, found both by its index and by its key.
+fn has_the_link_alone(block: &Block) -> bool {
     is_leaf(block, &[(key(7, 1), link())])
         && stored_at(block, 0) == Some(link())
         && find_row(block, key(7, 1)) == Some(Some(link()))
@@ -86,7 +86,7 @@ fn long_row_is_spelled_and_read(rt: HostRuntime) {
     assert!(rt; read_long(&block).is_none());
 }
 
-/// How many rows a leaf with a link has, counted and read, once these bytes are put at this place.
+/// How many rows a leaf with a link has, counted and read, with these bytes at this offset.
 fn rows_with(at: usize, bytes: &[u8]) -> Option<usize> {
     let mut block = [0; 4096];
     write_leaf(&[(key(7, 1), link())], &mut block);

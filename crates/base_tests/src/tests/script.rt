@@ -1,21 +1,21 @@
 //! Scripts: lines of steps, each with its answer, played over a disk.
 //!
-//! A line is a step, and behind ` -> ` its answer, which is `ok` where the line says none. A call that fails is
-//! answered `fault`. A line that begins with `#` is a comment.
+//! A line is a step, and after ` -> ` comes its answer, which is `ok` if the line gives none. A
+//! call that fails is answered `fault`. A line that begins with `#` is a comment.
 //!
 //! | Step | Answer |
 //! |---|---|
 //! | `fill 2 7` | `ok`: each byte of block 2 is 7 from here on |
-//! | `run 1 6 7 8` | `ok`: the same of the blocks 1, 2 and 3, in one call |
-//! | `forget 1` | `ok`: what block 1 holds is not needed |
-//! | `grow 5` | `ok`: the disk has so many blocks |
+//! | `run 1 6 7 8` | `ok`: the same for blocks 1, 2 and 3, in one call |
+//! | `forget 1` | `ok`: the contents of block 1 are not needed |
+//! | `grow 5` | `ok`: the disk has this many blocks |
 //! | `sync` | `ok` |
 //! | `holds 0 2` | `0 7`: the byte that fills each of these blocks, or `mixed` |
-//! | `hand 0 2` | `0 7`: the same, of each block at hand |
-//! | `once 0 2` | `0 7`: the same, where each is needed once |
+//! | `hand 0 2` | `0 7`: the same, for each block as loaded |
+//! | `once 0 2` | `0 7`: the same, with each loaded by `Once` |
 //! | `is 2 7` | `yes`: whether each byte of block 2 is 7 |
-//! | `blocks` | `5`: how many the disk has |
-//! | `sure` | `3`: how many of the disk in memory below a crash leaves at least |
+//! | `blocks` | `5`: how many blocks the disk has |
+//! | `sure` | `3`: how many blocks of the disk in memory below a crash leaves at least |
 //! | `dirty 1 2` | `no yes`: which blocks of that disk are not synced |
 //! | `calls` | `5`: how many calls the fuse over it has had |
 //! | `blown` | `no`: whether the fuse has failed one of them |
@@ -24,15 +24,16 @@ use std::alloc::{AllocError, Global};
 use std::fmt;
 use std::process::Abort;
 use vm_disk::{DeviceFault, Disk, Need};
+use vm_types::Block;
 
 /// Why a step has no answer of its own.
 #[derive(Clone, Copy, Debug, PartialEq, Eq)]
 enum Wrong {
-    /// No memory for the script itself.
+    /// Memory for the script itself could not be allocated.
     Memory,
     /// The call that the step makes failed.
     Device,
-    /// The step is none, or asks for what the disk does not have.
+    /// There is no such step, or it asks for what the disk does not have.
     Unreadable,
 }
 
@@ -62,12 +63,12 @@ fn byte(word: &str) -> Result<u8, Wrong> {
     word.parse::<u8>().map_err(|_| Wrong::Unreadable)
 }
 
-/// The bytes of a block that this one fills.
-fn block(word: &str) -> Result<[u8; 4096], Wrong> {
+/// The bytes of a block filled with this byte.
+fn block(word: &str) -> Result<Block, Wrong> {
     Ok([byte(word)?; 4096])
 }
 
-fn fill<D: Disk>(disk: &mut D, n: u32, bytes: &[u8; 4096]) -> Result<(), Wrong> {
+fn fill<D: Disk>(disk: &mut D, n: u32, bytes: &Block) -> Result<(), Wrong> {
     if n >= disk.blocks() {
         return Err(Wrong::Unreadable);
     }
@@ -76,7 +77,7 @@ fn fill<D: Disk>(disk: &mut D, n: u32, bytes: &[u8; 4096]) -> Result<(), Wrong> 
 }
 
 /// Fills three blocks in a row, from block n on, in one call.
-fn fill_run<D: Disk>(disk: &mut D, n: u32, bytes: &[[u8; 4096]; 3]) -> Result<(), Wrong> {
+fn fill_run<D: Disk>(disk: &mut D, n: u32, bytes: &[Block; 3]) -> Result<(), Wrong> {
     if n >= disk.blocks() || 3 > disk.blocks() - n {
         return Err(Wrong::Unreadable);
     }
@@ -100,7 +101,7 @@ fn grow<D: Disk>(disk: &mut D, blocks: u32) -> Result<(), Wrong> {
     Ok(())
 }
 
-/// Carries out a step that changes the disk. Whether these words are one.
+/// Carries out a step that changes the disk. Tells whether these words are one.
 fn change<D: Disk>(disk: &mut D, words: &[&str]) -> Result<bool, Wrong> {
     match words {
         ["fill", n, byte] => fill(disk, number(n)?, &block(byte)?)?,
@@ -116,13 +117,13 @@ fn change<D: Disk>(disk: &mut D, words: &[&str]) -> Result<bool, Wrong> {
     Ok(true)
 }
 
-/// The byte that fills these, if it is one byte.
-fn byte_in(bytes: &[u8; 4096]) -> Option<u8> {
+/// The byte that fills these, if there is one.
+fn byte_in(bytes: &Block) -> Option<u8> {
     let first = bytes[0];
     bytes.iter().all(|byte| *byte == first).then_some(first)
 }
 
-/// The byte that fills a block, as it is read.
+/// The byte that fills a block, as read.
 fn filling<D: Disk>(disk: &mut D, n: u32) -> Result<Option<u8>, Wrong> {
     let mut bytes = [0; 4096];
     if n >= disk.blocks() {
@@ -132,7 +133,7 @@ fn filling<D: Disk>(disk: &mut D, n: u32) -> Result<Option<u8>, Wrong> {
     Ok(byte_in(&bytes))
 }
 
-/// The same, as it is at hand.
+/// The same, as loaded.
 fn filling_at_hand<D: Disk>(disk: &mut D, n: u32, need: Need) -> Result<Option<u8>, Wrong> {
     if n >= disk.blocks() {
         return Err(Wrong::Unreadable);
@@ -182,7 +183,7 @@ fn count<D: Seen>(disk: &D, of: &str) -> Option<u32> {
     }
 }
 
-/// Adds what the disk holds to a text.
+/// Appends what the disk holds to a text.
 fn look<D: Seen>(disk: &mut D, words: &[&str], text: &mut String) -> Result<(), Wrong> {
     match words {
         ["holds", blocks @ ..] => fillings(disk, blocks, None, text),
@@ -208,7 +209,7 @@ fn look<D: Seen>(disk: &mut D, words: &[&str], text: &mut String) -> Result<(), 
     }
 }
 
-/// Adds what a step is answered to a text.
+/// Appends the answer to a step to a text.
 fn answer<D: Seen>(disk: &mut D, words: &[&str], text: &mut String) -> Result<(), Wrong> {
     if change(disk, words)? {
         text.push_str("ok")?;
@@ -217,7 +218,7 @@ fn answer<D: Seen>(disk: &mut D, words: &[&str], text: &mut String) -> Result<()
     look(disk, words, text)
 }
 
-/// Plays a step. Its answer comes into the text.
+/// Plays a step. Appends its answer to the text.
 fn play<D: Seen>(alloc: Global, disk: &mut D, step: &str, text: &mut String) -> Result<(), Wrong> {
     let words: Vec<&str> = step.split_whitespace().collect(alloc)?;
     match answer(disk, &words, text) {
@@ -245,15 +246,15 @@ pub(super) fn plays<D: Seen, R: AllocGlobal + Abort>(rt: &R, name: &str, disk: &
 /// More calls than any row makes.
 pub(super) const NEVER: u32 = 99;
 
-/// What is played on a cache of a disk or on a late disk, and then on the disk in memory below.
+/// Played on a cache of a disk or on a delayed disk, and then on the disk in memory below.
 pub(super) struct Row {
     pub(super) name: &'static str,
     /// How many blocks the disk in memory has, and has room for.
     pub(super) blocks: u32,
     pub(super) room: u32,
-    /// Which of its calls fails, by its number from 0 on, where they are counted.
+    /// Which of its calls fails, by its number from 0 on, if they are counted.
     pub(super) fails: Option<u32>,
-    /// How many blocks the cache keeps, or may wait.
+    /// How many blocks the cache keeps, or how many may wait.
     pub(super) capacity: usize,
     pub(super) steps: &'static str,
     pub(super) below: &'static str,
@@ -270,7 +271,7 @@ pub(super) fn on_a_cache<D: OverMemory, R: AllocGlobal + Abort>(rt: &R, inner: D
     }
 }
 
-/// The same on a late disk over it.
+/// The same on a delayed disk over it.
 pub(super) fn on_a_late_disk<D: OverMemory, R: AllocGlobal + Abort>(rt: &R, inner: D, row: &Row) {
     match late(rt.alloc(), inner, row.capacity) {
         Ok(mut disk) => {

@@ -1,9 +1,10 @@
-//! Disks to be played on, and what stands below them.
+//! Disks to be played on, and what is below them.
 use std::alloc::Global;
 use std::test::Fail;
 use vm_disk::{CachedDisk, DelayedDisk, Disk, FileDisk, FuseDisk, MemDisk, Positional};
+use vm_types::Block;
 
-/// A disk, and what may stand below it to be looked at.
+/// A disk, and what may be below it to look at.
 pub(super) trait Seen: Disk {
     /// The disk in memory below it.
     fn memory(&self) -> Option<&MemDisk>;
@@ -62,7 +63,7 @@ impl<F: Positional> Seen for FileDisk<F> {
     }
 }
 
-/// A disk that has one in memory below it, to be played on alone.
+/// A disk that has one in memory below it, which can be played on alone.
 pub(super) trait OverMemory: Seen + Drop + Sized {
     /// The disk in memory.
     fn below(self) -> MemDisk;
@@ -86,7 +87,7 @@ impl OverMemory for CachedDisk<FuseDisk<MemDisk>> {
     }
 }
 
-/// A disk in memory of so many blocks.
+/// A disk in memory of this many blocks.
 pub(super) fn memory(alloc: Global, blocks: u32) -> Result<MemDisk, Fail> {
     Ok(MemDisk::new(alloc, blocks)?)
 }
@@ -100,18 +101,14 @@ pub(super) fn memory_with_room(alloc: Global, blocks: u32, room: u32) -> Result<
 }
 
 /// A disk in memory that counts its calls, and fails one of them, by its number from 0 on.
-pub(super) fn fused(
-    memory: MemDisk,
-    call: u32,
-    torn: [u8; 4096],
-) -> Result<FuseDisk<MemDisk>, Fail> {
+pub(super) fn fused(memory: MemDisk, call: u32, torn: Block) -> Result<FuseDisk<MemDisk>, Fail> {
     if call == u32::MAX {
         return Err(Fail::new("too many calls"));
     }
     Ok(FuseDisk::once(memory, call, torn))
 }
 
-/// A cache of so many blocks of a disk.
+/// A cache of this many blocks over a disk.
 pub(super) fn cached<D: Disk + Drop>(
     alloc: Global,
     inner: D,
@@ -125,7 +122,7 @@ pub(super) fn cached<D: Disk + Drop>(
     Err(Fail::new("no memory"))
 }
 
-/// A late disk over this one with so many blocks that may wait.
+/// A delayed disk over this one, on which this many blocks may wait.
 pub(super) fn late<D: Disk + Drop>(
     alloc: Global,
     inner: D,

@@ -1,11 +1,11 @@
-//! The head of a slot and its entries, byte for byte, and bytes that are none.
+//! The head of a slot and its entries, byte for byte, and bytes that are not one.
 use super::spelled::name;
 use std::process::Abort;
 use vm_block::{
     Entry, Kind, SlotFormat, SlotHead, read_entry, read_slot_head, write_entry, write_slot_head,
 };
 
-/// The head of a slot of format 1 and of one entry, in a store of 64 blocks.
+/// The head of a slot of format 1 with one entry, in a store of 64 blocks.
 const HEAD: SlotHead = SlotHead {
     format: SlotFormat::One,
     blocks: 64,
@@ -36,7 +36,7 @@ fn head_of_a_slot_is_spelled_and_read(rt: HostRuntime) {
     }
 }
 
-/// Whether the head of a slot is none once this byte is put at this place.
+/// Whether the head of a slot is no longer one with this byte at this offset.
 fn head_is_refused_with(at: usize, byte: u8) -> bool {
     let mut bytes = [0; 128];
     write_slot_head(HEAD, &mut bytes);
@@ -85,7 +85,8 @@ fn entry_is_spelled_and_read(rt: HostRuntime) {
     assert_eq!(rt; read_entry(&bytes), Some(entry));
 }
 
-/// Whether the entry of the checkpoint `now` of `top` is none once this byte is put at this place.
+/// Whether the entry of the checkpoint `now` of `top` is no longer one with this byte at this
+/// offset.
 fn entry_is_refused_with(rt: &impl Abort, at: usize, byte: u8) -> bool {
     let entry = Entry {
         kind: Kind::Checkpoint,

@@ -6,7 +6,7 @@ use Rattle.vm_disk.proofs.MomentLemmas.{reads_then, same_medium}
 use Rattle.vm_block.specs.Slot.{IsLedger, used_blocks}
 use Rattle.vm_catalog.specs.Place.{blocks_from, slot_at}
 use Rattle.vm_catalog.specs.Catalog.{SlotAt}
-use Rattle.vm_catalog.specs.Reading.{BeginsSlot}
+use Rattle.vm_catalog.specs.SlotReads.{BeginsSlot}
 use Rattle.vm_catalog.proofs.ReadingLemmas.{loaded, loaded_one, loads_fault}
 use Rattle.vm_catalog.proofs.reader.load.Goals as goal
 

@@ -1,5 +1,5 @@
 use Rattle.std.proofs.Common.{◌≡◌, ◌+◌, vec_len, vec_capacity}
-use Rattle.vm_catalog.specs.Reading.{HasTaken}
+use Rattle.vm_catalog.specs.SlotReads.{HasTaken}
 use Rattle.vm_catalog.proofs.reader.read_entries.Given as goal
 
 -- the entries so far were read, and the room is as it was

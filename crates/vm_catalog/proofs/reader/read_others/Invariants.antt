@@ -1,7 +1,7 @@
 use Rattle.std.proofs.Common.{◌≡◌, ◌+◌, ◌≤◌, true, vec_capacity}
 use Rattle.vm_disk.specs.Moments.{OnlyReads}
 use Rattle.vm_catalog.specs.Place.{blocks_from, slot_at}
-use Rattle.vm_catalog.specs.Reading.{FitsSoFar, BeginsSlot}
+use Rattle.vm_catalog.specs.SlotReads.{FitsSoFar, BeginsSlot}
 use Rattle.vm_catalog.proofs.reader.read_others.Given as goal
 
 -- the blocks so far were read, and their entries fit

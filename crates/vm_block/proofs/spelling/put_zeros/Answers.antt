@@ -1,7 +1,0 @@
-use Rattle.std.proofs.Common.{rules}
-use Rattle.vm_block.specs.Padding.{zeros}
-use Rattle.vm_block.proofs.spelling.put_zeros.Goals as goal
-
-pub returns : goal.returns
-unfolding zeros
-returns c = search rules
