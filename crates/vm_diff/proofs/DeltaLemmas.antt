@@ -1,9 +1,10 @@
 -- The differences of records with rising keys, by their first ones.
-use Rattle.std.proofs.Common.{◌≡◌, ℕ, ◌+◌, true, cond, List, [], ◌∷◌, ◌++◌, Option, Some, None, refl, ap, ◌∙◌, arith, zero-le}
+use Rattle.std.proofs.Common.{◌≡◌, ℕ, ◌+◌, true, false, cond, List, [], ◌∷◌, ◌++◌, Option, Some, None, refl, ap, ◌∙◌, arith, zero-le}
 use Rattle.std.specs.List.{cons_option}
 use Rattle.vm_types.specs.declared.key.Key.{Key}
 use Rattle.vm_types.specs.declared.change.Change.{Change}
 use Rattle.vm_types.specs.Map.{delta}
+use Rattle.vm_types.specs.Parts.{is_within, part}
 use Rattle.vm_types.specs.Places.{place, KeyFits, FitKeys, RisesFrom, places}
 use Rattle.vm_types.proofs.Bridge.{IsMap-rising_from, RisesFrom-lower}
 use Rattle.vm_types.proofs.ChangeLemmas.{is_below, is_below-head, change_of, delta-left, delta-right, delta-both}
@@ -54,3 +55,25 @@ shared_front (r ∷ s) rs qs h g =
     first_both r.0 r.1 r.1 (s ++ rs) (s ++ qs) h g
     ∙ ap (λ o. cons_option o (delta (s ++ rs) (s ++ qs))) (unchanged r.0 (Some r.1))
     ∙ shared_front s rs qs (rising_rest r (s ++ rs) h) (rising_rest r (s ++ qs) g)
+
+-- ---- rising records of a part
+
+module _ (low high : ℕ) where
+  pub rises_part : (n : ℕ) (rs : List Record) → RisesFrom n (places rs) → RisesFrom n (places (part low high rs))
+  rises_part n [] rises = tt
+  rises_part n (r ∷ rs) rises =
+      elim (is_within low high r.0) as (λ t. RisesFrom n (places (cond t (r ∷ part low high rs) (part low high rs)))) [
+        | true ↦ (rises.0, rises_part (place r.0 + 1) rs rises.1)
+        | false ↦ RisesFrom-lower n (place r.0 + 1) (places (part low high rs)) (omega (arith, rises.0)) (rises_part (place r.0 + 1) rs rises.1)
+      ]
+
+  fits_part : (rs : List Record) → FitKeys rs → FitKeys (part low high rs)
+  fits_part [] fit = tt
+  fits_part (r ∷ rs) fit =
+      elim (is_within low high r.0) as (λ t. FitKeys (cond t (r ∷ part low high rs) (part low high rs))) [
+        | true ↦ (fit.0, fits_part rs fit.1)
+        | false ↦ fits_part rs fit.1
+      ]
+
+  pub rising_part : (rs : List Record) → AreRising rs → AreRising (part low high rs)
+  rising_part rs h = record { rising = rises_part 0 rs h.rising; fit = fits_part rs h.fit }

@@ -1,5 +1,6 @@
 pub mod RowLemmas
 pub mod CursorLemmas
+pub mod CutLemmas
 pub mod OpenLemmas
 pub mod DeltaLemmas
 pub mod SharedLemmas

@@ -1,5 +1,5 @@
 -- What is ahead of a walk once it has opened a subtree, and that this is less.
-use Rattle.std.proofs.Common.{◌≡◌, ℕ, zero, suc, ◌+◌, ◌-◌, ◌*◌, ◌<◌, ◌≤◌, List, [], ◌∷◌, ◌++◌, length, drop, Some, None, Result, Ok, Err, refl, sym, ap, ◌∙◌, subst, arith, append_assoc}
+use Rattle.std.proofs.Common.{◌≡◌, inl, inr, ℕ, zero, suc, ◌+◌, ◌-◌, ◌*◌, ◌<◌, ◌≤◌, ◌||◌, nat_le, Bool, true, List, [], ◌∷◌, ◌++◌, length, drop, Some, None, Result, Ok, Err, refl, sym, ap, ap₂, ◌∙◌, subst, arith, append_assoc}
 use Rattle.std.specs.Prelude.{⊤, OnOk}
 use Rattle.vm_types.specs.declared.key.Key.{Key}
 use Rattle.vm_disk.specs.Disk.{Contents, block}
@@ -8,19 +8,30 @@ use Rattle.vm_block.specs.declared.stored.Link.{Link}
 use Rattle.vm_block.specs.Node.{IsNode}
 use Rattle.vm_block.specs.declared.node.Child.{Child}
 use Rattle.vm_tree.specs.Tree.{Sizes, Children, Subtree}
-use Rattle.vm_tree.specs.Reading.{IsLongAt, IsNodeAt}
+use Rattle.vm_tree.specs.BlockReads.{IsLongAt, IsNodeAt}
 use Rattle.vm_tree.specs.Answers.{OkOrDevice}
 use Rattle.vm_tree.specs.declared.root.Root.{Root}
 use Rattle.vm_tree.specs.declared.faults.TreeFault.{TreeFault}
-use Rattle.vm_tree.proofs.TreeLemmas.{leaf_opens, node_opens}
-use Rattle.vm_diff.specs.Walk.{Walk, IsAhead, Under, size, tops_of, weight, weight_of}
+use Rattle.std.specs.List.{AllByRecursion, list_any}
+use Rattle.std.proofs.lemmas.Bool.{and_from, cases_lt, le-leb}
+use Rattle.vm_types.specs.Parts.{is_within, part}
+use Rattle.vm_types.specs.Places.{RisesFrom, place, places}
+use Rattle.vm_block.proofs.EachLemmas.{each_back, each_front, each_join, each_so}
+use Rattle.vm_tree.specs.Over.{beside_over, children_over, is_between, only_if, subtree_over, top_over}
+use Rattle.vm_tree.specs.Spent.{reads_aside}
+use Rattle.vm_tree.proofs.OverLemmas.{aside_few, aside_none, aside_some, leaf_over, node_over}
+use Rattle.vm_tree.proofs.Rising.{rises_above, rises_front}
+use Rattle.vm_diff.specs.Cuts.{CutsChildren, CutsEntries}
+use Rattle.vm_diff.specs.Walk.{Walk, IsAhead, Under, into_tops, size, tops_of, weight, weight_of}
 use Rattle.vm_diff.specs.Front.{first_of, front_of}
-use Rattle.vm_diff.specs.Differ.{Passes}
+use Rattle.vm_diff.specs.Differ.{AreRising, Enters, IsIn, Passes, aside}
 use Rattle.vm_diff.specs.Front.Front.{Pair, Far, Top}
-use Rattle.vm_diff.specs.Entry.{Entry, EntriesFor, IsBehind, steps_past}
+use Rattle.vm_diff.specs.Entry.{Entry, EntriesFor, IsBehind, key_of_entry, steps_past}
 use Rattle.vm_diff.specs.Entry.Entry.{Own, Linked}
 use Rattle.vm_diff.specs.Rows.{entries_from}
 use Rattle.vm_diff.specs.Opened.{HasRowsAt}
+use Rattle.vm_diff.proofs.ApartLemmas.{own_none}
+use Rattle.vm_diff.proofs.CutLemmas.{children_cut, entries_cut, part_cut, rising_cut, under_tops}
 use Rattle.vm_diff.proofs.RowLemmas.{entries_stand}
 
 -- ---- what a walk stands before
@@ -142,127 +153,217 @@ weight_less (t ∷ front) ts some = omega (arith, weight_back front ts, weight_s
 -- ---- what is ahead
 
 -- the first subtree ahead, and what comes after it
-pub record TopAhead (sizes : Sizes) (x : Contents) (limit : ℕ) (top : Root) (ts : List Root) (rs : List Record) (bs : List ℕ) : Type 0 where
+pub record TopAhead (test : ℕ → Bool) (sizes : Sizes) (x : Contents) (limit : ℕ) (top : Root) (ts : List Root) (rs : List Record) (bs : List ℕ) : Type 0 where
   pub sub : List Record
   pub rest : List Record
   pub own : List ℕ
   pub others : List ℕ
   pub subtree : Subtree sizes x limit top.level top.block sub own
   pub begins : BeginsWith top.low sub
-  pub after : Under sizes x limit ts rest others
+  pub after : Under test sizes x limit ts rest others
   pub records : rs ≡ sub ++ rest
-  pub blocks : bs ≡ own ++ others
+  pub blocks : bs ≡ subtree_over test sizes x limit top.level top.block sub own subtree ++ others
 
-module _ (sizes : Sizes) (x : Contents) (limit : ℕ) where
-  pub top_ahead : (walk : Walk) (top : Root) (rs : List Record) (bs : List ℕ) → front_of walk ≡ Top top → IsAhead sizes x limit walk rs bs → TopAhead sizes x limit top (drop 1 walk.tops) rs bs
-  top_ahead walk top rs bs front ahead =
-      let at = front_top walk.pending walk.tops top front in
-      let u = subst (λ (ts : List Root). Under sizes x limit ts ahead.later ahead.below) at.1 ahead.under in
-      let none = subst (λ (es : List Entry). EntriesFor x limit es ahead.next ahead.beside) at.0 ahead.entries in
-      record {
-        sub = u.0;
-        rest = u.1;
-        own = u.2;
-        others = u.3;
-        subtree = u.4;
-        begins = u.5;
-        after = u.6;
-        records = ahead.records ∙ ap (λ (qs : List Record). qs ++ ahead.later) none.0 ∙ u.7;
-        blocks = ahead.blocks ∙ ap (λ (ds : List ℕ). ds ++ ahead.below) none.1 ∙ u.8;
-      }
+pub top_ahead : (test : ℕ → Bool) (sizes : Sizes) (x : Contents) (limit : ℕ) (walk : Walk) (top : Root) (rs : List Record) (bs : List ℕ) → front_of walk ≡ Top top → IsAhead test sizes x limit walk rs bs → TopAhead test sizes x limit top (drop 1 walk.tops) rs bs
+top_ahead test sizes x limit walk top rs bs front ahead =
+    let at = front_top walk.pending walk.tops top front in
+    let u = subst (λ (ts : List Root). Under test sizes x limit ts ahead.later ahead.below) at.1 ahead.under in
+    let none = subst (λ (es : List Entry). EntriesFor test x limit es ahead.next ahead.beside) at.0 ahead.entries in
+    record {
+      sub = u.0;
+      rest = u.1;
+      own = u.2;
+      others = u.3;
+      subtree = u.4;
+      begins = u.5;
+      after = u.6;
+      records = ahead.records ∙ ap (λ (qs : List Record). qs ++ ahead.later) none.0 ∙ u.7;
+      blocks = ahead.blocks ∙ ap (λ (ds : List ℕ). ds ++ ahead.below) none.1 ∙ u.8;
+    }
+
+-- ---- what is opened, as far as it may lie in a part
+
+-- a subtree that begins in the part has its top over it
+any_first : (low high : ℕ) (key : Key) (rs : List Record) → BeginsWith key rs → low ≤ place key → place key ≤ high → list_any (λ r. is_between low high (place r.0)) rs ≡ true
+any_first low high key [] begins least most = absurd begins
+any_first low high key (r ∷ rs) begins least most =
+    let p = place r.0 in
+    let here : is_between low high p ≡ true = and_from (nat_le low p) (nat_le p high) (le-leb low p (omega (arith, least, ap place begins))) (le-leb p high (omega (arith, most, ap place begins))) in
+    ap (λ t. t || list_any (λ s. is_between low high (place s.0)) rs) here
+
+-- what no subtree costs aside that begins in the part or above
+pub aside_others : (low : ℕ) (ts : List Root) → AllByRecursion (λ (t : Root). low ≤ place t.low) ts → aside low ts ≡ 0
+aside_others low [] all = refl
+aside_others low (t ∷ ts) all = aside_none low t.level t.low all.0
+
+-- the read of a top is paid for
+pub top_pays : (low high : ℕ) (top : Root) (sub : List Record) (counted : Bool) (before later : ℕ) → BeginsWith top.low sub → place top.low ≤ high → counted ≡ list_any (λ r. is_between low high (place r.0)) sub
+    → before ≡ reads_aside low top.level top.low → (low ≤ place top.low → later ≡ 0) → later ≤ top.level → 1 + later ≤ length (only_if counted (top.block ∷ [])) + before
+top_pays low high top sub counted before later begins most is before_is inside few =
+    elim (cases_lt (place top.low) low) [
+      | inl lt ↦ omega (arith, few, before_is, aside_some low top.level top.low lt)
+      | inr le ↦ let one : only_if counted (top.block ∷ []) ≡ top.block ∷ [] = ap (λ t. only_if t (top.block ∷ [])) (is ∙ any_first low high top.low sub begins le most) in
+          omega (arith, inside le, ap length one)
+    ]
+
+-- records that begin at a place or above it stand there or above
+from_first : (p : ℕ) (key : Key) (rs : List Record) → BeginsWith key rs → RisesFrom 0 (places rs) → p ≤ place key → AllByRecursion (λ (r : Record). p ≤ place r.0) rs
+from_first p key [] begins rises le = tt
+from_first p key (r ∷ rs) begins rises le =
+    let here : p ≤ place r.0 = omega (arith, le, ap place begins) in
+    (here, each_so (λ (s : Record). place r.0 < place s.0) (λ (s : Record). p ≤ place s.0) (λ s lt. omega (arith, here, lt)) rs (rises_above (place r.0) (place r.0 + 1) rs (omega arith) rises.1))
+
+-- what children that are kept cost aside
+kept_aside : (low level : ℕ) (T : ℕ → List Record → List ℕ → Type 0) (kept : List Child) (ts : List Root) (sub : List Record) (under : List ℕ) → Children T kept sub under → AllByRecursion (λ (t : Root). low ≤ place t.low) ts
+    → (aside low (tops_of level kept ++ ts) ≤ level + 1) × (AllByRecursion (λ (r : Record). low ≤ place r.0) sub → aside low (tops_of level kept ++ ts) ≡ 0)
+kept_aside low level T [] ts sub under t others = let none = aside_others low ts others in (omega (arith, none), λ all. none)
+kept_aside low level T (c ∷ kept) ts sub under t others =
+    (aside_few low level c.low, λ all. aside_none low level c.low (first_from t.0 t.5 (subst (AllByRecursion (λ (r : Record). low ≤ place r.0)) t.7 all)))
+  where
+    first_from : (first : List Record) → BeginsWith c.low first → AllByRecursion (λ (r : Record). low ≤ place r.0) (first ++ t.1) → low ≤ place c.low
+    first_from [] begins all = absurd begins
+    first_from (r ∷ first) begins all = omega (arith, ap place begins, all.0)
+
+each_tops : (P : Root → Type 0) (level : ℕ) (cs : List Child) → AllByRecursion (λ (c : Child). P (record { block = c.block; level = level; low = c.low })) cs → AllByRecursion P (tops_of level cs)
+each_tops P level [] all = tt
+each_tops P level (c ∷ cs) all = (all.0, each_tops P level cs all.1)
+
+-- all but the first of joined tops
+drop_joined : (P : Root → Type 0) (ss ts : List Root) → AllByRecursion P (drop 1 ss) → AllByRecursion P ts → AllByRecursion P (drop 1 (ss ++ ts))
+drop_joined P [] [] a b = tt
+drop_joined P [] (t ∷ ts) a b = b.1
+drop_joined P (s ∷ ss) ts a b = each_join P ss ts a b
+
+drop_tops : (level : ℕ) (cs : List Child) → drop 1 (tops_of level cs) ≡ tops_of level (drop 1 cs)
+drop_tops level [] = refl
+drop_tops level (c ∷ cs) = refl
+
+module _ (low high : ℕ) (sizes : Sizes) (x : Contents) (limit : ℕ) (old new : Walk) (top : Root) (rs : List Record) (bs : List ℕ) (front : front_of old ≡ Top top) (ahead : IsAhead (is_between low high) sizes x limit old rs bs) (rising : AreRising rs) (is_in : IsIn low high old) where
+  tops_are : old.tops ≡ top ∷ drop 1 old.tops
+  tops_are = (front_top old.pending old.tops top front).1
+
+  tops_high : AllByRecursion (λ (t : Root). place t.low ≤ high) (top ∷ drop 1 old.tops)
+  tops_high = subst (AllByRecursion (λ (t : Root). place t.low ≤ high)) tops_are is_in.tops
+
+  aside_is : aside low old.tops ≡ reads_aside low top.level top.low
+  aside_is = ap (aside low) tops_are
 
   -- the walk has opened a leaf
-  leaf_opened : (old new : Walk) (top : Root) (rs : List Record) (bs : List ℕ) → front_of old ≡ Top top → top.level ≡ 0 → IsAhead sizes x limit old rs bs
-      → ((ws : List Row) → HasRowsAt x limit top.block ws → new ≡ record { pending = entries_from (block x top.block) 0 (length ws); tops = drop 1 old.tops }) → Passes sizes x limit (Top top) None new rs bs
-  leaf_opened old new top rs bs front zero_is ahead only =
-      let t = top_ahead old top rs bs front ahead in
-      let here = leaf_opens sizes x limit top.level top.block t.sub t.own zero_is t.subtree in
-      let next : IsAhead sizes x limit (record { pending = entries_from (block x top.block) 0 (length here.holds.rows); tops = drop 1 old.tops }) rs (here.under ++ t.others) =
-      record { next = t.sub; later = t.rest; beside = here.under; below = t.others; entries = entries_stand x limit (block x top.block) t.sub here.under here.holds; under = t.after; records = t.records; blocks = refl } in
+  leaf_opened : top.level ≡ 0 → ((ws : List Row) → HasRowsAt x limit top.block ws → CutsEntries low high (entries_from (block x top.block) 0 (length ws)) new.pending × (new.tops ≡ drop 1 old.tops)) → Enters sizes x limit low high (Top top) old new rs bs
+  leaf_opened zero_is only =
+      let t = top_ahead (is_between low high) sizes x limit old top rs bs front ahead in
+      let here = leaf_over sizes x limit top.level top.block t.sub t.own zero_is t.subtree in
+      let read = only here.holds.rows (record { inside = here.place; rows = here.holds.leaf }) in
+      let whole = subst AreRising t.records rising in
+      let beside = beside_over (is_between low high) x limit here.holds.rows t.sub here.under here.holds.stand in
+      let cut = entries_cut low high x limit (entries_from (block x top.block) 0 (length here.holds.rows)) new.pending read.0 t.sub beside (entries_stand (is_between low high) x limit (block x top.block) t.sub here.under here.holds) (rises_front 0 t.sub t.rest whole.rising) in
+      let cut_records : rs ≡ (cut.before ++ (cut.sub ++ cut.behind)) ++ t.rest = t.records ∙ ap (λ (qs : List Record). qs ++ t.rest) cut.records in
+      let later_aside : aside low new.tops ≡ 0 = ap (aside low) read.1 ∙ aside_others low (drop 1 old.tops) is_in.others in
       record {
-        rest = rs;
-        rest_blocks = here.under ++ t.others;
-        ahead = subst (λ (w : Walk). IsAhead sizes x limit w rs (here.under ++ t.others)) (sym (only here.holds.rows (record { inside = here.place; rows = here.holds.leaf }))) next;
-        records = refl;
-        blocks = t.blocks ∙ ap (λ (ds : List ℕ). ds ++ t.others) here.first;
+        rest = cut.sub ++ t.rest;
+        rest_blocks = beside ++ t.others;
+        ahead = record { next = cut.sub; later = t.rest; beside = beside; below = t.others; entries = cut.entries; under = subst (λ (ts : List Root). Under (is_between low high) sizes x limit ts t.rest t.others) (sym read.1) t.after; records = refl; blocks = refl };
+        rising = rising_cut cut.before cut.sub cut.behind t.rest (subst AreRising cut_records rising);
+        is_in = record {
+          entries = cut.within;
+          tops = subst (AllByRecursion (λ (t : Root). place t.low ≤ high)) (sym read.1) tops_high.1;
+          others = subst (λ (ts : List Root). AllByRecursion (λ (t : Root). low ≤ place t.low) (drop 1 ts)) (sym read.1) (drop_joined (λ (t : Root). low ≤ place t.low) [] (drop 1 old.tops) tt is_in.others);
+        };
+        records = ap (part low high) cut_records ∙ part_cut low high cut.before cut.sub cut.behind t.rest cut.below cut.above;
+        counted = list_any (λ r. is_between low high (place r.0)) t.sub;
+        blocks = t.blocks ∙ ap (λ (ds : List ℕ). ds ++ t.others) (here.over (is_between low high)) ∙ append_assoc (top_over (is_between low high) top.block t.sub) beside t.others;
+        pays = top_pays low high top t.sub (list_any (λ r. is_between low high (place r.0)) t.sub) (aside low old.tops) (aside low new.tops) t.begins tops_high.0 refl aside_is (λ le. later_aside) (omega (arith, later_aside));
       }
 
-  -- what lies under children lies under their tops
-  under_tops : (level : ℕ) (cs : List Child) (ts : List Root) (rs qs : List Record) (bs ds : List ℕ) → Children (Subtree sizes x limit level) cs rs bs → Under sizes x limit ts qs ds → Under sizes x limit (tops_of level cs ++ ts) (rs ++ qs) (bs ++ ds)
-  under_tops level [] ts rs qs bs ds t u =
-      subst (λ (z : List Record). Under sizes x limit ts (z ++ qs) (bs ++ ds)) (sym t.0) (subst (λ (z : List ℕ). Under sizes x limit ts qs (z ++ ds)) (sym t.1) u)
-  under_tops level (c ∷ cs) ts rs qs bs ds t u =
-      (t.0, t.1 ++ qs, t.2, t.3 ++ ds, t.4, t.5, under_tops level cs ts t.1 qs t.3 ds t.6 u, ap (λ z. z ++ qs) t.7 ∙ append_assoc t.0 t.1 qs, ap (λ z. z ++ ds) t.8 ∙ append_assoc t.2 t.3 ds)
+  -- what is read of a leaf, and of an inner block
+  pub leaf_read : top.level ≡ 0 → (ws : List Row) × HasRowsAt x limit top.block ws
+  leaf_read zero_is =
+      let t = top_ahead (is_between low high) sizes x limit old top rs bs front ahead in
+      let here = leaf_over sizes x limit top.level top.block t.sub t.own zero_is t.subtree in
+      (here.holds.rows, record { inside = here.place; rows = here.holds.leaf })
 
-  -- what lies under an inner block that was read, and all blocks of the subtree
-  record Below (level b : ℕ) (rs : List Record) (bs : List ℕ) : Type 0 where
-    children : List Child
-    at : IsNodeAt x limit level b children
-    under : List ℕ
-    below : Children (Subtree sizes x limit (level - 1)) children rs under
-    first : bs ≡ b ∷ under
-
-  node_below : (level b : ℕ) (rs : List Record) (bs : List ℕ) → 0 < level → Subtree sizes x limit level b rs bs → Below level b rs bs
-  node_below level b rs bs above tree =
-      let up : suc (level - 1) ≡ level = omega arith in
-      let at = node_opens sizes x limit level (level - 1) b rs bs (sym up) tree in
-      record {
-        children = at.children;
-        at = record { inside = at.place; node = subst (λ n. IsNode (block x b) n at.children) up at.node };
-        under = at.under;
-        below = at.below;
-        first = at.first;
-      }
+  node_read : 0 < top.level → (cs : List Child) × IsNodeAt x limit top.level top.block cs
+  node_read above =
+      let t = top_ahead (is_between low high) sizes x limit old top rs bs front ahead in
+      let up : top.level ≡ suc (top.level - 1) = omega (arith, above) in
+      let here = node_over sizes x limit top.level (top.level - 1) top.block t.sub t.own up t.subtree in
+      (here.children, record { inside = here.place; node = here.node })
 
   -- the walk has opened an inner block
-  node_opened : (old new : Walk) (top : Root) (rs : List Record) (bs : List ℕ) → front_of old ≡ Top top → 0 < top.level → IsAhead sizes x limit old rs bs
-      → ((cs : List Child) → IsNodeAt x limit top.level top.block cs → new ≡ record { pending = old.pending; tops = tops_of (top.level - 1) cs ++ drop 1 old.tops }) → Passes sizes x limit (Top top) None new rs bs
-  node_opened old new top rs bs front above ahead only =
-      let at = front_top old.pending old.tops top front in
-      let t = top_ahead old top rs bs front ahead in
-      let b = node_below top.level top.block t.sub t.own above t.subtree in
-      let under = under_tops (top.level - 1) b.children (drop 1 old.tops) t.sub t.rest b.under t.others b.below t.after in
-      let next : IsAhead sizes x limit (record { pending = old.pending; tops = tops_of (top.level - 1) b.children ++ drop 1 old.tops }) rs (b.under ++ t.others) =
-      record { next = []; later = t.sub ++ t.rest; beside = []; below = b.under ++ t.others; entries = subst (λ (es : List Entry). EntriesFor x limit es [] []) (sym at.0) (refl, refl); under = under; records = t.records; blocks = refl } in
+  node_opened : 0 < top.level → ((cs : List Child) → IsNodeAt x limit top.level top.block cs → (kept : List Child) × CutsChildren low high cs kept × (new ≡ into_tops (tops_of (top.level - 1) kept) old)) → Enters sizes x limit low high (Top top) old new rs bs
+  node_opened above only =
+      let k = top.level - 1 in
+      let t = top_ahead (is_between low high) sizes x limit old top rs bs front ahead in
+      let up : top.level ≡ suc (top.level - 1) = omega (arith, above) in
+      let here = node_over sizes x limit top.level (top.level - 1) top.block t.sub t.own up t.subtree in
+      let read = only here.children (record { inside = here.place; node = here.node }) in
+      let kept = read.0 in
+      let T = Subtree sizes x limit (top.level - 1) in
+      let whole = subst AreRising t.records rising in
+      let sub_rises = rises_front 0 t.sub t.rest whole.rising in
+      let cut = children_cut low high sizes x limit (top.level - 1) here.children kept read.1 t.sub here.under here.below sub_rises in
+      let cut_records : rs ≡ (cut.before ++ (cut.sub ++ cut.behind)) ++ t.rest = t.records ∙ ap (λ (qs : List Record). qs ++ t.rest) cut.records in
+      let kept_over = children_over T (subtree_over (is_between low high) sizes x limit (top.level - 1)) kept cut.sub cut.under cut.tree in
+      let under = under_tops (is_between low high) sizes x limit (top.level - 1) kept (drop 1 old.tops) cut.sub t.rest cut.under t.others cut.tree t.after in
+      let none = (front_top old.pending old.tops top front).0 in
+      let pending_is : new.pending ≡ [] = ap (λ (w : Walk). w.pending) read.2 ∙ none in
+      let tops_now : new.tops ≡ tops_of (top.level - 1) kept ++ drop 1 old.tops = ap (λ (w : Walk). w.tops) read.2 in
+      let costs = kept_aside low (top.level - 1) T kept (drop 1 old.tops) cut.sub cut.under cut.tree is_in.others in
+      let few : aside low new.tops ≤ top.level = omega (arith, ap (aside low) tops_now, costs.0, up) in
+      let inside : low ≤ place top.low → aside low new.tops ≡ 0 = λ le.
+      let all = each_front (λ (r : Record). low ≤ place r.0) cut.sub cut.behind (each_back (λ (r : Record). low ≤ place r.0) cut.before (cut.sub ++ cut.behind) (subst (AllByRecursion (λ (r : Record). low ≤ place r.0)) cut.records (from_first low top.low t.sub t.begins sub_rises le))) in
+      ap (aside low) tops_now ∙ costs.1 all in
       record {
-        rest = rs;
-        rest_blocks = b.under ++ t.others;
-        ahead = subst (λ (w : Walk). IsAhead sizes x limit w rs (b.under ++ t.others)) (sym (only b.children b.at)) next;
-        records = refl;
-        blocks = t.blocks ∙ ap (λ (ds : List ℕ). ds ++ t.others) b.first;
+        rest = cut.sub ++ t.rest;
+        rest_blocks = kept_over ++ t.others;
+        ahead = record {
+          next = [];
+          later = cut.sub ++ t.rest;
+          beside = [];
+          below = kept_over ++ t.others;
+          entries = subst (λ (es : List Entry). EntriesFor (is_between low high) x limit es [] []) (sym pending_is) (refl, refl);
+          under = subst (λ (ts : List Root). Under (is_between low high) sizes x limit ts (cut.sub ++ t.rest) (kept_over ++ t.others)) (sym tops_now) under;
+          records = refl;
+          blocks = refl;
+        };
+        rising = rising_cut cut.before cut.sub cut.behind t.rest (subst AreRising cut_records rising);
+        is_in = record {
+          entries = subst (AllByRecursion (λ e. is_within low high (key_of_entry e) ≡ true)) (sym pending_is) tt;
+          tops = subst (AllByRecursion (λ (t : Root). place t.low ≤ high)) (sym tops_now) (each_join (λ (t : Root). place t.low ≤ high) (tops_of (top.level - 1) kept) (drop 1 old.tops) (each_tops (λ (t : Root). place t.low ≤ high) (top.level - 1) kept read.1.within) tops_high.1);
+          others = subst (λ (ts : List Root). AllByRecursion (λ (t : Root). low ≤ place t.low) (drop 1 ts)) (sym tops_now)
+              (drop_joined (λ (t : Root). low ≤ place t.low) (tops_of (top.level - 1) kept) (drop 1 old.tops)
+              (subst (AllByRecursion (λ (t : Root). low ≤ place t.low)) (sym (drop_tops (top.level - 1) kept)) (each_tops (λ (t : Root). low ≤ place t.low) (top.level - 1) (drop 1 kept) cut.others)) is_in.others);
+        };
+        records = ap (part low high) cut_records ∙ part_cut low high cut.before cut.sub cut.behind t.rest cut.below cut.above;
+        counted = list_any (λ r. is_between low high (place r.0)) t.sub;
+        blocks = t.blocks ∙ ap (λ (ds : List ℕ). ds ++ t.others) (here.over (is_between low high) ∙ ap (λ (ds : List ℕ). top_over (is_between low high) top.block t.sub ++ ds) cut.parts) ∙ append_assoc (top_over (is_between low high) top.block t.sub) kept_over t.others;
+        pays = top_pays low high top t.sub (list_any (λ r. is_between low high (place r.0)) t.sub) (aside low old.tops) (aside low new.tops) t.begins tops_high.0 refl aside_is inside few;
       }
 
   -- what is answered where a leaf, or an inner block, that the walk stands before is opened
-  pub leaf_opening : (old new : Walk) (top : Root) (rs : List Record) (bs : List ℕ) (result : Result ⊤ TreeFault) → front_of old ≡ Top top → top.level ≡ 0 → IsAhead sizes x limit old rs bs
-      → ((ws : List Row) → HasRowsAt x limit top.block ws → OkOrDevice result (λ _. new ≡ record { pending = entries_from (block x top.block) 0 (length ws); tops = drop 1 old.tops })) → OkOrDevice result (λ _. Passes sizes x limit (Top top) None new rs bs)
-  leaf_opening old new top rs bs (Ok y) front zero_is ahead only = leaf_opened old new top rs bs front zero_is ahead only
-  leaf_opening old new top rs bs (Err e) front zero_is ahead only =
-      let t = top_ahead old top rs bs front ahead in
-      let here = leaf_opens sizes x limit top.level top.block t.sub t.own zero_is t.subtree in
-      only here.holds.rows (record { inside = here.place; rows = here.holds.leaf })
+  pub leaf_opening : (result : Result ⊤ TreeFault) → top.level ≡ 0
+      → ((ws : List Row) → HasRowsAt x limit top.block ws → OkOrDevice result (λ _. CutsEntries low high (entries_from (block x top.block) 0 (length ws)) new.pending × (new.tops ≡ drop 1 old.tops))) → OkOrDevice result (λ _. Enters sizes x limit low high (Top top) old new rs bs)
+  leaf_opening (Ok y) zero_is only = leaf_opened zero_is only
+  leaf_opening (Err e) zero_is only = let here = leaf_read zero_is in only here.0 here.1
 
-  pub node_opening : (old new : Walk) (top : Root) (rs : List Record) (bs : List ℕ) (result : Result ⊤ TreeFault) → front_of old ≡ Top top → 0 < top.level → IsAhead sizes x limit old rs bs
-      → ((cs : List Child) → IsNodeAt x limit top.level top.block cs → OkOrDevice result (λ _. new ≡ record { pending = old.pending; tops = tops_of (top.level - 1) cs ++ drop 1 old.tops })) → OkOrDevice result (λ _. Passes sizes x limit (Top top) None new rs bs)
-  node_opening old new top rs bs (Ok y) front above ahead only = node_opened old new top rs bs front above ahead only
-  node_opening old new top rs bs (Err e) front above ahead only =
-      let t = top_ahead old top rs bs front ahead in
-      let b = node_below top.level top.block t.sub t.own above t.subtree in
-      only b.children b.at
+  pub node_opening : (result : Result ⊤ TreeFault) → 0 < top.level
+      → ((cs : List Child) → IsNodeAt x limit top.level top.block cs → OkOrDevice result (λ _. (kept : List Child) × CutsChildren low high cs kept × (new ≡ into_tops (tops_of (top.level - 1) kept) old))) → OkOrDevice result (λ _. Enters sizes x limit low high (Top top) old new rs bs)
+  node_opening (Ok y) above only = node_opened above only
+  node_opening (Err e) above only = let here = node_read above in only here.0 here.1
 
+module _ (test : ℕ → Bool) (sizes : Sizes) (x : Contents) (limit : ℕ) where
   -- the walk has gone past a record
   pub pair_passed : (old new : Walk) (key : Key) (value : List ℕ) (rs : List Record) (bs : List ℕ) → front_of old ≡ Pair key value → new ≡ record { pending = drop 1 old.pending; tops = old.tops }
-      → IsAhead sizes x limit old rs bs → Passes sizes x limit (Pair key value) (Some (key, value)) new rs bs
+      → IsAhead test sizes x limit old rs bs → Passes test sizes x limit (key, value) new rs bs
   pair_passed old new key value rs bs front is ahead =
       let at = front_pair old.pending old.tops key value front in
-      let e = subst (λ (es : List Entry). EntriesFor x limit es ahead.next ahead.beside) at ahead.entries in
-      let next : IsAhead sizes x limit (record { pending = drop 1 old.pending; tops = old.tops }) (e.1 ++ ahead.later) bs =
-      record { next = e.1; later = ahead.later; beside = e.3; below = ahead.below; entries = e.5; under = ahead.under; records = refl; blocks = ahead.blocks ∙ ap (λ (ds : List ℕ). ds ++ ahead.below) (e.7 ∙ ap (λ (ds : List ℕ). ds ++ e.3) e.4.1) } in
+      let e = subst (λ (es : List Entry). EntriesFor test x limit es ahead.next ahead.beside) at ahead.entries in
+      let next : IsAhead test sizes x limit (record { pending = drop 1 old.pending; tops = old.tops }) (e.1 ++ ahead.later) bs =
+      record { next = e.1; later = ahead.later; beside = e.3; below = ahead.below; entries = e.5; under = ahead.under; records = refl; blocks = ahead.blocks ∙ ap (λ (ds : List ℕ). ds ++ ahead.below) (own_none (test (place e.0.0)) e.2 e.3 ahead.beside e.7 e.4.1) } in
       record {
         rest = e.1 ++ ahead.later;
-        rest_blocks = bs;
-        ahead = subst (λ (w : Walk). IsAhead sizes x limit w (e.1 ++ ahead.later) bs) (sym is) next;
+        ahead = subst (λ (w : Walk). IsAhead test sizes x limit w (e.1 ++ ahead.later) bs) (sym is) next;
         records = ahead.records ∙ ap (λ (qs : List Record). qs ++ ahead.later) (e.6 ∙ ap (λ (r : Record). r ∷ e.1) e.4.0);
-        blocks = refl;
       }
 
   -- a long value that is ahead of a walk that stands before it, and what comes then
@@ -273,15 +374,16 @@ module _ (sizes : Sizes) (x : Contents) (limit : ℕ) where
     pub later : List Record
     pub below : List ℕ
     pub behind : IsBehind x limit key link whose (link.block ∷ [])
-    pub entries : EntriesFor x limit (drop 1 walk.pending) rest others
-    pub under : Under sizes x limit walk.tops later below
+    pub entries : EntriesFor test x limit (drop 1 walk.pending) rest others
+    pub under : Under test sizes x limit walk.tops later below
     pub records : rs ≡ whose ∷ (rest ++ later)
-    pub blocks : bs ≡ link.block ∷ (others ++ below)
+    pub blocks : bs ≡ only_if (test (place key)) (link.block ∷ []) ++ (others ++ below)
 
-  pub far_ahead : (walk : Walk) (key : Key) (link : Link) (rs : List Record) (bs : List ℕ) → front_of walk ≡ Far key link → IsAhead sizes x limit walk rs bs → FarAhead walk key link rs bs
+  pub far_ahead : (walk : Walk) (key : Key) (link : Link) (rs : List Record) (bs : List ℕ) → front_of walk ≡ Far key link → IsAhead test sizes x limit walk rs bs → FarAhead walk key link rs bs
   far_ahead walk key link rs bs front ahead =
       let at = front_far walk.pending walk.tops key link front in
-      let e = subst (λ (es : List Entry). EntriesFor x limit es ahead.next ahead.beside) at ahead.entries in
+      let e = subst (λ (es : List Entry). EntriesFor test x limit es ahead.next ahead.beside) at ahead.entries in
+      let own : only_if (test (place e.0.0)) e.2 ≡ only_if (test (place key)) (link.block ∷ []) = ap₂ (λ (k : Key) (ds : List ℕ). only_if (test (place k)) ds) e.4.key_is e.4.only in
       record {
         whose = e.0;
         rest = e.1;
@@ -292,39 +394,71 @@ module _ (sizes : Sizes) (x : Contents) (limit : ℕ) where
         entries = e.5;
         under = ahead.under;
         records = ahead.records ∙ ap (λ (qs : List Record). qs ++ ahead.later) e.6;
-        blocks = ahead.blocks ∙ ap (λ (ds : List ℕ). ds ++ ahead.below) (e.7 ∙ ap (λ (ds : List ℕ). ds ++ e.3) e.4.only);
+        blocks =
+            ahead.blocks ∙ ap (λ (ds : List ℕ). ds ++ ahead.below) (e.7 ∙ ap (λ (ds : List ℕ). ds ++ e.3) own)
+            ∙ append_assoc (only_if (test (place key)) (link.block ∷ [])) e.3 ahead.below;
       }
 
   -- what lies past it
   pub far_passed : (old new : Walk) (key : Key) (link : Link) (rs : List Record) (bs : List ℕ) → (front : front_of old ≡ Far key link) → new ≡ record { pending = drop 1 old.pending; tops = old.tops }
-      → (ahead : IsAhead sizes x limit old rs bs) → let f = far_ahead old key link rs bs front ahead in IsAhead sizes x limit new (f.rest ++ f.later) (f.others ++ f.below)
+      → (ahead : IsAhead test sizes x limit old rs bs) → let f = far_ahead old key link rs bs front ahead in IsAhead test sizes x limit new (f.rest ++ f.later) (f.others ++ f.below)
   far_passed old new key link rs bs front is ahead =
       let f = far_ahead old key link rs bs front ahead in
-      subst (λ (w : Walk). IsAhead sizes x limit w (f.rest ++ f.later) (f.others ++ f.below)) (sym is)
+      subst (λ (w : Walk). IsAhead test sizes x limit w (f.rest ++ f.later) (f.others ++ f.below)) (sym is)
       (record { next = f.rest; later = f.later; beside = f.others; below = f.below; entries = f.entries; under = f.under; records = refl; blocks = refl })
 
+-- past a subtree a walk stands in the part still
+pub in_skipped : (low high : ℕ) (old new : Walk) (top : Root) → front_of old ≡ Top top → new ≡ record { pending = old.pending; tops = drop 1 old.tops } → IsIn low high old → IsIn low high new
+in_skipped low high old new top front is is_in =
+    let tops = (front_top old.pending old.tops top front).1 in
+    let all = subst (AllByRecursion (λ (t : Root). place t.low ≤ high)) tops is_in.tops in
+    subst (IsIn low high) (sym is) (record { entries = is_in.entries; tops = all.1; others = drop_joined (λ (t : Root). low ≤ place t.low) [] (drop 1 old.tops) tt is_in.others })
+
+module _ (low high : ℕ) (sizes : Sizes) (x : Contents) (limit : ℕ) where
+  -- where a walk stands in a part, so does its next entry
+  pub in_far : (walk : Walk) (key : Key) (link : Link) → front_of walk ≡ Far key link → IsIn low high walk → (is_within low high key ≡ true) × AllByRecursion (λ e. is_within low high (key_of_entry e) ≡ true) (drop 1 walk.pending)
+  in_far walk key link front is_in =
+      let all = subst (AllByRecursion (λ e. is_within low high (key_of_entry e) ≡ true)) (front_far walk.pending walk.tops key link front) is_in.entries in
+      (all.0, all.1)
+
+  pub in_pair : (walk : Walk) (key : Key) (value : List ℕ) → front_of walk ≡ Pair key value → IsIn low high walk → (is_within low high key ≡ true) × AllByRecursion (λ e. is_within low high (key_of_entry e) ≡ true) (drop 1 walk.pending)
+  in_pair walk key value front is_in =
+      let all = subst (AllByRecursion (λ e. is_within low high (key_of_entry e) ≡ true)) (front_pair walk.pending walk.tops key value front) is_in.entries in
+      (all.0, all.1)
+
+  -- past an entry it stands there still
+  pub in_past : (old new : Walk) → AllByRecursion (λ e. is_within low high (key_of_entry e) ≡ true) (drop 1 old.pending) → new ≡ record { pending = drop 1 old.pending; tops = old.tops } → IsIn low high old → IsIn low high new
+  in_past old new all is is_in = subst (IsIn low high) (sym is) (record { entries = all; tops = is_in.tops; others = is_in.others })
+
   -- the walk has read a long value
-  long_opened : (old new : Walk) (key : Key) (link : Link) (rs : List Record) (bs : List ℕ) → front_of old ≡ Far key link → IsAhead sizes x limit old rs bs
+  long_opened : (old new : Walk) (key : Key) (link : Link) (rs : List Record) (bs : List ℕ) → front_of old ≡ Far key link → IsAhead (is_between low high) sizes x limit old rs bs → AreRising rs → IsIn low high old
       → ((value : List ℕ) → IsLongAt x limit link.block key value → length value ≡ link.len → new ≡ record { pending = Own key value ∷ drop 1 old.pending; tops = old.tops })
-      → Passes sizes x limit (Far key link) None new rs bs
-  long_opened old new key link rs bs front ahead only =
-      let f = far_ahead old key link rs bs front ahead in
+      → Enters sizes x limit low high (Far key link) old new rs bs
+  long_opened old new key link rs bs front ahead rising is_in only =
+      let test : ℕ → Bool = is_between low high in
+      let f = far_ahead test sizes x limit old key link rs bs front ahead in
       let value = f.whose.1 in
+      let inside = in_far old key link front is_in in
       let same : f.whose ≡ (key, value) = ap (λ (k : Key). (k, value)) f.behind.key_is in
-      let next : IsAhead sizes x limit (record { pending = Own key value ∷ drop 1 old.pending; tops = old.tops }) rs (f.others ++ f.below) =
-      record { next = f.whose ∷ f.rest; later = f.later; beside = f.others; below = f.below; entries = (f.whose, f.rest, [], f.others, (same, refl), f.entries, refl, refl); under = f.under; records = f.records; blocks = refl } in
+      let next : IsAhead test sizes x limit (record { pending = Own key value ∷ drop 1 old.pending; tops = old.tops }) rs (f.others ++ f.below) =
+      record { next = f.whose ∷ f.rest; later = f.later; beside = f.others; below = f.below; entries = (f.whose, f.rest, [], f.others, (same, refl), f.entries, refl, sym (own_none (test (place f.whose.0)) [] f.others (only_if (test (place f.whose.0)) [] ++ f.others) refl refl)); under = f.under; records = f.records; blocks = refl } in
+      let read = only value (record { inside = f.behind.place; long = f.behind.value }) f.behind.many in
       record {
         rest = rs;
         rest_blocks = f.others ++ f.below;
-        ahead = subst (λ (w : Walk). IsAhead sizes x limit w rs (f.others ++ f.below)) (sym (only value (record { inside = f.behind.place; long = f.behind.value }) f.behind.many)) next;
+        ahead = subst (λ (w : Walk). IsAhead test sizes x limit w rs (f.others ++ f.below)) (sym read) next;
+        rising = rising;
+        is_in = subst (IsIn low high) (sym read) (record { entries = (inside.0, inside.1); tops = is_in.tops; others = is_in.others });
         records = refl;
-        blocks = f.blocks;
+        counted = true;
+        blocks = f.blocks ∙ ap (λ t. only_if t (link.block ∷ []) ++ (f.others ++ f.below)) inside.0;
+        pays = omega (arith, ap (λ (w : Walk). aside low w.tops) read);
       }
 
-  pub long_opening : (old new : Walk) (key : Key) (link : Link) (rs : List Record) (bs : List ℕ) (result : Result ⊤ TreeFault) → front_of old ≡ Far key link → IsAhead sizes x limit old rs bs
+  pub long_opening : (old new : Walk) (key : Key) (link : Link) (rs : List Record) (bs : List ℕ) (result : Result ⊤ TreeFault) → front_of old ≡ Far key link → IsAhead (is_between low high) sizes x limit old rs bs → AreRising rs → IsIn low high old
       → ((value : List ℕ) → IsLongAt x limit link.block key value → length value ≡ link.len → OkOrDevice result (λ _. new ≡ record { pending = Own key value ∷ drop 1 old.pending; tops = old.tops }))
-      → OkOrDevice result (λ _. Passes sizes x limit (Far key link) None new rs bs)
-  long_opening old new key link rs bs (Ok y) front ahead only = long_opened old new key link rs bs front ahead only
-  long_opening old new key link rs bs (Err e) front ahead only =
-      let f = far_ahead old key link rs bs front ahead in
+      → OkOrDevice result (λ _. Enters sizes x limit low high (Far key link) old new rs bs)
+  long_opening old new key link rs bs (Ok y) front ahead rising is_in only = long_opened old new key link rs bs front ahead rising is_in only
+  long_opening old new key link rs bs (Err e) front ahead rising is_in only =
+      let f = far_ahead (is_between low high) sizes x limit old key link rs bs front ahead in
       only f.whose.1 (record { inside = f.behind.place; long = f.behind.value }) f.behind.many

@@ -1,5 +1,5 @@
 -- Rows of a block one after another, and what two blocks share of them.
-use Rattle.std.proofs.Common.{◌≡◌, inl, inr, Option, None, Some, ℕ, zero, suc, ◌+◌, ◌-◌, ◌<◌, ◌≤◌, cond, lt-ltb, le-ltb, subst, take, List, [], ◌∷◌, ◌++◌, length, get_or, drop, refl, sym, ap, ap₂, ◌∙◌, arith}
+use Rattle.std.proofs.Common.{◌≡◌, ◌⊎◌, inl, inr, nat_lt, true, false, Option, None, Some, ℕ, zero, suc, ◌+◌, ◌-◌, ◌<◌, ◌≤◌, Bool, cond, lt-ltb, le-ltb, subst, take, List, [], ◌∷◌, ◌++◌, length, get_or, drop, refl, sym, ap, ap₂, ◌∙◌, arith}
 use Rattle.std.specs.List.{AllByRecursion}
 use Rattle.std.proofs.lemmas.Bool.{cases_lt}
 use Rattle.vm_types.specs.declared.key.Key.{Key}
@@ -11,9 +11,12 @@ use Rattle.vm_block.specs.Leaf.{Record, Row, RowFits, LinkFits, link_bytes, reco
 use Rattle.vm_block.specs.declared.stored.Link.{Link}
 use Rattle.vm_block.proofs.RecordLemmas.{length-link, link_stored, record_key, row_length, row_value}
 use Rattle.vm_block.proofs.WayLemmas.{leaf_piece}
+use Rattle.vm_tree.specs.Over.{beside_over}
 use Rattle.vm_tree.specs.Tree.{IsWithin, LeafHolds, StandForAll, StandsFor}
 use Rattle.vm_types.specs.Bytes.{longest}
-use Rattle.vm_diff.specs.Entry.{Entry, EntryFor, EntriesFor}
+use Rattle.vm_types.specs.Places.{place}
+use Rattle.vm_diff.specs.Cuts.{CutsChildren, CutsEntries, FirstAt, SecondAt}
+use Rattle.vm_diff.specs.Entry.{Entry, EntryFor, EntriesFor, key_of_entry}
 use Rattle.vm_diff.specs.Entry.Entry.{Own, Linked}
 use Rattle.vm_block.specs.Node.{IsNode}
 use Rattle.vm_block.specs.Row.{key_of, record_of, child_of, leaf_row, node_row}
@@ -69,6 +72,10 @@ module _ {X : Type 0} where
     second = rows_split g n many j (j + n) more other refl ∙ ap (λ xs. xs ++ rows_from g (j + n) more) (sym (rows_same f g n i j same));
   }
 
+  rows_each : (P : X → Type 0) (f : ℕ → X) (n i : ℕ) → ((k : ℕ) → i ≤ k → k < i + n → P (f k)) → AllByRecursion P (rows_from f i n)
+  rows_each P f zero i all = tt
+  rows_each P f (suc n) i all = (all i (omega arith) (omega arith), rows_each P f n (suc i) (λ k le lt. all k (omega (arith, le)) (omega (arith, lt))))
+
   rows_none : (f : ℕ → X) (i n : ℕ) → n ≡ 0 → rows_from f i n ≡ []
   rows_none f i n none = ap (rows_from f i) none
 
@@ -117,24 +124,24 @@ entry_stands x limit w r bs row fits is within (inr linked) =
         ap (little_number 4) (row_value v ∙ ap (λ z. take 240 (padded 240 z)) spelled ∙ link_stored link small) ∙ little_number-reads_back 4 link.block (zeros 236) small.block
 
 -- what rows stand for, the entries in their bytes stand for
-rows_stand : (x : Contents) (limit : ℕ) (ws : List Row) (rs : List Record) (bs : List ℕ) (f : ℕ → List ℕ) (i n : ℕ) → n ≡ length ws → ((k : ℕ) (d : Row) → k < length ws → (f (i + k) ≡ record_bytes (get_or ws k d)) × RowFits (get_or ws k d))
-    → AllByRecursion (IsWithin longest) rs → StandForAll x limit ws rs bs → EntriesFor x limit (rows_from (λ k. entry_of (f k)) i n) rs bs
-rows_stand x limit [] rs bs f i zero many at within t = t
-rows_stand x limit [] rs bs f i (suc n) many at within t = absurd (omega arith)
-rows_stand x limit (w ∷ ws) rs bs f i zero many at within t = absurd (omega arith)
-rows_stand x limit (w ∷ ws) rs bs f i (suc n) many at within t =
+rows_stand : (test : ℕ → Bool) (x : Contents) (limit : ℕ) (ws : List Row) (rs : List Record) (bs : List ℕ) (f : ℕ → List ℕ) (i n : ℕ) → n ≡ length ws → ((k : ℕ) (d : Row) → k < length ws → (f (i + k) ≡ record_bytes (get_or ws k d)) × RowFits (get_or ws k d))
+    → AllByRecursion (IsWithin longest) rs → (t : StandForAll x limit ws rs bs) → EntriesFor test x limit (rows_from (λ k. entry_of (f k)) i n) rs (beside_over test x limit ws rs bs t)
+rows_stand test x limit [] rs bs f i zero many at within t = (t.0, refl)
+rows_stand test x limit [] rs bs f i (suc n) many at within t = absurd (omega arith)
+rows_stand test x limit (w ∷ ws) rs bs f i zero many at within t = absurd (omega arith)
+rows_stand test x limit (w ∷ ws) rs bs f i (suc n) many at within t =
     let whole = subst (AllByRecursion (IsWithin longest)) t.6 within in
     let here : i ≡ i + 0 = omega arith in
     let next : (k : ℕ) (d : Row) → k < length ws → (f (suc i + k) ≡ record_bytes (get_or ws k d)) × RowFits (get_or ws k d) = λ k d lt.
     let a : suc i + k ≡ i + suc k = omega arith in let there = at (suc k) d (omega arith) in (ap f a ∙ there.0, there.1) in
     let first = at 0 w (omega arith) in
-    (t.0, t.1, t.2, t.3, entry_stands x limit w t.0 t.2 (f i) first.1 (ap f here ∙ first.0) whole.0 t.4, rows_stand x limit ws t.1 t.3 f (suc i) n (omega arith) next whole.1 t.5, t.6, t.7)
+    (t.0, t.1, t.2, beside_over test x limit ws t.1 t.3 t.5, entry_stands x limit w t.0 t.2 (f i) first.1 (ap f here ∙ first.0) whole.0 t.4, rows_stand test x limit ws t.1 t.3 f (suc i) n (omega arith) next whole.1 t.5, t.6, refl)
 
 -- the entries of a leaf stand for what it holds
-pub entries_stand : (x : Contents) (limit : ℕ) (bytes : List ℕ) (rs : List Record) (under : List ℕ) → (holds : LeafHolds x limit longest bytes rs under) → EntriesFor x limit (entries_from bytes 0 (length holds.rows)) rs under
+pub entries_stand : (test : ℕ → Bool) (x : Contents) (limit : ℕ) (bytes : List ℕ) (rs : List Record) (under : List ℕ) → (holds : LeafHolds x limit longest bytes rs under) → EntriesFor test x limit (entries_from bytes 0 (length holds.rows)) rs (beside_over test x limit holds.rows rs under holds.stand)
 unfolding entries_from
-entries_stand x limit bytes rs under holds =
-    rows_stand x limit holds.rows rs under (leaf_row bytes) 0 (length holds.rows) refl (λ k d lt. let a : 0 + k ≡ k = omega arith in let there = leaf_piece bytes holds.rows k d holds.leaf lt in (ap (leaf_row bytes) a ∙ there.0, there.1)) holds.within holds.stand
+entries_stand test x limit bytes rs under holds =
+    rows_stand test x limit holds.rows rs under (leaf_row bytes) 0 (length holds.rows) refl (λ k d lt. let a : 0 + k ≡ k = omega arith in let there = leaf_piece bytes holds.rows k d holds.leaf lt in (ap (leaf_row bytes) a ∙ there.0, there.1)) holds.within holds.stand
 
 pub entries_none : (bytes : List ℕ) (i n : ℕ) → n ≡ 0 → entries_from bytes i n ≡ []
 unfolding entries_from
@@ -230,3 +237,78 @@ pub children_passed : (one other : List ℕ) (i j all rest many more n : ℕ) �
 unfolding children_from
 children_passed one other i j all rest many more n first second same =
     rows_passed (λ k. child_of (node_row one k)) (λ k. child_of (node_row other k)) i j all rest many more n first second (λ k lt. ap child_of (same k lt))
+
+-- # What of the rows of a block may lie in a part
+
+-- rows in three
+rows_in_three : {X : Type 0} (f : ℕ → X) (first end count : ℕ) → first ≤ end → end ≤ count
+    → (rows_from f 0 count ≡ rows_from f 0 first ++ (rows_from f first (end - first) ++ rows_from f end (count - end))) × (rows_from f first (end - first) ++ rows_from f end (count - end) ≡ rows_from f first (count - first))
+rows_in_three f first end count le few =
+    let back = rows_split f (end - first) (count - first) first end (count - end) (omega (arith, le, few)) (omega (arith, le)) in
+    (rows_split f first count 0 first (count - first) (omega (arith, le, few)) (omega arith) ∙ ap (λ xs. rows_from f 0 first ++ xs) back, sym back)
+
+first_at : {X : Type 0} (key : X → Key) (P : ℕ → Type 0) (f : ℕ → X) (i n : ℕ) → (0 < n → P (place (key (f i)))) → FirstAt key P (rows_from f i n)
+first_at key P f i zero at = tt
+first_at key P f i (suc n) at = at (omega arith)
+
+second_at : {X : Type 0} (key : X → Key) (P : ℕ → Type 0) (f : ℕ → X) (i n : ℕ) → (1 < n → P (place (key (f (suc i))))) → SecondAt key P (rows_from f i n)
+second_at key P f i zero at = tt
+second_at key P f i (suc n) at = first_at key P f (suc i) n (λ some. at (omega (arith, some)))
+
+-- the key of the entry in a row
+entry_key : (row : List ℕ) → key_of_entry (entry_of row) ≡ key_of row
+unfolding entry_of entry_of_length record_of
+entry_key row =
+    elim (nat_lt 240 (little_number 2 (drop 10 row))) as (λ t. key_of_entry (cond {A = Entry} t (Linked (key_of row) (record { len = little_number 2 (drop 10 row); block = little_number 4 (drop 12 row) })) (Own (record_of row).0 (record_of row).1)) ≡ key_of row) [
+      | true ↦ refl
+      | false ↦ refl
+    ]
+
+pub children_cuts : (low high : ℕ) (bytes : List ℕ) (first end count : ℕ) (cs : List Child) → cs ≡ children_from bytes 0 count → first ≤ end → end ≤ count
+    → (0 < first → (first < count) × (place (child_of (node_row bytes first)).low ≤ low)) → (first + 1 < count → low < place (child_of (node_row bytes (first + 1))).low)
+    → ((k : ℕ) → first ≤ k → k < end → place (child_of (node_row bytes k)).low ≤ high) → (end < count → high < place (child_of (node_row bytes end)).low)
+    → CutsChildren low high cs (children_from bytes first (end - first))
+unfolding children_from
+children_cuts low high bytes first end count cs all le few passed next within above =
+    let f : ℕ → Child = λ k. child_of (node_row bytes k) in
+    let three = rows_in_three f first end count le few in
+    record {
+      before = rows_from f 0 first;
+      behind = rows_from f end (count - end);
+      whole = all ∙ three.0;
+      passed = are_passed first passed three.1;
+      reached = subst (SecondAt (λ (c : Child). c.low) (λ p. low < p)) (sym three.1) (second_at (λ (c : Child). c.low) (λ p. low < p) f first (count - first) (λ more. let same : first + 1 ≡ suc first = omega arith in subst (λ k. low < place (f k).low) same (next (omega (arith, more)))));
+      within = rows_each (λ (c : Child). place c.low ≤ high) f (end - first) first (λ k least lt. within k least (omega (arith, lt, le)));
+      above = first_at (λ (c : Child). c.low) (λ p. high < p) f end (count - end) (λ some. above (omega (arith, some)));
+    }
+  where
+    are_passed : (n : ℕ) → (0 < n → (n < count) × (place (child_of (node_row bytes n)).low ≤ low)) → rows_from (λ k. child_of (node_row bytes k)) n (end - n) ++ rows_from (λ k. child_of (node_row bytes k)) end (count - end) ≡ rows_from (λ k. child_of (node_row bytes k)) n (count - n)
+        → (rows_from (λ k. child_of (node_row bytes k)) 0 n ≡ []) ⊎ ((c : Child) × (rest : List Child) × (rows_from (λ k. child_of (node_row bytes k)) n (end - n) ++ rows_from (λ k. child_of (node_row bytes k)) end (count - end) ≡ c ∷ rest) × (place c.low ≤ low))
+    are_passed zero at joined = inl refl
+    are_passed (suc n) at joined =
+        let here = at (omega arith) in
+        inr (
+          child_of (node_row bytes (suc n)),
+          rows_from (λ k. child_of (node_row bytes k)) (suc (suc n)) (count - suc n - 1),
+          joined ∙ rows_some (λ k. child_of (node_row bytes k)) (suc n) (count - suc n) (omega (arith, here.0)),
+          here.1,
+        )
+
+pub entries_cuts : (low high : ℕ) (bytes : List ℕ) (first end count : ℕ) → first ≤ end → end ≤ count
+    → ((k : ℕ) → k < first → place (key_of (leaf_row bytes k)) < low) → (first < count → low ≤ place (key_of (leaf_row bytes first)))
+    → ((k : ℕ) → first ≤ k → k < end → place (key_of (leaf_row bytes k)) ≤ high) → (end < count → high < place (key_of (leaf_row bytes end)))
+    → CutsEntries low high (entries_from bytes 0 count) (entries_from bytes first (end - first))
+unfolding entries_from
+entries_cuts low high bytes first end count le few below reached within above =
+    let f : ℕ → Entry = λ k. entry_of (leaf_row bytes k) in
+    let three = rows_in_three f first end count le few in
+    let at : (k : ℕ) → place (key_of_entry (f k)) ≡ place (key_of (leaf_row bytes k)) = λ k. ap place (entry_key (leaf_row bytes k)) in
+    record {
+      before = rows_from f 0 first;
+      behind = rows_from f end (count - end);
+      whole = three.0;
+      below = rows_each (λ e. place (key_of_entry e) < low) f first 0 (λ k least lt. let there = below k (omega (arith, lt)) in omega (arith, at k, there));
+      reached = subst (FirstAt key_of_entry (λ p. low ≤ p)) (sym three.1) (first_at key_of_entry (λ p. low ≤ p) f first (count - first) (λ some. let there = reached (omega (arith, some)) in omega (arith, at first, there)));
+      within = rows_each (λ e. place (key_of_entry e) ≤ high) f (end - first) first (λ k least lt. let there = within k least (omega (arith, lt, le)) in omega (arith, at k, there));
+      above = first_at key_of_entry (λ p. high < p) f end (count - end) (λ some. let there = above (omega (arith, some)) in omega (arith, at end, there));
+    }

@@ -1,7 +1,7 @@
 -- Counting the blocks that only one of two trees has.
 use Rattle.std.proofs.Common.{◌≡◌, ℕ, ◌+◌, ◌≤◌, ◌||◌, cond, false, List, [], ◌∷◌, ◌++◌, refl, sym, ap, ap₂, ◌∙◌, arith}
 use Rattle.std.proofs.lemmas.Bool.{ne_eqb}
-use Rattle.vm_tree.specs.Replacing.{Lacks, Apart}
+use Rattle.vm_tree.specs.Replacement.{Lacks, Apart}
 use Rattle.vm_diff.specs.Shared.{is_among, outside, unshared}
 
 lacks_none : (b : ℕ) (cs : List ℕ) → Lacks b cs → is_among cs b ≡ false

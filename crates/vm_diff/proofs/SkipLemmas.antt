@@ -17,7 +17,7 @@ use Rattle.vm_diff.proofs.StepLemmas.{both_linked, both_same, both_skipped}
 -- of two walks no more is ahead, and what differs is as it was
 pub record Skips (one other one_now other_now : Walk) : Type 0 where
   pub most : size one_now + size other_now ≤ size one + size other
-  pub differ : (sizes : Sizes) (x : Contents) (limit reads most : ℕ) (changes : List Change) → Differ sizes x limit one other reads most changes → Differ sizes x limit one_now other_now reads most changes
+  pub differ : (sizes : Sizes) (x : Contents) (limit low high reads most : ℕ) (changes : List Change) → Differ sizes x limit low high one other reads most changes → Differ sizes x limit low high one_now other_now reads most changes
 
 steps_back : (front es : List Entry) → steps_past es ≤ steps_past (front ++ es)
 steps_back [] es = omega arith
@@ -26,37 +26,37 @@ steps_back (e ∷ front) es = omega (arith, steps_back front es)
 walk_is : (w v : Walk) → w.pending ≡ v.pending → w.tops ≡ v.tops → w ≡ v
 walk_is w v a b = λ i. record { pending = a i; tops = b i }
 
-module _ (sizes : Sizes) (x : Contents) (limit reads most : ℕ) (changes : List Change) where
+module _ (sizes : Sizes) (x : Contents) (limit low high reads most : ℕ) (changes : List Change) where
   records_left_out : (front : List Entry) (one other one_now other_now : Walk) → one.pending ≡ front ++ one_now.pending → other.pending ≡ front ++ other_now.pending → one_now.tops ≡ one.tops → other_now.tops ≡ other.tops
-      → Differ sizes x limit one other reads most changes → Differ sizes x limit one_now other_now reads most changes
+      → Differ sizes x limit low high one other reads most changes → Differ sizes x limit low high one_now other_now reads most changes
   records_left_out [] one other one_now other_now first second one_tops other_tops d =
-      subst (λ (w : Walk). Differ sizes x limit w other_now reads most changes) (walk_is one one_now first (sym one_tops))
-      (subst (λ (w : Walk). Differ sizes x limit one w reads most changes) (walk_is other other_now second (sym other_tops)) d)
+      subst (λ (w : Walk). Differ sizes x limit low high w other_now reads most changes) (walk_is one one_now first (sym one_tops))
+      (subst (λ (w : Walk). Differ sizes x limit low high one w reads most changes) (walk_is other other_now second (sym other_tops)) d)
   records_left_out (Linked key link ∷ front) one other one_now other_now first second one_tops other_tops d =
       let one_mid : Walk = record { pending = front ++ one_now.pending; tops = one.tops } in
       let other_mid : Walk = record { pending = front ++ other_now.pending; tops = other.tops } in
       records_left_out front one_mid other_mid one_now other_now refl refl one_tops other_tops
-      (both_linked sizes x limit reads most one other one_mid other_mid key key link link changes
+      (both_linked sizes x limit low high reads most one other one_mid other_mid key key link link changes
       (ap (λ (ps : List Entry). first_of ps one.tops) first) (ap (λ (ps : List Entry). first_of ps other.tops) second) refl
       (ap (λ (ps : List Entry). record { pending = drop 1 ps; tops = one.tops }) (sym first)) (ap (λ (ps : List Entry). record { pending = drop 1 ps; tops = other.tops }) (sym second)) d)
   records_left_out (Own key value ∷ front) one other one_now other_now first second one_tops other_tops d =
       let one_mid : Walk = record { pending = front ++ one_now.pending; tops = one.tops } in
       let other_mid : Walk = record { pending = front ++ other_now.pending; tops = other.tops } in
       records_left_out front one_mid other_mid one_now other_now refl refl one_tops other_tops
-      (both_same sizes x limit reads most one other one_mid other_mid key value value changes
+      (both_same sizes x limit low high reads most one other one_mid other_mid key value value changes
       (ap (λ (ps : List Entry). first_of ps one.tops) first) (key, ap (λ (ps : List Entry). first_of ps other.tops) second, refl) ((bytes_eq-Decides value value).1 refl)
       (ap (λ (ps : List Entry). record { pending = drop 1 ps; tops = one.tops }) (sym first)) (ap (λ (ps : List Entry). record { pending = drop 1 ps; tops = other.tops }) (sym second)) d)
 
   tops_left_out : (front : List Root) (one other one_now other_now : Walk) → one.pending ≡ [] → other.pending ≡ [] → one.tops ≡ front ++ one_now.tops → other.tops ≡ front ++ other_now.tops → one_now.pending ≡ one.pending → other_now.pending ≡ other.pending
-      → Differ sizes x limit one other reads most changes → Differ sizes x limit one_now other_now reads most changes
+      → Differ sizes x limit low high one other reads most changes → Differ sizes x limit low high one_now other_now reads most changes
   tops_left_out [] one other one_now other_now one_none other_none first second one_still other_still d =
-      subst (λ (w : Walk). Differ sizes x limit w other_now reads most changes) (walk_is one one_now (sym one_still) first)
-      (subst (λ (w : Walk). Differ sizes x limit one w reads most changes) (walk_is other other_now (sym other_still) second) d)
+      subst (λ (w : Walk). Differ sizes x limit low high w other_now reads most changes) (walk_is one one_now (sym one_still) first)
+      (subst (λ (w : Walk). Differ sizes x limit low high one w reads most changes) (walk_is other other_now (sym other_still) second) d)
   tops_left_out (t ∷ front) one other one_now other_now one_none other_none first second one_still other_still d =
       let one_mid : Walk = record { pending = one.pending; tops = front ++ one_now.tops } in
       let other_mid : Walk = record { pending = other.pending; tops = front ++ other_now.tops } in
       tops_left_out front one_mid other_mid one_now other_now one_none other_none refl refl one_still other_still
-      (both_skipped sizes x limit reads most one other one_mid other_mid t t changes
+      (both_skipped sizes x limit low high reads most one other one_mid other_mid t t changes
       (ap₂ first_of one_none first) (ap₂ first_of other_none second) refl
       (ap (λ (ts : List Root). record { pending = one.pending; tops = drop 1 ts }) (sym first)) (ap (λ (ts : List Root). record { pending = other.pending; tops = drop 1 ts }) (sym second)) d)
 
@@ -73,7 +73,7 @@ records_skipped one other one_now other_now p one_tops other_tops = record {
         ap weight_of one_tops,
         ap weight_of other_tops,
       );
-  differ = λ sizes x limit reads most changes. records_left_out sizes x limit reads most changes p.front one other one_now other_now p.first p.second one_tops other_tops;
+  differ = λ sizes x limit low high reads most changes. records_left_out sizes x limit low high reads most changes p.front one other one_now other_now p.first p.second one_tops other_tops;
 }
 
 -- past subtrees
@@ -89,7 +89,7 @@ tops_skipped one other one_now other_now one_none other_none p one_still other_s
         ap steps_past one_still,
         ap steps_past other_still,
       );
-  differ = λ sizes x limit reads most changes. tops_left_out sizes x limit reads most changes p.front one other one_now other_now one_none other_none p.first p.second one_still other_still;
+  differ = λ sizes x limit low high reads most changes. tops_left_out sizes x limit low high reads most changes p.front one other one_now other_now one_none other_none p.first p.second one_still other_still;
 }
 
 -- where there are any, less is ahead
@@ -111,7 +111,7 @@ tops_fall one other one_now other_now p one_still other_still lt =
 pub skips_then : (one other one_mid other_mid one_now other_now : Walk) → Skips one other one_mid other_mid → Skips one_mid other_mid one_now other_now → Skips one other one_now other_now
 skips_then one other one_mid other_mid one_now other_now first second = record {
   most = omega (arith, first.most, second.most);
-  differ = λ sizes x limit reads most changes d. second.differ sizes x limit reads most changes (first.differ sizes x limit reads most changes d);
+  differ = λ sizes x limit low high reads most changes d. second.differ sizes x limit low high reads most changes (first.differ sizes x limit low high reads most changes d);
 }
 
 -- the same where neither walk has a leaf open

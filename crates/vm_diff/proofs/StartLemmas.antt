@@ -1,5 +1,5 @@
 -- Where what is ahead of a walk starts.
-use Rattle.std.proofs.Common.{◌≡◌, ℕ, ◌+◌, ◌^◌, ◌<◌, List, [], ◌∷◌, ◌++◌, refl, sym, ap, subst, arith}
+use Rattle.std.proofs.Common.{◌≡◌, ℕ, ◌+◌, ◌^◌, ◌<◌, Bool, List, [], ◌∷◌, ◌++◌, refl, sym, ap, subst, arith}
 use Rattle.vm_types.specs.Places.{place, RisesFrom, places}
 use Rattle.vm_disk.specs.Disk.{Contents}
 use Rattle.vm_block.specs.Leaf.{Record, BeginsWith}
@@ -21,8 +21,8 @@ pub above_start : (p q : ℕ) (rs : List Record) → p < q → StartsAt q rs →
 above_start p q [] lt s h = tt
 above_start p q (r ∷ rs) lt s h = (omega (arith, s), h.rising.1)
 
-module _ (sizes : Sizes) (x : Contents) (limit : ℕ) where
-  starts_later : (ts : List Root) (rs : List Record) (bs : List ℕ) → Under sizes x limit ts rs bs → StartsAt (place_of (first_of [] ts)) rs
+module _ (test : ℕ → Bool) (sizes : Sizes) (x : Contents) (limit : ℕ) where
+  starts_later : (ts : List Root) (rs : List Record) (bs : List ℕ) → Under test sizes x limit ts rs bs → StartsAt (place_of (first_of [] ts)) rs
   starts_later [] rs bs u = subst (StartsAt (2 ^ 80)) (sym u.0) refl
   starts_later (t ∷ ts) rs bs u = subst (StartsAt (place t.low)) (sym u.7) (begins u.0 u.5)
     where
@@ -30,11 +30,11 @@ module _ (sizes : Sizes) (x : Contents) (limit : ℕ) where
       begins [] b = absurd b
       begins (r ∷ first) b = ap place b
 
-  pub starts_parts : (es : List Entry) (ts : List Root) (next later : List Record) (ds bs : List ℕ) → EntriesFor x limit es next ds → Under sizes x limit ts later bs → StartsAt (place_of (first_of es ts)) (next ++ later)
+  pub starts_parts : (es : List Entry) (ts : List Root) (next later : List Record) (ds bs : List ℕ) → EntriesFor test x limit es next ds → Under test sizes x limit ts later bs → StartsAt (place_of (first_of es ts)) (next ++ later)
   starts_parts [] ts next later ds bs n u = subst (λ (qs : List Record). StartsAt (place_of (first_of [] ts)) (qs ++ later)) (sym n.0) (starts_later ts later bs u)
   starts_parts (Own key value ∷ es) ts next later ds bs n u = subst (λ (qs : List Record). StartsAt (place key) (qs ++ later)) (sym n.6) (ap (λ (r : Record). place r.0) n.4.0)
   starts_parts (Linked key link ∷ es) ts next later ds bs n u = subst (λ (qs : List Record). StartsAt (place key) (qs ++ later)) (sym n.6) (ap place n.4.key_is)
 
   -- what is ahead of a walk starts where the walk stands
-  pub starts : (walk : Walk) (rs : List Record) (bs : List ℕ) → IsAhead sizes x limit walk rs bs → StartsAt (place_of (front_of walk)) rs
+  pub starts : (walk : Walk) (rs : List Record) (bs : List ℕ) → IsAhead test sizes x limit walk rs bs → StartsAt (place_of (front_of walk)) rs
   starts walk rs bs ahead = subst (StartsAt (place_of (front_of walk))) (sym ahead.records) (starts_parts walk.pending walk.tops ahead.next ahead.later ahead.beside ahead.below ahead.entries ahead.under)

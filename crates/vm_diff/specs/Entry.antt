@@ -1,11 +1,13 @@
 -- What a leaf has of a record, and what record it stands for.
-use Rattle.std.specs.Prelude.{◌≡◌, ℕ, ◌+◌, ◌≤◌, List, [], ◌∷◌, ◌++◌, length}
+use Rattle.std.specs.Prelude.{◌≡◌, ℕ, ◌+◌, ◌≤◌, Bool, List, [], ◌∷◌, ◌++◌, length}
 use Rattle.vm_types.specs.declared.key.Key.{Key}
 use Rattle.vm_disk.specs.Disk.{Contents, block}
 use Rattle.vm_block.specs.Leaf.{Record}
 use Rattle.vm_block.specs.Long.{IsLong}
 use Rattle.vm_block.specs.declared.stored.Link.{Link}
+use Rattle.vm_tree.specs.Over.{only_if}
 use Rattle.vm_tree.specs.Tree.{IsData}
+use Rattle.vm_types.specs.Places.{place}
 use Rattle.vm_types.specs.Bytes.{longest}
 
 -- a record itself, or a key with the link to its long value
@@ -27,12 +29,17 @@ abbrev pub EntryFor : Contents → ℕ → Entry → Record → List ℕ → Typ
 EntryFor x limit (Own key value) r bs = (r ≡ (key, value)) × (bs ≡ [])
 EntryFor x limit (Linked key link) r bs = IsBehind x limit key link r bs
 
--- what entries stand for, beside these blocks, joined
-abbrev pub EntriesFor : Contents → ℕ → List Entry → List Record → List ℕ → Type 0
-EntriesFor x limit [] rs bs = (rs ≡ []) × (bs ≡ [])
-EntriesFor x limit (e ∷ es) rs bs =
+-- what entries stand for, joined, and of the blocks beside them those of records whose place passes the test
+abbrev pub EntriesFor : (ℕ → Bool) → Contents → ℕ → List Entry → List Record → List ℕ → Type 0
+EntriesFor test x limit [] rs bs = (rs ≡ []) × (bs ≡ [])
+EntriesFor test x limit (e ∷ es) rs bs =
     (r : Record) × (rest : List Record) × (own : List ℕ) × (others : List ℕ)
-    × EntryFor x limit e r own × EntriesFor x limit es rest others × (rs ≡ r ∷ rest) × (bs ≡ own ++ others)
+    × EntryFor x limit e r own × EntriesFor test x limit es rest others × (rs ≡ r ∷ rest) × (bs ≡ only_if (test (place r.0)) own ++ others)
+
+-- the key of an entry
+abbrev pub key_of_entry : Entry → Key
+key_of_entry (Own key value) = key
+key_of_entry (Linked key link) = key
 
 -- how many steps it takes past an entry, at most
 abbrev pub steps_of : Entry → ℕ

@@ -2,6 +2,7 @@ pub mod Entry
 pub mod Walk
 pub mod Rows
 pub mod Ahead
+pub mod Cuts
 pub mod Front
 pub mod Opened
 pub mod Shared

@@ -1,24 +1,25 @@
 -- A block that is read, and what it holds comes next.
-use Rattle.std.specs.Prelude.{◌≡◌, ◌≢◌, ℕ, ◌-◌, ◌≤◌, true, List, [], ◌∷◌, length, drop, Option, Some, None, Result}
+use Rattle.std.specs.Prelude.{◌≡◌, ◌≢◌, ℕ, ◌-◌, ◌<◌, ◌≤◌, true, List, [], ◌∷◌, length, drop, Option, Some, None, Result}
 use Rattle.vm_types.specs.declared.key.Key.{Key}
 use Rattle.vm_types.specs.Places.{place}
 use Rattle.vm_disk.specs.Disk.{Contents, DiskState, block}
 use Rattle.vm_block.specs.declared.sizes.TheConstants.{MAX_ROWS, MAX_CHILDREN}
 use Rattle.vm_block.specs.Leaf.{Row, HasRows}
 use Rattle.vm_block.specs.declared.stored.Link.{Link}
+use Rattle.vm_diff.specs.Cuts.{CutsChildren, CutsEntries}
 use Rattle.vm_diff.specs.Entry.{Entry}
 use Rattle.vm_diff.specs.Entry.Entry.{Own}
 use Rattle.vm_diff.specs.Rows.{entries_from}
 use Rattle.vm_block.specs.declared.node.Child.{Child}
 use Rattle.vm_tree.specs.Answers.{OkOrDevice}
-use Rattle.vm_tree.specs.Reading.{IsLongAt, IsNodeAt}
+use Rattle.vm_tree.specs.BlockReads.{IsLongAt, IsNodeAt}
 use Rattle.vm_tree.specs.Tree.{IsData}
 use Rattle.vm_tree.specs.declared.root.Root.{Root}
 use Rattle.vm_tree.specs.declared.faults.TreeFault.{TreeFault}
 use Rattle.vm_block.specs.Long.{IsLong}
 use Rattle.vm_diff.specs.Front.{first_of, front_of, next_of}
 use Rattle.vm_diff.specs.Front.Front.{Pair}
-use Rattle.vm_diff.specs.Walk.{Walk, into_tops, past_record, tops_of}
+use Rattle.vm_diff.specs.Walk.{Walk, into_tops, past_record, tops_of, walk_of}
 use Rattle.vm_diff.specs.declared.front.Next.TheVariants.{Record as OneRecord}
 
 -- this block is for data, and is a leaf of these rows
@@ -26,11 +27,11 @@ pub record HasRowsAt (x : Contents) (limit b : ℕ) (ws : List Row) : Type 0 whe
   pub inside : IsData limit b
   pub rows : HasRows (block x b) ws
 
--- where the disk is honest after the call, these are the entries in the rows of a leaf, unless the device failed
-abbrev pub HoldsLeaf : {T : Type 0} → Result T TreeFault → DiskState → DiskState → ℕ → ℕ → List Entry → Type 0
-HoldsLeaf result old new limit b entries =
+-- where the disk is honest after the call, these are those of the entries in the rows of a leaf that lie in the part, unless the device failed
+abbrev pub HoldsLeaf : {T : Type 0} → Result T TreeFault → DiskState → DiskState → (limit low high : ℕ) → ℕ → List Entry → Type 0
+HoldsLeaf result old new limit low high b entries =
     new.honest ≡ true → (ws : List Row) → HasRowsAt old.now.contents limit b ws
-    → OkOrDevice result (λ _. entries ≡ entries_from (block old.now.contents b) 0 (length ws))
+    → OkOrDevice result (λ _. CutsEntries low high (entries_from (block old.now.contents b) 0 (length ws)) entries)
 
 -- the first entry, a link, has made place for the key with the long value of its block
 abbrev pub HoldsLong : {T : Type 0} → Result T TreeFault → DiskState → DiskState → ℕ → Key → Link → List Entry → List Entry → Type 0
@@ -38,16 +39,16 @@ HoldsLong result old new limit key link entries later =
     new.honest ≡ true → (value : List ℕ) → IsLongAt old.now.contents limit link.block key value → length value ≡ link.len
     → OkOrDevice result (λ _. later ≡ Own key value ∷ drop 1 entries)
 
--- these are the children of an inner block of this level
-abbrev pub HoldsNode : {T : Type 0} → Result T TreeFault → DiskState → DiskState → ℕ → ℕ → ℕ → List Child → Type 0
-HoldsNode result old new limit level b children =
-    new.honest ≡ true → (cs : List Child) → IsNodeAt old.now.contents limit level b cs → OkOrDevice result (λ _. children ≡ cs)
+-- these are those of the children of an inner block of this level under which something may lie in the part
+abbrev pub HoldsNode : {T : Type 0} → Result T TreeFault → DiskState → DiskState → (limit low high : ℕ) → ℕ → ℕ → List Child → Type 0
+HoldsNode result old new limit low high level b children =
+    new.honest ≡ true → (cs : List Child) → IsNodeAt old.now.contents limit level b cs → OkOrDevice result (λ _. CutsChildren low high cs children)
 
--- a walk has the entries of a leaf in the place of the leaf
-abbrev pub OpensLeaf : {T : Type 0} → Result T TreeFault → DiskState → DiskState → ℕ → Root → Walk → Walk → Type 0
-OpensLeaf result old new limit top walk later =
+-- a walk has of the entries of a leaf those of the part in the place of the leaf
+abbrev pub OpensLeaf : {T : Type 0} → Result T TreeFault → DiskState → DiskState → (limit low high : ℕ) → Root → Walk → Walk → Type 0
+OpensLeaf result old new limit low high top walk later =
     new.honest ≡ true → (ws : List Row) → HasRowsAt old.now.contents limit top.block ws
-    → OkOrDevice result (λ _. later ≡ record { pending = entries_from (block old.now.contents top.block) 0 (length ws); tops = drop 1 walk.tops })
+    → OkOrDevice result (λ _. CutsEntries low high (entries_from (block old.now.contents top.block) 0 (length ws)) later.pending × (later.tops ≡ drop 1 walk.tops))
 
 -- it has a record in the place of the link to its value
 abbrev pub OpensLong : {T : Type 0} → Result T TreeFault → DiskState → DiskState → ℕ → Key → Link → Walk → Walk → Type 0
@@ -55,11 +56,17 @@ OpensLong result old new limit key link walk later =
     new.honest ≡ true → (value : List ℕ) → IsLongAt old.now.contents limit link.block key value → length value ≡ link.len
     → OkOrDevice result (λ _. later ≡ record { pending = Own key value ∷ drop 1 walk.pending; tops = walk.tops })
 
--- it has the tops under an inner block in the place of the block
-abbrev pub OpensNode : {T : Type 0} → Result T TreeFault → DiskState → DiskState → ℕ → Root → Walk → Walk → Type 0
-OpensNode result old new limit top walk later =
+-- it has of the tops under an inner block those that may have records of the part in the place of the block
+abbrev pub OpensNode : {T : Type 0} → Result T TreeFault → DiskState → DiskState → (limit low high : ℕ) → Root → Walk → Walk → Type 0
+OpensNode result old new limit low high top walk later =
     new.honest ≡ true → (cs : List Child) → IsNodeAt old.now.contents limit top.level top.block cs
-    → OkOrDevice result (λ _. later ≡ into_tops (tops_of (top.level - 1) cs) walk)
+    → OkOrDevice result (λ _. (kept : List Child) × CutsChildren low high cs kept × (later ≡ into_tops (tops_of (top.level - 1) kept) walk))
+
+-- a walk that has begun stands before this root, or at its end where the root has no block, or begins above a place
+pub record Begins (high : ℕ) (root : Root) (walk : Walk) : Type 0 where
+  pub empty : root.block ≡ 0 → walk ≡ walk_of []
+  pub above : high < place root.low → walk ≡ walk_of []
+  pub some : root.block ≢ 0 → place root.low ≤ high → walk ≡ walk_of (root ∷ [])
 
 -- it has no more than 16 entries in the place of a leaf
 abbrev pub IsIntoRecords : Walk → Walk → Type 0

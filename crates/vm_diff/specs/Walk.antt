@@ -1,8 +1,9 @@
 -- Walks through trees: what lies ahead of one, and how much that is.
-use Rattle.std.specs.Prelude.{◌≡◌, ℕ, zero, suc, ◌+◌, ◌*◌, List, [], ◌∷◌, ◌++◌, map, drop}
+use Rattle.std.specs.Prelude.{◌≡◌, ℕ, zero, suc, ◌+◌, ◌*◌, Bool, List, [], ◌∷◌, ◌++◌, map, drop}
 use Rattle.vm_disk.specs.Disk.{Contents}
 use Rattle.vm_block.specs.Leaf.{Record, BeginsWith}
 use Rattle.vm_block.specs.declared.node.Child.{Child}
+use Rattle.vm_tree.specs.Over.{subtree_over}
 use Rattle.vm_tree.specs.Tree.{Sizes, Subtree}
 use Rattle.vm_tree.specs.declared.root.Root.{Root}
 use Rattle.vm_diff.specs.Entry.{Entry, EntriesFor, steps_past}
@@ -43,22 +44,22 @@ weight_of (t ∷ ts) = weight t.level + weight_of ts
 abbrev pub size : Walk → ℕ
 size walk = steps_past walk.pending + weight_of walk.tops
 
--- under these tops lie these records, joined, in these blocks
-abbrev pub Under : Sizes → Contents → ℕ → List Root → List Record → List ℕ → Type 0
-Under sizes x limit [] rs bs = (rs ≡ []) × (bs ≡ [])
-Under sizes x limit (t ∷ ts) rs bs =
+-- under these tops lie these records, joined, and these are the blocks there that have a record under them whose place passes the test
+abbrev pub Under : (ℕ → Bool) → Sizes → Contents → ℕ → List Root → List Record → List ℕ → Type 0
+Under test sizes x limit [] rs bs = (rs ≡ []) × (bs ≡ [])
+Under test sizes x limit (t ∷ ts) rs bs =
     (first : List Record) × (rest : List Record) × (own : List ℕ) × (others : List ℕ)
-    × Subtree sizes x limit t.level t.block first own × BeginsWith t.low first × Under sizes x limit ts rest others
-    × (rs ≡ first ++ rest) × (bs ≡ own ++ others)
+    × (tree : Subtree sizes x limit t.level t.block first own) × BeginsWith t.low first × Under test sizes x limit ts rest others
+    × (rs ≡ first ++ rest) × (bs ≡ subtree_over test sizes x limit t.level t.block first own tree ++ others)
 
--- these records are ahead of the walk, in these blocks: the long values of the leaf that is open, which it has not read, and the
--- subtrees that it has not opened
-pub record IsAhead (sizes : Sizes) (x : Contents) (limit : ℕ) (walk : Walk) (rs : List Record) (bs : List ℕ) : Type 0 where
+-- these records are ahead of the walk, and these are the blocks with one of them whose place passes the test: those of long values of the
+-- leaf that is open, which it has not read, and those of the subtrees that it has not opened
+pub record IsAhead (test : ℕ → Bool) (sizes : Sizes) (x : Contents) (limit : ℕ) (walk : Walk) (rs : List Record) (bs : List ℕ) : Type 0 where
   pub next : List Record
   pub later : List Record
   pub beside : List ℕ
   pub below : List ℕ
-  pub entries : EntriesFor x limit walk.pending next beside
-  pub under : Under sizes x limit walk.tops later below
+  pub entries : EntriesFor test x limit walk.pending next beside
+  pub under : Under test sizes x limit walk.tops later below
   pub records : rs ≡ next ++ later
   pub blocks : bs ≡ beside ++ below

@@ -1,21 +1,23 @@
 //! The children of an inner block that come next, in the block's bytes.
-ghost use Rattle.std.specs.Prelude.{◌≡◌, ◌≢◌, ◌+◌, ◌<◌, ◌≤◌, [], ◌∷◌, IsTrue, drop, length, OnOk};
-ghost use Rattle.vm_block.specs.Row.{node_row};
+ghost use Rattle.std.specs.Prelude.{◌≡◌, ◌≢◌, ℕ, ◌+◌, ◌<◌, ◌≤◌, [], ◌∷◌, IsTrue, drop, length, OnOk};
+ghost use Rattle.vm_types.specs.Places.{place};
+ghost use Rattle.vm_block.specs.Row.{child_of, node_row};
 ghost use Rattle.vm_tree.specs.Calls.{OnlyLooks};
 ghost use Rattle.vm_diff.specs.Ahead.{PassedBoth, first_child};
 ghost use Rattle.vm_diff.specs.Opened.{HoldsNode};
 ghost use Rattle.vm_diff.specs.Rows.{AreSameRows};
 
+use crate::part::Part;
 use std::marker::Model;
 use vm_block::{Child, MAX_CHILDREN, child_at, child_row, write_node};
 use vm_disk::Disk;
 use vm_tree::{TreeFault, node_into};
-use vm_types::Key;
+use vm_types::{Block, BlockNumber, Key};
 
-/// The children of an inner block from one on, where they stand in its bytes.
+/// The children of an inner block from one on, in the block's bytes.
 #[derive(Drop)]
 pub(crate) struct Children {
-    bytes: [u8; 4096],
+    bytes: Block,
     at: usize,
     count: usize,
 }
@@ -35,7 +37,7 @@ impl Model for Children {
 }
 
 impl Children {
-    /// None.
+    /// No children.
     pub(crate) fn new() -> Children
         ensures { result ≡ [] }
     {
@@ -46,11 +48,11 @@ impl Children {
         }
     }
 
-    /// Makes this the one child.
-    pub(crate) fn hold(&mut self, low: Key, block: u32)
+    /// Makes this the only child.
+    pub(crate) fn hold(&mut self, low: Key, block: BlockNumber)
         ensures { self.new ≡ record { low = low; block = block } ∷ [] }
     {
-        // Of the place it's known that the key fits.
+        // From its place it is known that the key fits.
         let _ = low.place();
         write_node(1, &[Child { low, block }], &mut self.bytes);
         self.at = 0;
@@ -68,7 +70,7 @@ impl Children {
         }
     }
 
-    /// Goes past a child.
+    /// Passes a child.
     pub(crate) fn pass(&mut self)
         ensures { self.new ≡ drop 1 self.old }
     {
@@ -77,7 +79,7 @@ impl Children {
         }
     }
 
-    /// Goes past the children with which both lists begin, and tells whether there are any.
+    /// Passes the children that both lists begin with, and tells whether there are any.
     pub(crate) fn pass_shared(&mut self, other: &mut Children) -> bool
         ensures passed { PassedBoth self.old other.old self.new other.new }
         ensures some { IsTrue result → length self.new < length self.old }
@@ -90,36 +92,72 @@ impl Children {
         shared > 0
     }
 
-    /// Reads an inner block of this level: its children come next.
+    /// Reads an inner block of this level. Its children come next, except those with nothing of the
+    /// part under them.
     pub(crate) fn read<D: Disk>(
         &mut self,
         disk: &mut D,
         blocks: u32,
+        part: Part,
         level: u8,
-        block: u32,
+        block: BlockNumber,
     ) -> Result<(), TreeFault>
         requires { blocks ≤ (D.state disk.old).blocks }
         ensures looks { OnlyLooks result (D.state disk.old) (D.state disk.new) }
         ensures once { (D.state disk.new).reads ≤ (D.state disk.old).reads + 1 }
         ensures few { OnOk result (length self.new ≤ MAX_CHILDREN) }
         ensures only { HoldsNode result (D.state disk.old) (D.state disk.new)
-            blocks level block self.new }
+            blocks (place part.low) (place part.high) level block self.new }
     {
         let count = node_into(disk, blocks, level, block, &mut self.bytes)?;
-        self.at = 0;
-        self.count = count;
+        let first = first_child_in(&self.bytes, 0, count, part.low);
+        let end = end_of_children(&self.bytes, first, count, part.high);
+        self.at = first;
+        self.count = end;
         Ok(())
     }
 }
 
-/// How many rows are equal from these on in two inner blocks, of so many at most.
-fn shared_children(
-    one: &[u8; 4096],
-    at: usize,
-    other: &[u8; 4096],
-    other_at: usize,
-    most: usize,
-) -> usize
+/// The first of these children that may have something at a key or after it: the last one that
+/// begins at the key or before it, or else the first.
+fn first_child_in(bytes: &Block, at: usize, count: usize, low: Key) -> usize
+    requires inside { at ≤ count }
+    requires few { count ≤ MAX_CHILDREN }
+    ensures from { at ≤ result }
+    ensures most { result ≤ count }
+    ensures passed { at < result → (result < count) × (place (child_of (node_row bytes.now result)).low ≤ place low) }
+    ensures next { result + 1 < count → place low < place (child_of (node_row bytes.now (result + 1))).low }
+{
+    for i in at..count {
+        if i + 1 == count {
+            return i;
+        }
+        if low.place() < child_at(bytes, i + 1).low.place() {
+            return i;
+        }
+    }
+    count
+}
+
+/// The end of those of these children that begin at a key or before it.
+fn end_of_children(bytes: &Block, at: usize, count: usize, high: Key) -> usize
+    requires inside { at ≤ count }
+    requires few { count ≤ MAX_CHILDREN }
+    ensures from { at ≤ result }
+    ensures most { result ≤ count }
+    ensures within { (k : ℕ) → at ≤ k → k < result → place (child_of (node_row bytes.now k)).low ≤ place high }
+    ensures above { result < count → place high < place (child_of (node_row bytes.now result)).low }
+{
+    for i in at..count {
+        if high.place() < child_at(bytes, i).low.place() {
+            return i;
+        }
+    }
+    count
+}
+
+/// How many rows from these on are equal in two inner blocks, at most `most`.
+fn shared_children(one: &Block, at: usize, other: &Block, other_at: usize, most: usize) -> usize
     requires here { at + most ≤ MAX_CHILDREN }
     requires there { other_at + most ≤ MAX_CHILDREN }
     ensures most { result ≤ most }

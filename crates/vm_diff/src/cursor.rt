@@ -1,15 +1,17 @@
 //! A walk through a tree, by rising keys.
 ghost use Rattle.std.specs.Prelude.{◌≡◌, ◌≢◌, ◌+◌, ◌<◌, ◌≤◌, [], ◌∷◌, length, drop, option_copied, IsFalse, IsTrue, IfSome, OnOk};
 ghost use Rattle.vm_types.specs.Bytes.{longest};
+ghost use Rattle.vm_types.specs.Places.{place};
 ghost use Rattle.vm_tree.specs.Calls.{OnlyLooks};
 ghost use Rattle.vm_diff.specs.Walk.{Walk, past_record, walk_of};
 ghost use Rattle.vm_diff.specs.Ahead.{PassedBoth, first_top, tops_in};
 ghost use Rattle.vm_diff.specs.Front.{front_of, next_of};
 ghost use Rattle.vm_diff.specs.Front.Front.{Far, Top};
-ghost use Rattle.vm_diff.specs.Opened.{GoesPast, HasNoValue, HasValue, IsIntoRecord, IsIntoRecords, IsIntoTops, IsNextValue, OpensLeaf, OpensLong, OpensNode, Stays};
+ghost use Rattle.vm_diff.specs.Opened.{Begins, GoesPast, HasNoValue, HasValue, IsIntoRecord, IsIntoRecords, IsIntoTops, IsNextValue, OpensLeaf, OpensLong, OpensNode, Stays};
 
 use crate::children::Children;
 use crate::front::Next;
+use crate::part::Part;
 use crate::records::Records;
 use std::marker::Model;
 use vm_block::Link;
@@ -17,9 +19,9 @@ use vm_disk::Disk;
 use vm_tree::{Root, TreeFault};
 use vm_types::Key;
 
-/// A walk through a tree: the records of the leaf that is open (and the block of a long value, where
-/// one was read), and then the subtrees that are not
-/// open yet, those of each level in the inner block one level above. The root is the one child at its own level.
+/// A walk through a tree: the records of the open leaf (and the block of a long value, if one was
+/// read), and then the subtrees that are not open yet, those of each level in the inner block one
+/// level above. The root is the only child at its own level.
 #[derive(Drop)]
 pub(crate) struct Cursor {
     records: Records,
@@ -56,7 +58,7 @@ fn next_top(levels: &[Children; 8]) -> Option<Root>
 }
 
 impl Cursor {
-    /// A walk at its end. It has room for ten blocks, so it is made where it stays, and begun
+    /// A walk at its end. It has buffers for ten blocks, so it is made where it stays, and begun
     /// there.
     pub(crate) fn empty() -> Cursor
         ensures { result ≡ walk_of [] }
@@ -76,14 +78,14 @@ impl Cursor {
         }
     }
 
-    /// Has a walk that is at its end go through the tree under a root, and tells whether it does: it
-    /// stays at its end where the root's level is none that a tree has.
-    pub(crate) fn begin(&mut self, root: Root) -> bool
+    /// Makes a walk that is at its end go through the tree under a root. False if the root's level
+    /// is one that no tree has. The walk then stays at its end; it also does if the tree begins
+    /// above the part.
+    pub(crate) fn begin(&mut self, root: Root, part: Part) -> bool
         requires { self.old ≡ walk_of [] }
         ensures none { IsFalse result → (root.block ≢ 0) × (7 < root.level) }
         ensures end { IsFalse result → self.new ≡ walk_of [] }
-        ensures empty { root.block ≡ 0 → IsTrue result → self.new ≡ walk_of [] }
-        ensures some { root.block ≢ 0 → IsTrue result → self.new ≡ walk_of (root ∷ []) }
+        ensures begun { IsTrue result → Begins (place part.high) root self.new }
     {
         if root.block == 0 {
             return true;
@@ -91,11 +93,14 @@ impl Cursor {
         if root.level > 7 {
             return false;
         }
+        if part.high.place() < root.low.place() {
+            return true;
+        }
         self.levels[root.level as usize].hold(root.low, root.block);
         true
     }
 
-    /// What the walk stands before.
+    /// What comes next in the walk.
     #[inline(always)]
     pub(crate) fn next(&self) -> Next
         ensures { result ≡ next_of (front_of self.now) }
@@ -109,7 +114,7 @@ impl Cursor {
         }
     }
 
-    /// The bytes of the value of the record that the walk stands before.
+    /// The bytes of the value of the next record.
     pub(crate) fn value(&self) -> &[u8]
         ensures value { IsNextValue result.now self.now }
         ensures short { length result.now ≤ longest }
@@ -117,14 +122,14 @@ impl Cursor {
         self.records.value()
     }
 
-    /// Goes past a record.
+    /// Passes a record.
     pub(crate) fn take(&mut self)
         ensures { self.new ≡ past_record self.old }
     {
         self.records.pass();
     }
 
-    /// The bytes of the value of the key, where the walk stands before its record.
+    /// The bytes of the key's value, if its record comes next.
     pub(crate) fn value_at(&self, key: Key) -> Option<&[u8]>
         ensures there { HasValue (option_copied result) key self.now }
         ensures none { HasNoValue (option_copied result) key self.now }
@@ -136,7 +141,7 @@ impl Cursor {
         }
     }
 
-    /// Goes past the record of the key, where the walk stands before it.
+    /// Passes the key's record, if it comes next.
     pub(crate) fn pass_at(&mut self, key: Key)
         ensures there { GoesPast key self.old self.new }
         ensures none { Stays key self.old self.new }
@@ -147,7 +152,7 @@ impl Cursor {
         }
     }
 
-    /// Goes past a subtree.
+    /// Passes a subtree.
     pub(crate) fn skip(&mut self, top: Root)
         requires { front_of self.old ≡ Top top }
         ensures { self.new ≡ record { pending = self.old.pending; tops = drop 1 self.old.tops } }
@@ -155,11 +160,12 @@ impl Cursor {
         self.levels[top.level as usize].pass();
     }
 
-    /// Opens the leaf that the walk stands before: its records come next.
+    /// Opens the leaf that comes next. Its records of the part then come next.
     pub(crate) fn open_leaf<D: Disk>(
         &mut self,
         disk: &mut D,
         blocks: u32,
+        part: Part,
         top: Root,
     ) -> Result<(), TreeFault>
         requires blocks { blocks ≤ (D.state disk.old).blocks }
@@ -169,13 +175,13 @@ impl Cursor {
         ensures once { (D.state disk.new).reads ≤ (D.state disk.old).reads + 1 }
         ensures few { OnOk result (IsIntoRecords self.old self.new) }
         ensures only { OpensLeaf result (D.state disk.old) (D.state disk.new)
-            blocks top self.old self.new }
+            blocks (place part.low) (place part.high) top self.old self.new }
     {
         self.levels[top.level as usize].pass();
-        self.records.read(disk, blocks, top.block)
+        self.records.read(disk, blocks, part, top.block)
     }
 
-    /// Reads the long value that the walk stands before: the record takes the place of the link to it.
+    /// Reads the long value that comes next. The record takes the place of the link to it.
     pub(crate) fn open_long<D: Disk>(
         &mut self,
         disk: &mut D,
@@ -194,11 +200,13 @@ impl Cursor {
         self.records.read_next(disk, blocks, key, link)
     }
 
-    /// Opens the inner block that the walk stands before: the subtrees under it take its place.
+    /// Opens the inner block that comes next. The subtrees under it take its place, except those
+    /// with nothing of the part.
     pub(crate) fn open_node<D: Disk>(
         &mut self,
         disk: &mut D,
         blocks: u32,
+        part: Part,
         top: Root,
     ) -> Result<(), TreeFault>
         requires blocks { blocks ≤ (D.state disk.old).blocks }
@@ -208,15 +216,15 @@ impl Cursor {
         ensures once { (D.state disk.new).reads ≤ (D.state disk.old).reads + 1 }
         ensures few { OnOk result (IsIntoTops top.level self.old self.new) }
         ensures only { OpensNode result (D.state disk.old) (D.state disk.new)
-            blocks top self.old self.new }
+            blocks (place part.low) (place part.high) top self.old self.new }
     {
         self.levels[top.level as usize].pass();
-        self.levels[top.level as usize - 1].read(disk, blocks, top.level, top.block)
+        self.levels[top.level as usize - 1].read(disk, blocks, part, top.level, top.block)
     }
 }
 
-/// Goes past the records that both walks stand before, as far as their bytes are equal, and tells
-/// whether both have none left then.
+/// Passes the records that come next in both walks, as far as their bytes are equal, and tells
+/// whether neither has any left then.
 pub(crate) fn pass_records(one: &mut Cursor, other: &mut Cursor) -> bool
     ensures passed { PassedBoth one.old.pending other.old.pending
         one.new.pending other.new.pending }
@@ -227,8 +235,8 @@ pub(crate) fn pass_records(one: &mut Cursor, other: &mut Cursor) -> bool
     one.records.is_empty() && other.records.is_empty()
 }
 
-/// Goes past the subtrees with which what is ahead of both walks begins, as far as they stand in one
-/// inner block of either, and tells whether there are any.
+/// Passes the subtrees that the rest of both walks begins with, as far as they are in one inner
+/// block of each, and tells whether there are any.
 pub(crate) fn pass_tops(one: &mut Cursor, other: &mut Cursor) -> bool
     ensures passed { PassedBoth one.old.tops other.old.tops one.new.tops other.new.tops }
     ensures pending { (one.new.pending ≡ one.old.pending)

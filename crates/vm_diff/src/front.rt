@@ -1,12 +1,12 @@
-//! What a walk stands before, and what a step of two walks comes to.
+//! What comes next in a walk, and the outcome of a step of two walks.
 ghost use Rattle.std.specs.Prelude.{◌≡◌, ◌^◌, ◌≤◌};
 
 use vm_block::Link;
 use vm_tree::Root;
 use vm_types::Key;
 
-/// What a walk stands before: a record with this key, a key with the link to its long value, which
-/// is not read yet, or a subtree.
+/// What comes next in a walk: a record with this key, a key with the link to its long value, which
+/// has not been read, or a subtree.
 #[derive(Clone, Copy, Debug)]
 pub(crate) enum Next {
     End,
@@ -18,7 +18,7 @@ pub(crate) enum Next {
 impl Next {
     ghost use Rattle.vm_diff.specs.Front.{next_place};
 
-    /// Where its first key stands: at the end above all keys.
+    /// The rank of its first key. The end ranks above all keys.
     #[inline(always)]
     pub(crate) fn place(self) -> u128
         ensures place { result ≡ next_place self }
@@ -32,13 +32,13 @@ impl Next {
     }
 }
 
-/// What a step of two walks comes to.
+/// The outcome of a step of two walks.
 #[derive(Clone, Copy, Debug)]
 pub(crate) enum Step {
-    /// Both stand at the end.
+    /// Both are at their ends.
     Done,
-    /// They went on, and what is ahead differs as before.
+    /// They advanced, and the differences ahead are the same as before.
     Moved,
-    /// They stand before the first difference, which is at this key.
+    /// The first difference comes next. It is at this key.
     Found(Key),
 }

@@ -1,18 +1,19 @@
-//! Where two maps in trees of blocks differ.
+//! Differences between two maps in trees of blocks.
 //!
-//! It stands on `vm_types`, `vm_disk`, `vm_block`, `vm_tree` and `byteorder`. It promises just the
-//! keys at which the maps differ, each once and in order, with both values, for no more reads than
-//! there are blocks that only one of the trees has. Two walks go through both trees by rising keys,
-//! and skip each subtree that both stand before.
+//! It stands on `vm_types`, `vm_disk`, `vm_block`, `vm_tree` and `byteorder`. It promises exactly
+//! the keys at which the maps differ, each once and in order, with both values, for at most as many
+//! reads as there are blocks that only one of the trees has. Two walks go through both trees by
+//! rising keys, and skip each subtree that comes next in both.
 #![tactic(auto)]
 
 mod children;
-mod comparing;
+mod comparison;
 mod cursor;
+mod descent;
 mod front;
-mod opening;
+mod part;
 mod records;
-mod skipping;
-mod stepping;
+mod shared;
+mod steps;
 
-pub use comparing::{changed, same};
+pub use comparison::{changed, changed_part, same};

@@ -1,7 +1,8 @@
-//! The records of a leaf that come next, in the leaf's bytes and in those of the block of a long value.
-ghost use Rattle.std.specs.Prelude.{◌≡◌, ◌≢◌, ◌+◌, ◌≤◌, ◌<◌, [], ◌∷◌, drop, length, IfSome, IsTrue, OnOk};
+//! The records of a leaf that come next, in the bytes of the leaf and of the block of a long value.
+ghost use Rattle.std.specs.Prelude.{◌≡◌, ◌≢◌, ℕ, ◌+◌, ◌≤◌, ◌<◌, [], ◌∷◌, drop, length, IfSome, IsTrue, OnOk};
 ghost use Rattle.vm_types.specs.Bytes.{longest};
-ghost use Rattle.vm_block.specs.Row.{leaf_row};
+ghost use Rattle.vm_types.specs.Places.{place};
+ghost use Rattle.vm_block.specs.Row.{key_of, leaf_row};
 ghost use Rattle.vm_tree.specs.Calls.{OnlyLooks};
 ghost use Rattle.vm_diff.specs.Ahead.{PassedBoth, first_key};
 ghost use Rattle.vm_diff.specs.Front.{first_of, next_of};
@@ -10,6 +11,7 @@ ghost use Rattle.vm_diff.specs.Opened.{HasLen, HoldsLeaf, HoldsLong, IsFirstValu
 ghost use Rattle.vm_diff.specs.Rows.{AreSameRows, entry_of};
 
 use crate::front::Next;
+use crate::part::Part;
 use byteorder::{ByteOrder, LittleEndian};
 use std::marker::Model;
 use vm_block::{
@@ -17,16 +19,16 @@ use vm_block::{
 };
 use vm_disk::Disk;
 use vm_tree::{TreeFault, data_at};
-use vm_types::{Key, Value};
+use vm_types::{Block, BlockNumber, Key, Value};
 
-/// The records of a leaf from one on, where they stand in its bytes. One may come before them: the
-/// one whose long value was read, with the block that has the value.
+/// The records of a leaf from one on, in the leaf's bytes. One may come before them: the record
+/// whose long value was read, with the block that has the value.
 #[derive(Drop)]
 pub(crate) struct Records {
-    bytes: [u8; 4096],
+    bytes: Block,
     at: usize,
     count: usize,
-    long: [u8; 4096],
+    long: Block,
     len: usize,
     held: Option<Key>,
 }
@@ -47,7 +49,7 @@ impl Model for Records {
 }
 
 impl Records {
-    /// None.
+    /// No records.
     pub(crate) fn new() -> Records
         ensures { result ≡ [] }
     {
@@ -98,7 +100,7 @@ impl Records {
         }
     }
 
-    /// Goes past a record.
+    /// Passes a record.
     pub(crate) fn pass(&mut self)
         ensures { self.new ≡ drop 1 self.old }
     {
@@ -112,7 +114,7 @@ impl Records {
         }
     }
 
-    /// Whether none comes.
+    /// Whether no record comes.
     pub(crate) fn is_empty(&self) -> bool
         ensures { IsTrue result → self.now ≡ [] }
     {
@@ -122,7 +124,7 @@ impl Records {
         }
     }
 
-    /// Goes past the rows with which both lists begin, as far as their bytes are equal.
+    /// Passes the rows that both lists begin with, as far as their bytes are equal.
     pub(crate) fn pass_shared(&mut self, other: &mut Records)
         ensures { PassedBoth self.old other.old self.new other.new }
     {
@@ -136,31 +138,35 @@ impl Records {
         other.at += shared;
     }
 
-    /// Reads a leaf: its records come next.
+    /// Reads a leaf. Its records of the part come next.
     pub(crate) fn read<D: Disk>(
         &mut self,
         disk: &mut D,
         blocks: u32,
-        block: u32,
+        part: Part,
+        block: BlockNumber,
     ) -> Result<(), TreeFault>
         requires { blocks ≤ (D.state disk.old).blocks }
         ensures looks { OnlyLooks result (D.state disk.old) (D.state disk.new) }
         ensures once { (D.state disk.new).reads ≤ (D.state disk.old).reads + 1 }
         ensures few { OnOk result (length self.new ≤ MAX_ROWS) }
-        ensures only { HoldsLeaf result (D.state disk.old) (D.state disk.new) blocks block self.new }
+        ensures only { HoldsLeaf result (D.state disk.old) (D.state disk.new)
+            blocks (place part.low) (place part.high) block self.new }
     {
         data_at(disk, blocks, block, &mut self.bytes)?;
         let Some(count) = rows_size(&self.bytes) else {
             return Err(TreeFault::Damaged(block));
         };
-        self.at = 0;
-        self.count = count;
+        let first = first_record_in(&self.bytes, 0, count, part.low);
+        let end = end_of_records(&self.bytes, first, count, part.high);
+        self.at = first;
+        self.count = end;
         self.held = None;
         Ok(())
     }
 
-    /// Reads the block of the long value that comes next, by one read: the record takes the place of
-    /// the link to it.
+    /// Reads the block of the long value that comes next, by one read. The record takes the place
+    /// of the link to it.
     pub(crate) fn read_next<D: Disk>(
         &mut self,
         disk: &mut D,
@@ -187,9 +193,9 @@ impl Records {
     }
 }
 
-/// What the row at i of a leaf has of its record.
+/// What row `i` of a leaf has of its record.
 #[inline(always)]
-fn entry_at(bytes: &[u8; 4096], i: usize) -> Next
+fn entry_at(bytes: &Block, i: usize) -> Next
     requires { i < MAX_ROWS }
     ensures { result ≡ next_of (first_of (entry_of (leaf_row bytes.now i) ∷ []) []) }
 {
@@ -203,9 +209,9 @@ fn entry_at(bytes: &[u8; 4096], i: usize) -> Next
     Next::Long(key, Link { len, block })
 }
 
-/// The number of bytes of the value of a key in its block. None, where the block isn't the key's, or
-/// the link says another number.
-fn long_len(bytes: &[u8; 4096], key: Key, link: Link) -> Option<usize>
+/// The length of a key's value in its block. None if the block is not the key's, or the link gives
+/// another length.
+fn long_len(bytes: &Block, key: Key, link: Link) -> Option<usize>
     ensures few { IfSome result (λ len. len ≤ longest) }
     ensures only { HasLen bytes.now key link result }
 {
@@ -217,14 +223,42 @@ fn long_len(bytes: &[u8; 4096], key: Key, link: Link) -> Option<usize>
     }
 }
 
-/// How many rows are equal from these on in two leaves, of so many at most.
-fn shared_records(
-    one: &[u8; 4096],
-    at: usize,
-    other: &[u8; 4096],
-    other_at: usize,
-    most: usize,
-) -> usize
+/// The first of these records at a key or after it.
+fn first_record_in(bytes: &Block, at: usize, count: usize, low: Key) -> usize
+    requires inside { at ≤ count }
+    requires few { count ≤ MAX_ROWS }
+    ensures from { at ≤ result }
+    ensures most { result ≤ count }
+    ensures below { (k : ℕ) → at ≤ k → k < result → place (key_of (leaf_row bytes.now k)) < place low }
+    ensures reached { result < count → place low ≤ place (key_of (leaf_row bytes.now result)) }
+{
+    for i in at..count {
+        if low.place() <= record_key(bytes, i).place() {
+            return i;
+        }
+    }
+    count
+}
+
+/// The end of those of these records that are at a key or before it.
+fn end_of_records(bytes: &Block, at: usize, count: usize, high: Key) -> usize
+    requires inside { at ≤ count }
+    requires few { count ≤ MAX_ROWS }
+    ensures from { at ≤ result }
+    ensures most { result ≤ count }
+    ensures within { (k : ℕ) → at ≤ k → k < result → place (key_of (leaf_row bytes.now k)) ≤ place high }
+    ensures above { result < count → place high < place (key_of (leaf_row bytes.now result)) }
+{
+    for i in at..count {
+        if high.place() < record_key(bytes, i).place() {
+            return i;
+        }
+    }
+    count
+}
+
+/// How many rows from these on are equal in two leaves, at most `most`.
+fn shared_records(one: &Block, at: usize, other: &Block, other_at: usize, most: usize) -> usize
     requires here { at + most ≤ MAX_ROWS }
     requires there { other_at + most ≤ MAX_ROWS }
     ensures most { result ≤ most }

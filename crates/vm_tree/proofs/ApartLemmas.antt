@@ -13,7 +13,7 @@ use Rattle.vm_block.proofs.LongLemmas.{long_one}
 use Rattle.vm_block.proofs.NodeLemmas.{node_one}
 use Rattle.vm_tree.specs.Tree.{Sizes, Children, LeafHolds, Subtree}
 use Rattle.vm_types.specs.Bytes.{longest}
-use Rattle.vm_tree.specs.Replacing.{Lacks, Apart}
+use Rattle.vm_tree.specs.Replacement.{Lacks, Apart}
 use Rattle.vm_tree.proofs.TreeLemmas.{subtree_one}
 use Rattle.vm_tree.proofs.HoldingLemmas.{IsLongOf, all_long, each_whose, holds_or_node, holds_some}
 use Rattle.vm_tree.proofs.Rising.{Above, rises_front, rises_back, rises_above}
@@ -96,7 +96,7 @@ module _ (T : ℕ → List Record → List ℕ → Type 0) where
 -- ---- under subtrees
 
 module _ (sizes : Sizes) (x : Contents) (limit : ℕ) where
-  subtree_some : (l b : ℕ) (rs : List Record) (bs : List ℕ) → Subtree sizes x limit l b rs bs → 0 < length rs
+  pub subtree_some : (l b : ℕ) (rs : List Record) (bs : List ℕ) → Subtree sizes x limit l b rs bs → 0 < length rs
   unfolding Subtree
   subtree_some zero b rs bs t = holds_some x limit longest (block x b) rs t.1 t.2
   subtree_some (suc l) b rs bs t = children_some (Subtree sizes x limit l) t.1 rs t.2 t.3.some t.5

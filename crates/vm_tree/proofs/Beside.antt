@@ -13,8 +13,8 @@ use Rattle.vm_block.specs.Way.{IsChosen}
 use Rattle.vm_block.specs.declared.node.Child.{Child}
 use Rattle.vm_block.proofs.EachLemmas.{each_front, each_back, each_join, each_so, each_both}
 use Rattle.vm_tree.specs.Tree.{Sizes, Children, Subtree}
-use Rattle.vm_tree.specs.Reading.{IsNodeAt}
-use Rattle.vm_tree.specs.Replacing.{Lacks, Apart, IsPathIn, IsRenewed, KeepsBeside, long_of, path_from}
+use Rattle.vm_tree.specs.BlockReads.{IsNodeAt}
+use Rattle.vm_tree.specs.Replacement.{Lacks, Apart, IsPathIn, IsRenewed, KeepsBeside, long_of, path_from}
 use Rattle.vm_tree.proofs.ApartLemmas.{all_above, children_before, subtree_once}
 use Rattle.vm_tree.proofs.Descent.{Opened, opens}
 use Rattle.vm_tree.proofs.Rising.{rises_back}

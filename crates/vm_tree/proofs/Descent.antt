@@ -16,8 +16,8 @@ use Rattle.vm_block.proofs.EachLemmas.{each_so}
 use Rattle.vm_block.proofs.NodeLemmas.{node_one}
 use Rattle.vm_tree.specs.Tree.{Sizes, IsData, IsWithin, Children, Subtree}
 use Rattle.vm_tree.specs.Answers.{OkOrDevice}
-use Rattle.vm_tree.specs.Giving.{IsLeafWith}
-use Rattle.vm_tree.specs.Reading.{IsNodeAt}
+use Rattle.vm_tree.specs.Given.{IsLeafWith}
+use Rattle.vm_tree.specs.BlockReads.{IsNodeAt}
 use Rattle.vm_tree.specs.declared.faults.TreeFault.{TreeFault}
 use Rattle.vm_tree.proofs.TreeLemmas.{node_opens, subtree_fit}
 use Rattle.vm_tree.proofs.Rising.{Below, Above, rises_front, rises_back, rises_before, rises_above, below_more, value_between}

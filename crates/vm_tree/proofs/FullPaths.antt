@@ -14,7 +14,7 @@ use Rattle.vm_block.proofs.NodeLemmas.{node_one}
 use Rattle.vm_tree.specs.FullPath.{FullBelow, blocks_of}
 use Rattle.vm_tree.specs.Tree.{Sizes}
 use Rattle.vm_types.specs.Bytes.{longest}
-use Rattle.vm_tree.specs.Making.{Splits}
+use Rattle.vm_tree.specs.Splits.{Splits}
 use Rattle.vm_tree.proofs.TreeLemmas.{LeafAt}
 use Rattle.vm_tree.proofs.HoldingLemmas.{holds_many}
 use Rattle.vm_tree.proofs.Descent.{Opened}

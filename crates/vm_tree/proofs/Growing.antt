@@ -12,7 +12,7 @@ use Rattle.vm_block.specs.declared.node.Child.{Child}
 use Rattle.vm_block.proofs.EachLemmas.{each_front, each_back, each_join, each_so}
 use Rattle.vm_tree.specs.Tree.{Sizes, IsData, Children, LeafHolds, Subtree}
 use Rattle.vm_types.specs.Bytes.{longest}
-use Rattle.vm_tree.specs.Making.{Made}
+use Rattle.vm_tree.specs.Splits.{Made}
 use Rattle.vm_tree.proofs.TreeLemmas.{subtree_in, leaf_closes, node_closes}
 use Rattle.vm_tree.proofs.HoldingLemmas.{holds_in}
 use Rattle.vm_tree.proofs.LeafRows.{all_begun}

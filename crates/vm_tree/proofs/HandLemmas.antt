@@ -5,7 +5,7 @@ use Rattle.vm_disk.specs.Disk.{Contents}
 use Rattle.vm_block.specs.Leaf.{Row, HasRows}
 use Rattle.vm_block.specs.Node.{IsNode}
 use Rattle.vm_block.specs.declared.node.Child.{Child}
-use Rattle.vm_tree.specs.Reading.{IsBlockAt}
+use Rattle.vm_tree.specs.BlockReads.{IsBlockAt}
 
 -- it is this block
 pub hand_block : {x : Contents} {limit b : ℕ} {low : Key} {hand bytes : List ℕ} → hand ≡ bytes → IsBlockAt x limit b low hand → IsBlockAt x limit b low bytes

@@ -48,7 +48,7 @@ module _ (x : Contents) (limit : ℕ) where
   row_data w r bs (inl itself) = subst (AllByRecursion (IsData limit)) (sym itself.none) tt
   row_data w r bs (inr linked) = subst (AllByRecursion (IsData limit)) (sym linked.only) (linked.place, tt)
 
-  row_one : (w : Row) (r q : Record) (bs ds : List ℕ) → StandsFor x limit w r bs → StandsFor x limit w q ds → (r ≡ q) × (bs ≡ ds)
+  pub row_one : (w : Row) (r q : Record) (bs ds : List ℕ) → StandsFor x limit w r bs → StandsFor x limit w q ds → (r ≡ q) × (bs ≡ ds)
   row_one w r q bs ds (inl a) (inl b) = (a.same ∙ sym b.same, a.none ∙ sym b.none)
   row_one w r q bs ds (inl a) (inr b) = absurd (omega (arith, a.short, ap length b.spelled, length-link b.link b.fits, b.fits.long))
   row_one w r q bs ds (inr a) (inl b) = absurd (omega (arith, b.short, ap length a.spelled, length-link a.link a.fits, a.fits.long))

@@ -6,7 +6,7 @@ use Rattle.vm_block.specs.Head.{IsNodeHead, IsRowsHead}
 use Rattle.vm_block.specs.Node.{child_bytes}
 use Rattle.vm_block.specs.declared.node.Child.{Child}
 use Rattle.vm_block.specs.Way.{ChoosesAmong}
-use Rattle.vm_tree.specs.Reading.{EndsAt, IsBlockAt, LeadsDown, StepsTo}
+use Rattle.vm_tree.specs.BlockReads.{EndsAt, IsBlockAt, LeadsDown, StepsTo}
 use Rattle.vm_tree.specs.declared.faults.TreeFault.{TreeFault}
 
 -- the block that was read has the head of a leaf of rows

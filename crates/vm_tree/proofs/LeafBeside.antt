@@ -16,8 +16,8 @@ use Rattle.vm_block.proofs.LongLemmas.{long_one}
 use Rattle.vm_block.proofs.RecordLemmas.{length-link, link_one}
 use Rattle.vm_tree.specs.Tree.{Sizes, IsData, IsWithin, StandForAll, StandsFor, Subtree}
 use Rattle.vm_types.specs.Bytes.{longest}
-use Rattle.vm_tree.specs.Reading.{IsRowsAt}
-use Rattle.vm_tree.specs.Replacing.{IsPathIn, IsRenewed, KeepsBeside, Lacks, long_of}
+use Rattle.vm_tree.specs.BlockReads.{IsRowsAt}
+use Rattle.vm_tree.specs.Replacement.{IsPathIn, IsRenewed, KeepsBeside, Lacks, long_of}
 use Rattle.vm_tree.specs.Rows.{IsLinkAt, StandIn}
 use Rattle.vm_tree.proofs.HoldingLemmas.{all_data, holds_many}
 use Rattle.vm_tree.proofs.LeafRows.{all_begin, each_but, none_stand, without_in}

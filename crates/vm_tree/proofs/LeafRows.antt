@@ -7,8 +7,8 @@ use Rattle.vm_types.specs.declared.key.Key.{Key}
 use Rattle.vm_types.specs.Places.{place, RisesFrom, places, value_at, with_record}
 use Rattle.vm_disk.specs.Disk.{Contents, block}
 use Rattle.vm_block.specs.Changed.{IsAfterPut, without_place}
-use Rattle.vm_block.specs.declared.changing.Placed.{Placed}
-use Rattle.vm_block.specs.declared.changing.Placed.TheVariants.{Put, Full, NoLeaf}
+use Rattle.vm_block.specs.declared.edits.Placed.{Placed}
+use Rattle.vm_block.specs.declared.edits.Placed.TheVariants.{Put, Full, NoLeaf}
 use Rattle.vm_block.specs.Leaf.{Record, Row, BeginsWith, HasRows, RowFits, leaf_bytes}
 use Rattle.vm_block.specs.Long.{IsLong}
 use Rattle.vm_block.proofs.EachLemmas.{each_front, each_back, each_join, each_so}
@@ -17,7 +17,7 @@ use Rattle.vm_tree.specs.Tree.{IsWithin, StandForAll, StandsFor}
 use Rattle.vm_types.specs.Bytes.{longest}
 use Rattle.vm_tree.proofs.HoldingLemmas.{all_in, all_many, holds_in}
 use Rattle.vm_tree.proofs.Placing.{with_rises, with_some}
-use Rattle.vm_tree.proofs.Removal.{without_above, without_rises}
+use Rattle.vm_tree.proofs.RemovalLemmas.{without_above, without_rises}
 use Rattle.vm_tree.proofs.Rising.{rises_above, rises_back, rises_front, with_above}
 
 -- either has a value, or neither

@@ -6,8 +6,8 @@ use Rattle.vm_block.specs.Head.{IsNodeHead}
 use Rattle.vm_block.specs.Leaf.{HasRows, Row}
 use Rattle.vm_block.specs.declared.node.Child.{Child}
 use Rattle.vm_block.proofs.HeadLemmas.{node_head_only, node_words}
-use Rattle.vm_tree.specs.Reading.{StepsTo}
-use Rattle.vm_tree.specs.Removing.{HasOne}
+use Rattle.vm_tree.specs.BlockReads.{StepsTo}
+use Rattle.vm_tree.specs.Removal.{HasOne}
 
 -- a leaf of one row
 pub one_row : (x : Contents) (b : ℕ) (bytes : List ℕ) (ws : List Row) → bytes ≡ block x b → HasRows bytes ws → length ws ≡ 1 → HasOne x 0 b

@@ -13,15 +13,15 @@ use Rattle.vm_block.specs.declared.node.Child.{Child}
 use Rattle.vm_block.proofs.EachLemmas.{each_front, each_back, each_so}
 use Rattle.vm_block.proofs.NodeLemmas.{node_one}
 use Rattle.vm_tree.specs.Tree.{Sizes, Children, Subtree}
-use Rattle.vm_tree.specs.Making.{Made, PutsBelow, Splits, children_of, is_split}
-use Rattle.vm_tree.specs.Reading.{IsNodeAt}
+use Rattle.vm_tree.specs.Splits.{Made, PutsBelow, Splits, children_of, is_split}
+use Rattle.vm_tree.specs.BlockReads.{IsNodeAt}
 use Rattle.vm_tree.specs.declared.faults.TreeFault.{TreeFault}
 use Rattle.vm_tree.specs.declared.faults.TreeFault.TheVariants.{Device, Damaged}
 use Rattle.vm_tree.specs.declared.faults.PutFault.{PutFault}
 use Rattle.vm_tree.specs.declared.faults.PutFault.TheVariants as put
-use Rattle.vm_tree.specs.declared.writing.Copied.{Copied}
-use Rattle.vm_tree.specs.declared.writing.Copied.TheVariants.{One, Two}
-use Rattle.vm_tree.specs.Replacing.{IsPathIn, IsRenewed, Replaces}
+use Rattle.vm_tree.specs.declared.block_writes.Copied.{Copied}
+use Rattle.vm_tree.specs.declared.block_writes.Copied.TheVariants.{One, Two}
+use Rattle.vm_tree.specs.Replacement.{IsPathIn, IsRenewed, Replaces}
 use Rattle.vm_tree.proofs.TreeLemmas.{subtree_in, LeafAt}
 use Rattle.vm_tree.proofs.Beside.{left_renewed, own_held, own_keeps, right_renewed}
 use Rattle.vm_tree.proofs.Descent.{Opened, opens}

@@ -13,22 +13,22 @@ use Rattle.vm_block.proofs.EachLemmas.{each_front, each_back, each_join, each_so
 use Rattle.vm_block.proofs.HeadLemmas.{node_head_only, node_headed, node_words}
 use Rattle.vm_tree.specs.Tree.{Sizes, Children, Subtree}
 use Rattle.vm_tree.specs.Answers.{OkOrDevice}
-use Rattle.vm_tree.specs.Making.{Made}
-use Rattle.vm_tree.specs.Reading.{IsNodeAt}
+use Rattle.vm_tree.specs.Splits.{Made}
+use Rattle.vm_tree.specs.BlockReads.{IsNodeAt}
 use Rattle.vm_block.specs.Changed.{without_place}
-use Rattle.vm_tree.specs.Removing.{Narrows, IsLeft, RemovesBelow, child_of}
-use Rattle.vm_tree.specs.Replacing.{IsPathIn, IsRenewed, KeepsBeside, Replaces}
+use Rattle.vm_tree.specs.Removal.{Narrows, IsLeft, RemovesBelow, child_of}
+use Rattle.vm_tree.specs.Replacement.{IsPathIn, IsRenewed, KeepsBeside, Replaces}
 use Rattle.vm_tree.specs.declared.root.Root.{Root}
 use Rattle.vm_tree.specs.declared.faults.TreeFault.{TreeFault}
-use Rattle.vm_tree.specs.declared.removing.Left.{Left}
-use Rattle.vm_tree.specs.declared.removing.Left.TheVariants.{Same, Nothing, Rest}
+use Rattle.vm_tree.specs.declared.removal.Left.{Left}
+use Rattle.vm_tree.specs.declared.removal.Left.TheVariants.{Same, Nothing, Rest}
 use Rattle.vm_tree.proofs.TreeLemmas.{node_opens}
 use Rattle.vm_tree.proofs.Beside.{left_renewed, own_held, own_keeps, right_renewed}
 use Rattle.vm_tree.proofs.Descent.{Opened, opens, lowest_of, ok_map}
 use Rattle.vm_tree.proofs.Growing.{made_moved}
 use Rattle.vm_tree.proofs.PutLemmas.{replaced_made}
 use Rattle.vm_tree.proofs.Renewing.{renewed_more}
-use Rattle.vm_tree.proofs.Removal.{without_between, without_rises}
+use Rattle.vm_tree.proofs.RemovalLemmas.{without_between, without_rises}
 use Rattle.vm_tree.proofs.Rising.{value_between}
 use Rattle.vm_tree.proofs.Splitting.{children_join}
 

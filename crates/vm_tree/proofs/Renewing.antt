@@ -10,7 +10,7 @@ use Rattle.vm_alloc.specs.Held.{is_held, IsHeld, HoldsMore}
 use Rattle.vm_block.proofs.EachLemmas.{each_so}
 use Rattle.vm_tree.specs.Tree.{Sizes}
 use Rattle.vm_tree.specs.Free.{is_free}
-use Rattle.vm_tree.specs.Replacing.{Lacks, IsHeldBeside, IsPathIn, IsRenewed, Replaces, long_of, path_from, path_under}
+use Rattle.vm_tree.specs.Replacement.{Lacks, IsHeldBeside, IsPathIn, IsRenewed, Replaces, long_of, path_from, path_under}
 use Rattle.vm_tree.specs.Root.{IsRootedIn}
 use Rattle.vm_tree.specs.declared.root.Root.{Root}
 use Rattle.vm_tree.proofs.Touching.{held_not_free}

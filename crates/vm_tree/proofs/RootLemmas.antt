@@ -15,9 +15,9 @@ use Rattle.vm_tree.specs.FullPath.{FullBelow}
 use Rattle.vm_tree.specs.Tree.{Sizes, IsWithin, Subtree}
 use Rattle.vm_types.specs.Bytes.{longest}
 use Rattle.vm_tree.specs.Answers.{LacksRoom, Puts}
-use Rattle.vm_tree.specs.Making.{Made, PutsBelow, Splits, children_of, is_split}
-use Rattle.vm_tree.specs.declared.writing.Copied.{Copied}
-use Rattle.vm_tree.specs.declared.writing.Copied.TheVariants.{One, Two}
+use Rattle.vm_tree.specs.Splits.{Made, PutsBelow, Splits, children_of, is_split}
+use Rattle.vm_tree.specs.declared.block_writes.Copied.{Copied}
+use Rattle.vm_tree.specs.declared.block_writes.Copied.TheVariants.{One, Two}
 use Rattle.vm_tree.specs.Root.{IsTop, IsRootedIn}
 use Rattle.vm_tree.specs.declared.root.Root.{Root}
 use Rattle.vm_tree.specs.declared.faults.TreeFault.{TreeFault}

@@ -6,13 +6,13 @@ use Rattle.vm_types.specs.Places.{place, KeyFits, value_at}
 use Rattle.vm_types.proofs.Bridge.{value_at-get}
 use Rattle.vm_disk.specs.Disk.{Contents}
 use Rattle.vm_tree.specs.Tree.{Sizes}
-use Rattle.vm_tree.specs.Making.{Made}
+use Rattle.vm_tree.specs.Splits.{Made}
 use Rattle.vm_block.specs.Changed.{without_place}
-use Rattle.vm_tree.specs.Removing.{child_of}
+use Rattle.vm_tree.specs.Removal.{child_of}
 use Rattle.vm_tree.specs.Root.{IsBare, IsTop, IsRooted, IsRootedIn}
 use Rattle.vm_tree.specs.declared.root.Root.{Root}
 use Rattle.vm_tree.proofs.Descent.{subtree_top}
-use Rattle.vm_tree.proofs.Removal.{without_rises, without_is}
+use Rattle.vm_tree.proofs.RemovalLemmas.{without_rises, without_is}
 use Rattle.vm_tree.proofs.RootLemmas.{made_root, subtree_keys}
 
 -- a root that is not 0 is a top

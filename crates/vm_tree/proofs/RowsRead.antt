@@ -10,7 +10,7 @@ use Rattle.vm_block.specs.Leaf.{Record, Row, RowFits, IsShort, LinkFits, link_by
 use Rattle.vm_block.specs.Long.{IsLong}
 use Rattle.vm_block.specs.declared.stored.Link.{Link}
 use Rattle.vm_block.proofs.RecordLemmas.{length-link, link_one}
-use Rattle.vm_tree.specs.Reading.{IsLongAt}
+use Rattle.vm_tree.specs.BlockReads.{IsLongAt}
 use Rattle.vm_tree.specs.Tree.{IsData, IsWithin, StandForAll, StandsFor}
 use Rattle.vm_types.specs.Bytes.{longest}
 use Rattle.vm_tree.proofs.LeafRows.{row_key}
@@ -41,13 +41,10 @@ module _ (x : Contents) (limit : ℕ) where
         many = omega (arith, linked.many, length-link linked.link linked.fits, ap length linked.spelled, ap length is, length-link link fits);
       }
 
-  -- the record at an index is the one for which the row there stands
-  pub row_stands : (ws : List Row) (rs : List Record) (bs : List ℕ) (i : ℕ) (d e : Row) → StandForAll x limit ws rs bs → i < length ws → (own : List ℕ) × StandsFor x limit (get_or ws i d) (get_or rs i e) own
-  row_stands [] rs bs i d e t lt = absurd (omega (arith, lt))
-  row_stands (w ∷ ws) rs bs zero d e t lt = (t.2, subst (λ (qs : List Record). StandsFor x limit w (get_or qs 0 e) t.2) (sym t.6) t.4)
-  row_stands (w ∷ ws) rs bs (suc i) d e t lt =
-      let rest = row_stands ws t.1 t.3 i d e t.5 (omega (arith, lt)) in
-      (rest.0, subst (λ (qs : List Record). StandsFor x limit (get_or ws i d) (get_or qs (suc i) e) rest.0) (sym t.6) rest.1)
+  -- and it has one block beside it
+  pub link_counts : (w : Row) (r : Record) (own : List ℕ) (link : Link) → StandsFor x limit w r own → LinkFits link → link_bytes link ≡ w.1 → length own ≡ 1
+  link_counts w r own link (inl itself) fits is = absurd (omega (arith, itself.short, ap length is, length-link link fits, fits.long))
+  link_counts w r own link (inr linked) fits is = ap length linked.only
 
   -- the row at a place, and the record for which it stands
   pub record RowAt (p : ℕ) (stored : List ℕ) (rs : List Record) : Type 0 where

@@ -3,7 +3,7 @@ use Rattle.std.specs.Prelude.{ℕ, List, Result, IfOk}
 use Rattle.vm_disk.specs.Disk.{DiskState}
 use Rattle.vm_block.specs.declared.node.Child.{Child}
 use Rattle.vm_tree.specs.Tree.{Sizes}
-use Rattle.vm_tree.specs.Replacing.{IsPathIn, long_of, path_from, path_under}
+use Rattle.vm_tree.specs.Replacement.{IsPathIn, long_of, path_from, path_under}
 use Rattle.vm_tree.specs.Root.{IfUnder, IfWhole, sizes_of}
 use Rattle.vm_tree.specs.declared.root.Root.{Root}
 

@@ -1,4 +1,4 @@
-//! What a call on a tree answers where it gives none.
+//! What a call on a tree returns if it has no answer.
 ghost use Rattle.std.specs.Prelude.{◌≡◌};
 ghost use Rattle.vm_tree.specs.Faults.{refusal_of, refusal_of_list, refusal_of_put};
 ghost use Rattle.vm_tree.specs.declared.faults.ListFault.TheVariants as list;
@@ -9,7 +9,7 @@ use std::alloc::AllocError;
 use vm_disk::DeviceFault;
 use vm_types::Refusal;
 
-/// Why a call that looks at blocks of a tree, or writes them, gave no answer.
+/// Why a call that reads or writes blocks of a tree gave no answer.
 #[derive(Clone, Copy, Debug, PartialEq, Eq)]
 pub enum TreeFault {
     /// The device failed in this call.
@@ -18,7 +18,7 @@ pub enum TreeFault {
     Damaged(u32),
 }
 
-/// Why a Put gave no root.
+/// Why a put returned no root.
 #[derive(Clone, Copy, Debug, PartialEq, Eq)]
 pub enum PutFault {
     /// A block could not be read or written, or is not what a tree has there.
@@ -27,12 +27,12 @@ pub enum PutFault {
     Deep,
 }
 
-/// Why a call gave no list of what it found in trees.
+/// Why a call returned no list of what it found in trees.
 #[derive(Clone, Copy, Debug, PartialEq, Eq)]
 pub enum ListFault {
     /// A block could not be read, or is not what a tree has there.
     Tree(TreeFault),
-    /// No memory was found for the list, or for what is noted of the blocks that were met.
+    /// Memory could not be allocated for the list, or for the notes on the blocks that were met.
     Memory,
 }
 

@@ -2,22 +2,22 @@
 ghost use Rattle.std.specs.Prelude.{◌≡◌, ◌≢◌, ◌≤◌, length, IfOk};
 ghost use Rattle.vm_types.specs.Bytes.{longest};
 ghost use Rattle.vm_tree.specs.Calls.{OnlyLooks};
-ghost use Rattle.vm_tree.specs.Reading.{FindsLong, GivesLong, ReadsOne};
+ghost use Rattle.vm_tree.specs.BlockReads.{FindsLong, GivesLong, ReadsOne};
 
+use crate::block_reads::data_at;
 use crate::faults::TreeFault;
-use crate::reading::data_at;
 use vm_block::{Link, read_long};
 use vm_disk::Disk;
-use vm_types::Key;
+use vm_types::{Block, Key};
 
-/// Reads the block of a long value into these bytes, and lends the value from them: Damaged, where
-/// the block is not for data, or does not have this key and a value of so many bytes.
+/// Reads the block of a long value into these bytes, and lends the value from them. Damaged if it
+/// is not a data block, or does not have this key and a value of the length that the link gives.
 pub fn long_at<'a, D: Disk>(
     disk: &mut D,
     blocks: u32,
     key: Key,
     link: Link,
-    bytes: &'a mut [u8; 4096],
+    bytes: &'a mut Block,
 ) -> Result<&'a [u8], TreeFault>
     requires { blocks ≤ (D.state disk.old).blocks }
     ensures looks { OnlyLooks result (D.state disk.old) (D.state disk.new) }

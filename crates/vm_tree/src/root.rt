@@ -1,19 +1,19 @@
-//! Where a map stands.
+//! The root of a map.
 ghost use Rattle.std.specs.Prelude.{◌≡◌};
 
 use vm_block::Child;
-use vm_types::Key;
+use vm_types::{BlockNumber, Key};
 
 /// The top of a tree: its block, its level above the leaves, and the lowest key under it.
 /// Block 0 is the empty map.
 #[derive(Clone, Copy, Debug, Default, PartialEq, Eq)]
 pub struct Root {
-    pub block: u32,
+    pub block: BlockNumber,
     pub level: u8,
     pub low: Key,
 }
 
-/// The root that is the top of a subtree of this level.
+/// The root of the subtree with this top and level.
 pub(crate) fn root_at(top: Child, level: u8) -> Root
     ensures { result ≡ record { block = top.block; level = level; low = top.low } }
 {

@@ -31,4 +31,4 @@ returns-clause-only g c honest rs at =
     let s = first_standing c.self.inside.records ls c.args.top (ap front_of c.self.view_is ∙ c.requires.front) in
     let left = top_passed ls c.args.top c.pass.new.self c.index-self-top.result (drop 1 (tops_in 0 ls)) s c.pass.ensures in
     ok_or c.read.result (c.read.ensures.only honest rs at)
-    (λ is. ap₂ (λ (ps : List Entry) (ts : List Root). record { pending = ps; tops = ts }) is (left ∙ ap (λ (w : Walk). drop 1 w.tops) c.self.view_is))
+    (λ cuts. (cuts, left ∙ ap (λ (w : Walk). drop 1 w.tops) c.self.view_is))

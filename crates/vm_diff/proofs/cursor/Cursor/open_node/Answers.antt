@@ -44,6 +44,9 @@ returns-clause-only g c honest cs at =
     let s = first_standing c.self.inside.records ls c.args.top (ap front_of c.self.view_is ∙ c.requires.front) in
     let opened = top_opened ls c.args.top (c.args.top.level - 1) c.pass.new.self c.index-self-top.result c.read.new.self (drop 1 (tops_in 0 ls)) s refl c.requires.level c.pass.ensures in
     ok_or c.read.result (c.read.ensures.only honest cs at)
-    (λ is. ap (λ (ts : List Root). record { pending = c.self.inside.records; tops = ts }) opened
-    ∙ ap (λ (w : Walk). record { pending = w.pending; tops = tops_of (c.args.top.level - 1) c.read.new.self ++ drop 1 w.tops }) c.self.view_is
-    ∙ ap (λ (ds : List Child). record { pending = c.args.self.now.pending; tops = tops_of (c.args.top.level - 1) ds ++ drop 1 c.args.self.now.tops }) is)
+    (λ cuts. (
+      c.read.new.self,
+      cuts,
+      ap (λ (ts : List Root). record { pending = c.self.inside.records; tops = ts }) opened
+          ∙ ap (λ (w : Walk). record { pending = w.pending; tops = tops_of (c.args.top.level - 1) c.read.new.self ++ drop 1 w.tops }) c.self.view_is,
+    ))

@@ -1,4 +1,0 @@
-use Rattle.vm_tree.proofs.removing.+narrowed.Given as goal
-
-abbrev pub decreases-narrowed : goal.decreases-narrowed
-decreases-narrowed g l = l.level

@@ -1,0 +1,160 @@
+-- A record taken out, and what is left then.
+use Rattle.std.specs.Prelude.{◌≡◌, ◌≢◌, ◌⊎◌, ℕ, zero, suc, ◌+◌, ◌-◌, true, Bool, List, [], ◌∷◌, ◌++◌, length, take, drop, Option, None, IsSomeAnd, IsOkAnd, Result, Ok, Err}
+use Rattle.std.specs.List.{AllByRecursion}
+use Rattle.vm_types.specs.declared.key.Key.{Key}
+use Rattle.vm_types.specs.Map.{get, without}
+use Rattle.vm_types.specs.Places.{RisesFrom, places, value_at}
+use Rattle.arrayvec.specs.ArrayVec.{ArrayVec}
+use Rattle.vm_disk.specs.Disk.{Contents, DiskState, block}
+use Rattle.vm_alloc.specs.Held.{HoldsMore, IsHeld, is_held}
+use Rattle.vm_block.specs.Changed.{leave_out, without_place}
+use Rattle.vm_block.specs.Head.{IsNodeHead}
+use Rattle.vm_block.specs.Leaf.{HasRows, Record, Row}
+use Rattle.vm_block.specs.Node.{ChildFits, IsNode, child_bytes}
+use Rattle.vm_block.specs.declared.node.Child.{Child}
+use Rattle.vm_tree.specs.Tree.{Sizes, IsData, Children, Subtree}
+use Rattle.vm_block.specs.declared.way.Way.{Way}
+use Rattle.vm_tree.specs.Answers.{OkOrDevice, Removes}
+use Rattle.vm_tree.specs.Calls.{LooksIf}
+use Rattle.vm_tree.specs.Free.{TakesAtMost}
+use Rattle.vm_tree.specs.Splits.{Made, IsWide}
+use Rattle.vm_tree.specs.Replacement.{IsHeldBeside, IsRenewed, Replaces, path_from, path_under}
+use Rattle.vm_tree.specs.Root.{IsRootedIn, IfUnder, IfWhole, sizes_of}
+use Rattle.vm_tree.specs.declared.root.Root.{Root}
+use Rattle.vm_tree.specs.declared.faults.TreeFault.{TreeFault}
+use Rattle.vm_tree.specs.declared.faults.TreeFault.TheVariants.{Device}
+use Rattle.vm_tree.specs.declared.removal.Left.{Left}
+use Rattle.vm_tree.specs.declared.removal.Left.TheVariants.{Same, Nothing, Rest}
+
+-- the top of a tree, as the child of a block above it
+abbrev pub child_of : Root → Child
+child_of root = record { low = root.low; block = root.block }
+
+-- the level of what is left, if there is something, and else this one
+abbrev pub level_of : Left → ℕ → ℕ
+level_of Same l = l
+level_of Nothing l = l
+level_of (Rest root) l = root.level
+
+-- under this root lies all that lay under a child, in the last of its blocks
+pub record Narrows (sizes : Sizes) (x : Contents) (limit : ℕ) (top : Child) (root : Root) (rs : List Record) (bs : List ℕ) : Type 0 where
+  pub above : List ℕ
+  pub own : List ℕ
+  pub under : Children (Subtree sizes x limit root.level) (child_of root ∷ []) rs own
+  pub blocks : bs ≡ above ++ own
+  pub fit : ChildFits top → ChildFits (child_of root)
+
+-- what is left is answered: nothing of no records, and else a root with P
+abbrev pub IsLeft : Result Left TreeFault → List Record → (Root → Type 0) → Type 0
+IsLeft (Ok Same) rs P = ⊥
+IsLeft (Ok Nothing) rs P = rs ≡ []
+IsLeft (Ok (Rest root)) rs P = P root
+IsLeft (Err e) rs P = e ≡ Device
+
+-- what a Remove under a block answers: that no record stands at place p, or what is left without it, or that the device failed
+abbrev pub RemovesBelow : Result Left TreeFault → ℕ → List Record → (Root → Type 0) → Type 0
+RemovesBelow (Ok Same) p rs P = value_at p rs ≡ None
+RemovesBelow (Ok Nothing) p rs P = (value_at p rs ≢ None) × (without_place p rs ≡ [])
+RemovesBelow (Ok (Rest root)) p rs P = (value_at p rs ≢ None) × P root
+RemovesBelow (Err e) p rs P = e ≡ Device
+
+-- where no record was there, the same blocks are held as before, and the disk was only looked at
+abbrev pub LooksIfSame : Result Left TreeFault → List Bool → List Bool → DiskState → DiskState → Type 0
+LooksIfSame result held later old new = LooksIf (result ≡ Ok Same) held later old new
+
+-- and where no record is left
+abbrev pub LooksIfNothing : Result Left TreeFault → List Bool → List Bool → DiskState → DiskState → Type 0
+LooksIfNothing result held later old new = LooksIf (result ≡ Ok Nothing) held later old new
+
+-- the block of this root is held as it was before: it was not taken now
+abbrev pub WasThere : List Bool → List Bool → Root → Type 0
+WasThere held later root = is_held later root.block ≡ is_held held root.block
+
+-- a root is left that was there
+abbrev pub LeavesOld : List Bool → List Bool → Left → Type 0
+LeavesOld held later Same = ⊥
+LeavesOld held later Nothing = ⊥
+LeavesOld held later (Rest root) = WasThere held later root
+
+-- and where a root is left that was there
+abbrev pub LooksIfOld : Result Left TreeFault → List Bool → List Bool → DiskState → DiskState → Type 0
+LooksIfOld result held later old new = LooksIf (IsOkAnd result (LeavesOld held later)) held later old new
+
+-- the root that is left, if one is, is a leaf or has two children at least
+abbrev pub LeavesWide : DiskState → Left → Type 0
+LeavesWide new Same = Unit {0}
+LeavesWide new Nothing = Unit {0}
+LeavesWide new (Rest root) = IsWide new root
+
+-- it is that of a block for data
+abbrev pub LeavesData : ℕ → Left → Type 0
+LeavesData limit Same = Unit {0}
+LeavesData limit Nothing = Unit {0}
+LeavesData limit (Rest root) = IsData limit root.block
+
+-- for what is left on a level so many blocks were taken at most: one for each level of its root
+abbrev pub TakesForLeft : ℕ → List Bool → List Bool → Left → Type 0
+TakesForLeft level held later left = TakesAtMost (level_of left level + 1) held later
+
+-- the root of a map in so many blocks: it has a block for data, or none
+abbrev pub IsRootAmong : ℕ → Root → Type 0
+IsRootAmong limit root = (root.block ≡ 0) ⊎ IsData limit root.block
+
+-- the root that is answered has no block
+abbrev pub Empties : Result (Option Root) TreeFault → Type 0
+Empties result = IsOkAnd result (λ rest. IsSomeAnd rest (λ root. root.block ≡ 0))
+
+-- the root that is answered was there
+abbrev pub KeepsRoot : Result (Option Root) TreeFault → List Bool → List Bool → Type 0
+KeepsRoot result held later = IsOkAnd result (λ rest. IsSomeAnd rest (WasThere held later))
+
+-- from block b, so many levels above the leaves, down to a leaf of one row each block has one child
+unfoldable pub HasOne : Contents → ℕ → ℕ → Type 0
+HasOne x zero b = (w : Row) × HasRows (block x b) (w ∷ [])
+HasOne x (suc l) b = (child : Child) × IsNodeHead (block x b) (suc l) 1 × (take 14 (drop 16 (block x b)) ≡ child_bytes child) × HasOne x l child.block
+
+-- where `when` holds, and the disk is honest, this block had one row under it before the call
+abbrev pub HadOneIf : Type 0 → DiskState → DiskState → ℕ → ℕ → Type 0
+HadOneIf when old new level b = new.honest ≡ true → when → HasOne old.now.contents level b
+
+-- the children of an inner block without the one that was taken
+abbrev pub LeavesOut : Option (ArrayVec Child) → Way → List ℕ → Type 0
+LeavesOut result way bytes =
+    (level : ℕ) (cs : List Child) → IsNode bytes level cs → way.count ≡ length cs → IsSomeAnd result (λ rest. rest.items ≡ leave_out way.index cs)
+
+-- the root that is answered has all that lies under a child of this level
+abbrev pub NarrowsTo : Result Root TreeFault → ℕ → DiskState → DiskState → ℕ → ℕ → Child → Type 0
+NarrowsTo result fan old new limit level top =
+    new.honest ≡ true → (leaf levels : ℕ) (rs : List Record) (bs : List ℕ)
+    → Children (Subtree (sizes_of leaf fan levels) old.now.contents limit level) (top ∷ []) rs bs
+    → OkOrDevice result (λ root. Narrows (sizes_of leaf fan levels) old.now.contents limit top root rs bs)
+
+-- what is left of an inner block of this level with these children lies under a root, in blocks that are held now, and to be kept if they
+-- were held before
+abbrev pub LeavesRest : Result Left TreeFault → ℕ → ℕ → List Child → List Bool → List Bool → DiskState → DiskState → Type 0
+LeavesRest result fan level cs held later old new =
+    new.honest ≡ true → (leaf levels : ℕ) (rs : List Record) (bs : List ℕ) → RisesFrom 0 (places rs) → AllByRecursion ChildFits cs
+    → Children (Subtree (sizes_of leaf fan levels) old.now.contents (length held) (level - 1)) cs rs bs
+    → IsLeft result rs (λ root. (before : List Bool) (keep : ℕ → Bool) → HoldsMore before held → AllByRecursion (IsRenewed before held keep) bs
+    → Made (IsRenewed before later keep) (sizes_of leaf fan levels) new.now.contents (length held) root.level (child_of root ∷ []) rs)
+
+-- the records of a leaf are left without the one at place p, under a root in blocks that replace those of this path
+abbrev pub RemovesFromLeaf : Result Left TreeFault → ℕ → List Bool → List Bool → DiskState → DiskState → Child → ℕ → List ℕ → Type 0
+RemovesFromLeaf result leaf held later old new top p path =
+    (fan levels : ℕ) → IfUnder old new (sizes_of leaf fan levels) (length held) 0 top (λ rs bs. RemovesBelow result p rs
+    (λ root. Replaces held later path bs
+    (λ P. Made P (sizes_of leaf fan levels) new.now.contents (length held) root.level (child_of root ∷ []) (without_place p rs))))
+
+-- the records under a child are left without the one at place p, under a root in blocks that replace those of this path
+abbrev pub RemovesUnder : Result Left TreeFault → ℕ → ℕ → List Bool → List Bool → DiskState → DiskState → ℕ → Child → ℕ → List ℕ → Type 0
+RemovesUnder result leaf fan held later old new level top p path =
+    (levels : ℕ) → IfUnder old new (sizes_of leaf fan levels) (length held) level top (λ rs bs. RemovesBelow result p rs
+    (λ root. Replaces held later (path_from level path) bs
+    (λ P. Made P (sizes_of leaf fan levels) new.now.contents (length held) root.level (child_of root ∷ []) (without_place p rs))))
+
+-- the answer is None just where the key is absent, and else a root, unless the device fails; and where the blocks of the tree are held,
+-- the root has the map without the key, in blocks that are none of this path
+abbrev pub RemovesFrom : Result (Option Root) TreeFault → Sizes → List Bool → List Bool → DiskState → DiskState → Root → Key → List ℕ → Type 0
+RemovesFrom result sizes held later old new root key path =
+    IfWhole old new sizes (length held) root (λ m bs. Removes result (get m key ≡ None) (λ r. AllByRecursion (IsHeld held) bs
+    → IsRootedIn sizes (IsHeldBeside later (path_under root path)) new.now.contents (length held) r (without m key)))

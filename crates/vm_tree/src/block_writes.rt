@@ -1,0 +1,125 @@
+//! Copying blocks of a tree into free blocks.
+ghost use Rattle.std.specs.Prelude.{◌≡◌, ◌≢◌, ◌↔◌, ◌+◌, ◌<◌, ◌≤◌, true, length, IfOk};
+ghost use Rattle.vm_alloc.specs.Held.{free_count};
+ghost use Rattle.vm_block.specs.Node.{node_bytes};
+ghost use Rattle.vm_tree.specs.Answers.{OkOrDevice};
+ghost use Rattle.vm_tree.specs.Calls.{WritesFree};
+ghost use Rattle.vm_tree.specs.Free.{IsTaken, AreTaken, TakesAtMost, is_free};
+ghost use Rattle.vm_tree.specs.Splits.{HasWritten, IfOne, MakesNode, MakesNodes, WritesBytes, WritesLeaf, WritesNode, children_of, is_split};
+
+use crate::faults::TreeFault;
+use vm_alloc::Held;
+use vm_block::{Child, MAX_CHILDREN, lowest_key, write_node};
+use vm_disk::Disk;
+use vm_types::Block;
+
+/// What a block was copied as: one block, or two if it was split.
+#[derive(Clone, Copy, Debug)]
+pub(crate) enum Copied {
+    One(Child),
+    Two(Child, Child),
+}
+
+/// Allocates the lowest free block and writes it.
+pub(crate) fn write_free<D: Disk>(
+    disk: &mut D,
+    held: &mut Held,
+    bytes: &Block,
+) -> Result<u32, TreeFault>
+    requires inside { length held.old ≤ (D.state disk.old).blocks }
+    requires room { 0 < free_count held.old }
+    ensures writes { WritesFree result held.old held.new (D.state disk.old) (D.state disk.new) }
+    ensures device { OkOrDevice result (IsTaken held.new) }
+    ensures taken { TakesAtMost 1 held.old held.new }
+    ensures free { IfOk result (λ n. is_free held.old n ≡ true) }
+    ensures written { HasWritten result (D.state disk.new) bytes.now }
+{
+    let free = held.free_count();
+    prove!(free > 0);
+    let Some(block) = held.take() else {
+        unreachable!()
+    };
+    match disk.write(block, bytes) {
+        Ok(()) => Ok(block),
+        Err(fault) => Err(TreeFault::from(fault)),
+    }
+}
+
+/// Writes a leaf or an inner block with these bytes.
+pub(crate) fn write_bytes<D: Disk>(
+    disk: &mut D,
+    held: &mut Held,
+    bytes: &Block,
+) -> Result<Child, TreeFault>
+    requires inside { length held.old ≤ (D.state disk.old).blocks }
+    requires room { 0 < free_count held.old }
+    ensures writes { WritesFree result held.old held.new (D.state disk.old) (D.state disk.new) }
+    ensures device { OkOrDevice result (λ child. IsTaken held.new child.block) }
+    ensures taken { TakesAtMost 1 held.old held.new }
+    ensures free { IfOk result (λ child. is_free held.old child.block ≡ true) }
+    ensures written { WritesBytes result (D.state disk.new) bytes.now }
+    ensures leaf { WritesLeaf result held.old held.new (D.state disk.old) (D.state disk.new) bytes.now }
+    ensures node { WritesNode result held.old held.new (D.state disk.old) (D.state disk.new) bytes.now }
+{
+    let low = lowest_key(bytes);
+    let block = write_free(disk, held, bytes)?;
+    Ok(Child { low, block })
+}
+
+/// Writes an inner block of this level with these children.
+pub(crate) fn write_node_block<D: Disk>(
+    disk: &mut D,
+    held: &mut Held,
+    level: u8,
+    children: &[Child],
+) -> Result<Child, TreeFault>
+    requires inside { length held.old ≤ (D.state disk.old).blocks }
+    requires room { 0 < free_count held.old }
+    requires some { 0 < length children.now }
+    requires few { length children.now ≤ MAX_CHILDREN }
+    ensures writes { WritesFree result held.old held.new (D.state disk.old) (D.state disk.new) }
+    ensures device { OkOrDevice result (λ child. IsTaken held.new child.block) }
+    ensures taken { TakesAtMost 1 held.old held.new }
+    ensures free { IfOk result (λ child. is_free held.old child.block ≡ true) }
+    ensures written { WritesBytes result (D.state disk.new) (node_bytes level children.now) }
+    ensures made { MakesNode result level children.now
+        held.old held.new (D.state disk.old) (D.state disk.new) }
+{
+    let mut bytes = [0; 4096];
+    write_node(level, children, &mut bytes);
+    write_bytes(disk, held, &bytes)
+}
+
+/// Writes one inner block or, if there are more than FAN children, two. The left one gets the odd
+/// child.
+pub(crate) fn write_nodes<D: Disk, const FAN: usize>(
+    disk: &mut D,
+    held: &mut Held,
+    level: u8,
+    children: &[Child],
+) -> Result<Copied, TreeFault>
+    requires inside { length held.old ≤ (D.state disk.old).blocks }
+    requires least { 2 ≤ FAN }
+    requires most { FAN ≤ MAX_CHILDREN }
+    requires some { 0 < length children.now }
+    requires few { length children.now ≤ FAN + 1 }
+    requires room { 0 < free_count held.old }
+    requires room_two { FAN < length children.now → 2 ≤ free_count held.old }
+    ensures writes { WritesFree result held.old held.new (D.state disk.old) (D.state disk.new) }
+    ensures device { OkOrDevice result (λ copied. AreTaken held.new (children_of copied)) }
+    ensures split { IfOk result (λ copied. (is_split copied ≡ true) ↔ (FAN < length children.now)) }
+    ensures one { length children.now ≤ FAN → TakesAtMost 1 held.old held.new }
+    ensures single { IfOne result (TakesAtMost 1 held.old held.new) }
+    ensures taken { TakesAtMost 2 held.old held.new }
+    ensures made { MakesNodes result FAN level children.now
+        held.old held.new (D.state disk.old) (D.state disk.new) }
+{
+    if children.len() <= FAN {
+        let node = write_node_block(disk, held, level, children)?;
+        return Ok(Copied::One(node));
+    }
+    let half = children.len().div_ceil(2);
+    let left = write_node_block(disk, held, level, &children[..half])?;
+    let right = write_node_block(disk, held, level, &children[half..])?;
+    Ok(Copied::Two(left, right))
+}

@@ -1,0 +1,179 @@
+//! The value of a key, and whether it has one.
+ghost use Rattle.std.specs.Prelude.{◌≡◌, ◌≢◌, ◌≤◌, ℕ, Bool, length, IfOk, IfSome};
+ghost use Rattle.vm_types.specs.Bytes.{longest};
+ghost use Rattle.vm_types.specs.Places.{place, value_at};
+ghost use Rattle.vm_block.specs.Head.{IsRowsHead};
+ghost use Rattle.vm_block.specs.Leaf.{LinkFits};
+ghost use Rattle.vm_block.specs.Told.{IfHasRows};
+ghost use Rattle.vm_tree.specs.Calls.{OnlyLooks};
+ghost use Rattle.vm_tree.specs.Given.{GivesLeaf, GivesLinked, GivesValue, GivesValueUnder, IsLinkOf, TellsRecord, TellsRecordUnder};
+ghost use Rattle.vm_tree.specs.BlockReads.{FindsEnd, FindsLeaf, FindsPathFrom};
+
+use crate::block_reads::{load_block, load_way};
+use crate::faults::TreeFault;
+use crate::long::long_at;
+use crate::root::Root;
+use vm_block::{Child, Link, MAX_ROWS, Stored, find_row, is_long_leaf};
+use vm_disk::Disk;
+use vm_types::{BLOCK_SIZE, Block, Key};
+
+/// The value that a row of a leaf links to, read into these bytes.
+fn get_long<'a, D: Disk>(
+    disk: &mut D,
+    blocks: u32,
+    key: Key,
+    link: Link,
+    bytes: &'a mut Block,
+) -> Result<Option<&'a [u8]>, TreeFault>
+    requires { blocks ≤ (D.state disk.old).blocks }
+    ensures looks { OnlyLooks result (D.state disk.old) (D.state disk.new) }
+    ensures short { IfOk result (λ value. IfSome value (λ found. length found.now ≤ longest)) }
+    ensures value { GivesLinked result (D.state disk.old) (D.state disk.new) blocks key link }
+{
+    let value = long_at(disk, blocks, key, link, bytes)?;
+    Ok(Some(value))
+}
+
+/// The link to the key's value in a leaf. None if the leaf has the value itself, or has none.
+pub(crate) fn long_link(bytes: &Block, key: Key) -> Option<Link>
+    ensures fits { IfSome result LinkFits }
+    ensures headed { IfSome result (λ link. (long : Bool) × (n : ℕ) × IsRowsHead bytes.now MAX_ROWS long n) }
+    ensures only { IfHasRows bytes.now (λ ws. IsLinkOf result (value_at (place key) ws)) }
+{
+    if !is_long_leaf(bytes) {
+        return None;
+    }
+    match find_row(bytes, key) {
+        Some(Some(Stored::Long(link))) => Some(link),
+        Some(Some(Stored::Short(_))) => None,
+        Some(None) => None,
+        None => None,
+    }
+}
+
+/// The same bytes, at the start of this buffer.
+fn copied<'a>(value: &[u8], room: &'a mut Block) -> &'a [u8]
+    requires { length value.now ≤ BLOCK_SIZE }
+    ensures { result.now ≡ value.now }
+{
+    let start = &mut room[..value.len()];
+    start.copy_from_slice(value);
+    start
+}
+
+/// The value of the key in this leaf.
+fn get_in_leaf<'a, D: Disk>(
+    disk: &mut D,
+    blocks: u32,
+    top: Child,
+    key: Key,
+    bytes: &'a mut Block,
+) -> Result<Option<&'a [u8]>, TreeFault>
+    requires { blocks ≤ (D.state disk.old).blocks }
+    ensures looks { OnlyLooks result (D.state disk.old) (D.state disk.new) }
+    ensures short { IfOk result (λ value. IfSome value (λ found. length found.now ≤ longest)) }
+    ensures path { FindsEnd result (D.state disk.old) (D.state disk.new) blocks top }
+    ensures value { GivesValueUnder result (D.state disk.old) (D.state disk.new) blocks top key }
+{
+    load_block(disk, blocks, top)?;
+    if let Some(link) = long_link(disk.at_hand(), key) {
+        return get_long(disk, blocks, key, link, bytes);
+    }
+    match find_row(disk.at_hand(), key) {
+        Some(Some(Stored::Short(value))) => Ok(Some(copied(value, bytes))),
+        Some(Some(Stored::Long(_))) => Err(TreeFault::Damaged(top.block)),
+        Some(None) => Ok(None),
+        None => Err(TreeFault::Damaged(top.block)),
+    }
+}
+
+/// Whether this leaf has a record of the key.
+fn has_in_leaf<D: Disk>(disk: &mut D, blocks: u32, top: Child, key: Key) -> Result<bool, TreeFault>
+    requires { blocks ≤ (D.state disk.old).blocks }
+    ensures looks { OnlyLooks result (D.state disk.old) (D.state disk.new) }
+    ensures path { FindsEnd result (D.state disk.old) (D.state disk.new) blocks top }
+    ensures found { TellsRecordUnder result (D.state disk.old) (D.state disk.new) blocks top key }
+{
+    load_block(disk, blocks, top)?;
+    match find_row(disk.at_hand(), key) {
+        Some(Some(_)) => Ok(true),
+        Some(None) => Ok(false),
+        None => Err(TreeFault::Damaged(top.block)),
+    }
+}
+
+/// The leaf of the key under a block of this level.
+fn leaf_of<D: Disk>(
+    disk: &mut D,
+    blocks: u32,
+    level: u8,
+    top: Child,
+    key: Key,
+) -> Result<Child, TreeFault>
+    requires { blocks ≤ (D.state disk.old).blocks }
+    ensures looks { OnlyLooks result (D.state disk.old) (D.state disk.new) }
+    ensures path { FindsLeaf result (D.state disk.old) (D.state disk.new) blocks (place key) level top }
+    ensures leaf { GivesLeaf result (D.state disk.old) (D.state disk.new) blocks level top key }
+{
+    if level == 0 {
+        return Ok(top);
+    }
+    let way = load_way::<D, 256>(disk, blocks, level, top, key)?;
+    leaf_of(disk, blocks, level - 1, way.child, key)
+}
+
+/// The value of a key in the map under a root, in these bytes. The blocks on the path are loaded
+/// and looked at in place, and only a short value is copied out of them. The block of a long value
+/// is read into the bytes.
+pub fn get<'a, D: Disk>(
+    disk: &mut D,
+    blocks: u32,
+    root: Root,
+    key: Key,
+    bytes: &'a mut Block,
+) -> Result<Option<&'a [u8]>, TreeFault>
+    requires { blocks ≤ (D.state disk.old).blocks }
+    ensures looks { OnlyLooks result (D.state disk.old) (D.state disk.new) }
+    ensures short { IfOk result (λ value. IfSome value (λ found. length found.now ≤ longest)) }
+
+    // A value, or its absence, is returned only if each block on the path has the head of its level
+    // and begins with the key that its parent gives it, the first one with the lowest key of the
+    // root.
+    ensures path { FindsPathFrom root result (D.state disk.old) (D.state disk.new) blocks (place key) }
+
+    // On a tree it is the value in its map, whatever the sizes of its blocks, unless the device
+    // fails.
+    ensures value { GivesValue result (D.state disk.old) (D.state disk.new) blocks root key }
+{
+    if root.block == 0 {
+        return Ok(None);
+    }
+    let top = Child {
+        low: root.low,
+        block: root.block,
+    };
+    let leaf = leaf_of(disk, blocks, root.level, top, key)?;
+    get_in_leaf(disk, blocks, leaf, key, bytes)
+}
+
+/// Whether the map under a root has a record of the key. The block of a long value is not read.
+pub fn has<D: Disk>(disk: &mut D, blocks: u32, root: Root, key: Key) -> Result<bool, TreeFault>
+    requires { blocks ≤ (D.state disk.old).blocks }
+    ensures looks { OnlyLooks result (D.state disk.old) (D.state disk.new) }
+
+    // It answers only if the blocks on the path are as `get` demands.
+    ensures path { FindsPathFrom root result (D.state disk.old) (D.state disk.new) blocks (place key) }
+
+    // On a tree it answers for its map, whatever the sizes of its blocks, unless the device fails.
+    ensures found { TellsRecord result (D.state disk.old) (D.state disk.new) blocks root key }
+{
+    if root.block == 0 {
+        return Ok(false);
+    }
+    let top = Child {
+        low: root.low,
+        block: root.block,
+    };
+    let leaf = leaf_of(disk, blocks, root.level, top, key)?;
+    has_in_leaf(disk, blocks, leaf, key)
+}
