@@ -1,22 +1,24 @@
 //! Trees by hand, and random changes of one.
 //!
-//! Tests by hand are rows of text (`script.rt`): what is done, and what each step is answered.
+//! Tests by hand are rows of text (`script.rt`): what is done, and the answer to each step.
 mod answers;
 mod bench;
 mod blocks;
 mod changes;
+mod copies;
 mod damage;
 mod differences;
-mod differing;
 mod long_values;
-mod marking;
+mod marks;
+mod parts;
 mod paths;
 mod random;
-mod reading;
+mod reads;
 mod records;
-mod removing;
+mod removals;
 mod script;
-mod splitting;
-mod verifying;
+mod splits;
+mod verification;
+mod walked_differences;
 mod walks;
 mod words;

@@ -16,12 +16,12 @@ use Rattle.vm_block.specs.declared.stored.Link.{Link}
 use Rattle.vm_block.proofs.EachLemmas.{each_so, each_join}
 use Rattle.vm_block.proofs.LeafLemmas.{all_short}
 use Rattle.vm_block.proofs.RecordLemmas.{length-link, link_one}
-use Rattle.vm_tree.specs.Reading.{IsLongAt}
+use Rattle.vm_tree.specs.BlockReads.{IsLongAt}
 use Rattle.vm_tree.specs.Tree.{IsData, StandForAll, StandsFor}
 use Rattle.vm_tree.proofs.HoldingLemmas.{all_themselves}
-use Rattle.vm_check.specs.Visiting.{AreFormed, Adds, IsLongMet, LongVisited, RowVisited, RowsVisited, met_of, span_at}
-use Rattle.vm_check.specs.declared.verifying.Span.{Span}
-use Rattle.vm_check.specs.declared.verifying.Met.{Met}
+use Rattle.vm_check.specs.Visits.{AreFormed, Adds, IsLongMet, LongVisited, RowVisited, RowsVisited, met_of, span_at}
+use Rattle.vm_check.specs.declared.verification.Span.{Span}
+use Rattle.vm_check.specs.declared.verification.Met.{Met}
 use Rattle.vm_check.proofs.ChildLemmas.{adds_then}
 use Rattle.vm_check.proofs.KnownLemmas.{form_long, long_form, met_long, one_adds, one_formed}
 use Rattle.vm_check.proofs.RowLemmas.{stand_alone, stand_at, stand_join}

@@ -14,10 +14,10 @@ use Rattle.vm_tree.specs.Tree.{Sizes, IsTree}
 use Rattle.vm_tree.specs.Root.{IsRooted}
 use Rattle.vm_tree.specs.declared.root.Root.{Root}
 use Rattle.vm_check.specs.Suits.{SuitsAt}
-use Rattle.vm_check.specs.Verifying.{AreRoots, Found, HaveTrees}
-use Rattle.vm_check.specs.Visiting.{Known, RootVisited, Visited}
-use Rattle.vm_check.specs.declared.verifying.Span.{Span}
-use Rattle.vm_check.specs.declared.verifying.Met.{Met}
+use Rattle.vm_check.specs.Verification.{AreRoots, Found, HaveTrees}
+use Rattle.vm_check.specs.Visits.{Known, RootVisited, Visited}
+use Rattle.vm_check.specs.declared.verification.Span.{Span}
+use Rattle.vm_check.specs.declared.verification.Met.{Met}
 
 -- what holds of each element holds of the one at i
 pub each_at : {X : Type 0} (P : X → Type 0) (xs : List X) (i : ℕ) (d : X) → i < length xs → AllByRecursion P xs → P (get_or xs i d)

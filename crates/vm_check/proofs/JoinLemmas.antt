@@ -1,6 +1,6 @@
 -- Lists of blocks that are joined, one for each element of another list.
 use Rattle.std.proofs.Common.{◌≡◌, ℕ, zero, suc, ◌+◌, ◌<◌, List, [], ◌∷◌, ◌++◌, length, get_or, take, refl, sym, ap, ◌∙◌, subst, arith, append_assoc, append-nil, add-one}
-use Rattle.vm_check.specs.Marking.{Joined}
+use Rattle.vm_check.specs.Marks.{Joined}
 
 module _ {X : Type 0} (T : X → List ℕ → Type 0) where
   -- the blocks of the elements before one, and its own

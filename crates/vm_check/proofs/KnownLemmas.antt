@@ -20,10 +20,10 @@ use Rattle.vm_block.proofs.NodeLemmas.{node_one}
 use Rattle.vm_tree.proofs.HoldingLemmas.{all_many}
 use Rattle.vm_tree.proofs.TreeLemmas.{leaf_closes, node_closes}
 use Rattle.vm_check.specs.Notes.{IsPlain}
-use Rattle.vm_check.specs.Visiting.{IsHighest, HasLevel, HasForm, HasLong, IsFormed, IsLongMet, IsLow, AreFormed, span_of, met_of, no_met, span_at, Whole, Known, Adds, Visited, VisitedAll, RowsVisited}
+use Rattle.vm_check.specs.Visits.{IsHighest, HasLevel, HasForm, HasLong, IsFormed, IsLongMet, IsLow, AreFormed, span_of, met_of, no_met, span_at, Whole, Known, Adds, Visited, VisitedAll, RowsVisited}
 use Rattle.vm_check.proofs.RowLemmas.{stand_begins, stand_highest, stand_rises, stand_within}
-use Rattle.vm_check.specs.declared.verifying.Span.{Span}
-use Rattle.vm_check.specs.declared.verifying.Met.{Met}
+use Rattle.vm_check.specs.declared.verification.Span.{Span}
+use Rattle.vm_check.specs.declared.verification.Met.{Met}
 use Rattle.vm_check.proofs.MarkLemmas.{is_first, is_other}
 
 -- # Levels

@@ -1,5 +1,8 @@
 pub mod BesideLemmas
 pub mod ChildLemmas
+pub mod CopyLemmas
+pub mod CopySoFar
+pub mod CopySteps
 pub mod FoundLemmas
 pub mod JoinLemmas
 pub mod KnownLemmas
@@ -7,6 +10,7 @@ pub mod LinkLemmas
 pub mod MarkLemmas
 pub mod NotedLemmas
 pub mod OnlyLemmas
+pub mod RenumberLemmas
 pub mod RootLemmas
 pub mod RowLemmas
 pub mod SpanLemmas

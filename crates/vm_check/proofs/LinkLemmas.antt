@@ -15,7 +15,7 @@ use Rattle.vm_block.proofs.HeadLemmas.{rows_headed}
 use Rattle.vm_block.proofs.LeafLemmas.{all_short}
 use Rattle.vm_block.proofs.RecordLemmas.{length-link, link_one}
 use Rattle.vm_tree.specs.Tree.{IsData, StandForAll, StandsFor}
-use Rattle.vm_check.specs.Marking.{EachLink, LinkedBy, LinksTo}
+use Rattle.vm_check.specs.Marks.{EachLink, LinkedBy, LinksTo}
 use Rattle.vm_check.specs.Notes.{IsPlain}
 
 -- # Rows without links

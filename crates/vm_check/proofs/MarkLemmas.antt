@@ -20,8 +20,8 @@ use Rattle.vm_tree.specs.Tree.{Sizes, IsData, Children, LeafHolds, Subtree}
 use Rattle.vm_types.specs.Bytes.{longest}
 use Rattle.vm_tree.proofs.TreeLemmas.{LeafAt, node_opens}
 use Rattle.vm_tree.proofs.HoldingLemmas.{IsLongOf, all_long, holds_or_node}
-use Rattle.vm_tree.specs.Reading.{IsNodeAt}
-use Rattle.vm_check.specs.Marking.{Joined, MarksMore, MarksOnly, ClosedTo, EachLink, LinkedBy, LinksTo, MarksOnlyLink, MarksOnlyLinks, unmarked}
+use Rattle.vm_tree.specs.BlockReads.{IsNodeAt}
+use Rattle.vm_check.specs.Marks.{Joined, MarksMore, MarksOnly, ClosedTo, EachLink, LinkedBy, LinksTo, MarksOnlyLink, MarksOnlyLinks, unmarked}
 use Rattle.vm_check.specs.Form.{OkUnlessDevice}
 use Rattle.vm_tree.specs.Answers.{OkOrDevice}
 use Rattle.vm_tree.specs.declared.faults.TreeFault.{TreeFault}

@@ -11,7 +11,7 @@ use Rattle.vm_block.specs.Leaf.{Record}
 use Rattle.vm_block.specs.declared.node.Child.{Child}
 use Rattle.vm_tree.specs.Tree.{Sizes, Subtree}
 use Rattle.vm_tree.specs.declared.root.Root.{Root}
-use Rattle.vm_check.specs.Marking.{Joined, IsUnder, MarksOnly}
+use Rattle.vm_check.specs.Marks.{Joined, IsUnder, MarksOnly}
 use Rattle.vm_check.proofs.JoinLemmas.{last_of, joined_front}
 use Rattle.vm_check.proofs.MarkLemmas.{IsBelow, is_first}
 

@@ -9,7 +9,7 @@ use Rattle.vm_tree.specs.Tree.{Sizes, Subtree}
 use Rattle.vm_tree.specs.declared.root.Root.{Root}
 use Rattle.vm_tree.proofs.TreeLemmas.{node_opens}
 use Rattle.vm_tree.proofs.Descent.{subtree_top}
-use Rattle.vm_check.specs.Marking.{IsUnder, AreUnder, MarksMore, ClosedTo}
+use Rattle.vm_check.specs.Marks.{IsUnder, AreUnder, MarksMore, ClosedTo}
 use Rattle.vm_check.proofs.JoinLemmas.{LastOf, last_of, joined_front}
 use Rattle.vm_check.proofs.MarkLemmas.{Sealed, none_sealed, sealed_join, subtree_sealed, closed_more, more_then, same_more}
 

@@ -7,7 +7,7 @@ use Rattle.vm_disk.specs.Disk.{Contents}
 use Rattle.vm_block.specs.Leaf.{Record, Row, BeginsWith, RowFits}
 use Rattle.vm_types.specs.Bytes.{longest}
 use Rattle.vm_tree.specs.Tree.{IsWithin, StandForAll, StandsFor}
-use Rattle.vm_check.specs.Visiting.{IsHighest}
+use Rattle.vm_check.specs.Visits.{IsHighest}
 
 module _ (x : Contents) (limit : ℕ) where
   row_key : (w : Row) (r : Record) (bs : List ℕ) → StandsFor x limit w r bs → r.0 ≡ w.0

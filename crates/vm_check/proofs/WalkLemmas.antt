@@ -14,9 +14,9 @@ use Rattle.vm_block.specs.Way.{Lowest}
 use Rattle.vm_block.specs.declared.node.Child.{Child}
 use Rattle.vm_tree.specs.Tree.{Sizes, IsData, Children, StandForAll, Subtree}
 use Rattle.vm_check.specs.Suits.{SuitsAt}
-use Rattle.vm_check.specs.Visiting.{AreFormed, Known, Visited, VisitedAll, RowsVisited, met_of}
-use Rattle.vm_check.specs.declared.verifying.Span.{Span}
-use Rattle.vm_check.specs.declared.verifying.Met.{Met}
+use Rattle.vm_check.specs.Visits.{AreFormed, Known, Visited, VisitedAll, RowsVisited, met_of}
+use Rattle.vm_check.specs.declared.verification.Span.{Span}
+use Rattle.vm_check.specs.declared.verification.Met.{Met}
 use Rattle.vm_check.proofs.KnownLemmas.{LeafFound, leaf_form, leaf_visited, known_first, node_visited, one_formed}
 use Rattle.vm_check.proofs.ChildLemmas.{child_of, child_part, child_more, child_agrees, leaf_top, node_top}
 

@@ -6,7 +6,7 @@ use Rattle.vm_block.specs.Leaf.{Row, HasRows}
 use Rattle.vm_block.specs.Node.{IsNode}
 use Rattle.vm_block.specs.declared.node.Child.{Child}
 use Rattle.vm_tree.specs.Answers.{OkOrDevice}
-use Rattle.vm_tree.specs.Reading.{Finds, IsNodeAt}
+use Rattle.vm_tree.specs.BlockReads.{Finds, IsNodeAt}
 use Rattle.vm_tree.specs.Tree.{IsData}
 use Rattle.vm_tree.specs.declared.faults.TreeFault.{TreeFault}
 use Rattle.vm_check.specs.declared.form.Form.{Form}

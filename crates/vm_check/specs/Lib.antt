@@ -1,7 +1,9 @@
+pub mod TreeCopy
 pub mod Form
-pub mod Marking
+pub mod Marks
 pub mod Noted
 pub mod Notes
+pub mod Renumbering
 pub mod Suits
-pub mod Verifying
-pub mod Visiting
+pub mod Verification
+pub mod Visits

@@ -2,27 +2,28 @@
 ghost use Rattle.std.specs.Prelude.{◌≡◌, ◌≢◌, ◌≤◌, IfOk};
 ghost use Rattle.vm_block.specs.Told.{IsNodeSize};
 ghost use Rattle.vm_tree.specs.Calls.{OnlyLooks};
-ghost use Rattle.vm_tree.specs.Reading.{ReadsOne};
+ghost use Rattle.vm_tree.specs.BlockReads.{ReadsOne};
 ghost use Rattle.vm_check.specs.Form.{AcceptsLeaf, AcceptsNode, AcceptsNodeAt, HasRead, IsFilled, IsForm};
 
 use vm_block::{MAX_CHILDREN, node_size, rows_size};
 use vm_disk::{Disk, Need};
 use vm_tree::{TreeFault, data_at, load_data};
+use vm_types::{Block, BlockNumber};
 
 /// What a block of a tree is.
 #[derive(Clone, Copy, Debug)]
 pub(crate) enum Form {
-    /// A leaf with so many rows.
+    /// A leaf with this many rows.
     Leaf(usize),
-    /// An inner block of this level with so many children.
+    /// An inner block of this level with this many children.
     Node(u8, usize),
 }
 
-/// Gets a block to hand, and tells whether it is a leaf or an inner block.
+/// Loads a block, and tells whether it is a leaf or an inner block.
 pub(crate) fn form_at<D: Disk>(
     disk: &mut D,
     blocks: u32,
-    block: u32,
+    block: BlockNumber,
     need: Need,
 ) -> Result<Form, TreeFault>
     requires { blocks ≤ (D.state disk.old).blocks }
@@ -45,13 +46,13 @@ pub(crate) fn form_at<D: Disk>(
     }
 }
 
-/// Reads an inner block of this level into these bytes, and tells how many children it has.
+/// Reads an inner block of this level into these bytes, and returns how many children it has.
 pub(crate) fn node_at<D: Disk>(
     disk: &mut D,
     blocks: u32,
     level: u8,
-    block: u32,
-    bytes: &mut [u8; 4096],
+    block: BlockNumber,
+    bytes: &mut Block,
 ) -> Result<usize, TreeFault>
     requires { blocks ≤ (D.state disk.old).blocks }
     ensures looks { OnlyLooks result (D.state disk.old) (D.state disk.new) }

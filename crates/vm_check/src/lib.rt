@@ -1,18 +1,24 @@
-//! Walks of trees in blocks: `mark` marks what lies under roots that are known to be sound, and
-//! `verify` tells whether trees lie under numbers that may name anything, and finds their roots.
+//! Walks of trees in blocks: `mark` marks what lies under roots that are known to be sound,
+//! `verify` validates the trees under untrusted block numbers and finds their roots, and
+//! `copy_tree` copies a tree to another disk.
 //!
-//! It stands on `vm_types`, `vm_disk`, `vm_alloc`, `vm_block` and `vm_tree`. Its promises: both
-//! only read, and at most one block for each that they mark; the marks grow by just what is
-//! reached; and `verify` is Ok exactly where each number has a tree, in blocks that the store may
-//! have, unless the device fails or no memory is found. `mark` goes over a `NotedDisk`, which notes
-//! the leaves that it need not read.
+//! It stands on `vm_types`, `vm_disk`, `vm_alloc`, `vm_block` and `vm_tree`. Its promises: the
+//! walks only read the disk that they walk, with at most one read for each block that they mark or
+//! copy; the marks grow by exactly what is reached; `verify` is Ok exactly when each number has a
+//! tree, in blocks that the store may have, unless the device fails or memory cannot be allocated;
+//! and under the root of a copy lies the same map, in the copies of its blocks. `mark` works on a
+//! `NotedDisk`, which notes the leaves that it need not read.
 #![tactic(auto)]
 
 mod form;
-mod marking;
+mod marks;
 mod noted;
-mod verifying;
+mod renumbering;
+mod tree_copy;
+mod verification;
 
-pub use marking::mark;
+pub use marks::mark;
 pub use noted::NotedDisk;
-pub use verifying::verify;
+pub use renumbering::Renumbering;
+pub use tree_copy::{CopyFault, copy_tree};
+pub use verification::verify;

@@ -1,4 +1,4 @@
-//! A disk that notes which blocks are no leaves with long values.
+//! A disk that notes which blocks are not leaves with long values.
 ghost use Rattle.std.specs.Prelude.{◌≡◌, ℕ, ◌+◌, ◌≤◌, ◌<◌, ◌^◌, true, false, None, length, IfOk, OnOk, OnErr};
 ghost use Rattle.vm_alloc.specs.Marks.{is_marked};
 ghost use Rattle.vm_disk.specs.Between.{Between, IfHonest};
@@ -10,10 +10,10 @@ use std::alloc::{AllocError, Global};
 use vm_alloc::Marks;
 use vm_block::is_long_leaf;
 use vm_disk::{DeviceFault, Disk, Need};
-use vm_types::{MAX_BLOCKS, MIN_BLOCKS};
+use vm_types::{Block, BlockNumber, MAX_BLOCKS, MIN_BLOCKS};
 
-/// Notes of a block whether it is plain, where there is room.
-fn note(notes: &mut Option<Marks>, n: u32, plain: bool)
+/// Notes whether a block is plain, if there is room for the note.
+fn note(notes: &mut Option<Marks>, n: BlockNumber, plain: bool)
     ensures { notes.new ≡ with_note n plain notes.old }
 {
     if let Some(marks) = notes {
@@ -27,9 +27,8 @@ fn note(notes: &mut Option<Marks>, n: u32, plain: bool)
     }
 }
 
-/// Notes of blocks in a row from block n on whether they are plain: none is, where they were not
-/// written.
-fn note_run(notes: &mut Option<Marks>, n: u32, blocks: &[[u8; 4096]], done: bool)
+/// Notes whether adjacent blocks from block n on are plain. None is if they were not written.
+fn note_run(notes: &mut Option<Marks>, n: BlockNumber, blocks: &[Block], done: bool)
     requires { n + length blocks.now < 2 ^ 32 }
     ensures { NotesRun n blocks.now (length blocks.now) done notes.old notes.new }
 {
@@ -40,7 +39,7 @@ fn note_run(notes: &mut Option<Marks>, n: u32, blocks: &[[u8; 4096]], done: bool
     }
 }
 
-/// For how many blocks there is room.
+/// How many blocks there is room for.
 fn room(notes: &Option<Marks>) -> u32
     ensures { result ≡ room_of notes.now }
 {
@@ -50,7 +49,7 @@ fn room(notes: &Option<Marks>) -> u32
     }
 }
 
-/// The same notes, with room for so many blocks.
+/// The same notes, with room for `blocks` blocks.
 fn longer(notes: &Option<Marks>, alloc: Global, blocks: u32) -> Result<Marks, AllocError>
     requires enough { MIN_BLOCKS ≤ blocks }
     requires few { blocks ≤ MAX_BLOCKS }
@@ -64,10 +63,10 @@ fn longer(notes: &Option<Marks>, alloc: Global, blocks: u32) -> Result<Marks, Al
     }
 }
 
-/// A disk over another that notes of blocks that they are plain: that their letters are not those of
-/// a leaf with a long row. So a marking need not read such a leaf.
+/// A disk over another that notes which blocks are plain: their letters are not those of a leaf
+/// with a long row. Marking need not read such a leaf.
 ///
-/// It has no room for notes before `reserve` is called. A block of which nothing is noted may be any.
+/// It has no room for notes before `reserve` is called. A block without a note may be anything.
 #[derive(Drop)]
 pub struct NotedDisk<D: Disk> {
     inner: D,
@@ -86,8 +85,8 @@ impl<D: Disk> NotedDisk<D> {
         NotedDisk { inner, plain: None }
     }
 
-    /// Takes room for notes of so many blocks, where there is less. What is noted stays, also where no
-    /// memory is found.
+    /// Takes memory for notes on `blocks` blocks, if there is less. Existing notes stay, even if
+    /// memory cannot be allocated.
     pub fn reserve(&mut self, alloc: Global, blocks: u32) -> Result<(), AllocError>
         requires enough { MIN_BLOCKS ≤ blocks }
         requires few { blocks ≤ MAX_BLOCKS }
@@ -102,8 +101,8 @@ impl<D: Disk> NotedDisk<D> {
         Ok(())
     }
 
-    /// Whether it is noted of a block that it is plain.
-    pub fn is_plain(&self, n: u32) -> bool
+    /// Whether a block is noted as plain.
+    pub fn is_plain(&self, n: BlockNumber) -> bool
         ensures noted { result ≡ is_noted (notes_of self.now) n }
         ensures plain { (D.state (inner_of self.now)).honest ≡ true → result ≡ true
             → IsPlain (block (D.state (inner_of self.now)).now.contents n) }
@@ -121,7 +120,7 @@ impl<D: Disk> NotedDisk<D> {
         &self.inner
     }
 
-    /// The disk below. The notes are given up.
+    /// The disk below. The notes are dropped.
     pub fn into_inner(self) -> D
         ensures { result ≡ inner_of self }
     {
@@ -144,7 +143,7 @@ impl<D: Disk> Disk for NotedDisk<D> {
         self.inner.blocks()
     }
 
-    fn read(&mut self, n: u32, into: &mut [u8; 4096]) -> Result<(), DeviceFault>
+    fn read(&mut self, n: BlockNumber, into: &mut Block) -> Result<(), DeviceFault>
         requires { n < (noted_state D.state self.old).blocks }
         ensures any { Between (noted_state D.state) (Counts 1 result) self.old self.new }
         ensures honest { IfHonest (noted_state D.state) (Reads n into.new result)
@@ -164,13 +163,13 @@ impl<D: Disk> Disk for NotedDisk<D> {
         Ok(())
     }
 
-    fn load(&mut self, n: u32, need: Need) -> Result<(), DeviceFault>
+    fn load(&mut self, n: BlockNumber, need: Need) -> Result<(), DeviceFault>
         requires { n < (noted_state D.state self.old).blocks }
         ensures any { Between (noted_state D.state) (Counts 1 result) self.old self.new }
         ensures honest { IfHonest (noted_state D.state) (Reads n (noted_hand D.hand self.new) result)
             self.old self.new }
 
-        // A plain block that is at hand is noted, and no note is lost.
+        // A plain block that was loaded is noted, and no note is lost.
         ensures plain { OnOk result (IsPlain (noted_hand D.hand self.new)
             → notes_of self.new ≡ with_note n true (notes_of self.old)) }
         ensures other { OnOk result ((IsPlain (noted_hand D.hand self.new) → ⊥) →
@@ -184,17 +183,18 @@ impl<D: Disk> Disk for NotedDisk<D> {
         Ok(())
     }
 
-    fn at_hand(&self) -> &[u8; 4096] {
+    fn at_hand(&self) -> &Block {
         self.inner.at_hand()
     }
 
-    fn write(&mut self, n: u32, from: &[u8; 4096]) -> Result<(), DeviceFault>
+    fn write(&mut self, n: BlockNumber, from: &Block) -> Result<(), DeviceFault>
         requires { n < (noted_state D.state self.old).blocks }
         ensures any { Between (noted_state D.state) (Counts 0 result) self.old self.new }
         ensures honest { IfHonest (noted_state D.state) (Writes n from.now result)
             self.old self.new }
 
-        // A block that was written is noted just where it is plain, and one whose write failed is not.
+        // A block that was written is noted exactly when it is plain, and one whose write failed is
+        // not.
         ensures plain { OnOk result (IsPlain from.now
             → notes_of self.new ≡ with_note n true (notes_of self.old)) }
         ensures other { OnOk result ((IsPlain from.now → ⊥)
@@ -213,7 +213,7 @@ impl<D: Disk> Disk for NotedDisk<D> {
         }
     }
 
-    fn write_run(&mut self, n: u32, blocks: &[[u8; 4096]]) -> Result<(), DeviceFault>
+    fn write_run(&mut self, n: BlockNumber, blocks: &[Block]) -> Result<(), DeviceFault>
         requires { n + length blocks.now ≤ (noted_state D.state self.old).blocks }
         ensures any { Between (noted_state D.state) (Counts 0 result) self.old self.new }
         ensures honest { IfHonest (noted_state D.state) (WritesRun n blocks.now result)
@@ -235,7 +235,7 @@ impl<D: Disk> Disk for NotedDisk<D> {
         }
     }
 
-    fn forget(&mut self, n: u32)
+    fn forget(&mut self, n: BlockNumber)
         requires { n < (noted_state D.state self.old).blocks }
         ensures any { Between (noted_state D.state) Idles self.old self.new }
         ensures honest { IfHonest (noted_state D.state) (Forgets n) self.old self.new }

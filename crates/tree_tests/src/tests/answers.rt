@@ -1,15 +1,16 @@
-//! What steps of a row are answered.
+//! The answers to the steps of a row.
 use super::bench::Bench;
 use super::blocks::{bytes_of, bytes_text, child_at, count_in, letters_text, write_words};
 use super::changes::{begin, change};
-use super::differing::{compared, differed, root_of, yes_or_no};
+use super::copies::moved;
+use super::walked_differences::{compared, differed, differed_within, root_of, yes_or_no};
 use super::walks::{add_root, marked, verified};
 use super::words::{Wrong, add_stored, add_value, key, level, link, long, number};
 use std::alloc::Global;
 use vm_block::read_leaf;
 use vm_disk::Disk;
-use vm_tree::{data_at, get, is_data, long_at, node_at, rows_into, scan};
-use vm_types::Refusal;
+use vm_tree::{data_at, get, is_data, long_at, node_at, rows_into, scan, scan_from, scan_part};
+use vm_types::{Records, Refusal};
 
 /// The value of a key, or `~`.
 fn got(alloc: Global, bench: &mut Bench, number: u64) -> Result<String, Wrong> {
@@ -23,18 +24,37 @@ fn got(alloc: Global, bench: &mut Bench, number: u64) -> Result<String, Wrong> {
     Ok(text)
 }
 
-fn listed(alloc: Global, bench: &mut Bench) -> Result<String, Wrong> {
-    let blocks = bench.disk.blocks();
-    let records = scan(alloc, &mut bench.disk, blocks, bench.root)?;
+fn records_text(alloc: Global, records: &Records) -> Result<String, Wrong> {
     let mut text = String::new(alloc);
-    for (key, value) in &records {
+    for (key, value) in records {
         write!(text, " {}=", key.number)?;
         add_value(&mut text, value)?;
     }
     Ok(text)
 }
 
-/// The rows of a leaf: of each its value, or the link to it.
+fn listed(alloc: Global, bench: &mut Bench) -> Result<String, Wrong> {
+    let blocks = bench.disk.blocks();
+    let records = scan(alloc, &mut bench.disk, blocks, bench.root)?;
+    records_text(alloc, &records)
+}
+
+/// The records from one number to another.
+fn part_text(alloc: Global, bench: &mut Bench, low: u64, high: u64) -> Result<String, Wrong> {
+    let blocks = bench.disk.blocks();
+    let (low, high) = (key(low), key(high));
+    let records = scan_part(alloc, &mut bench.disk, blocks, bench.root, low, high)?;
+    records_text(alloc, &records)
+}
+
+/// The first records from a number on, at most `count` of them.
+fn page_text(alloc: Global, bench: &mut Bench, low: u64, count: u32) -> Result<String, Wrong> {
+    let blocks = bench.disk.blocks();
+    let records = scan_from(alloc, &mut bench.disk, blocks, bench.root, key(low), count)?;
+    records_text(alloc, &records)
+}
+
+/// The rows of a leaf, each with its value or the link to it.
 fn leaf_text(alloc: Global, bench: &mut Bench, block: u32) -> Result<String, Wrong> {
     let blocks = bench.disk.blocks();
     let mut bytes = [1; 4096];
@@ -51,7 +71,7 @@ fn leaf_text(alloc: Global, bench: &mut Bench, block: u32) -> Result<String, Wro
     Ok(text)
 }
 
-/// The long value of a key to which a link leads.
+/// The long value of a key that a link leads to.
 fn long_text(alloc: Global, bench: &mut Bench, n: u64, word: &str) -> Result<String, Wrong> {
     let link = link(word)?.ok_or(Wrong::Unreadable)?;
     let blocks = bench.disk.blocks();
@@ -62,7 +82,7 @@ fn long_text(alloc: Global, bench: &mut Bench, n: u64, word: &str) -> Result<Str
     Ok(text)
 }
 
-/// Lowest key and block of each child of an inner block of this level.
+/// The lowest key and the block of each child of an inner block of this level.
 fn node_text(alloc: Global, bench: &mut Bench, above: u8, block: u32) -> Result<String, Wrong> {
     let blocks = bench.disk.blocks();
     let children = node_at(&mut bench.disk, blocks, above, block)?;
@@ -73,7 +93,7 @@ fn node_text(alloc: Global, bench: &mut Bench, above: u8, block: u32) -> Result<
     Ok(text)
 }
 
-/// The bytes of a block for data.
+/// The bytes of a data block.
 fn data_text(alloc: Global, bench: &mut Bench, block: u32) -> Result<String, Wrong> {
     let mut bytes = [1; 4096];
     let blocks = bench.disk.blocks();
@@ -85,7 +105,7 @@ fn data_text(alloc: Global, bench: &mut Bench, block: u32) -> Result<String, Wro
     bytes_text(alloc, &bytes)
 }
 
-/// How many records each leaf has under a root of level 1.
+/// How many records each leaf under a root of level 1 has.
 fn leaf_counts(alloc: Global, bench: &mut Bench) -> Result<String, Wrong> {
     let mut text = String::new(alloc);
     for at in 0..256 {
@@ -110,7 +130,7 @@ fn dirty_blocks(alloc: Global, bench: &Bench) -> Result<String, Wrong> {
     Ok(text)
 }
 
-/// Lowest key and block of a child.
+/// The lowest key and the block of a child.
 fn child_text(alloc: Global, bench: &mut Bench, block: u32, at: u32) -> Result<String, Wrong> {
     match child_at(&mut bench.disk, block, at)? {
         Some(child) => Ok(format!(in alloc; "{}:{}", child.low.number, child.block)?),
@@ -161,11 +181,13 @@ fn look(alloc: Global, bench: &mut Bench, words: &[&str]) -> Result<String, Wron
     }
 }
 
-/// The answer to a step that asks for what the map has, or walks it.
+/// The answer to a step that asks for what the map has, or walks the map.
 fn ask(alloc: Global, bench: &mut Bench, words: &[&str]) -> Result<String, Wrong> {
     match words {
         ["get", number] => got(alloc, bench, long(number)?),
         ["list"] => listed(alloc, bench),
+        ["part", low, high] => part_text(alloc, bench, long(low)?, long(high)?),
+        ["next", low, count] => page_text(alloc, bench, long(low)?, number(count)?),
         ["root"] => root_text(alloc, bench),
         ["level"] => Ok(format!(in alloc; "{}", bench.root.level)?),
         ["spent"] => {
@@ -178,13 +200,21 @@ fn ask(alloc: Global, bench: &mut Bench, words: &[&str]) -> Result<String, Wrong
         ["mark", roots @ ..] => marked(alloc, bench, roots),
         ["verify", numbers @ ..] => verified(alloc, bench, true, numbers),
         ["strict", numbers @ ..] => verified(alloc, bench, false, numbers),
+        ["move", blocks, first, second] => moved(alloc, bench, number(blocks)?, [first, second]),
         ["differ", first, second] => differed(alloc, bench, first, second, true),
+        ["within", first, second, low, high] => {
+            differed_within(alloc, bench, [first, second], long(low)?, long(high)?)
+        }
         ["values", first, second] => differed(alloc, bench, first, second, false),
         ["same", first, second] => compared(alloc, bench, first, second, true),
         ["equal", first, second] => compared(alloc, bench, first, second, false),
         ["above", first, second] => {
             let is_so = root_of(bench, first)?.level > root_of(bench, second)?.level;
             Ok(String::from_str(alloc, yes_or_no(is_so))?)
+        }
+        ["fresh"] => {
+            bench.new_calls();
+            Ok(String::from_str(alloc, "ok")?)
         }
         ["calls"] => Ok(format!(in alloc; "{}", bench.new_calls())?),
         ["sync"] => {
@@ -195,7 +225,7 @@ fn ask(alloc: Global, bench: &mut Bench, words: &[&str]) -> Result<String, Wrong
     }
 }
 
-/// The answer to a step that gives one.
+/// The answer to a step, if it gives one.
 fn given(alloc: Global, bench: &mut Bench, words: &[&str]) -> Result<String, Wrong> {
     if let Some(text) = change(bench, words)? {
         return Ok(String::from_str(alloc, text)?);
@@ -206,7 +236,7 @@ fn given(alloc: Global, bench: &mut Bench, words: &[&str]) -> Result<String, Wro
     ask(alloc, bench, words)
 }
 
-/// How a fault is written.
+/// The text of a fault.
 fn fault_text(alloc: Global, fault: Refusal) -> Result<String, Wrong> {
     Ok(match fault {
         Refusal::Damaged(block) => format!(in alloc; "error Damaged {block}")?,
@@ -214,7 +244,7 @@ fn fault_text(alloc: Global, fault: Refusal) -> Result<String, Wrong> {
     })
 }
 
-/// What a step is answered.
+/// The answer to a step.
 pub(super) fn answer(alloc: Global, bench: &mut Bench, words: &[&str]) -> Result<String, Wrong> {
     match given(alloc, bench, words) {
         Err(Wrong::Tree(fault)) => fault_text(alloc, fault),

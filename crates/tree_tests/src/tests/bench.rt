@@ -1,4 +1,4 @@
-//! A map in a tree on a disk of its own, for rows.
+//! A map in a tree on its own disk, for rows.
 use super::words::Wrong;
 use std::alloc::Global;
 use std::mem;
@@ -10,11 +10,11 @@ use vm_tree::Root;
 /// More device calls than any row makes.
 const NEVER: u32 = 1_000_000;
 
-/// A disk in memory that counts device calls, and may fail one, and that notes which leaves have no
-/// long value.
+/// A disk in memory that counts device calls, may fail one, and notes which leaves have no long
+/// value.
 pub(super) type Device = NotedDisk<FuseDisk<MemDisk>>;
 
-/// The sizes of trees that rows use: records of a leaf, children of an inner block, levels.
+/// The sizes of trees in the rows: records of a leaf, children of an inner block, levels.
 #[derive(Clone, Copy)]
 pub(super) enum Sizes {
     /// 16, 256 and 8, as in the store.
@@ -39,18 +39,19 @@ pub(super) struct Bench {
     pub(super) held: Held,
     pub(super) marks: Marks,
     pub(super) root: Root,
-    /// The roots that were kept under the names `a`, `b` and `c`, and how many blocks were free then.
+    /// The roots that were kept as `a`, `b` and `c`, and how many blocks were free then.
     pub(super) kept: [Root; 3],
     pub(super) free: u32,
-    /// The blocks that the last put or remove replaced, each at its level, and that of a long value.
+    /// The blocks that the last put or remove replaced, each at its level, and the one of a long
+    /// value.
     pub(super) path: [u32; 9],
     pub(super) sizes: Sizes,
-    /// How many device calls there were when they were last asked for.
+    /// How many device calls there had been when they were last asked for.
     pub(super) seen: u32,
 }
 
 impl Bench {
-    /// An empty map on a blank disk of so many blocks.
+    /// An empty map on a blank disk of this many blocks.
     pub(super) fn new(alloc: Global, blocks: u32) -> Result<Bench, Wrong> {
         if blocks < 64 || blocks > 16_384 {
             return Err(Wrong::Unreadable);
@@ -83,7 +84,7 @@ impl Bench {
         calls.saturating_sub(before)
     }
 
-    /// Has the disk fail once, after so many device calls from now. Its notes are gone.
+    /// Makes the disk fail once, after this many device calls from now. Its notes are gone.
     pub(super) fn fail_after(&mut self, alloc: Global, passes: u32) -> Result<(), Wrong> {
         if passes > NEVER {
             return Err(Wrong::Unreadable);

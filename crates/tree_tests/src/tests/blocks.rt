@@ -1,4 +1,4 @@
-//! The blocks of a disk, written and looked at by steps of a row.
+//! The blocks of a disk, written and looked at by the steps of a row.
 ghost use Rattle.vm_block.specs.Leaf.{StoredFits};
 
 use super::words::{Wrong, byte, child, key, level, long, number, stored, value};
@@ -8,9 +8,9 @@ use vm_block::{
     Child, Placed, Stored, put_row, read_leaf, read_node, write_leaf, write_long, write_node,
 };
 use vm_disk::Disk;
-use vm_types::{Key, Refusal};
+use vm_types::{Block, Key, Refusal};
 
-pub(super) fn bytes_of<D: Disk>(disk: &mut D, n: u32) -> Result<[u8; 4096], Wrong> {
+pub(super) fn bytes_of<D: Disk>(disk: &mut D, n: u32) -> Result<Block, Wrong> {
     let mut bytes = [0; 4096];
     if n >= disk.blocks() {
         return Err(Wrong::Unreadable);
@@ -19,7 +19,7 @@ pub(super) fn bytes_of<D: Disk>(disk: &mut D, n: u32) -> Result<[u8; 4096], Wron
     Ok(bytes)
 }
 
-fn write_block<D: Disk>(disk: &mut D, n: u32, bytes: &[u8; 4096]) -> Result<(), Wrong> {
+fn write_block<D: Disk>(disk: &mut D, n: u32, bytes: &Block) -> Result<(), Wrong> {
     if n >= disk.blocks() {
         return Err(Wrong::Unreadable);
     }
@@ -28,7 +28,7 @@ fn write_block<D: Disk>(disk: &mut D, n: u32, bytes: &[u8; 4096]) -> Result<(), 
 }
 
 /// Puts a row into a leaf that has room for it.
-fn add_row(bytes: &mut [u8; 4096], key: Key, stored: Stored<'_>) -> Result<(), Wrong>
+fn add_row(bytes: &mut Block, key: Key, stored: Stored<'_>) -> Result<(), Wrong>
     requires { StoredFits stored }
 {
     match put_row(bytes, 16, key, stored) {
@@ -38,7 +38,7 @@ fn add_row(bytes: &mut [u8; 4096], key: Key, stored: Stored<'_>) -> Result<(), W
 }
 
 /// A leaf of these keys, each with this value or link.
-fn leaf(given: &str, numbers: &[&str]) -> Result<[u8; 4096], Wrong> {
+fn leaf(given: &str, numbers: &[&str]) -> Result<Block, Wrong> {
     let (first, others) = numbers.split_first().ok_or(Wrong::Unreadable)?;
     let given = stored(given)?;
     let mut bytes = [0; 4096];
@@ -50,7 +50,7 @@ fn leaf(given: &str, numbers: &[&str]) -> Result<[u8; 4096], Wrong> {
 }
 
 /// A leaf of these keys, each with a value or link of its own.
-fn rows(words: &[&str]) -> Result<[u8; 4096], Wrong> {
+fn rows(words: &[&str]) -> Result<Block, Wrong> {
     let (first, others) = words.split_first().ok_or(Wrong::Unreadable)?;
     let (number, given) = first.split_once('=').ok_or(Wrong::Unreadable)?;
     let mut bytes = [0; 4096];
@@ -63,7 +63,7 @@ fn rows(words: &[&str]) -> Result<[u8; 4096], Wrong> {
 }
 
 /// The block of this key and its long value.
-fn long_value(number: &str, given: &str) -> Result<[u8; 4096], Wrong> {
+fn long_value(number: &str, given: &str) -> Result<Block, Wrong> {
     let given = value(given)?;
     let mut bytes = [0; 4096];
     write_long(key(long(number)?), given.as_bytes(), &mut bytes);
@@ -71,7 +71,7 @@ fn long_value(number: &str, given: &str) -> Result<[u8; 4096], Wrong> {
 }
 
 /// An inner block of these children.
-fn node(above: &str, words: &[&str]) -> Result<[u8; 4096], Wrong> {
+fn node(above: &str, words: &[&str]) -> Result<Block, Wrong> {
     let mut children: ArrayVec<Child, 256> = ArrayVec::new();
     for word in words {
         if children.is_full() {
@@ -84,9 +84,9 @@ fn node(above: &str, words: &[&str]) -> Result<[u8; 4096], Wrong> {
     Ok(bytes)
 }
 
-/// An inner block of level 1 with so many children: their lowest keys are 0, 32, 64 and so on, and
-/// the block of each is said to be 34.
-fn fan(count: u32) -> Result<[u8; 4096], Wrong> {
+/// An inner block of level 1 with this many children. Their lowest keys are 0, 32, 64 and so on,
+/// and each is said to be in block 34.
+fn fan(count: u32) -> Result<Block, Wrong> {
     let mut children: ArrayVec<Child, 256> = ArrayVec::new();
     for n in 0..count {
         if children.is_full() {
@@ -102,8 +102,8 @@ fn fan(count: u32) -> Result<[u8; 4096], Wrong> {
     Ok(bytes)
 }
 
-/// Sets bytes from a place on, as `0:534C` says.
-fn set_run(bytes: &mut [u8; 4096], run: &str) -> Result<(), Wrong> {
+/// Sets bytes from an offset on, as in `0:534C`.
+fn set_run(bytes: &mut Block, run: &str) -> Result<(), Wrong> {
     let (from, digits) = run.split_once(':').ok_or(Wrong::Unreadable)?;
     let from = number(from)? as usize;
     for (n, pair) in digits.as_bytes().chunks(2).enumerate() {
@@ -137,8 +137,8 @@ pub(super) fn write_words<D: Disk>(disk: &mut D, words: &[&str]) -> Result<bool,
     Ok(true)
 }
 
-/// The bytes that are not zero, behind the place of the first of each run.
-pub(super) fn bytes_text(alloc: Global, bytes: &[u8; 4096]) -> Result<String, Wrong> {
+/// The nonzero bytes, each run after the offset of its first byte.
+pub(super) fn bytes_text(alloc: Global, bytes: &Block) -> Result<String, Wrong> {
     let mut text = String::new(alloc);
     let mut before = 0;
     for (at, byte) in bytes.iter().enumerate() {
@@ -154,7 +154,7 @@ pub(super) fn bytes_text(alloc: Global, bytes: &[u8; 4096]) -> Result<String, Wr
 }
 
 /// The letters that a block begins with.
-pub(super) fn letters_text(alloc: Global, bytes: &[u8; 4096]) -> Result<String, Wrong> {
+pub(super) fn letters_text(alloc: Global, bytes: &Block) -> Result<String, Wrong> {
     let letters = str::from_utf8(&bytes[..4])?;
     Ok(String::from_str(alloc, letters)?)
 }
@@ -171,7 +171,7 @@ pub(super) fn count_in<D: Disk>(disk: &mut D, n: u32) -> Result<usize, Wrong> {
     }
 }
 
-/// The child of an inner block at a place, if it has so many.
+/// The child of an inner block at this index, if there is one.
 pub(super) fn child_at<D: Disk>(disk: &mut D, n: u32, at: u32) -> Result<Option<Child>, Wrong> {
     match read_node(&bytes_of(disk, n)?) {
         Some(node) => Ok(node.children.as_slice().get(at as usize).copied()),

@@ -1,8 +1,8 @@
-//! The calls that change a map, made by steps of a row.
+//! The calls that change a map, made by the steps of a row.
 ghost use Rattle.vm_tree.specs.Root.{AreSizes};
 
 use super::bench::{Bench, Device, Sizes};
-use super::differing::{place_of, root_of};
+use super::walked_differences::{place_of, root_of};
 use super::words::{Wrong, key, long, number, value};
 use std::alloc::Global;
 use vm_check::mark;
@@ -42,7 +42,7 @@ fn put_sized(bench: &mut Bench, number: u64, value: &Value) -> Result<(), Wrong>
     }
 }
 
-/// Puts so many records, from a key on or from it down.
+/// Puts this many records, from a key up or down.
 fn put_all(
     bench: &mut Bench,
     first: u64,
@@ -63,7 +63,7 @@ fn put_all(
     Ok(())
 }
 
-/// The root without the record, where it was there.
+/// The root without the record, if it was there.
 fn removed<const LEAF: usize, const FAN: usize, const LEVELS: usize>(
     bench: &mut Bench,
     number: u64,
@@ -99,7 +99,7 @@ fn remove_sized(bench: &mut Bench, number: u64) -> Result<bool, Wrong> {
     }
 }
 
-/// Holds just the blocks that the map lies in, where a marking finds them.
+/// Holds exactly the blocks of the map, if a marking finds them.
 fn let_go(bench: &mut Bench) -> Result<(), Wrong> {
     bench.marks.clear();
     if bench.marks.blocks() > bench.disk.blocks() {
@@ -125,7 +125,7 @@ fn sizes(words: &[&str]) -> Result<Sizes, Wrong> {
     }
 }
 
-/// Carries out a step that changes the map. What it is answered, if these words are one.
+/// Carries out a step that changes the map. Returns its answer, if these words are such a step.
 pub(super) fn change(bench: &mut Bench, words: &[&str]) -> Result<Option<&'static str>, Wrong> {
     match words {
         ["put", number, given] => put_sized(bench, long(number)?, &value(given)?)?,
@@ -145,7 +145,8 @@ pub(super) fn change(bench: &mut Bench, words: &[&str]) -> Result<Option<&'stati
     Ok(Some("ok"))
 }
 
-/// Carries out a step that sets what the next ones begin from. Whether these words are one.
+/// Carries out a step that sets the start of the next ones. Tells whether these words are such a
+/// step.
 pub(super) fn begin(alloc: Global, bench: &mut Bench, words: &[&str]) -> Result<bool, Wrong> {
     match words {
         ["new", blocks] => *bench = Bench::new(alloc, number(blocks)?)?,

@@ -1,8 +1,8 @@
-//! Blocks that are none of the tree, where a descent comes to them.
+//! Blocks that do not belong to the tree, met by a descent.
 use super::script::{Row, SEVENTEEN, plays_rows};
 
-/// A get, a put and a remove of record 10 each name the leaf that it lies in, and none of them
-/// takes or writes a block.
+/// A get, a put and a remove of record 10 each name the leaf that it is in, and none of them takes
+/// or writes a block.
 const LEAF_IS_REFUSED: &str = "
     sync
     get 10 -> error Damaged 36
@@ -11,7 +11,7 @@ const LEAF_IS_REFUSED: &str = "
     dirty -> none
     free -> 25";
 
-/// The same of the root.
+/// The same for the root.
 const ROOT_IS_REFUSED: &str = "
     sync
     get 10 -> error Damaged 37
@@ -92,7 +92,7 @@ const ROWS: [Row; 17] = [
         &[SEVENTEEN, "copy 36 35", LEAF_IS_REFUSED],
     ),
     (
-        // The leaf as it was before record 10 came, and after it went.
+        // The leaf as it was before record 10 came, and after it had gone.
         "the leaf without record 10 in its place",
         &[SEVENTEEN, "write leaf 36 v 11 12", LEAF_IS_REFUSED],
     ),

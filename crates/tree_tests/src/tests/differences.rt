@@ -1,13 +1,14 @@
 //! Differences of maps that are made by puts and removals, and how many blocks are read for them.
 use super::script::{Row, plays_rows};
 
-/// The first sixteen puts take a block each, and the seventeenth two leaves and the root above them in block 52.
+/// The first sixteen puts take a block each. The seventeenth takes two for leaves, and block 52 for
+/// the root above them.
 const TWO_LEAVES: &str = "
     new 128
     puts 1 17 v
     root -> 52.1.1";
 
-const ROWS: [Row; 9] = [
+const ROWS: [Row; 11] = [
     (
         "reads nothing of one tree",
         &[
@@ -28,6 +29,42 @@ const ROWS: [Row; 9] = [
             root -> 54.1.1
             differ 52.1.1 54.1.1 -> 1=v>w by 4
             same 52.1.1 54.1.1 -> no by 4",
+        ],
+    ),
+    (
+        // Leaves of 1 to 9 and of 10 to 17.
+        "reads of a part what may lie in it",
+        &[
+            TWO_LEAVES,
+            "
+            put 1 w
+            put 12 x
+            root -> 56.1.1
+            within 52.1.1 56.1.1 0 99 -> 1=v>w 12=v>x by 6
+            within 52.1.1 56.1.1 1 12 -> 1=v>w 12=v>x by 6
+            within 52.1.1 56.1.1 1 1 -> 1=v>w by 4
+            within 52.1.1 56.1.1 2 9 -> none by 4
+            within 52.1.1 56.1.1 10 11 -> none by 4
+            within 52.1.1 56.1.1 12 12 -> 12=v>x by 4
+            within 52.1.1 56.1.1 13 99 -> none by 4
+            within 52.1.1 56.1.1 18 99 -> none by 4
+            within 52.1.1 56.1.1 0 0 -> none by 0
+            within 52.1.1 56.1.1 12 11 -> none by 4
+            within 52.1.1 56.1.1 12 1 -> none by 2
+            within 52.1.1 52.1.1 1 9 -> none by 0
+            within none 52.1.1 3 4 -> 3=~>v 4=~>v by 2
+            within 52.1.1 none 9 10 -> 9=v>~ 10=v>~ by 3",
+        ],
+    ),
+    (
+        "reads nothing of a part that both share",
+        &[
+            TWO_LEAVES,
+            "
+            put 1 w
+            root -> 54.1.1
+            within 52.1.1 54.1.1 10 17 -> none by 2
+            within 52.1.1 54.1.1 9 17 -> none by 4",
         ],
     ),
     (
@@ -108,9 +145,10 @@ const ROWS: [Row; 9] = [
         ],
     ),
     (
-        // 5,000 records need more than 256 leaves of 16, so an inner block above inner blocks; and where each leaf
-        // has 8 or more, and each inner block 128 or more, one inner block on top is enough. A change takes three
-        // blocks, and is found for just these and the three in whose place they stand: all that is not shared.
+        // 5,000 records need more than 256 leaves of 16, and so an inner block above inner blocks.
+        // As each leaf has 8 or more, and each inner block 128 or more, one inner block on top is
+        // enough. A change takes three blocks. It is found by reading only these and the three that
+        // they replace: everything that is not shared.
         "reads two paths of three blocks for one of 5,000 records",
         &[
             "

@@ -6,7 +6,7 @@ const TWO_VALUES: &str = "
     put 1 300*a
     put 2 v";
 
-/// Block 34 has no such value. A put and a remove do not read it.
+/// Block 34 does not have the value. A put and a remove do not read it.
 const DAMAGED: &str = "
     get 1 -> error Damaged 34
     list -> error Damaged 34
@@ -86,7 +86,7 @@ const ROWS: [Row; 24] = [
         ],
     ),
     (
-        // Where the key is there, the leaf has room: a long block, a leaf and a root.
+        // If the key is there, the leaf has room: a long block, a leaf and a root.
         "takes no block where there is no room",
         &[
             "
@@ -341,7 +341,8 @@ const ROWS: [Row; 24] = [
         ],
     ),
     (
-        // Of the inner block and of the one leaf that is not plain; the long block itself is not read.
+        // The reads are of the inner block and of the only leaf that is not plain. The long block
+        // itself is not read.
         "marks a long value by a read of its leaf",
         &[
             "
@@ -352,7 +353,7 @@ const ROWS: [Row; 24] = [
         ],
     ),
     (
-        // Where all leaves are plain, of the inner block.
+        // If all leaves are plain, only the inner block is read.
         "reads no leaf where all are plain",
         &[
             "
@@ -362,7 +363,7 @@ const ROWS: [Row; 24] = [
         ],
     ),
     (
-        // And where nothing is noted, of both leaves.
+        // And if nothing is noted, both leaves are.
         "reads each leaf where nothing is noted",
         &[
             "

@@ -1,6 +1,7 @@
 //! Which blocks a put and a remove replace.
 //!
-//! After each of them the path has the blocks of the old one, and a marking from the new root finds none of those.
+//! After each of them the path has the blocks of the old path, and a marking from the new root
+//! finds none of those.
 use super::script::{FOREIGN, Row, SEVENTEEN, plays_rows};
 
 const ROWS: [Row; 4] = [
@@ -29,7 +30,7 @@ const ROWS: [Row; 4] = [
         ],
     ),
     (
-        // The first path is that of the put which split the one leaf.
+        // The first path is that of the put that split the only leaf.
         "replaces a leaf and the root above it",
         &[
             SEVENTEEN,

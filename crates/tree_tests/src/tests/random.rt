@@ -11,42 +11,42 @@ use vm_alloc::{Held, Marks};
 use vm_block::{Child, Stored, is_long_leaf, read_leaf, read_node};
 use vm_check::{NotedDisk, mark};
 use vm_disk::{DeviceFault, Disk, MemDisk};
-use vm_tree::{ListFault, PutFault, Root, TreeFault, get, put, remove, scan};
-use vm_types::{FIRST_DATA, Key, Refusal, Value};
+use vm_tree::{ListFault, PutFault, Root, TreeFault, get, put, remove, scan, scan_from, scan_part};
+use vm_types::{Block, FIRST_DATA, Key, Refusal, Value};
 
 const BLOCKS: u32 = 16_384;
 
-/// The most blocks that a change may take, and one.
+/// The maximum number of blocks that a change may take, and one more.
 const NEEDED: u32 = 17;
 
-/// How many bytes one in eight values has.
+/// The lengths in bytes of one in eight values.
 const LENGTHS: [usize; 6] = [0, 1, 240, 241, 300, 4000];
 
 const CHANGES: u32 = 100_000;
 
-/// How many changes are made with more puts than removes, and then as many with fewer.
+/// How many changes are made with more puts than removes, and then again with fewer.
 const SEASON: u32 = 10_000;
 
 /// What went wrong.
 #[derive(Clone, Copy, Debug, PartialEq, Eq)]
 enum Wrong {
-    /// No memory for the test itself.
+    /// Memory for the test itself could not be allocated.
     Memory,
-    /// A call on the tree gave no answer, where it should.
+    /// A call on the tree gave no answer when it should have.
     Tree(Refusal),
-    /// The disk, the held blocks and the marks have not one size.
+    /// The disk, the held blocks and the marks do not have one size.
     Sizes,
-    /// A put found no room for a key that is there, or took a block and then found none.
+    /// A put found no room for an existing key, or took a block before it found no room.
     Deep(u64),
-    /// A remove found a record that isn't there, or missed one that is.
+    /// A remove found a record that is not there, or missed one that is.
     Removed(u64),
-    /// This key has another value than in the sorted map.
+    /// This key does not have the same value as in the sorted map.
     Got(u64),
-    /// After so many changes the records are not those of the sorted map.
+    /// After this many changes the records are not those of the sorted map.
     Records(u32),
-    /// This block lies under the root, and isn't held.
+    /// This block lies under the root, and is not held.
     Free(u32),
-    /// After a marking so many blocks are free, where the second number is due.
+    /// After a marking the first number of blocks is free, and the second was expected.
     Count(u32, u32),
 }
 
@@ -80,7 +80,7 @@ impl From<ListFault> for Wrong {
     }
 }
 
-/// A tree on a disk of its own, and the sorted map that it has to agree with.
+/// A tree on its own disk, and the sorted map that it must agree with.
 #[derive(Drop)]
 struct Pair {
     disk: NotedDisk<MemDisk>,
@@ -93,7 +93,7 @@ struct Pair {
     keys: u64,
     markings: u32,
     deeps: u32,
-    /// The greatest level that the root had.
+    /// The highest level that the root has had.
     top: u8,
 }
 
@@ -101,7 +101,7 @@ fn key(number: u64) -> Key {
     Key { table: 1, number }
 }
 
-fn bytes_at(disk: &mut NotedDisk<MemDisk>, block: u32) -> Result<[u8; 4096], Wrong> {
+fn bytes_at(disk: &mut NotedDisk<MemDisk>, block: u32) -> Result<Block, Wrong> {
     let mut bytes = [0; 4096];
     if block >= disk.blocks() {
         return Err(Wrong::Sizes);
@@ -119,7 +119,7 @@ fn children_at(disk: &mut NotedDisk<MemDisk>, block: u32) -> Result<ArrayVec<Chi
     }
 }
 
-/// The blocks of the long values of a leaf. Each is held.
+/// The blocks of the long values of a leaf. Each must be held.
 fn count_long(disk: &mut NotedDisk<MemDisk>, held: &Held, block: u32) -> Result<u32, Wrong> {
     let bytes = bytes_at(disk, block)?;
     if !is_long_leaf(&bytes) {
@@ -138,7 +138,7 @@ fn count_long(disk: &mut NotedDisk<MemDisk>, held: &Held, block: u32) -> Result<
     Ok(count)
 }
 
-/// How many blocks there are from this one of this level down. Each is held.
+/// How many blocks there are from this one of this level down. Each must be held.
 fn count_under(
     disk: &mut NotedDisk<MemDisk>,
     held: &Held,
@@ -177,7 +177,7 @@ impl Pair {
         })
     }
 
-    /// Where too few blocks are free, holds just those of the tree.
+    /// If too few blocks are free, holds exactly those of the tree.
     fn let_go(&mut self) -> Result<(), Wrong> {
         if self.held.free_count() >= NEEDED {
             return Ok(());
@@ -195,7 +195,7 @@ impl Pair {
         self.check_count()
     }
 
-    /// Whether just the blocks of the tree are held, and those before the first for data.
+    /// Checks that exactly the blocks of the tree are held, and those before the first data block.
     fn check_count(&mut self) -> Result<(), Wrong> {
         let mut due = BLOCKS.saturating_sub(FIRST_DATA);
         if self.root.block != 0 {
@@ -212,8 +212,8 @@ impl Pair {
         self.dice.next_u64() % self.keys.max(1)
     }
 
-    /// How many bytes a value is to have: one in eight times those of a short or a long one at a
-    /// limit, and else up to 240.
+    /// The length of a value in bytes: one time in eight a short or a long one at a limit, and
+    /// otherwise up to 240.
     fn length(&mut self) -> usize {
         let roll = self.dice.next_u32() as usize;
         if roll % 8 == 0 {
@@ -295,16 +295,49 @@ impl Pair {
         Ok(())
     }
 
-    fn get<'a>(
-        &mut self,
-        number: u64,
-        room: &'a mut [u8; 4096],
-    ) -> Result<Option<&'a [u8]>, TreeFault> {
+    fn get<'a>(&mut self, number: u64, room: &'a mut Block) -> Result<Option<&'a [u8]>, TreeFault> {
         let blocks = self.disk.blocks();
         get(&mut self.disk, blocks, self.root, key(number), room)
     }
 
-    /// Compares all records, and what a hundred keys have.
+    /// Compares a part of the records, and its first ten.
+    fn compare_part(&mut self, alloc: Global, changes: u32) -> Result<(), Wrong> {
+        let (low, high) = (self.number(), self.number());
+        let blocks = self.disk.blocks();
+        let part = scan_part(
+            alloc,
+            &mut self.disk,
+            blocks,
+            self.root,
+            key(low),
+            key(high),
+        )?;
+        let page = scan_from(alloc, &mut self.disk, blocks, self.root, key(low), 10)?;
+        let mut in_part = part.iter();
+        let mut in_page = page.iter();
+        let mut above = 0_usize;
+        for (number, due) in self.plain.iter() {
+            if *number < low {
+                continue;
+            }
+            above = above.saturating_add(1);
+            let record = (key(*number), due.as_slice());
+            if *number <= high && in_part.next() != Some(record) {
+                return Err(Wrong::Records(changes));
+            }
+            if let Some(found) = in_page.next() {
+                if found != record {
+                    return Err(Wrong::Records(changes));
+                }
+            }
+        }
+        if in_part.next().is_some() || page.len() != above.min(10) {
+            return Err(Wrong::Records(changes));
+        }
+        Ok(())
+    }
+
+    /// Compares all records, and the values of a hundred keys.
     fn compare(&mut self, alloc: Global, changes: u32) -> Result<(), Wrong> {
         let blocks = self.disk.blocks();
         let records = scan(alloc, &mut self.disk, blocks, self.root)?;
@@ -315,6 +348,9 @@ impl Pair {
             if found != key(*number) || value != due.as_slice() {
                 return Err(Wrong::Records(changes));
             }
+        }
+        if changes % 10_000 == 9_999 {
+            self.compare_part(alloc, changes)?;
         }
         let mut room = [0; 4096];
         for _ in 0..100 {

@@ -1,4 +1,4 @@
-//! Markings, and the walk that tells whether trees lie under numbers, made by steps of a row.
+//! Markings, and the walk that validates the trees under numbers, made by the steps of a row.
 ghost use Rattle.vm_tree.specs.Root.{AreSizes};
 
 use super::bench::{Bench, Device, Sizes};
@@ -9,7 +9,7 @@ use vm_check::{mark, verify};
 use vm_disk::Disk;
 use vm_tree::Root;
 
-/// Adds a root to a text.
+/// Appends a root to a text.
 pub(super) fn add_root(text: &mut String, root: Root) -> Result<(), Wrong> {
     if root.block == 0 {
         write!(text, " none")?;
@@ -19,7 +19,7 @@ pub(super) fn add_root(text: &mut String, root: Root) -> Result<(), Wrong> {
     Ok(())
 }
 
-/// Adds what is marked, and by how many device calls.
+/// Appends what is marked, and the number of device calls for it.
 fn add_marks(text: &mut String, marks: &Marks, calls: u32) -> Result<(), Wrong> {
     write!(text, " marks")?;
     for n in 0..marks.blocks() {
@@ -31,7 +31,7 @@ fn add_marks(text: &mut String, marks: &Marks, calls: u32) -> Result<(), Wrong> 
     Ok(())
 }
 
-/// What a marking from these roots is answered. What was marked stays so.
+/// The answer to a marking from these roots. What was marked stays marked.
 pub(super) fn marked(alloc: Global, bench: &mut Bench, words: &[&str]) -> Result<String, Wrong> {
     let mut roots = Vec::new(alloc);
     for word in words {
@@ -83,7 +83,7 @@ fn found_sized(
     }
 }
 
-/// What the walk of trees under these numbers is answered. `long` says whether leaves with long
+/// The answer to the walk of the trees under these numbers. `long` says whether leaves with long
 /// values are allowed.
 pub(super) fn verified(
     alloc: Global,

@@ -1,4 +1,4 @@
-//! What the words of a row stand for.
+//! What the words of a row mean.
 ghost use Rattle.std.specs.Prelude.{IfOk, IfSome};
 ghost use Rattle.vm_block.specs.Leaf.{LinkFits, StoredFits};
 
@@ -13,11 +13,11 @@ use vm_types::{Key, Refusal, Value};
 /// Why a step has no answer of its own.
 #[derive(Clone, Copy, Debug, PartialEq, Eq)]
 pub(super) enum Wrong {
-    /// No memory for the row itself.
+    /// Memory for the row itself could not be allocated.
     Memory,
-    /// The step is none, or asks for what the disk does not have.
+    /// There is no such step, or it asks for what the disk does not have.
     Unreadable,
-    /// The call that the step makes was answered so.
+    /// The call that the step makes was answered with this.
     Tree(Refusal),
 }
 
@@ -85,12 +85,12 @@ pub(super) fn key(number: u64) -> Key {
     Key { table: 1, number }
 }
 
-/// The bytes for which a word stands, where `''` is for none.
+/// The bytes that a word means. `''` is no bytes.
 fn bytes_of(word: &str) -> &[u8] {
     if word == "''" { b"" } else { word.as_bytes() }
 }
 
-/// A value, where `''` is the one without bytes, and `300*a` that of 300 times the letter a.
+/// A value: `''` is the empty one, and `300*a` is 300 times the letter a.
 pub(super) fn value(word: &str) -> Result<Value, Wrong> {
     let Some((count, letter)) = word.split_once('*') else {
         return Value::new(bytes_of(word)).ok_or(Wrong::Unreadable);
@@ -103,7 +103,7 @@ pub(super) fn value(word: &str) -> Result<Value, Wrong> {
     Value::new(&[*letter; Value::MAX_LEN][..count]).ok_or(Wrong::Unreadable)
 }
 
-/// Adds a value to a text: one of more than 16 bytes is one letter over and over, as in `300*a`.
+/// Appends a value to a text. One of more than 16 bytes is one letter repeated, as in `300*a`.
 pub(super) fn add_value(text: &mut String, value: &[u8]) -> Result<(), Wrong> {
     let letters = str::from_utf8(value)?;
     if value.len() <= 16 {
@@ -120,7 +120,7 @@ pub(super) fn add_value(text: &mut String, value: &[u8]) -> Result<(), Wrong> {
     Ok(())
 }
 
-/// A link to so many bytes in a block, as in `300@35`, where it is one.
+/// A link to this many bytes in a block, as in `300@35`, if the word is one.
 pub(super) fn link(word: &str) -> Result<Option<Link>, Wrong>
     ensures { IfOk result (λ link. IfSome link LinkFits) }
 {
@@ -149,7 +149,7 @@ pub(super) fn stored(word: &str) -> Result<Stored<'_>, Wrong>
     Ok(Stored::Short(bytes))
 }
 
-/// Adds what a leaf has of a value to a text.
+/// Appends what a leaf has of a value to a text.
 pub(super) fn add_stored(text: &mut String, stored: Stored<'_>) -> Result<(), Wrong> {
     match stored {
         Stored::Short(value) => add_value(text, value),
@@ -160,7 +160,7 @@ pub(super) fn add_stored(text: &mut String, stored: Stored<'_>) -> Result<(), Wr
     }
 }
 
-/// Lowest key and block of a child, as in `10:36`.
+/// The lowest key and the block of a child, as in `10:36`.
 pub(super) fn child(word: &str) -> Result<Child, Wrong> {
     let (low, block) = word.split_once(':').ok_or(Wrong::Unreadable)?;
     Ok(Child {
@@ -169,7 +169,7 @@ pub(super) fn child(word: &str) -> Result<Child, Wrong> {
     })
 }
 
-/// Block, level and lowest key of a root, as in `37.1.1`, or `none`.
+/// The block, the level and the lowest key of a root, as in `37.1.1`, or `none`.
 pub(super) fn root(word: &str) -> Result<Root, Wrong> {
     if word == "none" {
         return Ok(Root::default());

@@ -1,0 +1,131 @@
+use Rattle.std.proofs.Common.{◌<◌, List, length, inl, sym, subst, ◌∙◌, arith, rules}
+use Rattle.std.proofs.lemmas.Bool.{false≢true}
+use Rattle.vm_disk.proofs.MomentLemmas.{same_medium}
+use Rattle.vm_alloc.proofs.HeldLemmas.{holds_more_then, taken_holds_more}
+use Rattle.vm_alloc.specs.Held.{HoldsMore}
+use Rattle.vm_tree.proofs.Descent.{subtree_top, node_read}
+use Rattle.vm_tree.proofs.Looking.{looks_on, looks_so, passed_on}
+use Rattle.vm_check.specs.Marks.{MarksMore}
+use Rattle.vm_check.proofs.MarkLemmas.{IsBelow, top_within, same_more, under_marked, set_less, same_children, node_start, node_marked, node_fault, child_more}
+use Rattle.vm_check.proofs.OnlyLemmas.{only_set, only_top, only_all, child_sound, child_only_more, child_only_fault}
+use Rattle.vm_check.proofs.marks.+mark_below.Goals as goal
+
+pub mark_node-returns-then-not-is_data-clause-marked : goal.mark_node-returns-then-not-is_data-clause-marked
+mark_node-returns-then-not-is_data-clause-marked g t c honest sizes rs bs tree closed =
+    absurd (false≢true (sym c.if-not-is_data.true ∙ c.is_data.ensures.1 (subtree_top sizes _ _ _ _ rs bs tree)))
+
+pub mark_node-returns-then-is_set-clause-marked : goal.mark_node-returns-then-is_set-clause-marked
+mark_node-returns-then-is_set-clause-marked g t c honest sizes rs bs tree closed =
+    same_more bs _ (under_marked sizes _ _ _ _ closed _ _ rs bs (omega arith) tree (c.is_set.ensures.0 c.if-is_set.true))
+
+pub mark_node-returns-in_err-count-clause-once : goal.mark_node-returns-in_err-count-clause-once
+mark_node-returns-in_err-count-clause-once g t c =
+    omega (
+      arith,
+      c.node_at.ensures.once.most,
+      set_less _ _ _ _ c.set.ensures c.requires.bits (c.is_data.ensures.0 c.if-not-is_data.false) (λ is. false≢true (sym c.if-is_set.false ∙ c.is_set.ensures.1 is)),
+    )
+
+pub mark_node-loop-i-init : goal.mark_node-loop-i-init
+mark_node-loop-i-init g t c =
+    let any = c.in_ok-count.ensures.looks.goes in
+    let inside = c.is_data.ensures.0 c.if-not-is_data.false in
+    let less = set_less _ _ _ _ c.set.ensures c.requires.bits inside (λ is. false≢true (sym c.if-is_set.false ∙ c.is_set.ensures.1 is)) in
+    let grows = subst (HoldsMore c.args.marks.now) (sym c.set.ensures) (taken_holds_more c.args.marks.now c.args.block) in
+    record {
+      looks = looks_so c.in_ok-count.ensures.looks (λ is. cc);
+      since = λ honest. honest;
+      many = grows.same_length ∙ c.requires.bits;
+      once = omega (arith, c.node_at.ensures.once.most, less);
+      growing = grows;
+      marked = λ honest sizes cs node count bs none closed. subst (λ (ds : List _). MarksMore ds c.set.new.self c.set.new.self) (sym none) (same_more _ c.set.new.self tt);
+      only = λ honest sizes cs node count bs none n is. inl is;
+    }
+
+pub mark_node-returns-in_err-mark_below-clause-marked : goal.mark_node-returns-in_err-mark_below-clause-marked
+mark_node-returns-in_err-mark_below-clause-marked g t c honest sizes rs bs tree closed =
+    let so_far = c.loop-i.invariant in
+    let inside = subtree_top sizes _ _ _ _ rs bs tree in
+    let form = c.in_ok-count.ensures.form in
+    let start = node_start sizes _ _ _ _ rs bs form.0 (omega (arith, c.requires.inner)) tree (λ ds at. same_children _ _ _ form.0 ds (c.in_ok-count.ensures.found (so_far.since (c.in_err-mark_below.ensures.looks.goes.earlier honest))) form.1 at.node) in
+    let lt : c.loop-i.i < length form.0 = omega (arith, c.loop-i-test.true, form.2) in
+    let is = c.child_at-child.ensures.child _ form.0 form.1 lt in
+    rw (passed_on _ c.from_residual-in_err-mark_below.ensures.1) (node_fault sizes _ _ _ _ _ _ bs form.0 c.child_at-child.result _ _ _ _ (same_medium _ _ (so_far.looks.reads (c.in_err-mark_below.ensures.looks.goes.earlier honest))) (omega (arith, inside.1, c.requires.bits)) c.set.ensures (omega (arith, c.requires.inner))
+    lt is start closed (so_far.marked (c.in_err-mark_below.ensures.looks.goes.earlier honest) sizes form.0 form.1 form.2) (λ qs ds. c.in_err-mark_below.ensures.marked honest sizes qs ds))
+
+pub mark_node-loop-i-preserved : goal.mark_node-loop-i-preserved
+mark_node-loop-i-preserved g t c =
+    let so_far = c.loop-i.invariant in
+    let any = c.mark_below.ensures.looks.goes in
+    let grows = c.mark_below.ensures.growing in
+    record {
+      looks = looks_on so_far.looks c.mark_below.ensures.looks (λ is. cc);
+      since = λ honest. so_far.since (any.earlier honest);
+      many = grows.same_length ∙ so_far.many;
+      once = omega (arith, c.mark_below.ensures.once, so_far.once);
+      growing = holds_more_then _ _ _ so_far.growing grows;
+      marked = λ honest sizes cs node count.
+          let lt : c.loop-i.i < length cs = omega (arith, c.loop-i-test.true, count) in
+          child_more sizes _ _ _ _ cs _ c.child_at-child.result _ _ _ (same_medium _ _ (so_far.looks.reads (c.mark_below.ensures.looks.goes.earlier honest))) lt (c.child_at-child.ensures.child _ cs node lt)
+          (so_far.marked (c.mark_below.ensures.looks.goes.earlier honest) sizes cs node count)
+          (λ rs ds. c.in_ok-mark_below.ensures.marked honest sizes rs ds);
+      only = λ honest sizes cs node count.
+          let lt : c.loop-i.i < length cs = omega (arith, c.loop-i-test.true, count) in
+          child_only_more sizes _ _ _ _ cs _ c.child_at-child.result (same_medium _ _ (so_far.looks.reads (c.mark_below.ensures.looks.goes.earlier honest))) lt (c.child_at-child.ensures.child _ cs node lt) _ _ _
+          (so_far.only (c.mark_below.ensures.looks.goes.earlier honest) sizes cs node count)
+          (λ rs ds. c.mark_below.ensures.only honest sizes rs ds);
+    }
+
+pub mark_node-returns-clause-marked : goal.mark_node-returns-clause-marked
+mark_node-returns-clause-marked g t c honest sizes rs bs tree closed =
+    let inside = subtree_top sizes _ _ _ _ rs bs tree in
+    let form = c.in_ok-count.ensures.form in
+    let start = node_start sizes _ _ _ _ rs bs form.0 (omega (arith, c.requires.inner)) tree (λ ds at. same_children _ _ _ form.0 ds (c.in_ok-count.ensures.found (c.loop-i.invariant.since honest)) form.1 at.node) in
+    node_marked sizes _ _ _ _ _ bs _ _ _ _ (omega (arith, inside.1, c.requires.bits)) c.set.ensures (omega (arith, c.requires.inner)) (omega (arith, c.loop-i-test.false, form.2)) start closed
+    (c.loop-i.invariant.marked honest sizes form.0 form.1 form.2)
+
+pub mark_node-returns-in_err-count-clause-marked : goal.mark_node-returns-in_err-count-clause-marked
+mark_node-returns-in_err-count-clause-marked g t c honest sizes rs bs tree closed =
+    let at = node_read sizes _ _ _ _ rs bs (omega (arith, c.requires.inner)) tree in
+    rw (passed_on _ c.from_residual.ensures.1) (c.in_err-count.ensures.only honest at.0 at.1)
+
+pub mark_node-returns-then-not-is_data-clause-sound : goal.mark_node-returns-then-not-is_data-clause-sound
+mark_node-returns-then-not-is_data-clause-sound g t c honest sizes rs bs tree =
+    absurd (false≢true (sym c.if-not-is_data.true ∙ c.is_data.ensures.1 (subtree_top sizes _ _ _ _ rs bs tree)))
+
+pub mark_node-returns-in_err-count-clause-sound : goal.mark_node-returns-in_err-count-clause-sound
+mark_node-returns-in_err-count-clause-sound g t c honest sizes rs bs tree =
+    let at = node_read sizes _ _ _ _ rs bs (omega (arith, c.requires.inner)) tree in
+    rw (passed_on _ c.from_residual.ensures.1) (c.in_err-count.ensures.only honest at.0 at.1)
+
+pub mark_node-returns-in_err-mark_below-clause-sound : goal.mark_node-returns-in_err-mark_below-clause-sound
+mark_node-returns-in_err-mark_below-clause-sound g t c honest sizes rs bs tree =
+    let so_far = c.loop-i.invariant in
+    let form = c.in_ok-count.ensures.form in
+    let start = node_start sizes _ _ _ _ rs bs form.0 (omega (arith, c.requires.inner)) tree (λ ds at. same_children _ _ _ form.0 ds (c.in_ok-count.ensures.found (so_far.since (c.in_err-mark_below.ensures.looks.goes.earlier honest))) form.1 at.node) in
+    let lt : c.loop-i.i < length form.0 = omega (arith, c.loop-i-test.true, form.2) in
+    let is = c.child_at-child.ensures.child _ form.0 form.1 lt in
+    rw (passed_on _ c.from_residual-in_err-mark_below.ensures.1) (child_sound sizes _ _ _ _ form.0 _ c.child_at-child.result (same_medium _ _ (so_far.looks.reads (c.in_err-mark_below.ensures.looks.goes.earlier honest))) lt is _ _ start.joined (λ qs ds. c.in_err-mark_below.ensures.sound honest sizes qs ds))
+
+pub mark_node-returns-in_err-count-clause-only : goal.mark_node-returns-in_err-count-clause-only
+mark_node-returns-in_err-count-clause-only g t c honest sizes rs bs tree = only_set _ bs _ _ c.set.ensures (top_within sizes _ _ _ _ rs bs tree)
+
+pub mark_node-returns-in_err-mark_below-clause-only : goal.mark_node-returns-in_err-mark_below-clause-only
+mark_node-returns-in_err-mark_below-clause-only g t c honest sizes rs bs tree =
+    let so_far = c.loop-i.invariant in
+    let form = c.in_ok-count.ensures.form in
+    let start = node_start sizes _ _ _ _ rs bs form.0 (omega (arith, c.requires.inner)) tree (λ ds at. same_children _ _ _ form.0 ds (c.in_ok-count.ensures.found (so_far.since (c.in_err-mark_below.ensures.looks.goes.earlier honest))) form.1 at.node) in
+    let lt : c.loop-i.i < length form.0 = omega (arith, c.loop-i-test.true, form.2) in
+    let is = c.child_at-child.ensures.child _ form.0 form.1 lt in
+    only_top _ start.under bs _ _ _ c.set.ensures start.first
+    (child_only_fault sizes _ _ _ _ form.0 _ c.child_at-child.result (same_medium _ _ (so_far.looks.reads (c.in_err-mark_below.ensures.looks.goes.earlier honest))) lt is _ _ _ (so_far.only (c.in_err-mark_below.ensures.looks.goes.earlier honest) sizes form.0 form.1 form.2)
+    (λ qs ds. c.in_err-mark_below.ensures.only honest sizes qs ds) start.under start.joined)
+
+pub mark_node-returns-clause-only : goal.mark_node-returns-clause-only
+mark_node-returns-clause-only g t c honest sizes rs bs tree =
+    let form = c.in_ok-count.ensures.form in
+    let start = node_start sizes _ _ _ _ rs bs form.0 (omega (arith, c.requires.inner)) tree (λ ds at. same_children _ _ _ form.0 ds (c.in_ok-count.ensures.found (c.loop-i.invariant.since honest)) form.1 at.node) in
+    only_top _ start.under bs _ _ _ c.set.ensures start.first (only_all (IsBelow sizes _ _ _) form.0 _ start.under _ _ (omega (arith, c.loop-i-test.false, form.2)) (c.loop-i.invariant.only honest sizes form.0 form.1 form.2) start.joined)
+
+pub mark_node-returns-in_err-mark_below-clause-looks : goal.mark_node-returns-in_err-mark_below-clause-looks
+mark_node-returns-in_err-mark_below-clause-looks g t c = looks_on c.loop-i.invariant.looks c.mark_below.ensures.looks (search rules)

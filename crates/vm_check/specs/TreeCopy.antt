@@ -1,0 +1,265 @@
+-- Copies of blocks on another disk, under other numbers.
+use Rattle.std.specs.Prelude.{◌≡◌, ◌≢◌, ◌⊎◌, ℕ, ◌+◌, ◌<◌, ◌≤◌, nat_le, Bool, true, List, [], ◌∷◌, length, Option, None, Some, Result, Ok, Err, IfOk, IsOk, OnOk, map, slice_index_or}
+use Rattle.vm_types.specs.declared.sizes.TheConstants.{FIRST_DATA}
+use Rattle.vm_types.specs.declared.key.Key.{Key}
+use Rattle.vm_types.specs.Map.{Map}
+use Rattle.vm_disk.specs.Disk.{Contents, DiskState, Goes, block}
+use Rattle.vm_disk.specs.Moments.{Throughout, TouchesOnly}
+use Rattle.vm_block.specs.Changed.{with_at}
+use Rattle.vm_block.specs.Leaf.{HasRows, IsShort, LinkFits, Record, Row, link_bytes}
+use Rattle.vm_block.specs.Long.{IsLong}
+use Rattle.vm_block.specs.Node.{IsNode}
+use Rattle.vm_block.specs.declared.node.Child.{Child}
+use Rattle.vm_block.specs.declared.stored.Link.{Link}
+use Rattle.vm_tree.specs.Calls.{Looks}
+use Rattle.vm_tree.specs.BlockReads.{IsLongAt}
+use Rattle.vm_tree.specs.Root.{IsRooted}
+use Rattle.vm_tree.specs.declared.root.Root.{Root}
+use Rattle.vm_tree.specs.Tree.{Children, Sizes, StandForAll, StandsFor, Subtree}
+use Rattle.vm_tree.specs.declared.faults.TreeFault.TheVariants.{Device, Damaged}
+use Rattle.vm_check.specs.Marks.{OnSubtree, OnTree}
+use Rattle.vm_check.specs.Renumbering.{AreGiven, Assigns, GoesOn, IsCopied, next_of, number_at}
+use Rattle.vm_check.specs.declared.tree_copy.CopyFault.{CopyFault}
+use Rattle.vm_check.specs.declared.tree_copy.CopyFault.TheVariants.{Source, Target, Full}
+use Rattle.vm_check.specs.declared.renumbering.Renumbering.{Renumbering}
+
+-- # What a copy of a block has
+
+-- both lists have as many elements, and R holds of each pair
+abbrev pub Paired : {X : Type 0} → (X → X → Type 0) → List X → List X → Type 0
+Paired R [] [] = Unit {0}
+Paired R (x ∷ xs) (y ∷ ys) = R x y × Paired R xs ys
+Paired R [] (y ∷ ys) = ⊥
+Paired R (x ∷ xs) [] = ⊥
+
+-- this is the same link, but that it names the copy of the block
+abbrev pub renumbered_link : Renumbering → Link → Link
+renumbered_link numbers link = record { len = link.len; block = number_at numbers link.block }
+
+-- the child has the same lowest key, and names the copy of the block
+abbrev pub renumbered : Renumbering → Child → Child
+renumbered numbers child = record { low = child.low; block = number_at numbers child.block }
+
+-- a row with a link, whose block was copied, names the copy
+pub record Relinks (numbers : Renumbering) (w v : Row) : Type 0 where
+  pub link : Link
+  pub fits : LinkFits link
+  pub was : w.1 ≡ link_bytes link
+  pub copied : IsCopied numbers link.block
+  pub key : v.0 ≡ w.0
+  pub is : v.1 ≡ link_bytes (renumbered_link numbers link)
+  pub fits_still : LinkFits (renumbered_link numbers link)
+
+-- the copy of a row: itself if it is short, else it names the copy of the block to which it links
+abbrev pub RowCopied : Renumbering → Row → Row → Type 0
+RowCopied numbers w v = (IsShort w × (v ≡ w)) ⊎ Relinks numbers w v
+
+-- the block of this child was copied, and its copy is named
+abbrev pub ChildCopied : Renumbering → Child → Child → Type 0
+ChildCopied numbers c d = IsCopied numbers c.block × (d ≡ renumbered numbers c)
+
+-- a leaf, and the leaf of the copies of its rows
+pub record LeafCopied (numbers : Renumbering) (bytes copy : List ℕ) : Type 0 where
+  pub rows : List Row
+  pub copies : List Row
+  pub was : HasRows bytes rows
+  pub is : HasRows copy copies
+  pub each : Paired (RowCopied numbers) rows copies
+
+-- an inner block, and the one of the copies of its children
+pub record NodeCopied (numbers : Renumbering) (bytes copy : List ℕ) : Type 0 where
+  pub level : ℕ
+  pub children : List Child
+  pub copies : List Child
+  pub was : IsNode bytes level children
+  pub is : IsNode copy level copies
+  pub each : Paired (ChildCopied numbers) children copies
+
+-- the block of a long value, and the same bytes
+pub record LongCopied (bytes copy : List ℕ) : Type 0 where
+  pub key : Key
+  pub value : List ℕ
+  pub was : IsLong bytes key value
+  pub is : copy ≡ bytes
+
+-- the bytes of a block of a tree, and those of its copy
+abbrev pub IsCopyOf : Renumbering → List ℕ → List ℕ → Type 0
+IsCopyOf numbers bytes copy = LeafCopied numbers bytes copy ⊎ (NodeCopied numbers bytes copy ⊎ LongCopied bytes copy)
+
+-- in a store of so many blocks, of these contents, stands the copy of each block of the others that was copied
+pub record AreCopied (x y : Contents) (limit : ℕ) (numbers : Renumbering) : Type 0 where
+  pub given : AreGiven numbers
+  pub within : next_of numbers ≤ limit
+  pub each : (n : ℕ) → IsCopied numbers n → IsCopyOf numbers (block x n) (block y (number_at numbers n))
+
+-- # What a step of copying does
+
+-- is this a block for data?
+abbrev pub is_for_data : ℕ → Bool
+is_for_data n = nat_le FIRST_DATA n
+
+-- at no moment a block of an honest disk is touched that is not for data
+abbrev pub TouchesData : DiskState → DiskState → Type 0
+TouchesData old new = new.honest ≡ true → Throughout old new (TouchesOnly is_for_data old.now)
+
+-- a step of copying, in which the source fails just where `source` holds, the target just where `target` does, and no number is left just where
+-- `none_left` does: the source was only read, of the target no block was touched but those for data, and each copy has kept its number;
+-- where it was done, for each block that was read one was copied
+pub record Steps (source target none_left done : Type 0) (limit : ℕ) (s t : DiskState) (old : Renumbering) (s' t' : DiskState) (new : Renumbering) : Type 0 where
+  pub looks : Looks source s s'
+  pub goes : Goes target t t'
+  pub touches : TouchesData t t'
+  pub numbers : GoesOn old new
+  pub full : none_left → limit ≤ next_of new
+  pub paid : done → s'.reads + next_of old ≡ s.reads + next_of new
+
+-- a step with this result
+abbrev pub StepsTo : {T : Type 0} → Result T CopyFault → ℕ → DiskState → DiskState → Renumbering → DiskState → DiskState → Renumbering → Type 0
+StepsTo result limit s t old s' t' new = Steps (result ≡ Err (Source Device)) (result ≡ Err Target) (result ≡ Err Full) (IsOk result) limit s t old s' t' new
+
+-- P holds where both disks are honest after the step, and what was copied before it stood there
+abbrev pub WhereCopied : ℕ → DiskState → DiskState → Renumbering → DiskState → DiskState → Type 0 → Type 0
+WhereCopied limit s t old s' t' P =
+    s'.honest ≡ true → t'.honest ≡ true → AreCopied s.now.contents t.now.contents limit old → P
+
+-- this is the number of the copy of block n
+abbrev pub IsNumberOf : Renumbering → ℕ → ℕ → Type 0
+IsNumberOf numbers n number = (0 < number) × (number ≡ number_at numbers n)
+
+-- the bytes are the block of a long value
+abbrev pub IsSomeLong : List ℕ → Type 0
+IsSomeLong bytes = (key : Key) × (value : List ℕ) × IsLong bytes key value
+
+-- the bytes are the block of a long value, a leaf, or an inner block of this level at most
+abbrev pub IsUpTo : ℕ → List ℕ → Type 0
+IsUpTo level bytes =
+    IsSomeLong bytes ⊎ (((ws : List Row) × HasRows bytes ws) ⊎ ((l : ℕ) × (cs : List Child) × (l ≤ level) × IsNode bytes l cs))
+
+-- each block that was copied since has P
+abbrev pub CopiesOnly : (ℕ → Type 0) → Renumbering → Renumbering → Type 0
+CopiesOnly P old new = (n : ℕ) → IsCopied new n → IsCopied old n ⊎ P n
+
+-- the answer is no damage
+abbrev pub IsUndamaged : {T : Type 0} → Result T CopyFault → Type 0
+IsUndamaged result = (b : ℕ) → result ≡ Err (Source (Damaged b)) → ⊥
+
+-- what was copied stands there after it, and this is the number of the copy of block n
+abbrev pub CopiesBlock : Result ℕ CopyFault → ℕ → ℕ → DiskState → DiskState → Renumbering → DiskState → DiskState → Renumbering → Type 0
+CopiesBlock result limit n s t old s' t' new =
+    WhereCopied limit s t old s' t' (IfOk result (λ number. AreCopied s.now.contents t'.now.contents limit new × IsNumberOf new n number))
+
+-- what is copied is the block of a long value, where the source is honest after it
+abbrev pub CopiesLongs : {T : Type 0} → Result T CopyFault → DiskState → Renumbering → DiskState → Renumbering → Type 0
+CopiesLongs result s old s' new = s'.honest ≡ true → OnOk result (CopiesOnly (λ n. IsSomeLong (block s.now.contents n)) old new)
+
+-- or a leaf, or an inner block of this level at most
+abbrev pub CopiesUpTo : {T : Type 0} → ℕ → Result T CopyFault → DiskState → Renumbering → DiskState → Renumbering → Type 0
+CopiesUpTo level result s old s' new = s'.honest ≡ true → OnOk result (CopiesOnly (λ n. IsUpTo level (block s.now.contents n)) old new)
+
+-- this is the link that a row has, or the row is short
+abbrev pub TellsRow : Option Link → Row → Type 0
+TellsRow None w = IsShort w
+TellsRow (Some link) w = w.1 ≡ link_bytes link
+
+-- the bytes are the leaf of these rows with a copy of the one at i in its place
+pub record RowOver (numbers : Renumbering) (i : ℕ) (d : Row) (ws : List Row) (bytes : List ℕ) : Type 0 where
+  pub over : Row
+  pub copied : RowCopied numbers (slice_index_or ws i d) over
+  pub leaf : HasRows bytes (with_at i over ws)
+
+-- the row at i of a leaf of so many rows is copied
+abbrev pub CopiesRow : {T : Type 0} → Result T CopyFault → ℕ → ℕ → ℕ → List ℕ → List ℕ → DiskState → DiskState → Renumbering → DiskState → DiskState → Renumbering → Type 0
+CopiesRow result limit count i bytes copy s t old s' t' new =
+    (ws : List Row) (d : Row) → HasRows bytes ws → count ≡ length ws
+    → WhereCopied limit s t old s' t' (OnOk result (AreCopied s.now.contents t'.now.contents limit new × RowOver new i d ws copy))
+
+-- the other rows of a leaf of so many stay as they are
+abbrev pub LeavesOthers : ℕ → ℕ → List ℕ → List ℕ → Type 0
+LeavesOthers count i bytes copy = (ws : List Row) (d : Row) → HasRows bytes ws → count ≡ length ws → (over : Row) × HasRows copy (with_at i over ws)
+
+-- the rows of a leaf of so many are copied
+abbrev pub CopiesRows : {T : Type 0} → Result T CopyFault → ℕ → ℕ → List ℕ → List ℕ → DiskState → DiskState → Renumbering → DiskState → DiskState → Renumbering → Type 0
+CopiesRows result limit count bytes copy s t old s' t' new =
+    (ws : List Row) → HasRows bytes ws → count ≡ length ws
+    → WhereCopied limit s t old s' t' (OnOk result (AreCopied s.now.contents t'.now.contents limit new × LeafCopied new bytes copy))
+
+-- the children of an inner block of so many are copied
+abbrev pub CopiesChildren : {T : Type 0} → Result T CopyFault → ℕ → ℕ → List ℕ → List ℕ → DiskState → DiskState → Renumbering → DiskState → DiskState → Renumbering → Type 0
+CopiesChildren result limit count bytes copy s t old s' t' new =
+    (level : ℕ) (cs : List Child) → IsNode bytes level cs → count ≡ length cs
+    → WhereCopied limit s t old s' t' (OnOk result (AreCopied s.now.contents t'.now.contents limit new × NodeCopied new bytes copy))
+
+-- # Where no damage is found, if the source is honest after it
+
+-- at the block of a long value
+abbrev pub SoundLongCopy : {T : Type 0} → Result T CopyFault → ℕ → ℕ → DiskState → DiskState → Type 0
+SoundLongCopy result limit n s s' = s'.honest ≡ true → (key : Key) (value : List ℕ) → IsLongAt s.now.contents limit n key value → IsUndamaged result
+
+-- at the row at i of a leaf of so many, which stands for a record
+abbrev pub SoundRowCopy : {T : Type 0} → Result T CopyFault → ℕ → ℕ → ℕ → List ℕ → DiskState → DiskState → Type 0
+SoundRowCopy result limit count i bytes s s' =
+    s'.honest ≡ true → (ws : List Row) (d : Row) (r : Record) (bs : List ℕ) → HasRows bytes ws → count ≡ length ws
+    → StandsFor s.now.contents limit (slice_index_or ws i d) r bs → IsUndamaged result
+
+-- at the rows of a leaf of so many, which stand for records
+abbrev pub SoundRowsCopy : {T : Type 0} → Result T CopyFault → ℕ → ℕ → List ℕ → DiskState → DiskState → Type 0
+SoundRowsCopy result limit count bytes s s' =
+    s'.honest ≡ true → (ws : List Row) (rs : List Record) (bs : List ℕ) → HasRows bytes ws → count ≡ length ws
+    → StandForAll s.now.contents limit ws rs bs → IsUndamaged result
+
+-- at the children of an inner block of so many, which are the tops of subtrees of this level
+abbrev pub SoundChildrenCopy : {T : Type 0} → Result T CopyFault → ℕ → ℕ → ℕ → List ℕ → DiskState → DiskState → Type 0
+SoundChildrenCopy result limit level count bytes s s' =
+    s'.honest ≡ true → (sizes : Sizes) (above : ℕ) (cs : List Child) (rs : List Record) (bs : List ℕ) → IsNode bytes above cs → count ≡ length cs
+    → Children (Subtree sizes s.now.contents limit level) cs rs bs → IsUndamaged result
+
+-- at the top of a subtree of this level
+abbrev pub SoundCopy : {T : Type 0} → Result T CopyFault → ℕ → ℕ → ℕ → DiskState → DiskState → Type 0
+SoundCopy result limit level b s s' = OnSubtree s s' limit level b (λ bs. IsUndamaged result)
+
+-- # What a copy of a tree is
+
+-- the copy of a root: itself if it has no block, else it names the copy of its block
+abbrev pub RootCopied : Renumbering → Root → Root → Type 0
+RootCopied numbers root copy =
+    ((root.block ≡ 0) × (copy ≡ root))
+    ⊎ ((0 < root.block) × IsCopied numbers root.block × (copy ≡ record { block = number_at numbers root.block; level = root.level; low = root.low }))
+
+-- what was copied stands there after it, and the root's copy is answered
+abbrev pub CopiesRoot : Result Root CopyFault → ℕ → Root → DiskState → DiskState → Renumbering → DiskState → DiskState → Renumbering → Type 0
+CopiesRoot result limit root s t old s' t' new =
+    WhereCopied limit s t old s' t' (IfOk result (λ copy. AreCopied s.now.contents t'.now.contents limit new × RootCopied new root copy))
+
+-- under the root that is answered lies in a store of so many blocks the map that lay under the root, in the copies of its blocks
+abbrev pub CopiesMap : Result Root CopyFault → ℕ → ℕ → Root → DiskState → DiskState → Renumbering → DiskState → DiskState → Renumbering → Type 0
+CopiesMap result blocks limit root s t old s' t' new =
+    WhereCopied limit s t old s' t'
+    ((sizes : Sizes) (m : Map) (bs : List ℕ) → IsRooted sizes s.now.contents blocks root m bs
+    → IfOk result (λ copy. IsRooted sizes t'.now.contents limit copy m (map (number_at new) bs)))
+
+-- no damage is found under the root of a tree
+abbrev pub SoundTreeCopy : {T : Type 0} → Result T CopyFault → ℕ → Root → DiskState → DiskState → Type 0
+SoundTreeCopy result limit root s s' = OnTree s s' limit root (λ bs. IsUndamaged result)
+
+-- these bytes were written as the copy of block n, under the next number; no other block was touched
+pub record IsPut (limit n : ℕ) (bytes : List ℕ) (y y' : Contents) (old new : Renumbering) (number : ℕ) : Type 0 where
+  pub fresh : number_at old n ≡ 0
+  pub next : number ≡ next_of old
+  pub room : number < limit
+  pub assigned : Assigns n old new
+  pub written : block y' number ≡ bytes
+  pub others : (k : ℕ) → k ≢ number → block y' k ≡ block y k
+
+-- what a write of a copy does on any disk: it touches no block but those for data, and gives one number where it was done; where it finds
+-- damage, the block was copied
+pub record Puts (target none_left done : Type 0) (damaged : ℕ → Type 0) (limit n : ℕ) (t : DiskState) (old : Renumbering) (t' : DiskState) (new : Renumbering) : Type 0 where
+  pub goes : Goes target t t'
+  pub touches : TouchesData t t'
+  pub numbers : GoesOn old new
+  pub full : none_left → limit ≤ next_of new
+  pub assigned : done → Assigns n old new
+  pub twice : (b : ℕ) → damaged b → IsCopied old n
+
+-- a write with this result
+abbrev pub PutsTo : {T : Type 0} → Result T CopyFault → ℕ → ℕ → DiskState → Renumbering → DiskState → Renumbering → Type 0
+PutsTo result limit n t old t' new = Puts (result ≡ Err Target) (result ≡ Err Full) (IsOk result) (λ b. result ≡ Err (Source (Damaged b))) limit n t old t' new

@@ -1,0 +1,368 @@
+//! Copying what lies under roots to another disk, under new numbers.
+ghost use Rattle.std.specs.Prelude.{◌≡◌, ◌≢◌, ◌+◌, ◌<◌, ◌≤◌, true, IfOk, IfSome, OnOk};
+ghost use Rattle.vm_types.specs.declared.sizes.TheConstants.{FIRST_DATA};
+ghost use Rattle.vm_check.specs.declared.tree_copy.CopyFault.TheVariants as copy;
+ghost use Rattle.vm_block.specs.Leaf.{LinkFits};
+ghost use Rattle.vm_block.specs.Told.{IfLeafRowAt};
+ghost use Rattle.vm_check.specs.TreeCopy.{CopiesBlock, CopiesChildren, CopiesLongs, CopiesMap, CopiesRoot, CopiesRow, CopiesRows, CopiesUpTo, IsPut, LeavesOthers, PutsTo, SoundChildrenCopy, SoundCopy, SoundLongCopy, SoundRowCopy, SoundRowsCopy, SoundTreeCopy, StepsTo, TellsRow};
+ghost use Rattle.vm_check.specs.Renumbering.{count_of, next_of};
+
+use crate::renumbering::Renumbering;
+use vm_block::{
+    Child, Link, MAX_CHILDREN, MAX_ROWS, Stored, child_at, read_long, set_child, set_link,
+    stored_at,
+};
+use vm_disk::Disk;
+use vm_tree::{Root, TreeFault, data_at, is_data, node_into, rows_into};
+use vm_types::{Block, BlockNumber};
+
+/// Why trees were not copied.
+#[derive(Clone, Copy, Debug, PartialEq, Eq)]
+pub enum CopyFault {
+    /// A block of the source could not be read, or is not what a tree has there.
+    Source(TreeFault),
+    /// The target's device failed.
+    Target,
+    /// The target has no block left.
+    Full,
+}
+
+impl From<TreeFault> for CopyFault {
+    ghost from_gives = { λ fault r. r ≡ copy.Source fault };
+
+    fn from(fault: TreeFault) -> CopyFault {
+        CopyFault::Source(fault)
+    }
+}
+
+/// Writes these bytes as the copy of a block, under the next number. If the block already has a
+/// copy by then, it lies under itself, and is damaged.
+fn put_copy<T: Disk>(
+    target: &mut T,
+    limit: u32,
+    block: BlockNumber,
+    bytes: &Block,
+    numbers: &mut Renumbering,
+) -> Result<BlockNumber, CopyFault>
+    requires inside { limit ≤ (T.state target.old).blocks }
+    requires known { block < count_of numbers.old }
+    requires least { FIRST_DATA ≤ next_of numbers.old }
+    ensures device { result ≢ Err (CopyFault.Source TreeFault.Device) }
+    ensures puts { PutsTo result limit block (T.state target.old) numbers.old (T.state target.new) numbers.new }
+    ensures put { (T.state target.new).honest ≡ true → IfOk result (IsPut limit block bytes.now
+        (T.state target.old).now.contents (T.state target.new).now.contents numbers.old numbers.new) }
+{
+    if numbers.number_of(block) != 0 {
+        return Err(CopyFault::Source(TreeFault::Damaged(block)));
+    }
+    let number = numbers.next();
+    if number >= limit {
+        return Err(CopyFault::Full);
+    }
+    let Ok(()) = target.write(number, bytes) else {
+        return Err(CopyFault::Target);
+    };
+    numbers.assign(block);
+    Ok(number)
+}
+
+/// Copies the block of a long value, unless it was copied, and returns the number of its copy.
+fn copy_long<S: Disk, T: Disk>(
+    source: &mut S,
+    blocks: u32,
+    target: &mut T,
+    limit: u32,
+    block: BlockNumber,
+    numbers: &mut Renumbering,
+) -> Result<BlockNumber, CopyFault>
+    requires inside { blocks ≤ (S.state source.old).blocks }
+    requires room { limit ≤ (T.state target.old).blocks }
+    requires known { count_of numbers.old ≡ blocks }
+    requires least { FIRST_DATA ≤ next_of numbers.old }
+    ensures step { StepsTo result limit (S.state source.old) (T.state target.old) numbers.old
+        (S.state source.new) (T.state target.new) numbers.new }
+    ensures copied { CopiesBlock result limit block (S.state source.old) (T.state target.old) numbers.old
+        (S.state source.new) (T.state target.new) numbers.new }
+    ensures only { CopiesLongs result (S.state source.old) numbers.old (S.state source.new) numbers.new }
+    ensures sound { SoundLongCopy result blocks block (S.state source.old) (S.state source.new) }
+{
+    if !is_data(blocks, block) {
+        return Err(CopyFault::Source(TreeFault::Damaged(block)));
+    }
+    let number = numbers.number_of(block);
+    if number != 0 {
+        return Ok(number);
+    }
+    let mut bytes = [0; 4096];
+    data_at(source, blocks, block, &mut bytes)?;
+    let Some(_) = read_long(&bytes) else {
+        return Err(CopyFault::Source(TreeFault::Damaged(block)));
+    };
+    put_copy(target, limit, block, &bytes, numbers)
+}
+
+/// The link in row `i` of a leaf, if the row is long.
+fn link_in(bytes: &Block, i: usize) -> Option<Link>
+    requires { i < MAX_ROWS }
+    ensures fits { IfSome result LinkFits }
+    ensures row { IfLeafRowAt bytes.now i (TellsRow result) }
+{
+    match stored_at(bytes, i) {
+        Some(Stored::Long(link)) => Some(link),
+        Some(Stored::Short(_)) => None,
+        None => None,
+    }
+}
+
+/// Copies the block that row `i` of a leaf of `count` rows links to, if it has a link, and replaces
+/// the link by one to the copy.
+fn copy_row<S: Disk, T: Disk>(
+    source: &mut S,
+    blocks: u32,
+    target: &mut T,
+    limit: u32,
+    bytes: &mut Block,
+    count: usize,
+    i: usize,
+    numbers: &mut Renumbering,
+) -> Result<(), CopyFault>
+    requires within { i < count }
+    requires few { count ≤ MAX_ROWS }
+    requires inside { blocks ≤ (S.state source.old).blocks }
+    requires room { limit ≤ (T.state target.old).blocks }
+    requires known { count_of numbers.old ≡ blocks }
+    requires least { FIRST_DATA ≤ next_of numbers.old }
+    ensures step { StepsTo result limit (S.state source.old) (T.state target.old) numbers.old
+        (S.state source.new) (T.state target.new) numbers.new }
+    ensures copied { CopiesRow result limit count i bytes.old bytes.new (S.state source.old) (T.state target.old) numbers.old
+        (S.state source.new) (T.state target.new) numbers.new }
+    ensures only { CopiesLongs result (S.state source.old) numbers.old (S.state source.new) numbers.new }
+    ensures others { OnOk result (LeavesOthers count i bytes.old bytes.new) }
+    ensures sound { SoundRowCopy result blocks count i bytes.old (S.state source.old) (S.state source.new) }
+{
+    let Some(link) = link_in(bytes, i) else {
+        return Ok(());
+    };
+    let block = copy_long(source, blocks, target, limit, link.block, numbers)?;
+    set_link(bytes, count, i, Link { block, ..link });
+    Ok(())
+}
+
+/// Copies the blocks that the rows of a leaf of `count` rows link to, and replaces the links by
+/// ones to the copies.
+fn copy_rows<S: Disk, T: Disk>(
+    source: &mut S,
+    blocks: u32,
+    target: &mut T,
+    limit: u32,
+    bytes: &mut Block,
+    count: usize,
+    numbers: &mut Renumbering,
+) -> Result<(), CopyFault>
+    requires few { count ≤ MAX_ROWS }
+    requires inside { blocks ≤ (S.state source.old).blocks }
+    requires room { limit ≤ (T.state target.old).blocks }
+    requires known { count_of numbers.old ≡ blocks }
+    requires least { FIRST_DATA ≤ next_of numbers.old }
+    ensures step { StepsTo result limit (S.state source.old) (T.state target.old) numbers.old
+        (S.state source.new) (T.state target.new) numbers.new }
+    ensures copied { CopiesRows result limit count bytes.old bytes.new (S.state source.old) (T.state target.old) numbers.old
+        (S.state source.new) (T.state target.new) numbers.new }
+    ensures only { CopiesLongs result (S.state source.old) numbers.old (S.state source.new) numbers.new }
+    ensures sound { SoundRowsCopy result blocks count bytes.old (S.state source.old) (S.state source.new) }
+{
+    for i in 0..count {
+        copy_row(source, blocks, target, limit, bytes, count, i, numbers)?;
+    }
+    Ok(())
+}
+
+/// Copies a leaf and the blocks of its long values, unless it was copied, and returns the number of
+/// its copy.
+fn copy_leaf<S: Disk, T: Disk>(
+    source: &mut S,
+    blocks: u32,
+    target: &mut T,
+    limit: u32,
+    block: BlockNumber,
+    numbers: &mut Renumbering,
+) -> Result<BlockNumber, CopyFault>
+    requires inside { blocks ≤ (S.state source.old).blocks }
+    requires room { limit ≤ (T.state target.old).blocks }
+    requires known { count_of numbers.old ≡ blocks }
+    requires least { FIRST_DATA ≤ next_of numbers.old }
+    ensures step { StepsTo result limit (S.state source.old) (T.state target.old) numbers.old
+        (S.state source.new) (T.state target.new) numbers.new }
+    ensures copied { CopiesBlock result limit block (S.state source.old) (T.state target.old) numbers.old
+        (S.state source.new) (T.state target.new) numbers.new }
+    ensures only { CopiesUpTo 0 result (S.state source.old) numbers.old (S.state source.new) numbers.new }
+    ensures sound { SoundCopy result blocks 0 block (S.state source.old) (S.state source.new) }
+{
+    if !is_data(blocks, block) {
+        return Err(CopyFault::Source(TreeFault::Damaged(block)));
+    }
+    let number = numbers.number_of(block);
+    if number != 0 {
+        return Ok(number);
+    }
+    let mut bytes = [0; 4096];
+    let count = rows_into(source, blocks, block, &mut bytes)?;
+    copy_rows(source, blocks, target, limit, &mut bytes, count, numbers)?;
+    put_copy(target, limit, block, &bytes, numbers)
+}
+
+/// Copies the children of an inner block, which are of this level, and all that lies under them,
+/// and replaces their numbers by those of their copies.
+#[cycle(copy_below)]
+fn copy_children<S: Disk, T: Disk>(
+    source: &mut S,
+    blocks: u32,
+    target: &mut T,
+    limit: u32,
+    level: u8,
+    bytes: &mut Block,
+    count: usize,
+    numbers: &mut Renumbering,
+) -> Result<(), CopyFault>
+    requires few { count ≤ MAX_CHILDREN }
+    requires inside { blocks ≤ (S.state source.old).blocks }
+    requires room { limit ≤ (T.state target.old).blocks }
+    requires known { count_of numbers.old ≡ blocks }
+    requires least { FIRST_DATA ≤ next_of numbers.old }
+    ensures step { StepsTo result limit (S.state source.old) (T.state target.old) numbers.old
+        (S.state source.new) (T.state target.new) numbers.new }
+    ensures copied { CopiesChildren result limit count bytes.old bytes.new (S.state source.old) (T.state target.old) numbers.old
+        (S.state source.new) (T.state target.new) numbers.new }
+    ensures only { CopiesUpTo level result (S.state source.old) numbers.old (S.state source.new) numbers.new }
+    ensures sound { SoundChildrenCopy result blocks level count bytes.old (S.state source.old) (S.state source.new) }
+{
+    for i in 0..count {
+        let child = child_at(bytes, i);
+        let block = copy_below(source, blocks, target, limit, level, child.block, numbers)?;
+        set_child(bytes, i, Child { block, ..child });
+    }
+    Ok(())
+}
+
+/// Copies an inner block of this level and all that lies under it, unless it was copied, and
+/// returns the number of its copy.
+#[cycle(copy_below)]
+fn copy_node<S: Disk, T: Disk>(
+    source: &mut S,
+    blocks: u32,
+    target: &mut T,
+    limit: u32,
+    level: u8,
+    block: BlockNumber,
+    numbers: &mut Renumbering,
+) -> Result<BlockNumber, CopyFault>
+    requires inner { 0 < level }
+    requires inside { blocks ≤ (S.state source.old).blocks }
+    requires room { limit ≤ (T.state target.old).blocks }
+    requires known { count_of numbers.old ≡ blocks }
+    requires least { FIRST_DATA ≤ next_of numbers.old }
+    ensures step { StepsTo result limit (S.state source.old) (T.state target.old) numbers.old
+        (S.state source.new) (T.state target.new) numbers.new }
+    ensures copied { CopiesBlock result limit block (S.state source.old) (T.state target.old) numbers.old
+        (S.state source.new) (T.state target.new) numbers.new }
+    ensures only { CopiesUpTo level result (S.state source.old) numbers.old (S.state source.new) numbers.new }
+    ensures sound { SoundCopy result blocks level block (S.state source.old) (S.state source.new) }
+{
+    if !is_data(blocks, block) {
+        return Err(CopyFault::Source(TreeFault::Damaged(block)));
+    }
+    let number = numbers.number_of(block);
+    if number != 0 {
+        return Ok(number);
+    }
+    let mut bytes = [0; 4096];
+    let count = node_into(source, blocks, level, block, &mut bytes)?;
+    copy_children(
+        source,
+        blocks,
+        target,
+        limit,
+        level - 1,
+        &mut bytes,
+        count,
+        numbers,
+    )?;
+    put_copy(target, limit, block, &bytes, numbers)
+}
+
+/// Copies a block of this level and all that lies under it, unless it was copied, and returns the
+/// number of its copy.
+#[cycle(copy_below)]
+fn copy_below<S: Disk, T: Disk>(
+    source: &mut S,
+    blocks: u32,
+    target: &mut T,
+    limit: u32,
+    level: u8,
+    block: BlockNumber,
+    numbers: &mut Renumbering,
+) -> Result<BlockNumber, CopyFault>
+    requires inside { blocks ≤ (S.state source.old).blocks }
+    requires room { limit ≤ (T.state target.old).blocks }
+    requires known { count_of numbers.old ≡ blocks }
+    requires least { FIRST_DATA ≤ next_of numbers.old }
+    ensures step { StepsTo result limit (S.state source.old) (T.state target.old) numbers.old
+        (S.state source.new) (T.state target.new) numbers.new }
+    ensures copied { CopiesBlock result limit block (S.state source.old) (T.state target.old) numbers.old
+        (S.state source.new) (T.state target.new) numbers.new }
+    ensures only { CopiesUpTo level result (S.state source.old) numbers.old (S.state source.new) numbers.new }
+    ensures sound { SoundCopy result blocks level block (S.state source.old) (S.state source.new) }
+{
+    if level == 0 {
+        copy_leaf(source, blocks, target, limit, block, numbers)
+    } else {
+        copy_node(source, blocks, target, limit, level, block, numbers)
+    }
+}
+
+/// Copies the tree under a root to another disk, in a store of `limit` blocks there, and returns
+/// the root of the copy. A block that was copied before is neither read nor written again, so trees
+/// that share blocks share the copies. Takes no memory.
+///
+/// The blocks under a root come before the root, at the numbers from `numbers.next()` on. Only
+/// these are written, and nothing is synced. On failure, they hold any bytes.
+///
+/// Returns `CopyFault::Full` if the target has no block left below `limit`. On a tree it returns
+/// `CopyFault::Source` only if the source's device fails.
+pub fn copy_tree<S: Disk, T: Disk>(
+    source: &mut S,
+    blocks: u32,
+    target: &mut T,
+    limit: u32,
+    root: Root,
+    numbers: &mut Renumbering,
+) -> Result<Root, CopyFault>
+    requires inside { blocks ≤ (S.state source.old).blocks }
+    requires room { limit ≤ (T.state target.old).blocks }
+    requires known { count_of numbers.old ≡ blocks }
+    requires least { FIRST_DATA ≤ next_of numbers.old }
+
+    // On any disks, the source is only read, and only data blocks of the target are touched. On
+    // success, each block that was read got one number, and was read once.
+    ensures step { StepsTo result limit (S.state source.old) (T.state target.old) numbers.old
+        (S.state source.new) (T.state target.new) numbers.new }
+
+    // If both disks are honest and the target holds what was copied before, then it holds that
+    // together with the copies of the blocks under this root, and the same map lies under the
+    // returned root.
+    ensures copied { CopiesRoot result limit root (S.state source.old) (T.state target.old) numbers.old
+        (S.state source.new) (T.state target.new) numbers.new }
+    ensures tree { CopiesMap result blocks limit root (S.state source.old) (T.state target.old) numbers.old
+        (S.state source.new) (T.state target.new) numbers.new }
+
+    // On a tree, no damage is found.
+    ensures sound { SoundTreeCopy result blocks root (S.state source.old) (S.state source.new) }
+{
+    if root.block == 0 {
+        return Ok(root);
+    }
+    let block = copy_below(
+        source, blocks, target, limit, root.level, root.block, numbers,
+    )?;
+    Ok(Root { block, ..root })
+}
