@@ -2,24 +2,24 @@
 mod changes;
 mod commands;
 mod damage;
-mod halting;
+mod halts;
 mod image;
 mod layers;
 mod reader;
-mod running;
+mod runs;
 mod states;
 mod stops;
 
 use testkit::top;
 use vm_types::Name;
 
-/// How many blocks a store has at least.
+/// The minimum number of blocks of a store.
 const BLOCKS: u32 = 64;
 
-/// How many blocks a store has that grew. Disks have room for as many.
+/// How many blocks a grown store has. Disks have room for that many.
 const GROWN_BLOCKS: u32 = 80;
 
-/// A name, or `top` where the bytes are none.
+/// A name, or `top` if the bytes are not one.
 fn name(bytes: &[u8]) -> Name {
     Name::new(bytes).unwrap_or(top())
 }

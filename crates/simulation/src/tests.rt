@@ -1,10 +1,10 @@
-//! Sessions on the store and on the plain model side by side, and scripts with a device that fails at
-//! each call in turn.
+//! Sessions on the store and on the plain model side by side, and scripts with a device that fails
+//! at each call in turn.
 mod cast;
 mod device_calls;
 mod device_faults;
 mod dice;
-mod merging;
+mod merges;
 mod model;
 mod scripts;
 mod sessions;
@@ -12,5 +12,5 @@ mod states;
 mod tally;
 mod trees;
 
-/// How many blocks a store has at least.
+/// The minimum number of blocks of a store.
 const BLOCKS: u32 = 64;

@@ -1,31 +1,32 @@
 //! What a store answers, and what it leaves on a disk, by hand.
 //!
-//! Most tests are rows of text (`script.rt`): what is done, and what each step is answered.
+//! Most tests are rows of text (`script.rt`): what is done, and the answer to each step.
 mod answers;
 mod blocks;
-mod caching;
-mod counting;
+mod cache;
+mod copies;
+mod counts;
 mod crashes;
 mod differences;
-mod failing;
+mod failures;
 mod formats;
-mod growing;
-mod keeping;
+mod growth;
 mod library;
 mod long_values;
 mod longer;
-mod merging;
+mod merges;
 mod new_at;
-mod opening;
+mod openings;
 mod over;
-mod posting;
+mod posts;
 mod records;
-mod rolling;
-mod running;
+mod rollback;
+mod runs;
 mod script;
 mod series;
-mod settling;
+mod settlements;
 mod space;
+mod stays;
 mod tallies;
 mod versions;
 mod words;

@@ -1,5 +1,5 @@
 -- The records and the blocks of a version whose root was found, and why one was not.
-use Rattle.std.proofs.Common.{◌≡◌, ℕ, Bool, true, false, cond, List, [], ◌∷◌, find, Option, Some, None, ok_or, option_map, Result, Ok, Err, refl, sym, ap, ◌∙◌, subst}
+use Rattle.std.proofs.Common.{◌≡◌, ℕ, Bool, List, find, Option, Some, None, ok_or, option_map, Ok, Err, refl, ap, ◌∙◌, subst}
 use Rattle.vm_types.specs.declared.at.At.{At}
 use Rattle.vm_types.specs.declared.at.Of.{Of}
 use Rattle.vm_types.specs.declared.at.Of.TheVariants.{Base, Checkpoint, Current}
@@ -8,19 +8,18 @@ use Rattle.vm_types.specs.declared.refusal.Refusal.TheVariants.{NoSuchAlternativ
 use Rattle.vm_types.specs.Map.{Map}
 use Rattle.vm_types.specs.State.{State}
 use Rattle.vm_types.specs.Versions.{map_at, map_found, map_saved}
-use Rattle.vm_disk.specs.Disk.{Contents, Medium}
+use Rattle.vm_disk.specs.Disk.{Medium}
 use Rattle.vm_alloc.specs.Held.{IsHeld}
 use Rattle.vm_block.specs.declared.selector.SlotName.{SlotName}
 use Rattle.vm_tree.specs.Root.{IsRooted, IsRootedIn}
 use Rattle.vm_tree.specs.declared.root.Root.{Root}
-use Rattle.vm_store.specs.Filed.{Filed, Standing}
-use Rattle.vm_store.specs.Resting.{Rests}
+use Rattle.vm_store.specs.Rest.{Rests}
 use Rattle.vm_store.specs.Roots.{root_at, root_meant, saved_root}
-use Rattle.vm_store.specs.Shared.{blocks_at, saved_blocks}
+use Rattle.vm_store.specs.Shared.{blocks_at, meant_chosen}
 use Rattle.vm_store.specs.Sizes.{sizes}
 use Rattle.vm_store.specs.Versions.{is_alternative_of, is_checkpoint_of}
 use Rattle.vm_store.specs.declared.version.Version.{Version}
-use Rattle.vm_store.proofs.SharedLemmas.{base_rooted, current_rooted}
+use Rattle.vm_store.proofs.SharedLemmas.{Chosen, base_under, current_under, rooted_in, saved_under}
 use Rattle.vm_store.proofs.TurnLemmas.{absent, saved_absent, saved_there, there}
 use Rattle.vm_store.proofs.VersionLemmas.{standing}
 
@@ -33,18 +32,6 @@ root_found (Some v) root_of refusal root is = (v, refl, cc is)
 root_lacking : (o : Option Version) (root_of : Version → Root) (due refusal : Refusal) → ok_or (option_map root_of o) due ≡ Err refusal → (o ≡ None) × (due ≡ refusal)
 root_lacking None root_of due refusal is = (refl, cc is)
 root_lacking (Some v) root_of due refusal is = absurd (cc is)
-
--- the blocks under the root of a checkpoint
-module _ (P : ℕ → Type 0) (x : Contents) (limit : ℕ) (alt name : List ℕ) where
-  saved_under : (vs : List Version) (fs : List Filed) (s : Standing P x limit vs fs) (e : Version) → find (is_checkpoint_of alt name) vs ≡ Some e → (m : Map) × IsRooted sizes x limit e.current m (saved_blocks P x limit vs fs s alt name)
-  saved_under [] [] s e found = cc
-  saved_under [] (f ∷ fs) s e found = absurd s
-  saved_under (v ∷ vs) [] s e found = absurd s
-  saved_under (v ∷ vs) (f ∷ fs) s e found =
-      elim (is_checkpoint_of alt name v) as (λ b. cond b (Some v) (find (is_checkpoint_of alt name) vs) ≡ Some e → (m : Map) × IsRooted sizes x limit e.current m (cond b s.0.current.stands_in (saved_blocks P x limit vs fs s.1 alt name))) [
-        | true ↦ λ h. let same : v ≡ e = cc in subst (λ (w : Version). (m : Map) × IsRooted sizes x limit w.current m s.0.current.stands_in) same (f.current, s.0.current.rooted)
-        | false ↦ λ h. saved_under vs fs s.1 e h
-      ] found
 
 module _ (m : Medium) (limit : ℕ) (slot_name : SlotName) (bits : List Bool) (committed working : List Version) (s : State)
     (rests : Rests m limit slot_name bits committed working s) where
@@ -103,20 +90,29 @@ module _ (m : Medium) (limit : ℕ) (slot_name : SlotName) (bits : List Bool) (c
           let own = there (standing rests) alt e one in
           ap (λ o. map_found o (Checkpoint name)) own.is ∙ ap map_saved (saved_absent (standing rests) alt name own.filed lacks.0) ∙ ap Err lacks.1
 
-  under_meant : (alt : List ℕ) (of : Of) (root : Root) → root_meant working alt of ≡ Ok root → (n : Map) × IsRooted sizes m.contents limit root n (blocks_at rests (record { alt = alt; of = of }))
-  under_meant alt Current root is =
-      let found = root_found (find (is_alternative_of alt) working) (λ v. v.current) NoSuchAlternative root is in
-      subst (λ (r : Root). (n : Map) × IsRooted sizes m.contents limit r n (blocks_at rests (record { alt = alt; of = Current }))) found.2 (current_rooted m limit slot_name bits committed working s rests alt found.0 found.1)
-  under_meant alt Base root is =
-      let found = root_found (find (is_alternative_of alt) working) (λ v. v.base) NoSuchAlternative root is in
-      subst (λ (r : Root). (n : Map) × IsRooted sizes m.contents limit r n (blocks_at rests (record { alt = alt; of = Base }))) found.2 (base_rooted m limit slot_name bits committed working s rests alt found.0 found.1)
-  under_meant alt (Checkpoint name) root is = saved (find (is_alternative_of alt) working) is
-    where
-      saved : (o : Option Version) → saved_root working alt name o ≡ Ok root → (n : Map) × IsRooted sizes m.contents limit root n (blocks_at rests (record { alt = alt; of = Checkpoint name }))
-      saved None is = absurd (cc is)
-      saved (Some e) is =
-          let found = root_found (find (is_checkpoint_of alt name) working) (λ v. v.current) NoSuchCheckpoint root is in
-          subst (λ (r : Root). (n : Map) × IsRooted sizes m.contents limit r n (blocks_at rests (record { alt = alt; of = Checkpoint name }))) found.2 (saved_under (IsHeld bits) m.contents limit alt name working rests.new rests.stands found.0 found.1)
+  module _ (choose : (root : Root) (n : Map) → IsRootedIn sizes (IsHeld bits) m.contents limit root n → List ℕ) where
+    -- the blocks that are chosen of the tree of a version
+    abbrev pub chosen_at : At → List ℕ
+    chosen_at at = meant_chosen (IsHeld bits) m.contents limit choose working rests.new rests.stands at.alt at.of
+
+    chosen_meant : (alt : List ℕ) (of : Of) (root : Root) → root_meant working alt of ≡ Ok root → Chosen (IsHeld bits) m.contents limit choose root (chosen_at (record { alt = alt; of = of }))
+    chosen_meant alt Current root is =
+        let found = root_found (find (is_alternative_of alt) working) (λ v. v.current) NoSuchAlternative root is in
+        subst (λ (r : Root). Chosen (IsHeld bits) m.contents limit choose r (chosen_at (record { alt = alt; of = Current }))) found.2 (current_under (IsHeld bits) m.contents limit choose alt working rests.new rests.stands found.0 found.1)
+    chosen_meant alt Base root is =
+        let found = root_found (find (is_alternative_of alt) working) (λ v. v.base) NoSuchAlternative root is in
+        subst (λ (r : Root). Chosen (IsHeld bits) m.contents limit choose r (chosen_at (record { alt = alt; of = Base }))) found.2 (base_under (IsHeld bits) m.contents limit choose alt working rests.new rests.stands found.0 found.1)
+    chosen_meant alt (Checkpoint name) root is = saved (find (is_alternative_of alt) working) is
+      where
+        saved : (o : Option Version) → saved_root working alt name o ≡ Ok root → Chosen (IsHeld bits) m.contents limit choose root (chosen_at (record { alt = alt; of = Checkpoint name }))
+        saved None is = absurd (cc is)
+        saved (Some e) is =
+            let found = root_found (find (is_checkpoint_of alt name) working) (λ v. v.current) NoSuchCheckpoint root is in
+            subst (λ (r : Root). Chosen (IsHeld bits) m.contents limit choose r (chosen_at (record { alt = alt; of = Checkpoint name }))) found.2 (saved_under (IsHeld bits) m.contents limit choose alt name working rests.new rests.stands found.0 found.1)
+
+    -- under the root of a version lies the tree of which they are chosen
+    pub at_chosen : (at : At) (root : Root) → root_at working at ≡ Ok root → Chosen (IsHeld bits) m.contents limit choose root (chosen_at at)
+    at_chosen at root is = chosen_meant at.alt at.of root is
 
   module _ (at : At) where
     -- the records of a version whose root was found
@@ -129,7 +125,7 @@ module _ (m : Medium) (limit : ℕ) (slot_name : SlotName) (bits : List Bool) (c
 
     -- what lies under its root lies in its blocks
     pub at_rooted : (root : Root) → root_at working at ≡ Ok root → (n : Map) × IsRooted sizes m.contents limit root n (blocks_at rests at)
-    at_rooted root is = under_meant at.alt at.of root is
+    at_rooted root is = rooted_in _ _ _ _ _ (at_chosen (λ r n lies. lies.stands_in) at root is)
 
 -- a version without a root is refused for its alternative or its checkpoint, and for nothing else
 pub not_of_versions : (vs : List Version) (at : At) (refusal other : Refusal) → (NoSuchAlternative ≡ other → ⊥) → (NoSuchCheckpoint ≡ other → ⊥) → root_at vs at ≡ Err refusal → refusal ≡ other → ⊥

@@ -16,7 +16,7 @@ use Rattle.vm_tree.specs.Unsynced.{NeverSyncs}
 use Rattle.vm_tree.specs.Free.{is_free}
 use Rattle.vm_tree.proofs.Touching.{reads_unsynced, unsynced_then}
 use Rattle.vm_store.specs.Guarded.{IsGuarded}
-use Rattle.vm_store.specs.Resting.{IsInSeries, Rests, state_aside}
+use Rattle.vm_store.specs.Rest.{IsInSeries, Rests, state_aside}
 use Rattle.vm_store.specs.Shown.{Shows}
 use Rattle.vm_store.specs.Store.{Answers, Carries, Holds, disk_of}
 use Rattle.vm_store.specs.declared.store.Store.{Store}

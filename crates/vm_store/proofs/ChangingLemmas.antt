@@ -26,7 +26,7 @@ use Rattle.vm_tree.specs.declared.faults.PutFault.TheVariants.{Tree, Deep}
 use Rattle.vm_tree.specs.declared.faults.TreeFault.{TreeFault}
 use Rattle.vm_tree.specs.declared.faults.TreeFault.TheVariants.{Device, Damaged}
 use Rattle.vm_tree.proofs.RootLemmas.{full_level}
-use Rattle.vm_store.specs.Changing.{Makes, MeetsFullPath}
+use Rattle.vm_store.specs.ChangeList.{Makes, MeetsFullPath}
 use Rattle.vm_store.specs.Sizes.{sizes}
 use Rattle.vm_store.proofs.TopLemmas.{grown_in, grown_of}
 

@@ -8,7 +8,7 @@ use Rattle.vm_alloc.specs.Marks.{IsMarked, is_marked}
 use Rattle.vm_tree.specs.Answers.{Puts}
 use Rattle.vm_tree.specs.Unsynced.{NeverSyncs}
 use Rattle.vm_tree.specs.Free.{is_free}
-use Rattle.vm_tree.specs.Replacing.{Lacks}
+use Rattle.vm_tree.specs.Replacement.{Lacks}
 use Rattle.vm_tree.specs.declared.faults.PutFault.{PutFault}
 use Rattle.vm_tree.specs.declared.faults.PutFault.TheVariants.{Tree, Deep}
 use Rattle.vm_tree.specs.declared.faults.TreeFault.TheVariants.{Device, Damaged}

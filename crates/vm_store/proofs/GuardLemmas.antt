@@ -16,13 +16,13 @@ use Rattle.vm_block.specs.declared.selector.SlotName.{SlotName}
 use Rattle.vm_block.specs.declared.selector.SlotName.TheVariants.{A, B}
 use Rattle.vm_catalog.specs.Place.{selected, is_used}
 use Rattle.vm_catalog.specs.Catalog.{SlotAt, AtRest}
-use Rattle.vm_catalog.specs.Publishing.{IsTurning, IsSafelyPublishing}
+use Rattle.vm_catalog.specs.Publication.{IsTurning, IsSafelyPublishing}
 use Rattle.vm_catalog.proofs.PlaceLemmas.{used_front}
 use Rattle.vm_tree.specs.Tree.{IsData}
 use Rattle.vm_tree.specs.Free.{is_free}
 use Rattle.vm_store.specs.Filed.{Filed, Standing}
 use Rattle.vm_store.specs.Guarded.{IsWhole, IsGuarded}
-use Rattle.vm_store.specs.Resting.{IsSafe, Rests}
+use Rattle.vm_store.specs.Rest.{IsSafe, Rests}
 use Rattle.vm_store.proofs.RestingLemmas.{at_rest, safe_on}
 use Rattle.vm_store.proofs.StandingLemmas.{standing_in, standing_data}
 use Rattle.vm_store.proofs.SuitLemmas.{suits_alike, suits_any}

@@ -2,6 +2,7 @@ pub mod AddedLemmas
 pub mod AtLemmas
 pub mod CarryLemmas
 pub mod ChangingLemmas
+pub mod CopyingLemmas
 pub mod EntryTests
 pub mod FiledLemmas
 pub mod FirstLemmas
@@ -11,6 +12,7 @@ pub mod EarliestLemmas
 pub mod FoundLemmas
 pub mod GrownLemmas
 pub mod GuardLemmas
+pub mod LayoutLemmas
 pub mod LedgerLemmas
 pub mod LedgerMoves
 pub mod Listing

@@ -1,22 +1,14 @@
 -- What a list of records answers.
-use Rattle.std.proofs.Common.{◌≡◌, ◌⊎◌, inl, inr, ℕ, Bool, List, find, Some, None, Result, Ok, Err, IsOk, refl, sym, ap, ◌∙◌, subst}
+use Rattle.std.proofs.Common.{◌≡◌, ◌⊎◌, inl, inr, List, Result, Ok, Err, IsOk, refl, sym, ap, ◌∙◌, subst}
 use Rattle.vm_types.specs.declared.refusal.Refusal.{Refusal}
-use Rattle.vm_types.specs.declared.refusal.Refusal.TheVariants.{NoSuchAlternative, Device, Memory}
-use Rattle.vm_types.specs.Map.{Map}
-use Rattle.vm_types.specs.State.{State}
-use Rattle.vm_disk.specs.Disk.{Medium}
-use Rattle.vm_block.specs.declared.selector.SlotName.{SlotName}
-use Rattle.vm_store.specs.Versions.{is_alternative_of}
-use Rattle.vm_store.specs.declared.version.Version.{Version}
+use Rattle.vm_types.specs.declared.refusal.Refusal.TheVariants.{Device, Memory}
 use Rattle.vm_tree.specs.Answers.{Lists}
-use Rattle.vm_types.specs.Queries.{IsListing, records_of, records_in}
+use Rattle.vm_types.specs.Queries.{IsListing}
 use Rattle.vm_store.specs.Sides.{ReadsOr}
-use Rattle.vm_store.specs.Resting.{Rests}
 use Rattle.vm_tree.specs.Faults.{refusal_of_list}
 use Rattle.vm_tree.specs.declared.faults.ListFault.{ListFault}
 use Rattle.vm_tree.specs.declared.faults.ListFault.TheVariants as list
 use Rattle.vm_tree.specs.declared.faults.TreeFault.TheVariants as fault
-use Rattle.vm_store.proofs.RestingLemmas.{found_entry, named_as, unnamed}
 
 -- a list that was refused for the device or for memory
 pub list_refused : {T : Type 0} (f : ListFault) (P : T → Type 0) (due : Type 0) → Lists (Err f) P → (refusal_of_list f ≡ Device) ⊎ ((refusal_of_list f ≡ Memory) ⊎ due)

@@ -24,11 +24,11 @@ use Rattle.vm_tree.proofs.Touching.{stays_dirty}
 use Rattle.vm_catalog.specs.Place.{is_used}
 use Rattle.vm_catalog.proofs.PublishLemmas.{names_in}
 use Rattle.vm_store.specs.Answers.{IsGrowDue}
-use Rattle.vm_store.specs.Growing.{Grows}
+use Rattle.vm_store.specs.Growth.{Grows}
 use Rattle.vm_store.specs.Guarded.{IsGuarded}
 use Rattle.vm_block.specs.Slot.{has_long}
 use Rattle.vm_store.proofs.SuitLemmas.{suits_alike}
-use Rattle.vm_store.specs.Resting.{IsSafe, Rests}
+use Rattle.vm_store.specs.Rest.{IsSafe, Rests}
 use Rattle.vm_store.specs.Shown.{Shows}
 use Rattle.vm_store.specs.Versions.{slot_entries}
 use Rattle.vm_store.specs.declared.version.Version.{Version}

@@ -10,11 +10,11 @@ use Rattle.vm_tree.specs.Tree.{IsData}
 use Rattle.vm_block.proofs.EachLemmas.{each_so, each_join, each_front, each_back}
 use Rattle.vm_block.specs.declared.selector.SlotName.{SlotName}
 use Rattle.std.proofs.lemmas.List.{length-replicate}
-use Rattle.vm_check.specs.Marking.{IsClosed, MarksMore}
+use Rattle.vm_check.specs.Marks.{IsClosed, MarksMore}
 use Rattle.vm_check.proofs.MarkLemmas.{more_then}
-use Rattle.vm_store.specs.Marking.{AreReached}
+use Rattle.vm_store.specs.Marks.{AreReached}
 use Rattle.vm_store.specs.Filed.{reach}
-use Rattle.vm_store.specs.Resting.{IsSafe, Rests, spare_of}
+use Rattle.vm_store.specs.Rest.{IsSafe, Rests, spare_of}
 use Rattle.vm_store.specs.declared.version.Version.{Version}
 use Rattle.vm_store.proofs.MarkingLemmas.{none_marked, any_contained, standing_reached, clear_closed}
 use Rattle.vm_store.proofs.SpareLemmas.{free-spare, free-le-spare, any_of}

@@ -6,9 +6,9 @@ use Rattle.std.proofs.lemmas.Bool.{cases_lt, false≢true}
 use Rattle.std.proofs.lemmas.List.{get_or-replicate, get_or_past, length-replicate}
 use Rattle.vm_disk.specs.Disk.{Contents}
 use Rattle.vm_alloc.specs.Marks.{IsMarked}
-use Rattle.vm_check.specs.Marking.{IsClosed}
+use Rattle.vm_check.specs.Marks.{IsClosed}
 use Rattle.vm_store.specs.Filed.{Filed, Standing, reach}
-use Rattle.vm_store.specs.Marking.{AreReached}
+use Rattle.vm_store.specs.Marks.{AreReached}
 use Rattle.vm_store.specs.declared.version.Version.{Version}
 use Rattle.vm_store.proofs.WiderLemmas.{rooted_wider}
 

@@ -31,9 +31,9 @@ use Rattle.vm_tree.specs.declared.faults.PutFault.TheVariants as put
 use Rattle.vm_tree.specs.declared.faults.TreeFault.TheVariants as fault
 use Rattle.vm_tree.proofs.Touching.{held_not_free}
 use Rattle.vm_store.specs.Answers.{IsMergeDue, IsMergeAnswer, merge_changes}
-use Rattle.vm_store.specs.Changing.{MeetsFullPath, Makes}
+use Rattle.vm_store.specs.ChangeList.{MeetsFullPath, Makes}
 use Rattle.vm_store.specs.Pairs.{IsPair}
-use Rattle.vm_store.specs.Resting.{Rests}
+use Rattle.vm_store.specs.Rest.{Rests}
 use Rattle.vm_store.specs.Sides.{refusal_in}
 use Rattle.vm_store.specs.Sizes.{sizes}
 use Rattle.vm_store.specs.Versions.{slot_entries, is_alternative_of, with_current, with_base}

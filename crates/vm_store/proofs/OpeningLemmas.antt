@@ -19,7 +19,7 @@ use Rattle.std.proofs.lemmas.List.{length-replicate}
 use Rattle.std.proofs.lemmas.List.Elements.{Contains-append_left}
 use Rattle.vm_block.proofs.EachLemmas.{each_both, each_front, each_back, each_join}
 use Rattle.vm_tree.specs.Tree.{IsData}
-use Rattle.vm_check.specs.Marking.{MarksMore}
+use Rattle.vm_check.specs.Marks.{MarksMore}
 use Rattle.vm_store.proofs.MarkedLemmas.{free_exactly}
 use Rattle.vm_store.proofs.MarkingLemmas.{none_marked}
 use Rattle.vm_tree.specs.Answers.{Lists}
@@ -28,7 +28,7 @@ use Rattle.vm_tree.specs.Faults.{refusal_of_list}
 use Rattle.vm_tree.specs.declared.faults.ListFault.{ListFault}
 use Rattle.vm_tree.specs.declared.faults.ListFault.TheVariants as list
 use Rattle.vm_tree.specs.declared.faults.TreeFault.TheVariants as fault
-use Rattle.vm_check.specs.Verifying.{AreRoots, Found, HaveTrees}
+use Rattle.vm_check.specs.Verification.{AreRoots, Found, HaveTrees}
 use Rattle.vm_catalog.specs.Place.{selected}
 use Rattle.vm_catalog.specs.Catalog.{SlotAt, Names}
 use Rattle.vm_catalog.proofs.PublishLemmas.{names_slot}
@@ -40,7 +40,7 @@ use Rattle.vm_store.proofs.TopLemmas.{rooted_one, rooted_tree}
 use Rattle.vm_store.proofs.WiderLemmas.{rooted_wider}
 use Rattle.vm_store.specs.Filed.{Filed, Standing, reach, tree_of}
 use Rattle.vm_store.specs.Shown.{Shows, ShowsNothing}
-use Rattle.vm_store.specs.Resting.{IsSafe, Rests, spare_of}
+use Rattle.vm_store.specs.Rest.{IsSafe, Rests, spare_of}
 use Rattle.vm_store.specs.Refused.{IsStore, LacksMap, IsRefused, IsSynced, IsAtMostSynced}
 use Rattle.vm_store.proofs.StandingLemmas.{standing_in, standing_data}
 

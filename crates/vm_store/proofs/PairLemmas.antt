@@ -22,7 +22,7 @@ use Rattle.vm_block.specs.Slot.{SlotFits, is_alternative}
 use Rattle.vm_block.specs.declared.selector.SlotName.{SlotName}
 use Rattle.vm_types.specs.Queries.{conflicts_with, conflicts_under, conflicts_of, conflicts_in}
 use Rattle.vm_store.specs.Pairs.{IsPair, LacksPair}
-use Rattle.vm_store.specs.Resting.{Rests}
+use Rattle.vm_store.specs.Rest.{Rests}
 use Rattle.vm_store.specs.Versions.{entry_of, slot_entries, is_alternative_of, with_current, with_base}
 use Rattle.vm_store.specs.declared.version.Version.{Version}
 use Rattle.vm_store.proofs.FiledLemmas.{is_filed, refiled, recurrent, refiled_both, with_maps, grown_turned, grown_changed}

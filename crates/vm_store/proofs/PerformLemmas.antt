@@ -7,7 +7,7 @@ use Rattle.vm_types.specs.declared.refusal.Refusal.{Refusal}
 use Rattle.vm_types.specs.declared.sizes.TheConstants.{MAX_BLOCKS, MAX_VERSIONS, MIN_BLOCKS}
 use Rattle.vm_types.specs.declared.refusal.Refusal.TheVariants.{Device, Failed, Memory}
 use Rattle.vm_store.specs.Answers.{ChangesEntriesAlone, IsEarly, IsGrow, TakesMemory}
-use Rattle.vm_store.specs.Running.{CarriesOut, Performs}
+use Rattle.vm_store.specs.Commands.{CarriesOut, Performs}
 use Rattle.vm_store.specs.Store.{EarlyKeeps, EarlyLeavesDisk, GoesOn, GrowsOn, IsCarriedOut, IsHonest, IsNoLonger, KeepsFree, LeavesBlocks, MarksAll, NewAreFree, ReadsOnly, RollsBack, WritesCommit, disk_of, entries_of, has_failed}
 use Rattle.vm_store.specs.declared.store.Store.{Store}
 use Rattle.vm_store.proofs.LongerLemmas.{goes_grow}

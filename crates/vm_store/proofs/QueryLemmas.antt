@@ -2,7 +2,7 @@
 use Rattle.std.proofs.Common.{◌≡◌, ◌≢◌, inl, inr, ℕ, true, false, List, Result, Ok, Err, refl, sym, ap, subst, ◌∙◌}
 use Rattle.std.proofs.lemmas.Bool.{true≢false}
 use Rattle.vm_types.specs.declared.refusal.Refusal.{Refusal}
-use Rattle.vm_types.specs.declared.refusal.Refusal.TheVariants.{Device, Failed, IsTop, Memory, NoSuchAlternative}
+use Rattle.vm_types.specs.declared.refusal.Refusal.TheVariants.{Device, Failed, IsTop, NoSuchAlternative}
 use Rattle.vm_types.specs.declared.at.At.{At}
 use Rattle.vm_types.specs.State.{State}
 use Rattle.vm_types.specs.Versions.{map_at}
@@ -17,7 +17,7 @@ use Rattle.vm_tree.specs.declared.faults.ListFault.TheVariants as list
 use Rattle.vm_tree.specs.declared.faults.TreeFault.{TreeFault}
 use Rattle.vm_tree.specs.declared.faults.TreeFault.TheVariants as fault
 use Rattle.vm_store.specs.Pairs.{LacksPair}
-use Rattle.vm_store.specs.Querying.{Queries}
+use Rattle.vm_store.specs.Queries.{Queries}
 use Rattle.vm_store.specs.Roots.{root_at}
 use Rattle.vm_store.specs.Store.{FromState, GoesOn, Holds, IsHonest, IsSameButDisk, ReadsAlone, disk_of, has_failed}
 use Rattle.vm_store.specs.declared.store.Store.{Store}

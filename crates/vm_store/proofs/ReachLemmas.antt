@@ -2,11 +2,11 @@
 use Rattle.std.proofs.Common.{◌≡◌, ℕ, ◌+◌, ◌<◌, ◌≤◌, Bool, List, [], ◌∷◌, length, get_or, take, refl, sym, subst, append-nil}
 use Rattle.std.proofs.lemmas.List.{take_all}
 use Rattle.vm_disk.specs.Disk.{Contents, Medium}
-use Rattle.vm_check.specs.Marking.{AreUnder, IsClosed, MarksMore}
+use Rattle.vm_check.specs.Marks.{AreUnder, IsClosed, MarksMore}
 use Rattle.vm_check.proofs.JoinLemmas.{last_of, joined_front}
 use Rattle.vm_check.proofs.MarkLemmas.{more_then}
 use Rattle.vm_check.proofs.RootLemmas.{in_blocks}
-use Rattle.vm_store.specs.Marking.{IsReached, AreReached}
+use Rattle.vm_store.specs.Marks.{IsReached, AreReached}
 use Rattle.vm_store.specs.Sizes.{sizes}
 use Rattle.vm_store.specs.declared.version.Version.{Version}
 

@@ -17,7 +17,7 @@ use Rattle.vm_block.specs.declared.selector.SlotName.{SlotName}
 use Rattle.vm_tree.specs.Answers.{Removes}
 use Rattle.vm_store.specs.declared.version.Version.{Version}
 use Rattle.vm_tree.specs.Faults.{refusal_of}
-use Rattle.vm_store.specs.Resting.{HoldsWith, spare_of}
+use Rattle.vm_store.specs.Rest.{HoldsWith, spare_of}
 use Rattle.vm_types.specs.Queries.{value_in, value_of}
 use Rattle.vm_store.specs.Answers.{IsDue, IsAnswer}
 use Rattle.vm_tree.specs.declared.faults.TreeFault.{TreeFault}

@@ -23,7 +23,7 @@ use Rattle.vm_block.specs.declared.selector.SlotName.TheVariants.{A, B}
 use Rattle.vm_block.specs.Selector.{named_slot, other_slot}
 use Rattle.vm_catalog.specs.Place.{is_used, slot_at}
 use Rattle.vm_catalog.specs.Catalog.{Names, AtRest}
-use Rattle.vm_catalog.specs.Publishing.{IsPublished, PublishLeaves}
+use Rattle.vm_catalog.specs.Publication.{IsPublished, PublishLeaves}
 use Rattle.vm_catalog.proofs.PlaceLemmas.{used_cases, sixteen}
 use Rattle.vm_catalog.proofs.PublishLemmas.{names_in}
 use Rattle.vm_tree.specs.Tree.{IsData}
@@ -43,7 +43,7 @@ use Rattle.vm_block.specs.declared.slot.SlotFormat.{SlotFormat}
 use Rattle.vm_block.specs.declared.slot.SlotFormat.TheVariants.{Two}
 use Rattle.vm_check.specs.Suits.{SuitsAt}
 use Rattle.vm_store.proofs.SuitLemmas.{suits_alike, suits_any}
-use Rattle.vm_store.specs.Resting.{IsSafe, Rests}
+use Rattle.vm_store.specs.Rest.{IsSafe, Rests}
 use Rattle.vm_types.specs.Queries.{value_in, value_of}
 use Rattle.vm_store.specs.Answers.{LacksRoom, IsDue, IsAnswer}
 use Rattle.vm_store.specs.Roots.{current_root}

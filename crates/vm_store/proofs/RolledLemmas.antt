@@ -9,7 +9,7 @@ use Rattle.vm_disk.specs.Disk.{Medium}
 use Rattle.vm_alloc.specs.Held.{IsHeld, is_held}
 use Rattle.vm_block.specs.declared.selector.SlotName.{SlotName}
 use Rattle.vm_tree.specs.Tree.{IsData}
-use Rattle.vm_store.specs.Resting.{IsSafe, Rests}
+use Rattle.vm_store.specs.Rest.{IsSafe, Rests}
 use Rattle.vm_store.specs.declared.version.Version.{Version}
 use Rattle.vm_store.proofs.StandingLemmas.{standing_data, standing_in}
 

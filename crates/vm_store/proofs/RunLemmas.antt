@@ -1,11 +1,11 @@
 -- A run so far: what it answered, and what a crash leaves at each moment of it.
-use Rattle.std.proofs.Common.{◌≡◌, ◌≢◌, ◌↔◌, ℕ, zero, suc, ◌+◌, ◌-◌, ◌<◌, ◌≤◌, Bool, true, false, List, [], ◌∷◌, ◌++◌, drop, length, take, get_or, Result, Err, IfErr, OnErr, OnOk, refl, sym, ap, ◌∙◌, subst, arith}
+use Rattle.std.proofs.Common.{◌≡◌, ℕ, ◌+◌, ◌<◌, ◌≤◌, Bool, true, false, List, [], ◌∷◌, ◌++◌, drop, length, take, get_or, Result, Err, refl, sym, ap, ◌∙◌, subst, arith}
 use Rattle.std.proofs.lemmas.List.{drop-append-le, drop_all, length-append, take-append-le, take_all, take_more}
 use Rattle.vm_types.specs.declared.answer.Answer.{Answer}
 use Rattle.vm_types.specs.declared.command.Command.{Command}
 use Rattle.vm_types.specs.declared.command.Command.TheVariants.{New, NewAt, Drop, Put, Remove, Checkpoint, Uncheck, Back, Merge, Post, Commit, Rollback, Reclaim, Grow}
 use Rattle.vm_types.specs.declared.refusal.Refusal.{Refusal}
-use Rattle.vm_types.specs.declared.refusal.Refusal.TheVariants.{Device, Failed, Memory}
+use Rattle.vm_types.specs.declared.refusal.Refusal.TheVariants.{Device}
 use Rattle.vm_types.specs.Kept.{LeftBy}
 use Rattle.vm_types.specs.State.{State, committed_of, next, after}
 use Rattle.vm_types.specs.Tree.{current_of}
@@ -17,15 +17,14 @@ use Rattle.vm_disk.specs.Moments.{Throughout, Leaves}
 use Rattle.vm_disk.proofs.MomentLemmas.{started, and_then, weaken, past_stays, moment_rises, leaves_only, touches_nothing}
 use Rattle.vm_block.specs.declared.selector.SlotName.{SlotName}
 use Rattle.vm_store.specs.declared.version.Version.{Version}
-use Rattle.vm_store.specs.Answers.{ChangesEntriesAlone, HasMarked, IsEarly, IsGrow, IsMergeAnswer, TakesMemory, merge_changes}
-use Rattle.vm_store.specs.Changing.{MeetsFullPath}
-use Rattle.vm_store.specs.Store.{Answers, GrowsNoMore, KeepsFree, Holds, IsSameButDisk, ReadsOnly, StaysUnsynced, WritesCommit, disk_of, entries_of, free_of, has_failed, held_of}
+use Rattle.vm_store.specs.Answers.{IsMergeAnswer, merge_changes}
+use Rattle.vm_store.specs.ChangeList.{MeetsFullPath}
+use Rattle.vm_store.specs.Store.{Answers, Holds, disk_of, held_of}
 use Rattle.vm_store.specs.declared.store.Store.{Store}
 use Rattle.vm_tree.specs.Free.{is_free}
-use Rattle.vm_store.specs.Growing.{Grows}
 use Rattle.vm_store.specs.Guarded.{IsGuarded}
-use Rattle.vm_store.specs.Resting.{Rests, spare_of}
-use Rattle.vm_store.specs.Running.{AnswersInTurn, CarriesOut, IsGuardedOnTheWay, IsOnTheWay, NoneIsDevice}
+use Rattle.vm_store.specs.Rest.{Rests, spare_of}
+use Rattle.vm_store.specs.Commands.{AnswersInTurn, CarriesOut, IsGuardedOnTheWay, IsOnTheWay, NoneIsDevice}
 use Rattle.vm_store.specs.Shown.{Shows}
 use Rattle.vm_store.proofs.RestingLemmas.{shows_old}
 

@@ -20,7 +20,7 @@ use Rattle.vm_tree.specs.Free.{is_free}
 use Rattle.vm_tree.specs.Root.{IsRootedIn}
 use Rattle.vm_tree.specs.declared.root.Root.{Root}
 use Rattle.vm_tree.proofs.Touching.{touches_more, touches_then}
-use Rattle.vm_store.specs.Resting.{HoldsWith, IsInSeries, IsSafe, KeepsSeries, Rests, before_of, before_series, no_root, set_aside, state_aside}
+use Rattle.vm_store.specs.Rest.{HoldsWith, IsInSeries, IsSafe, KeepsSeries, Rests, before_of, before_series, no_root, set_aside, state_aside}
 use Rattle.vm_store.specs.Sizes.{sizes}
 use Rattle.vm_store.specs.Versions.{is_alternative_of, with_current}
 use Rattle.vm_store.specs.declared.version.Version.{Version}

@@ -40,7 +40,8 @@ filed_one P x limit v w f g same one other =
     ∙ ap (λ (m : Map). record { kind = g.kind; name = g.name; owner = g.owner; current = m; base = f.base }) current
     ∙ ap (λ (m : Map). record { kind = g.kind; name = g.name; owner = g.owner; current = g.current; base = m }) base
 
-all_filed_one : (P : ℕ → Type 0) (x : Contents) (limit : ℕ) (vs ws : List Version) (fs gs : List Filed) → slot_entries vs ≡ slot_entries ws → Standing P x limit vs fs → Standing P x limit ws gs → fs ≡ gs
+-- and so have all of them
+pub all_filed_one : (P : ℕ → Type 0) (x : Contents) (limit : ℕ) (vs ws : List Version) (fs gs : List Filed) → slot_entries vs ≡ slot_entries ws → Standing P x limit vs fs → Standing P x limit ws gs → fs ≡ gs
 all_filed_one P x limit [] [] [] [] same s t = refl
 all_filed_one P x limit (v ∷ vs) (w ∷ ws) (f ∷ fs) (g ∷ gs) same s t =
     let head : entry_of v ≡ entry_of w = cc in

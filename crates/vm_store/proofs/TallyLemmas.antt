@@ -16,7 +16,7 @@ use Rattle.vm_disk.specs.Disk.{Medium}
 use Rattle.vm_block.specs.declared.selector.SlotName.{SlotName}
 use Rattle.vm_store.specs.Answers.{IsDueOrWanting}
 use Rattle.vm_store.specs.Pairs.{IsPair, LacksPair}
-use Rattle.vm_store.specs.Resting.{Rests}
+use Rattle.vm_store.specs.Rest.{Rests}
 use Rattle.vm_store.specs.Sides.{ReadsOr}
 use Rattle.vm_store.specs.Tallies.{tally_between, tally_with, tally_under, tally_of, tally_in}
 use Rattle.vm_store.specs.declared.tally.Tally.{Tally}

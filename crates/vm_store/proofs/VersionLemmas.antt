@@ -7,11 +7,11 @@ use Rattle.vm_types.specs.State.{State, accepted, answer_of, next, tree_after, e
 use Rattle.vm_types.specs.declared.answer.Answer.{Answer}
 use Rattle.vm_types.specs.declared.answer.Answer.TheVariants.{Done}
 use Rattle.vm_types.specs.declared.command.Command.{Command}
-use Rattle.vm_types.specs.declared.command.Command.TheVariants.{New, NewAt, Drop, Put, Remove, Checkpoint, Uncheck, Back, Merge, Post, Commit, Reclaim, Grow}
+use Rattle.vm_types.specs.declared.command.Command.TheVariants.{New, NewAt, Drop, Put, Remove, Checkpoint, Uncheck, Back, Post, Commit, Reclaim}
 use Rattle.vm_types.specs.declared.refusal.Refusal.{Refusal}
-use Rattle.vm_types.specs.declared.refusal.Refusal.TheVariants.{Device, Failed}
+use Rattle.vm_types.specs.declared.refusal.Refusal.TheVariants.{Device}
 use Rattle.vm_disk.specs.Disk.{Medium}
-use Rattle.vm_disk.proofs.MomentLemmas.{started, touches_nothing}
+use Rattle.vm_disk.proofs.MomentLemmas.{touches_nothing}
 use Rattle.vm_alloc.specs.Held.{IsHeld}
 use Rattle.vm_block.specs.Slot.{SlotFits}
 use Rattle.vm_block.specs.declared.selector.SlotName.{SlotName}
@@ -19,7 +19,7 @@ use Rattle.vm_store.specs.declared.version.Version.{Version}
 use Rattle.vm_store.specs.Answers.{IsDue, IsAnswer}
 use Rattle.vm_store.specs.Versions.{slot_entries}
 use Rattle.vm_store.specs.Filed.{Filed, Standing, tree_of}
-use Rattle.vm_store.specs.Resting.{Rests}
+use Rattle.vm_store.specs.Rest.{Rests}
 use Rattle.vm_store.proofs.FirstLemmas.{unread}
 use Rattle.vm_store.proofs.RestingLemmas.{rests_on}
 use Rattle.vm_store.specs.Answers.{ChangesEntriesAlone, HasMarked}

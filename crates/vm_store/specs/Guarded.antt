@@ -7,7 +7,7 @@ use Rattle.vm_block.specs.declared.slot.SlotFormat.{SlotFormat}
 use Rattle.vm_catalog.specs.Place.{selected, is_used}
 use Rattle.vm_catalog.specs.Catalog.{SlotAt}
 use Rattle.vm_store.specs.Filed.{Filed, Standing}
-use Rattle.vm_store.specs.Resting.{IsSafe}
+use Rattle.vm_store.specs.Rest.{IsSafe}
 use Rattle.vm_store.specs.Versions.{slot_entries}
 use Rattle.vm_store.specs.declared.version.Version.{Version}
 

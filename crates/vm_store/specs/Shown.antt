@@ -26,10 +26,14 @@ pub record Shows (x : Contents) (seen : Seen) : Type 0 where
 abbrev pub ShowsNothing : Contents → Type 0
 ShowsNothing x = (seen : Seen) → Shows x seen → ⊥
 
+-- these contents show nothing, or this
+abbrev pub ShowsAtMost : Seen → Contents → Type 0
+ShowsAtMost wanted x = (seen : Seen) → Shows x seen → seen ≡ wanted
+
 -- what a new store of so many blocks shows: `top` without a record
 abbrev pub new_store : ℕ → Seen
 new_store blocks = record { tree = fresh; blocks = blocks }
 
 -- these contents show nothing, or a new store of so many blocks
 abbrev pub ShowsAtMostNew : ℕ → Contents → Type 0
-ShowsAtMostNew blocks x = (seen : Seen) → Shows x seen → seen ≡ new_store blocks
+ShowsAtMostNew blocks x = ShowsAtMost (new_store blocks) x

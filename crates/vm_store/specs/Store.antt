@@ -18,10 +18,10 @@ use Rattle.vm_catalog.specs.Written.{TouchesBoth, WritesBoth}
 use Rattle.vm_tree.specs.Unsynced.{NeverSyncs}
 use Rattle.vm_check.specs.Noted.{inner_of}
 use Rattle.vm_store.specs.Answers.{ComesAfterMarking, ComesFirst, HasMarked, IsAnswer, IsDeep, IsEarly, IsGrowDue, IsMergeAnswer, merge_changes, most_taken}
-use Rattle.vm_store.specs.Changing.{MeetsFullPath}
-use Rattle.vm_store.specs.Growing.{Grows}
+use Rattle.vm_store.specs.ChangeList.{MeetsFullPath}
+use Rattle.vm_store.specs.Growth.{Grows}
 use Rattle.vm_store.specs.Guarded.{IsGuarded}
-use Rattle.vm_store.specs.Resting.{HoldsWith, spare_of}
+use Rattle.vm_store.specs.Rest.{HoldsWith, spare_of}
 use Rattle.vm_store.specs.Roots.{current_root}
 use Rattle.vm_store.specs.Shown.{Shows}
 use Rattle.vm_store.specs.Versions.{is_alternative_of, slot_entries}

@@ -1,6 +1,6 @@
-//! Series of changes: Puts and Removes in one alternative with no other command between them. A block
-//! that was taken since a series began stands in no tree but that of its alternative's records, so where
-//! a change replaces it, nothing needs its bytes.
+//! Series of changes: Puts and Removes in one alternative with no other command between them. A
+//! block that was taken since a series began is only in the tree of its alternative's records. When
+//! a change replaces such a block, nothing needs its bytes.
 ghost use Rattle.std.specs.Prelude.{◌≡◌, ◌≢◌, ◌↔◌, ◌⊎◌, ◌+◌, ◌<◌, ◌≤◌, ℕ, true, length, None, Some, option_copied, IsTrue, IfOk, OnErr};
 ghost use Rattle.vm_types.specs.Bytes.{longest};
 ghost use Rattle.vm_types.specs.State.{blocks_a_change};
@@ -13,16 +13,16 @@ ghost use Rattle.vm_tree.specs.Answers.{LacksRoom, Puts, Removes};
 ghost use Rattle.vm_tree.specs.Calls.{LooksIf, LooksIfDamaged, PutsIfDamaged, PutsIfDeep};
 ghost use Rattle.vm_tree.specs.Unsynced.{NeverSyncs};
 ghost use Rattle.vm_tree.specs.Free.{is_free};
-ghost use Rattle.vm_tree.specs.Replacing.{Lacks, long_of, path_under};
+ghost use Rattle.vm_tree.specs.Replacement.{Lacks, long_of, path_under};
 ghost use Rattle.vm_tree.specs.Root.{IfWhole, IsRootedIn};
-ghost use Rattle.vm_store.specs.Resting.{before_of, before_series};
+ghost use Rattle.vm_store.specs.Rest.{before_of, before_series};
 ghost use Rattle.vm_store.specs.Sizes.{sizes};
 
 use crate::{FAN, LEAF, LEVELS};
 use vm_alloc::{Baseline, Held};
 use vm_disk::Disk;
 use vm_tree::{PutFault, Root, TreeFault, put, remove};
-use vm_types::{Key, Name};
+use vm_types::{BlockNumber, Key, Name};
 
 /// Whether the series of this alternative goes on.
 pub fn goes_on(series: &Option<Name>, alt: &Name) -> bool
@@ -34,12 +34,13 @@ pub fn goes_on(series: &Option<Name>, alt: &Name) -> bool
     }
 }
 
-/// How many blocks a change pays for, when it is copied which of them are held.
+/// How many blocks of the store one change pays for, when the set of held blocks is copied.
 const BLOCKS_COPIED_A_CHANGE: u32 = 16_384;
 
-/// Goes on with the series of this alternative. Else it begins one after the blocks that are held now,
-/// where enough changes came since they were copied last, and otherwise none goes on: so on the whole a
-/// Put or a Remove copies the same at most, however large the store is. A Merge copies them by itself.
+/// Continues this alternative's series. If it is not open, starts one with the currently held
+/// blocks as its baseline, provided enough changes came since they were last copied; otherwise
+/// leaves no series open. On the whole, a Put or a Remove thus copies at most the same amount,
+/// however large the store is. A Merge copies them by itself.
 pub fn go_on(
     series: &mut Option<Name>,
     changes: &mut u32,
@@ -66,7 +67,7 @@ pub fn go_on(
     *series = Some(*alt);
 }
 
-/// The blocks that were held before the series, where one goes on.
+/// The blocks that were held before the series, if one is open.
 pub fn before_series<'a>(series: &Option<Name>, before: &'a Baseline) -> Option<&'a Baseline>
     ensures { option_copied result ≡ before_series series.now before.now }
 {
@@ -95,8 +96,8 @@ fn forget_taken<D: Disk>(disk: &mut D, before: &Baseline, blocks: &[u32])
     }
 }
 
-/// Forgets the block of a long value, where the number is not 0 and it was not held before.
-fn forget_long<D: Disk>(disk: &mut D, before: &Baseline, long: u32)
+/// Forgets the block of a long value, if the number is not 0 and it was not held before.
+fn forget_long<D: Disk>(disk: &mut D, before: &Baseline, long: BlockNumber)
     requires { length before.now ≤ (D.state disk.old).blocks }
     ensures any { Idles (D.state disk.old) (D.state disk.new) }
     ensures moments { (D.state disk.new).honest ≡ true
@@ -112,9 +113,9 @@ fn forget_long<D: Disk>(disk: &mut D, before: &Baseline, long: u32)
     }
 }
 
-/// Tells the disk that the blocks of a path which a change replaced are not needed, but for those
-/// that were held before: nor is that of the long value, if its ninth place tells one. The root is
-/// the one that the path led from.
+/// Tells the disk that the blocks of a path that a change replaced are not needed, except those
+/// that were held before. The same goes for the block of the long value, if `path[8]` names one.
+/// The root is the one that the path led from.
 fn forget_path<D: Disk>(disk: &mut D, before: &Baseline, root: Root, path: &[u32; 9])
     requires { length before.now ≤ (D.state disk.old).blocks }
     ensures any { Idles (D.state disk.old) (D.state disk.new) }
@@ -135,9 +136,9 @@ fn forget_path<D: Disk>(disk: &mut D, before: &Baseline, root: Root, path: &[u32
     forget_taken(disk, before, &path[..levels]);
 }
 
-/// Gives the key this value in the tree under a root, and returns the new root. The blocks of the path as
-/// it was are forgotten, but for those that were held before the series; where none goes on, all of them
-/// were. The caller owes 17 free blocks.
+/// Sets the key's value in the tree under a root, and returns the new root. The blocks of the old
+/// path are forgotten, except those that were held before the series; if none is open, all of them
+/// were. Requires 17 free blocks.
 pub fn put_forgetting<D: Disk>(
     disk: &mut D,
     held: &mut Held,
@@ -158,7 +159,8 @@ pub fn put_forgetting<D: Disk>(
     ensures looks { PutsIfDamaged result held.old held.new (D.state disk.old) (D.state disk.new) }
     ensures block { IfOk result (λ r. r.block < length held.new) }
 
-    // At no moment has a block that was held before other bytes, and where no root is answered, no held one has.
+    // At no moment does a block that was held before have other bytes, and if no root is returned,
+    // no held block does.
     ensures moments { (D.state disk.new).honest ≡ true → HoldsMore (before_of (option_copied before.entry) held.old) held.old
         → Throughout (D.state disk.old) (D.state disk.new)
         (TouchesOnly (is_free (before_of (option_copied before.entry) held.old)) (D.state disk.old).now) }
@@ -182,9 +184,9 @@ pub fn put_forgetting<D: Disk>(
     Ok(new_root)
 }
 
-/// Takes the record of a key out of the tree under a root, and returns the new root, or None where the
-/// key is absent. The blocks of the path as it was are forgotten, but for those that were held before the
-/// series; where none goes on, all of them were. The caller owes 17 free blocks.
+/// Removes the record of a key from the tree under a root, and returns the new root, or None if the
+/// key is absent. The blocks of the old path are forgotten, except those that were held before the
+/// series; if none is open, all of them were. Requires 17 free blocks.
 pub fn remove_forgetting<D: Disk>(
     disk: &mut D,
     held: &mut Held,
@@ -202,7 +204,8 @@ pub fn remove_forgetting<D: Disk>(
         (D.state disk.old) (D.state disk.new) }
     ensures looks { LooksIfDamaged result held.old held.new (D.state disk.old) (D.state disk.new) }
 
-    // At no moment has a block that was held before other bytes, and where the device fails, no held one has.
+    // At no moment does a block that was held before have other bytes, and if the device fails, no
+    // held block does.
     ensures moments { (D.state disk.new).honest ≡ true → HoldsMore (before_of (option_copied before.entry) held.old) held.old
         → Throughout (D.state disk.old) (D.state disk.new)
         (TouchesOnly (is_free (before_of (option_copied before.entry) held.old)) (D.state disk.old).now) }

@@ -1,4 +1,4 @@
-//! What two sides made of the map from which both went on.
+//! What two sides made of the map that both started from.
 ghost use Rattle.std.specs.Prelude.{◌≡◌, ◌≢◌, ◌≤◌, true, Some, None};
 ghost use Rattle.vm_types.specs.Map.{conflicts};
 ghost use Rattle.vm_disk.specs.Disk.{Goes};
@@ -15,7 +15,7 @@ use vm_types::{
     settled_refusal,
 };
 
-/// The roots of a base, and of the two maps that came of it.
+/// The roots of a base, and of the two maps that came from it.
 #[derive(Clone, Copy, Debug)]
 pub struct ThreeRoots {
     pub base: Root,
@@ -23,14 +23,14 @@ pub struct ThreeRoots {
     pub own: Root,
 }
 
-/// What the parent changed of the base, and what the alternative did, by rising keys.
+/// What the parent changed since the base, and what the alternative did, by rising keys.
 #[derive(Debug, Drop)]
 struct Sides {
     theirs: Changes,
     mine: Changes,
 }
 
-/// Reads what both sides changed of their base.
+/// Reads what both sides changed since their base.
 fn read_sides<D: Disk>(
     alloc: Global,
     disk: &mut D,
@@ -69,7 +69,7 @@ pub fn conflicts_of<D: Disk>(
     conflicts_between(alloc, &sides.theirs, &sides.mine)
 }
 
-/// How many records both sides changed of their base, and how many are in conflict.
+/// How many records both sides changed since their base, and how many are in conflict.
 pub fn tally_of<D: Disk>(
     alloc: Global,
     disk: &mut D,
@@ -94,7 +94,8 @@ pub fn tally_of<D: Disk>(
     })
 }
 
-/// What a merge changes in the map of the alternative, by rising keys, or why its settlements are refused.
+/// What a merge changes in the map of the alternative, by rising keys, or why its settlements are
+/// refused.
 pub fn changes_of_merge<D: Disk>(
     alloc: Global,
     disk: &mut D,

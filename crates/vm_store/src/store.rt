@@ -7,18 +7,20 @@ ghost use Rattle.vm_check.specs.Noted.{inner_of};
 ghost use Rattle.vm_disk.specs.Moments.{Leaves};
 ghost use Rattle.vm_store.specs.Shown.{Shows};
 
+mod command_list;
 mod commands;
-mod formatting;
-mod opening;
+mod copies;
+mod new_store;
 mod parts;
 mod queries;
-mod running;
+mod recovery;
 mod spare;
 
 use crate::versions::Versions;
-pub use formatting::format;
-pub use opening::open;
-pub use running::Stop;
+pub use command_list::Stop;
+pub use copies::copy;
+pub use new_store::format;
+pub use recovery::open;
 use std::alloc::Global;
 use vm_alloc::{Baseline, Held, Marks};
 use vm_block::{Entry, SlotName};
@@ -39,18 +41,19 @@ pub struct Store<D: Disk> {
     disk: NotedDisk<D>,
     alloc: Global,
     blocks: u32,
-    // How many of them were committed. A Grow since then gave it the others.
+    // How many of them were committed. The others came by a Grow since then.
     kept: u32,
     slot_name: SlotName,
     entries: Vec<Entry>,
     committed: Versions,
     working: Versions,
     held: Held,
-    // What a marking has marked: no more than room for one, from call to call.
+    // The marks of a marking. Between calls it is only memory for the next one.
     marks: Marks,
-    // While a series of changes goes on, the blocks that were held before it and are held still.
+    // While a series of changes is open, the blocks that were held before it and still are.
     before: Baseline,
-    // The alternative of which the commands since then changed records, and no other command came.
+    // The alternative whose records were changed by every command since the series began, if one is
+    // open.
     series: Option<Name>,
     // How many changes were made outside a series since the last one began.
     changes: u32,
@@ -67,11 +70,11 @@ pub struct Store<D: Disk> {
 }
 
 impl<D: Disk> Store<D> {
-    ghost use Rattle.vm_store.specs.Running.{CarriesOut};
+    ghost use Rattle.vm_store.specs.Commands.{CarriesOut};
     ghost use Rattle.vm_store.specs.Store.{disk_of, has_failed, ClosesWith};
 
-    /// Carries out one command. After an answer `Device` the store answers `Failed` to every call but
-    /// `close`: close it, and open the disk again.
+    /// Carries out one command. After an answer `Device`, the store answers `Failed` to every call
+    /// except `close`: close it, and open the disk again.
     pub fn apply(&mut self, command: &Command) -> Result<Answer, Refusal>
         ensures refused { has_failed self.old ≡ true
             → (result ≡ Err Refusal.Failed) × (self.new ≡ self.old) }
@@ -86,7 +89,7 @@ impl<D: Disk> Store<D> {
         answer
     }
 
-    /// Gives a record of the alternative a value, as `apply` does by a Put of it. The value is not
+    /// Sets the value of a record of the alternative, as `apply` does with a Put. The value is not
     /// copied.
     pub fn put(&mut self, alt: &Name, key: Key, value: &[u8]) -> Result<Answer, Refusal>
         requires short { length value.now ≤ longest }
@@ -104,7 +107,7 @@ impl<D: Disk> Store<D> {
         answer
     }
 
-    /// Gives the disk back. What was not committed is gone.
+    /// Gives the disk back. Uncommitted changes are gone.
     pub fn close(self) -> D
         ensures disk { result ≡ disk_of self }
         ensures shown { ClosesWith self result (λ seen. Shows (D.state result).now.contents seen) }

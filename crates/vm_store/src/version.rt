@@ -6,7 +6,7 @@ use vm_block::{Entry, Kind};
 use vm_tree::Root;
 use vm_types::Name;
 
-/// An alternative or a checkpoint: a version of a slot, with the tops of its trees in the place of their
+/// An alternative or a checkpoint: a version of a slot, with the tops of its trees instead of their
 /// block numbers.
 #[derive(Clone, Copy, Debug, PartialEq, Eq)]
 pub struct Version {

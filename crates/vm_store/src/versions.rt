@@ -1,4 +1,5 @@
-//! The alternatives and checkpoints of a store in memory: found by name, added, changed and taken out.
+//! The alternatives and checkpoints of a store in memory: found by name, added, changed and
+//! removed.
 ghost use Rattle.std.specs.Prelude.{◌≡◌, ◌↔◌, ◌≤◌, ◌<◌, ◌*◌, ◌++◌, ◌∷◌, ◌+◌, [], find, filter, length, None, option_map, vec_capacity, IfSome, IfNone, IfOk, IfErr, IsTrue};
 ghost use Rattle.std.specs.List.{list_any};
 ghost use Rattle.vm_types.specs.Firsts.{IsFirst, change_first, without_first};
@@ -21,8 +22,9 @@ use vm_block::Entry;
 use vm_tree::Root;
 use vm_types::{Answer, Command, MAX_VERSIONS, Name, Refusal};
 
-/// Alternatives and checkpoints, in order of creation. There is room for as many as a slot may have, so no
-/// call but `of_entries` takes memory. An alternative is looked for first where one was used last.
+/// Alternatives and checkpoints, in order of creation. There is room for as many as a slot may
+/// have, so only `of_entries` takes memory. The search for an alternative starts where one was used
+/// last.
 #[derive(Drop)]
 pub struct Versions {
     list: Vec<Version>,
@@ -43,7 +45,7 @@ impl Model for Versions {
         × IsEarliest a.list.items a.recent };
 }
 
-/// Where the alternative of this name stands.
+/// The position of the alternative of this name.
 fn position_of(versions: &[Version], alt: &Name) -> Option<usize>
     ensures found { IfSome result (IsFirst (is_alternative_of alt.now) versions.now) }
     ensures earliest { IfSome result (IsEarliest versions.now) }
@@ -57,7 +59,7 @@ fn position_of(versions: &[Version], alt: &Name) -> Option<usize>
     None
 }
 
-/// Where the checkpoint of this name of the alternative stands.
+/// The position of the checkpoint of this name of the alternative.
 fn checkpoint_position(versions: &[Version], alt: &Name, name: &Name) -> Option<usize>
     ensures found { IfSome result (IsFirst (is_checkpoint_of alt.now name.now) versions.now) }
     ensures none { IfNone result (find (is_checkpoint_of alt.now name.now) versions.now ≡ None) }
@@ -70,8 +72,8 @@ fn checkpoint_position(versions: &[Version], alt: &Name, name: &Name) -> Option<
     None
 }
 
-/// Adds the versions of entries whose roots these are, current before base. There has to be room,
-/// so it takes no memory.
+/// Adds the versions of entries with these roots, current before base. There must be room, so it
+/// takes no memory.
 fn add_versions(into: &mut Vec<Version>, entries: &[Entry], roots: &[Root])
     requires space { length into.old.items + length entries.now ≤ vec_capacity into.old }
     requires roots { length roots.now ≡ 2 * length entries.now }
@@ -93,7 +95,7 @@ fn add_versions(into: &mut Vec<Version>, entries: &[Entry], roots: &[Root])
 }
 
 impl Versions {
-    /// The versions of a slot's entries whose roots these are, current before base.
+    /// The versions of a slot's entries with these roots, current before base.
     pub fn of_entries(
         alloc: Global,
         entries: &[Entry],
@@ -108,7 +110,7 @@ impl Versions {
         Ok(Versions { list, recent: 0 })
     }
 
-    /// Makes them the same as others.
+    /// Makes these versions the same as others.
     pub fn copy_from(&mut self, other: &Versions)
         ensures { self.new ≡ other.now }
     {
@@ -127,7 +129,7 @@ impl Versions {
         &self.list
     }
 
-    /// Where the alternative of this name stands.
+    /// The position of the alternative of this name.
     fn position(&self, alt: &Name) -> Option<usize>
         ensures found { IfSome result (IsFirst (is_alternative_of alt.now) self.now) }
         ensures earliest { IfSome result (IsEarliest self.now) }
@@ -172,7 +174,7 @@ impl Versions {
 
     /// The alternative of this name, and its parent.
     ///
-    /// It answers `NoSuchAlternative` where one of them is not there, and `IsTop` where the alternative has
+    /// Returns `NoSuchAlternative` if one of them is not there, and `IsTop` if the alternative has
     /// no parent.
     pub fn pair_of(&self, alt: &Name) -> Result<(Version, Version), Refusal>
         ensures found { IfOk result (IsPair self.now alt.now) }
@@ -190,7 +192,7 @@ impl Versions {
         Ok((own, parent))
     }
 
-    /// Gives the alternative of this name another current root, where it is there.
+    /// Gives the alternative of this name another current root, if it is there.
     pub fn set_current(&mut self, alt: &Name, current: Root)
         ensures { self.new ≡ change_first (is_alternative_of alt.now) (with_current current) self.old }
     {
@@ -200,7 +202,7 @@ impl Versions {
         }
     }
 
-    /// Gives the alternative of this name another base root, where it is there.
+    /// Gives the alternative of this name another base root, if it is there.
     pub fn set_base(&mut self, alt: &Name, base: Root)
         ensures { self.new ≡ change_first (is_alternative_of alt.now) (with_base base) self.old }
     {
@@ -210,7 +212,7 @@ impl Versions {
         }
     }
 
-    /// Gives the alternative of this name two other roots, where it is there.
+    /// Gives the alternative of this name two other roots, if it is there.
     fn set_roots(&mut self, alt: &Name, current: Root, base: Root)
         ensures { self.new ≡ change_first (is_alternative_of alt.now) (with_tops current base) self.old }
     {
@@ -238,7 +240,7 @@ impl Versions {
         self.list.iter().any(|v| is_child_of(alt, v))
     }
 
-    /// Adds one at the end.
+    /// Appends a version.
     fn add(&mut self, version: Version)
         requires { length self.old < MAX_VERSIONS }
         ensures items { self.new ≡ self.old ++ version ∷ [] }
@@ -252,7 +254,7 @@ impl Versions {
         };
     }
 
-    /// Takes out the alternative of this name and its checkpoints.
+    /// Removes the alternative of this name and its checkpoints.
     fn take_out(&mut self, alt: &Name)
         ensures { self.new ≡ filter (is_apart alt.now) self.old }
     {
@@ -260,7 +262,7 @@ impl Versions {
         self.list.retain(|v| is_apart(alt, v));
     }
 
-    /// Takes out the checkpoint of this name of the alternative, where it is there.
+    /// Removes the checkpoint of this name of the alternative, if it is there.
     fn take_checkpoint_out(&mut self, alt: &Name, name: &Name)
         ensures { self.new ≡ without_first (is_checkpoint_of alt.now name.now) self.old }
     {
@@ -291,7 +293,7 @@ impl Versions {
     }
 }
 
-/// Makes a list what a slot says of the versions. There has to be room, so it takes no memory.
+/// Makes a list what a slot says of the versions. There must be room, so it takes no memory.
 pub fn write_entries(into: &mut Vec<Entry>, versions: &[Version])
     requires { length versions.now ≤ vec_capacity into.old }
     ensures items { into.new.items ≡ slot_entries versions.now }

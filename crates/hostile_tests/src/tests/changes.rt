@@ -1,5 +1,5 @@
-//! Stores with single bytes and single numbers of their blocks changed, and what a second reader makes of
-//! them.
+//! Stores with single bytes and single numbers of their blocks changed, and what a second reader
+//! makes of them.
 use super::commands::put;
 use super::image::Image;
 use super::reader::{Content, read_store};
@@ -10,9 +10,10 @@ use std::test::Fail;
 use testkit::{RecordingDisk, Wrong, top};
 use vm_disk::{Disk, MemDisk};
 use vm_store::{Store, format, open};
-use vm_types::{Answer, Command, Key, Refusal, Value};
+use vm_types::{Answer, Block, Command, Key, Refusal, Value};
 
-/// At which byte of a block something else was found than is due, and for which byte or number there.
+/// The byte of a block at which the result was not the expected one, and the byte or number that
+/// was set there.
 type Place = (usize, u32);
 
 /// A disk, what it holds, and what was found on it.
@@ -42,7 +43,7 @@ fn has_lists(
     Ok(records.len() == content.records.len())
 }
 
-/// Whether a store that was just opened is what the second reader has found.
+/// Whether a freshly opened store is what the second reader has found.
 fn is_same(
     alloc: Global,
     store: &mut Store<RecordingDisk>,
@@ -56,7 +57,7 @@ fn is_same(
     Ok(free.saturating_add(used) == 30 && has_lists(alloc, store, content)?)
 }
 
-/// Whether the opening was answered as it should be, and has read no block twice.
+/// Whether the opening answered as it should, and read no block twice.
 fn is_due(
     alloc: Global,
     disk: RecordingDisk,
@@ -101,7 +102,7 @@ impl Bench {
         })
     }
 
-    fn set(&mut self, n: u32, bytes: &[u8; 4096]) -> Result<(), Wrong> {
+    fn set(&mut self, n: u32, bytes: &Block) -> Result<(), Wrong> {
         if n >= self.disk.blocks() {
             return Err(Wrong::Device);
         }
@@ -110,8 +111,8 @@ impl Bench {
         Ok(())
     }
 
-    /// Opens the disk, with this block changed so.
-    fn try_block(self, n: u32, bytes: &[u8; 4096]) -> Result<Bench, Wrong> {
+    /// Opens the disk with this block changed to these bytes.
+    fn try_block(self, n: u32, bytes: &Block) -> Result<Bench, Wrong> {
         let mut bench = self;
         let before = bench.image.block(n);
         bench.set(n, bytes)?;
@@ -154,7 +155,8 @@ fn disk_of(alloc: Global, commands: &[Command]) -> Result<MemDisk, Wrong> {
     Ok(disk)
 }
 
-/// A disk of one record. A short value is in block 34, and a long one there with its leaf in block 35.
+/// A disk of one record. A short value is in block 34; a long one is in block 34 with its leaf in
+/// block 35.
 fn one_record(alloc: Global, value: &[u8]) -> Result<MemDisk, Wrong> {
     let one = Command::Put {
         alt: top(),
@@ -167,8 +169,8 @@ fn one_record(alloc: Global, value: &[u8]) -> Result<MemDisk, Wrong> {
     disk_of(alloc, &[one, Command::Commit])
 }
 
-/// Sets each byte of a block to this, one at a time, up to a place, where this is the value of the record. Gives how
-/// many of the disks are a store.
+/// Sets each byte of a block to this one, one at a time, up to a given offset. The record has this
+/// value. Returns how many of the disks are a store.
 fn try_bytes(
     alloc: Global,
     value: &[u8],
@@ -191,9 +193,9 @@ fn try_bytes(
     Ok(bench.stores)
 }
 
-/// A disk of seventeen records, with the root in block 38 over leaves in 36 and 37. Blocks 39 to 47,
-/// 34 and 35 hold the leaf as it was with 6 to 16 records: a Checkpoint and an Uncheck after each Put
-/// end its series, so that none is forgotten.
+/// A disk of seventeen records, with the root in block 38 over leaves in 36 and 37. Blocks 39 to
+/// 47, 34 and 35 hold the leaf as it was with 6 to 16 records: a Checkpoint and an Uncheck after
+/// each Put end its series, so that no block is forgotten.
 fn two_levels(alloc: Global) -> Result<MemDisk, Wrong> {
     let mut commands = Vec::new(alloc);
     let (alt, saved) = (top(), name(b"saved"));
@@ -210,8 +212,8 @@ fn two_levels(alloc: Global) -> Result<MemDisk, Wrong> {
     disk_of(alloc, &commands)
 }
 
-/// Sets four bytes of a block of a disk to each number from 0 to 64, from each of these places on. Gives how many
-/// of the disks are a store.
+/// Sets four bytes of a block of a disk to each number from 0 to 64, at each offset of a range.
+/// Returns how many of the disks are a store.
 fn try_words(
     alloc: Global,
     disk: MemDisk,
@@ -238,15 +240,15 @@ fn try_words(
 /// A short value.
 const DUCT: &[u8] = b"duct";
 
-/// One that is long.
+/// A long value.
 const LONG: &[u8] = &[0x61; 300];
 
-/// The value of a record, a block, what each of its bytes is set to, up to which one, and how many of the disks
-/// are a store then.
+/// The value of a record, a block, what each of its bytes is set to, up to which one, and how many
+/// of the disks are then a store.
 const BYTES: [(&[u8], u32, u8, usize, u32); 12] = [
     // A byte that is zero stays so: all but 10 of the header, 13 of the slot and 12 of the leaf. Of
-    // those the root may be none, and the table, the number and the letters of the value may be
-    // others. Each selector names a slot, and what follows the entry in its slot is ignored.
+    // those, the root may be none, and the table, the number and the letters of the value may be
+    // others. Every selector names a slot, and what follows the entry in its slot is ignored.
     (DUCT, 0, 0, 4096, 4096 - 10),
     (DUCT, 0, 0xFF, 4096, 0),
     (DUCT, 1, 0, 4096, 4096),
@@ -255,26 +257,26 @@ const BYTES: [(&[u8], u32, u8, usize, u32); 12] = [
     (DUCT, 18, 0xFF, 4096, 4096 - 256),
     (DUCT, 34, 0, 4096, 4096 - 12 + 6),
     (DUCT, 34, 0xFF, 4096, 2 + 8 + 4),
-    // The same of the first bytes of the blocks of a value of 300 bytes. The letters, the length and the key
-    // of its block stand for themselves alone, and so does each byte of its leaf. The bytes of the value may
-    // be others.
+    // The same for the first bytes of the blocks of a value of 300 bytes. The letters, the length
+    // and the key of its block have only one valid form, and so does each byte of its leaf. The
+    // bytes of the value may be others.
     (LONG, 34, 0, 512, 512 - 8),
     (LONG, 34, 0xFF, 512, 300),
     (LONG, 35, 0, 512, 512 - 10),
     (LONG, 35, 0xFF, 512, 0),
 ];
 
-/// Whether the disk has one long value, in place of seventeen records, a block of it, from which byte on and up
-/// to which one it is set to numbers, and how many of the disks are a store then.
+/// Whether the disk has one long value instead of seventeen records, a block of it, from which byte
+/// on and up to which one it is set to numbers, and how many of the disks are then a store.
 const WORDS: [(bool, u32, usize, usize, u32); 6] = [
-    // The root of `top` may be none or each block from 34 to 47. The first child may be each leaf that
-    // begins with the first record and has at most nine, and the second one is the only one to begin
-    // with the tenth.
+    // The root of `top` may be none or each block from 34 to 47. The first child may be each leaf
+    // that begins with the first record and has at most nine, and the second one is the only leaf
+    // that begins with the tenth.
     (false, 18, 128 + 67, 128 + 68, 15),
     (false, 38, 16 + 10, 16 + 11, 5),
     (false, 38, 30 + 10, 30 + 11, 1),
-    // Of the store of one long value the root may be none or its leaf, and the link names the one block with
-    // its key. Of the formats the second alone has it.
+    // In the store of one long value, the root may be none or its leaf, and the link names the only
+    // block with its key. Of the formats, only the second has it.
     (true, 18, 128 + 67, 128 + 68, 2),
     (true, 35, 16 + 12, 16 + 13, 1),
     (true, 18, 4, 5, 1),
@@ -299,7 +301,7 @@ fn each_byte_is_read_or_ignored(rt: HostRuntime) -> Result<(), Fail> {
     Ok(())
 }
 
-/// Each number at each place of a block of the disk of seventeen records.
+/// Each number at each offset of a block of the disk of seventeen records.
 fn try_each_number<R: AllocGlobal + Abort>(rt: &R, n: u32) {
     let mut place = (0, 0);
     let found = match two_levels(rt.alloc()) {

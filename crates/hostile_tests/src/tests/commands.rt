@@ -9,17 +9,17 @@ use vm_types::{Answer, Command, Key, Settled, Value};
 pub enum Script {
     /// `x` is made, changed, merged and posted, and `top` is changed after that.
     Posted,
-    /// The same, and directly before the second Commit `y` begins at a checkpoint of `top`, and the store
-    /// grows.
+    /// The same, and directly before the second Commit `y` begins at a checkpoint of `top`, and the
+    /// store grows.
     Grown,
 }
 
-/// The long value of the run, which stands in a block of its own.
+/// The long value of the run. It has a block of its own.
 pub const LONG: &'static [u8] = &[b'd'; 300];
 
-/// How many device calls `format`, `open` and the commands make where the store doesn't grow. The Merge
-/// reads the long value, and writes it into a block of its own. The Remove goes on with the series of the
-/// Put before it, and reads its leaf once.
+/// How many device calls `format`, `open` and the commands make if the store does not grow. The
+/// Merge reads the long value, and writes it into a block of its own. The Remove goes on with the
+/// series of the Put before it, and reads its leaf once.
 const CALLS: u32 = 7 + 4 + 1 + 2 + 4 + 3 + 8 + 4 + 2 + 2 + 4;
 
 /// How many of these are writes or syncs.
@@ -101,7 +101,7 @@ impl Script {
         }
     }
 
-    /// How many of these are no reads.
+    /// How many of these are not reads.
     pub(super) fn changing_calls(self) -> u32 {
         match self {
             Script::Posted => WRITES_AND_SYNCS,

@@ -25,7 +25,7 @@ fn free_on(alloc: Global, disk: MemDisk) -> Result<u32, Refusal> {
     }
 }
 
-/// A disk of so many blocks: the first ones of an image, and behind those zero bytes.
+/// A disk of this many blocks: the first ones of an image, and then zero bytes.
 fn cut(alloc: Global, image: &Image, blocks: u32) -> Result<MemDisk, Wrong> {
     let mut disk = MemDisk::new(alloc, blocks)?;
     for n in 0..blocks {
@@ -34,7 +34,7 @@ fn cut(alloc: Global, image: &Image, blocks: u32) -> Result<MemDisk, Wrong> {
     Ok(disk)
 }
 
-/// What formatting a disk is answered, and whether each block is as it was.
+/// The answer to formatting a disk, and whether each block is as it was.
 fn format_on(
     alloc: Global,
     disk: MemDisk,

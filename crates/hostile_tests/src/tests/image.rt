@@ -1,24 +1,25 @@
-//! What the blocks of a disk hold, to be kept and laid on a disk again.
+//! The contents of the blocks of a disk, to be kept and written to a disk again.
 use super::{BLOCKS, GROWN_BLOCKS};
 use std::alloc::Global;
 use testkit::Wrong;
 use vm_disk::{Disk, MemDisk};
+use vm_types::Block;
 
 /// What each block of a disk holds.
 #[derive(Drop)]
 pub struct Image {
-    blocks: Vec<[u8; 4096]>,
+    blocks: Vec<Block>,
 }
 
 impl Image {
-    /// Zero bytes in each of so many blocks.
+    /// Zero bytes in each of this many blocks.
     fn zeros(alloc: Global, blocks: u32) -> Result<Image, Wrong> {
         Ok(Image {
             blocks: Vec::from_elem(alloc, [0; 4096], blocks as usize)?,
         })
     }
 
-    /// Zero bytes in each block that a store has at least.
+    /// Zero bytes in each block of a store of the minimum size.
     pub(super) fn blank(alloc: Global) -> Result<Image, Wrong> {
         Image::zeros(alloc, BLOCKS)
     }
@@ -36,14 +37,14 @@ impl Image {
         Ok(image)
     }
 
-    /// The same once more.
+    /// A copy of it.
     pub(super) fn copy(&self, alloc: Global) -> Result<Image, Wrong> {
         Ok(Image {
             blocks: Vec::from_slice(alloc, &self.blocks)?,
         })
     }
 
-    /// A disk that holds it, all of it synced, with room for the blocks of a store that grew.
+    /// A disk with these contents, all of it synced, with room for the blocks of a grown store.
     pub(super) fn disk(&self, alloc: Global) -> Result<MemDisk, Wrong> {
         let blocks = u32::try_from(self.blocks.len()).unwrap_or(GROWN_BLOCKS);
         let blocks = blocks.min(GROWN_BLOCKS);
@@ -58,13 +59,13 @@ impl Image {
         Ok(disk)
     }
 
-    /// What block n holds, if there is one of that number.
-    pub(super) fn get(&self, n: u32) -> Option<&[u8; 4096]> {
+    /// What block n holds, if there is a block of that number.
+    pub(super) fn get(&self, n: u32) -> Option<&Block> {
         self.blocks.get(n as usize)
     }
 
-    /// What block n holds, or else zero bytes.
-    pub(super) fn block(&self, n: u32) -> [u8; 4096] {
+    /// What block n holds, or zero bytes if there is no such block.
+    pub(super) fn block(&self, n: u32) -> Block {
         match self.get(n) {
             Some(bytes) => *bytes,
             None => [0; 4096],
@@ -72,7 +73,7 @@ impl Image {
     }
 
     /// Sets what block n holds.
-    pub(super) fn set(&mut self, n: u32, bytes: &[u8; 4096]) {
+    pub(super) fn set(&mut self, n: u32, bytes: &Block) {
         let at = n as usize;
         if at < self.blocks.len() {
             self.blocks[at] = *bytes;

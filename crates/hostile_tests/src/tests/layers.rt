@@ -1,4 +1,4 @@
-//! What stands between a store and the device that fails.
+//! What is between a store and the device that fails.
 use std::alloc::Global;
 use vm_disk::{CachedDisk, DelayedDisk, Disk, FuseDisk, MemDisk};
 
@@ -7,10 +7,10 @@ pub type Device = FuseDisk<FuseDisk<MemDisk>>;
 
 /// A disk for a store, over such a device.
 pub trait Layer: Disk + Drop {
-    /// A new one that has up to so many blocks in memory, where there is memory for it.
+    /// A new one that keeps up to this many blocks in memory, if there is memory for it.
     fn over(alloc: Global, device: Device, blocks: u32) -> Option<Self>;
 
-    /// The same after a call failed, as it is for who opens it anew.
+    /// The same after a call failed, as whoever opens it anew finds it.
     fn anew(self, alloc: Global, blocks: u32) -> Option<Self>;
 
     /// The device, given back.
@@ -47,7 +47,7 @@ impl Layer for CachedDisk<Device> {
     }
 }
 
-/// Written blocks that wait between them. Opened anew, those that still wait are given up.
+/// Written blocks that wait between them. When opened anew, those that still wait are dropped.
 impl Layer for DelayedDisk<Device> {
     fn over(alloc: Global, device: Device, blocks: u32) -> Option<DelayedDisk<Device>> {
         DelayedDisk::new(alloc, device, blocks.max(1) as usize).ok()

@@ -1,20 +1,20 @@
-//! A second reader of stores, written from the description of their blocks alone: slow, and with nothing
-//! in common with what opens them.
+//! A second reader of stores, written from the description of their blocks alone: slow, and with
+//! nothing in common with the code that opens them.
 use super::BLOCKS;
 use super::image::Image;
 use std::alloc::Global;
-use vm_types::{Key, Value};
+use vm_types::{Block, Key, Value};
 
-/// The first block for data.
+/// The first data block.
 const FIRST_DATA: u32 = 34;
 
-/// The bytes of a name, zero bytes behind it, and its length.
+/// The length of a name, its bytes, and zero bytes after it.
 type Label = [u8; 33];
 
-/// How many bytes a value has at most that stands in its leaf.
+/// The maximum length in bytes of a value that is stored in its leaf.
 const MAX_SHORT: usize = 240;
 
-/// How many bytes a value has at most.
+/// The maximum length of a value in bytes.
 const MAX_LONG: usize = 4000;
 
 /// The entries of a slot, and whether its format has long values.
@@ -34,7 +34,7 @@ struct Found {
     base: u32,
 }
 
-/// A block of a tree: its lowest key, where that is known, and a key above all of its keys.
+/// A block of a tree: its lowest key, if that is known, and a key above all of its keys.
 #[derive(Clone, Copy)]
 struct Part {
     block: u32,
@@ -49,12 +49,12 @@ pub struct Content {
     pub records: Vec<(Key, Value)>,
 }
 
-fn byte(bytes: &[u8; 4096], at: usize) -> u8 {
+fn byte(bytes: &Block, at: usize) -> u8 {
     bytes.get(at).copied().unwrap_or(0xFF)
 }
 
-/// The number in so many bytes.
-fn number(bytes: &[u8; 4096], at: usize, width: usize) -> u64 {
+/// The number in this many bytes.
+fn number(bytes: &Block, at: usize, width: usize) -> u64 {
     let mut number: u64 = 0;
     for i in 0..width {
         let place = at.wrapping_add(width).wrapping_sub(i).wrapping_sub(1);
@@ -65,11 +65,11 @@ fn number(bytes: &[u8; 4096], at: usize, width: usize) -> u64 {
     number
 }
 
-fn word(bytes: &[u8; 4096], at: usize) -> u32 {
+fn word(bytes: &Block, at: usize) -> u32 {
     u32::try_from(number(bytes, at, 4)).unwrap_or(u32::MAX)
 }
 
-fn are_zero(bytes: &[u8; 4096], from: usize, to: usize) -> bool {
+fn are_zero(bytes: &Block, from: usize, to: usize) -> bool {
     for at in from..to {
         if byte(bytes, at) != 0 {
             return false;
@@ -78,7 +78,7 @@ fn are_zero(bytes: &[u8; 4096], from: usize, to: usize) -> bool {
     true
 }
 
-fn starts_with(bytes: &[u8; 4096], start: &[u8]) -> bool {
+fn starts_with(bytes: &Block, start: &[u8]) -> bool {
     for (i, due) in start.iter().enumerate() {
         if byte(bytes, i) != *due {
             return false;
@@ -87,16 +87,16 @@ fn starts_with(bytes: &[u8; 4096], start: &[u8]) -> bool {
     true
 }
 
-fn key_at(bytes: &[u8; 4096], at: usize) -> Key {
+fn key_at(bytes: &Block, at: usize) -> Key {
     Key {
         table: u16::try_from(number(bytes, at, 2)).unwrap_or(u16::MAX),
         number: number(bytes, at.wrapping_add(2), 8),
     }
 }
 
-/// Whether the keys rise that stand at each so many bytes from byte 16 on, lie below the bound, and
-/// begin with the lowest.
-fn have_keys(bytes: &[u8; 4096], count: usize, width: usize, part: Part) -> bool {
+/// Whether the keys at every `width` bytes from byte 16 on rise, lie below the bound, and begin
+/// with the lowest.
+fn have_keys(bytes: &Block, count: usize, width: usize, part: Part) -> bool {
     let mut before: Option<Key> = None;
     for i in 0..count {
         let key = key_at(bytes, i.wrapping_mul(width).wrapping_add(16));
@@ -121,12 +121,12 @@ fn have_keys(bytes: &[u8; 4096], count: usize, width: usize, part: Part) -> bool
 }
 
 /// How many bytes the value of the record of this number in a leaf has.
-fn length_of(bytes: &[u8; 4096], i: usize) -> usize {
+fn length_of(bytes: &Block, i: usize) -> usize {
     number(bytes, i.wrapping_mul(252).wrapping_add(26), 2) as usize
 }
 
-/// Whether one of so many records of a leaf has a long value.
-fn has_long(bytes: &[u8; 4096], count: usize) -> bool {
+/// Whether one of the `count` records of a leaf has a long value.
+fn has_long(bytes: &Block, count: usize) -> bool {
     for i in 0..count {
         if length_of(bytes, i) > MAX_SHORT {
             return true;
@@ -136,7 +136,7 @@ fn has_long(bytes: &[u8; 4096], count: usize) -> bool {
 }
 
 /// Whether the bytes are a block of a tree of this level, with this many records or children.
-fn is_framed(bytes: &[u8; 4096], level: u32, count: usize, part: Part) -> bool {
+fn is_framed(bytes: &Block, level: u32, count: usize, part: Part) -> bool {
     let (letters, most, width): (&[u8], usize, usize) = if level > 0 {
         (b"NODE", 256, 14)
     } else if count <= 16 && has_long(bytes, count) {
@@ -153,8 +153,8 @@ fn is_framed(bytes: &[u8; 4096], level: u32, count: usize, part: Part) -> bool {
         && have_keys(bytes, count, width, part)
 }
 
-/// The short value of so many bytes that stands at a byte.
-fn short_at(bytes: &[u8; 4096], at: usize, length: usize) -> Option<Value> {
+/// The short value of this many bytes at an offset.
+fn short_at(bytes: &Block, at: usize, length: usize) -> Option<Value> {
     let end = at.wrapping_add(length);
     if !are_zero(bytes, end, at.wrapping_add(MAX_SHORT)) {
         return None;
@@ -162,8 +162,8 @@ fn short_at(bytes: &[u8; 4096], at: usize, length: usize) -> Option<Value> {
     Value::new(bytes.get(at..end)?)
 }
 
-/// The value of so many bytes that has a block of its own, under this key.
-fn long_in(bytes: &[u8; 4096], key: Key, length: usize) -> Option<Value> {
+/// The value of this many bytes that has a block of its own, under this key.
+fn long_in(bytes: &Block, key: Key, length: usize) -> Option<Value> {
     let end = length.wrapping_add(26);
     let is_long = starts_with(bytes, b"LONG\0\0\0\0")
         && word(bytes, 8) as usize == length
@@ -176,10 +176,10 @@ fn long_in(bytes: &[u8; 4096], key: Key, length: usize) -> Option<Value> {
     Value::new(bytes.get(26..end)?)
 }
 
-/// Reads the long value of so many bytes whose block's number stands at a byte.
+/// Reads the long value of this many bytes whose block number is at an offset.
 fn read_long(
     image: &Image,
-    bytes: &[u8; 4096],
+    bytes: &Block,
     at: usize,
     key: Key,
     length: usize,
@@ -196,12 +196,7 @@ fn read_long(
 }
 
 /// Adds the records of a leaf, and the blocks of its long values.
-fn read_records(
-    image: &Image,
-    bytes: &[u8; 4096],
-    count: usize,
-    content: &mut Content,
-) -> Option<()> {
+fn read_records(image: &Image, bytes: &Block, count: usize, content: &mut Content) -> Option<()> {
     for i in 0..count {
         let at = i.wrapping_mul(252).wrapping_add(16);
         let (key, length) = (key_at(bytes, at), length_of(bytes, i));
@@ -218,7 +213,7 @@ fn read_records(
 
 /// Adds the children of an inner block. Each one's keys lie below the lowest one of the next.
 fn read_children(
-    bytes: &[u8; 4096],
+    bytes: &Block,
     count: usize,
     above: Option<Key>,
     parts: &mut Vec<Part>,
@@ -247,7 +242,7 @@ fn add_block(blocks: &mut Vec<u32>, block: u32) -> Option<()> {
     Some(())
 }
 
-/// Reads the blocks of one level. Gives those of the level below.
+/// Reads the blocks of one level. Returns those of the level below.
 fn read_level(
     alloc: Global,
     image: &Image,
@@ -276,7 +271,7 @@ fn read_level(
     Some(below)
 }
 
-/// Reads the tree under a root. Its records are those of the content then.
+/// Reads the tree under a root. Its records become those of the content.
 fn read_tree(
     alloc: Global,
     image: &Image,
@@ -303,8 +298,8 @@ fn read_tree(
     Some(())
 }
 
-/// The name that stands at a byte, where it is none but the empty one.
-fn label_at(bytes: &[u8; 4096], at: usize) -> Option<Label> {
+/// The name at an offset, if it is a name or empty.
+fn label_at(bytes: &Block, at: usize) -> Option<Label> {
     let length = byte(bytes, at);
     let mut label = [0; 33];
     for (i, place) in label.iter_mut().enumerate() {
@@ -324,8 +319,8 @@ fn label_at(bytes: &[u8; 4096], at: usize) -> Option<Label> {
     (length <= 32).then_some(label)
 }
 
-/// The entry that stands at a byte.
-fn entry_at(bytes: &[u8; 4096], at: usize) -> Option<Found> {
+/// The entry at an offset.
+fn entry_at(bytes: &Block, at: usize) -> Option<Found> {
     let found = Found {
         tag: byte(bytes, at),
         name: label_at(bytes, at.wrapping_add(1))?,
@@ -367,7 +362,7 @@ fn fits(found: Found, before: &[Found]) -> bool {
     }
 }
 
-/// The slot that is in use.
+/// The slot in use.
 fn read_slot(alloc: Global, image: &Image) -> Option<Slot> {
     let odd = byte(&image.block(1), 0) % 2 == 1;
     let first: u32 = if odd { 18 } else { 2 };
@@ -393,11 +388,11 @@ fn read_slot(alloc: Global, image: &Image) -> Option<Slot> {
     Some(Slot { entries, has_long })
 }
 
-fn is_header(bytes: &[u8; 4096]) -> bool {
+fn is_header(bytes: &Block) -> bool {
     starts_with(bytes, b"ALTSTORE\x01\0\0\0\0\x10\0\0") && are_zero(bytes, 16, 4096)
 }
 
-/// What the store of a disk holds, where it is one of as many blocks as the disk.
+/// What the store of a disk holds, if there is one with as many blocks as the disk.
 pub(super) fn read_store(alloc: Global, image: &Image) -> Option<Content> {
     if !is_header(&image.block(0)) {
         return None;

@@ -18,8 +18,8 @@ struct Own {
     saved: bool,
 }
 
-/// What is committed of `top`, `x` and `y`, how many blocks there are, and how many of them are free once
-/// it was opened. Where there is a `y`, `top` has the checkpoint `k`.
+/// What is committed of `top`, `x` and `y`, how many blocks there are, and how many of them are
+/// free after an opening. If there is a `y`, `top` has the checkpoint `k`.
 #[derive(Clone, Copy)]
 struct State {
     top: Map,
@@ -29,7 +29,7 @@ struct State {
     free: u32,
 }
 
-/// What a disk shows: no store, or what so many commands have committed.
+/// What a disk shows: no store, or what this many commands have committed.
 #[derive(Clone, Copy, Debug, PartialEq, Eq)]
 pub enum Shown {
     NoStore,
@@ -94,7 +94,7 @@ fn value_at(map: Map, number: u64) -> Option<Value> {
     None
 }
 
-/// Whether these are just the records of the map.
+/// Whether these are exactly the records of the map.
 fn are_records(records: &Records, map: Map) -> bool {
     for ((found, value), due) in records.iter().zip(map) {
         if found != key(due.0) || value != due.1 {
@@ -104,7 +104,7 @@ fn are_records(records: &Records, map: Map) -> bool {
     records.len() == map.len()
 }
 
-/// Whether these are just the changes from one map to another, all of whose keys are below 10.
+/// Whether these are exactly the changes from one map to another. All keys of both are below 10.
 fn are_changes(changes: &[Change], before: Map, after: Map) -> bool {
     let mut due = changes.iter();
     for number in 0..10 {
@@ -139,7 +139,7 @@ fn has_maps<D: Disk>(
     )
 }
 
-/// Whether an alternative has just this checkpoint, or none.
+/// Whether an alternative has exactly this checkpoint, or none.
 fn has_checkpoint<D: Disk>(
     alloc: Global,
     store: &Store<D>,
@@ -153,7 +153,7 @@ fn has_checkpoint<D: Disk>(
     })
 }
 
-/// Whether the store lists just these alternatives and checkpoints.
+/// Whether the store lists exactly these alternatives and checkpoints.
 fn has_names<D: Disk>(alloc: Global, store: &Store<D>, state: State) -> Result<bool, Wrong> {
     let all = [
         (top(), None),
@@ -186,7 +186,7 @@ fn has_names<D: Disk>(alloc: Global, store: &Store<D>, state: State) -> Result<b
     )
 }
 
-/// Whether a store that was just opened shows what so many commands have committed, but for the maps of
+/// Whether a freshly opened store shows what this many commands have committed, except the maps of
 /// checkpoints. It only reads.
 pub(super) fn shows<D: Disk>(
     alloc: Global,
@@ -213,7 +213,7 @@ pub(super) fn shows<D: Disk>(
     }
 }
 
-/// Whether `x` has the same two maps once it was given others and went back to its checkpoint.
+/// Whether `x` has the same two maps after it was given others and went back to its checkpoint.
 fn goes_back<D: Disk>(alloc: Global, store: &mut Store<D>, own: Own) -> Result<bool, Wrong> {
     let back = Command::Back {
         alt: name(b"x"),
@@ -236,7 +236,7 @@ fn goes_back<D: Disk>(alloc: Global, store: &mut Store<D>, own: Own) -> Result<b
     )
 }
 
-/// What a store shows that was just opened.
+/// What a freshly opened store shows.
 fn find_state<D: Disk>(
     alloc: Global,
     store: &mut Store<D>,
@@ -256,7 +256,7 @@ fn find_state<D: Disk>(
     Err(Wrong::Shown)
 }
 
-/// What a disk shows, checkpoints and all.
+/// What a disk shows, including checkpoints.
 pub(super) fn look(alloc: Global, disk: MemDisk, script: Script) -> Result<Shown, Wrong> {
     match open(alloc, disk) {
         Ok(mut store) => {

@@ -1,9 +1,10 @@
-//! The commands on a device that stops or fails at each of its calls in turn, and once more after that.
+//! The commands on a device that stops or fails at each of its calls in turn, and once more after
+//! that.
 use super::commands::Script;
-use super::halting::{FILLS, Halt};
+use super::halts::{FILLS, Halt};
 use super::image::Image;
 use super::layers::{Device, Layer};
-use super::running::{Due, Fault, NEVER, Scene, run};
+use super::runs::{Due, Fault, NEVER, Scene, run};
 use super::states::{Shown, look};
 use std::alloc::Global;
 use std::process::Abort;
@@ -19,7 +20,7 @@ enum Trial {
     FailThenStop,
 }
 
-/// Whether this is shown after a crash.
+/// Checks that what is shown after a crash is expected.
 fn expect(due: Due, shown: Shown) -> Result<(), Wrong> {
     if due.has(shown) {
         return Ok(());
@@ -30,7 +31,7 @@ fn expect(due: Due, shown: Shown) -> Result<(), Wrong> {
     })
 }
 
-/// A run from a new disk on.
+/// A run that starts with a new disk.
 fn whole(alloc: Global, script: Script, fault: Option<Fault>, blocks: u32) -> Result<Scene, Wrong> {
     Ok(Scene {
         script,
@@ -41,7 +42,7 @@ fn whole(alloc: Global, script: Script, fault: Option<Fault>, blocks: u32) -> Re
     })
 }
 
-/// Stops a scene at each call from this one on. In that one it may be this that is shown.
+/// Stops a scene at each call from this one on. At that call, what is shown may be this.
 fn stop_each<D: Layer>(
     alloc: Global,
     scene: &Scene,
@@ -104,8 +105,8 @@ fn stop_at<D: Layer>(
     go_on_from::<D>(alloc, scene, disk, due, again)
 }
 
-/// Crashes at a call where not all blocks are sure, and leaves each number of blocks that may be
-/// left. What is left of the commands is stopped again once, with all but one of the blocks.
+/// Crashes at a call at which not all blocks are sure, and leaves each possible number of blocks.
+/// The rest of the commands is stopped again once, with all but one of the blocks.
 fn stop_short<D: Layer>(
     alloc: Global,
     scene: &Scene,
@@ -181,7 +182,8 @@ fn try_at<D: Layer>(
     Ok(())
 }
 
-/// Does this at each device call, whose number is told. Gives the number of calls.
+/// Does this at each device call, and passes on the number of the call. Returns the number of
+/// calls.
 fn try_script<D: Layer>(
     alloc: Global,
     script: Script,
@@ -202,19 +204,19 @@ fn try_script<D: Layer>(
     Ok(NEVER)
 }
 
-/// What stands between a store and the device.
+/// What is between a store and the device.
 #[derive(Clone, Copy)]
 enum Over {
     Nothing,
     /// A cache of two blocks.
     Cache,
-    /// So many written blocks that wait.
+    /// This many written blocks that wait.
     Late(u32),
 }
 
-/// The fewest and the most device calls that a script makes so. Through a cache each write, each sync and each
-/// growth reaches the device, but not each read. Where written blocks wait, one that is written again before it
-/// goes out is no call of its own.
+/// The minimum and the maximum number of device calls that a script makes this way. Through a cache
+/// each write, each sync and each growth reaches the device, but not each read. If written blocks
+/// wait, a block that is written again before it goes out makes no call of its own.
 fn bounds(over: Over, script: Script) -> (u32, u32) {
     let calls = script.calls();
     match over {
@@ -243,8 +245,8 @@ fn try_over(
 /// What is done at each device call, and over what.
 type Case = (&'static str, Over, Trial);
 
-/// With nothing between store and device, and over written blocks that wait, one, two or all of them: there without
-/// a second stop.
+/// With nothing between store and device, and over written blocks that wait, one, two or all of
+/// them: there without a second stop.
 const BARE: &[Case] = &[
     ("each stop", Over::Nothing, Trial::Stop),
     ("each stop after a stop", Over::Nothing, Trial::StopTwice),
@@ -293,8 +295,8 @@ const CACHED: &[Case] = &[
     ),
 ];
 
-/// What is shown is what was acknowledged, the branch and the growth of the second script with it, or the commands
-/// end as usual.
+/// What is shown is what was acknowledged, for the second script with the branch and the growth, or
+/// the commands end as usual.
 fn try_all<R: AllocGlobal + Abort>(rt: &R, script: Script, cases: &[Case]) {
     for (name, over, trial) in cases {
         let mut at = 0;

@@ -1,4 +1,5 @@
-//! The names and keys that the sessions use, and a look at all that a store shows of them.
+//! The names and keys that the sessions use, and a comparison of everything that a store shows of
+//! them.
 use super::model::Model;
 use plain_model::Plain;
 use std::alloc::Global;
@@ -7,13 +8,13 @@ use vm_disk::Disk;
 use vm_store::{Store, open};
 use vm_types::{Command, Key, Name, Refusal};
 
-/// How many alternatives are in use, with the first one.
+/// How many alternatives are in use, including the first one.
 pub const ALTERNATIVES: u32 = 4;
 
 /// How many names of checkpoints are in use.
 pub const CHECKPOINTS: u32 = 3;
 
-/// How many keys are in use: more than one leaf has room for.
+/// How many keys are in use: more than fit in one leaf.
 pub const KEYS: u32 = 40;
 
 /// The alternative of this number: `top`, and others that a session may or may not have.
@@ -37,7 +38,8 @@ pub(super) fn checkpoint(n: u32) -> Name {
     name.unwrap_or(top())
 }
 
-/// The key of this number: the first half of them is in one table, and the others in the next one.
+/// The key of this number. The first half of them is in one table, and the others are in the next
+/// one.
 pub(super) fn key(n: u32) -> Key {
     let half = KEYS / 2;
     Key {
@@ -113,7 +115,7 @@ fn has_lists<D: Disk>(
     )
 }
 
-/// Whether the store lists just the alternatives of the model, shows in these ones of them what the
+/// Whether the store lists exactly the alternatives of the model, shows in the given ones what the
 /// model does, and finds the record of this key.
 pub(super) fn agrees<D: Disk>(
     alloc: Global,
@@ -152,8 +154,8 @@ fn goes_back<D: Disk>(
     }
 }
 
-/// Whether a store that was just opened shows what the model does in each alternative and each
-/// checkpoint, and has as many blocks, and as many of them free. It goes back to each checkpoint in
+/// Whether a freshly opened store shows what the model does in each alternative and each
+/// checkpoint, and has as many blocks, and as many free ones. It goes back to each checkpoint in
 /// turn.
 fn agrees_anew<D: Disk>(
     alloc: Global,

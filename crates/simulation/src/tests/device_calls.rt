@@ -9,13 +9,14 @@ use std::alloc::Global;
 use testkit::{Fill, RecordingDisk, Wrong};
 use vm_disk::{Disk, FuseDisk, MemDisk};
 use vm_store::{Store, format, open};
-use vm_types::Refusal;
+use vm_types::{Block, Refusal};
 
 /// More device calls than a script makes.
 pub const NEVER: u32 = 1000;
 
-/// What a failed write leaves in its block, and then a crash in each one that was not synced. That block
-/// is among those, so the first counts only where the second leaves what was written.
+/// What a failed write leaves in its block, and what a crash then leaves in each one that was not
+/// synced. That block is among those, so the first matters only if the second leaves what was
+/// written.
 const LEFT: [(Fill, Fill); 8] = [
     (Fill::Synced, Fill::Written),
     (Fill::Written, Fill::Written),
@@ -27,7 +28,7 @@ const LEFT: [(Fill, Fill); 8] = [
     (Fill::Byte(0x5A), Fill::Byte(0xFF)),
 ];
 
-/// The calls of a script, in their order: its commands have numbers from 0.
+/// The calls of a script in order. Its commands have numbers from 0.
 #[derive(Clone, Copy, Debug, PartialEq, Eq)]
 pub enum Stage {
     Format,
@@ -56,8 +57,8 @@ fn model_before(alloc: Global, script: Script, number: u32) -> Result<Model, Wro
     Ok(model)
 }
 
-/// Carries out the commands of a script from a number on, up to another, or to one in which the device
-/// failed. Any other answer than those, and than the script's, is wrong.
+/// Carries out the commands of a script from a number on, up to another, or to one in which the
+/// device failed. Any other answer than these and the script's is wrong.
 pub(super) fn run<D: Disk>(
     alloc: Global,
     store: &mut Store<D>,
@@ -77,13 +78,13 @@ pub(super) fn run<D: Disk>(
     Ok(Stage::End)
 }
 
-/// Runs a script on a device that stops after so many calls. Gives the disk that is left, and the
-/// call in which the device stopped.
+/// Runs a script on a device that stops after this many calls. Returns the disk that is left, and
+/// the call in which the device stopped.
 fn run_until_stop(
     alloc: Global,
     script: Script,
     passes: u32,
-    torn: [u8; 4096],
+    torn: Block,
 ) -> Result<(RecordingDisk, Stage), Wrong>
     requires { passes < 2000 }
 {
@@ -104,15 +105,15 @@ fn run_until_stop(
     }
 }
 
-/// What a write leaves that fails after so many calls: what its block held at the last sync, as a run
-/// shows that is stopped there, or what was handed to it, as one shows that is stopped a call later, or
-/// the same byte all over.
+/// What a write that fails after this many calls leaves: what its block held at the last sync, as
+/// found in a run that is stopped there; what it was given, as found in a run that is stopped one
+/// call later; or one byte repeated.
 pub(super) fn torn_bytes(
     alloc: Global,
     script: Script,
     passes: u32,
     fill: Fill,
-) -> Result<[u8; 4096], Wrong>
+) -> Result<Block, Wrong>
     requires { passes < 1000 }
 {
     if let Fill::Byte(byte) = fill {
@@ -126,9 +127,9 @@ pub(super) fn torn_bytes(
     Ok(later.bytes_in(stopped.last(), fill))
 }
 
-/// The disk of a script in which the device failed in this call, and how many commands the disk has kept:
-/// those up to the last Commit that was acknowledged, or up to the Commit in which the device failed. No
-/// number where it shows neither.
+/// The disk of a script in which the device failed in this call, and how many commands the disk has
+/// kept: those up to the last acknowledged Commit, or up to the Commit in which the device failed.
+/// No number if it shows neither.
 pub(super) fn look(
     alloc: Global,
     script: Script,
@@ -154,8 +155,7 @@ pub(super) fn look(
     }
 }
 
-/// Whether the disk may be left by a stop in this call. It may be no store as long as `format`
-/// runs.
+/// Whether a stop in this call may leave this disk. While `format` runs it may be no store.
 fn is_due(alloc: Global, script: Script, disk: RecordingDisk, stage: Stage) -> Result<bool, Wrong> {
     let looked = look(alloc, script, disk, stage);
     if let Err(Wrong::Refused(Refusal::NotAStore)) = looked {
@@ -165,7 +165,7 @@ fn is_due(alloc: Global, script: Script, disk: RecordingDisk, stage: Stage) -> R
     Ok(shown.is_some())
 }
 
-/// Counts the calls of a script that one after another fail as the device fails later.
+/// Counts the calls of a script that fail one after another as the device fails later.
 #[derive(Clone, Copy)]
 pub struct Met {
     last: Stage,
@@ -187,7 +187,7 @@ impl Met {
         }
     }
 
-    /// Whether just the calls were met that the script has.
+    /// Checks that exactly the calls of the script were met.
     pub(super) fn are_all(&self, script: Script) -> Result<(), Wrong> {
         if self.count == script.stages() {
             Ok(())
@@ -197,7 +197,7 @@ impl Met {
     }
 }
 
-/// Stops a script after so many calls, and crashes. Gives the call in which the device stopped.
+/// Stops a script after this many calls, and crashes. Returns the call in which the device stopped.
 fn stop_at(
     alloc: Global,
     script: Script,
@@ -215,7 +215,7 @@ fn stop_at(
     Ok(stage)
 }
 
-/// Stops a script at each of its calls in turn, and tells where it is.
+/// Stops a script at each of its calls in turn, and keeps track of the place.
 fn stop_everywhere(alloc: Global, script: Script, place: &mut Place) -> Result<(), Wrong> {
     for (torn, fill) in LEFT {
         let mut met = Met::none();

@@ -8,9 +8,9 @@ use std::alloc::Global;
 use testkit::{Fill, RecordingDisk, Wrong};
 use vm_disk::{Disk, FuseDisk};
 use vm_store::{Store, format, open};
-use vm_types::{Command, Refusal};
+use vm_types::{Block, Command, Refusal};
 
-/// What a write leaves in its block that fails.
+/// What a failed write leaves in its block.
 const TORN: [Fill; 5] = [
     Fill::Synced,
     Fill::Written,
@@ -19,7 +19,7 @@ const TORN: [Fill; 5] = [
     Fill::Byte(0xFF),
 ];
 
-/// Formats a disk on which `format` failed. It may be a store already.
+/// Formats a disk on which `format` failed. It may already be a store.
 fn format_again<D: Disk + Drop>(disk: D) -> Result<D, Wrong> {
     match format(disk, BLOCKS) {
         Ok(disk) => Ok(disk),
@@ -28,7 +28,7 @@ fn format_again<D: Disk + Drop>(disk: D) -> Result<D, Wrong> {
     }
 }
 
-/// Runs the commands of a script, of which one may fail. The next one is refused then.
+/// Runs the commands of a script. One of them may fail, and then the next one is refused.
 fn run_to_fault<D: Disk>(
     alloc: Global,
     store: &mut Store<D>,
@@ -44,12 +44,13 @@ fn run_to_fault<D: Disk>(
     Ok(stage)
 }
 
-/// Runs a script on a device that fails one call. Gives the disk, and the call in which it failed.
+/// Runs a script on a device that fails one call. Returns the disk, and the call in which it
+/// failed.
 fn run_past_fault(
     alloc: Global,
     script: Script,
     passes: u32,
-    torn: [u8; 4096],
+    torn: Block,
 ) -> Result<(RecordingDisk, Stage), Wrong>
     requires { passes < 1000 }
 {
@@ -93,7 +94,7 @@ fn finish(
     }
 }
 
-/// Runs a script to its end on a device that fails one call. Gives the call in which it failed.
+/// Runs a script to its end on a device that fails one call. Returns the call in which it failed.
 fn fail_at(alloc: Global, script: Script, passes: u32, torn: Fill) -> Result<Stage, Wrong>
     requires { passes < 1000 }
 {
@@ -115,7 +116,7 @@ fn fail_at(alloc: Global, script: Script, passes: u32, torn: Fill) -> Result<Sta
     Ok(failed)
 }
 
-/// Fails each call of a script in turn, and tells where it is.
+/// Fails each call of a script in turn, and keeps track of the place.
 fn fail_everywhere(alloc: Global, script: Script, place: &mut Place) -> Result<(), Wrong> {
     for torn in TORN {
         let mut met = Met::none();

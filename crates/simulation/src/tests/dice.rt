@@ -1,4 +1,4 @@
-//! Random choices, the same ones for the same seed.
+//! Random choices, the same for the same seed.
 ghost use Rattle.std.specs.Prelude.{◌<◌, ◌≤◌};
 
 use super::cast::{ALTERNATIVES, CHECKPOINTS, KEYS, alternative, checkpoint, key};
@@ -7,15 +7,15 @@ use rand_core::{Rng, SeedableRng};
 use rand_xoshiro::Xoshiro256PlusPlus;
 use std::alloc::{AllocError, Global};
 use testkit::top;
-use vm_types::{Command, Conflict, Key, Name, Settled, Side, Value};
+use vm_types::{Block, Command, Conflict, Key, Name, Settled, Side, Value};
 
-/// How many draws make another command than a Drop, Uncheck or Remove.
+/// How many draws make a command other than a Drop, Uncheck or Remove.
 const ADDITIONS: u32 = 34;
 
 /// More blocks than a store may have.
 const TOO_MANY: u32 = 1_048_577;
 
-/// Whether no command takes anything out, some do, or most of them.
+/// Whether no command removes anything, some do, or most of them do.
 #[derive(Clone, Copy, PartialEq, Eq)]
 enum Season {
     Growth,
@@ -34,7 +34,7 @@ pub struct Dice {
 }
 
 impl Dice {
-    /// With an odd seed, no Drop, Uncheck or Remove comes. The disk has room for so many blocks.
+    /// With an odd seed, there is no Drop, Uncheck or Remove. The disk has room for `room` blocks.
     pub(super) fn new(seed: u64, room: u32) -> Dice {
         Dice {
             rng: Xoshiro256PlusPlus::seed_from_u64(seed),
@@ -46,8 +46,8 @@ impl Dice {
         }
     }
 
-    /// Begins a new season. It may be a sweep where `top` has more than one leaf: then most commands take
-    /// out one key of `top` after another, so that whole leaves become empty.
+    /// Begins a new season. It may be a sweep if `top` has more than one leaf: then most commands
+    /// remove one key of `top` after another, so that whole leaves become empty.
     pub(super) fn turn(&mut self, many_leaves: bool) {
         self.season = match self.below(4) {
             _ if self.keeps => Season::Growth,
@@ -66,7 +66,7 @@ impl Dice {
         self.rng.next_u32() % bound
     }
 
-    /// One time out of so many.
+    /// True one time out of this many.
     pub(super) fn once_in(&mut self, times: u32) -> bool
         requires { 0 < times }
     {
@@ -81,7 +81,7 @@ impl Dice {
         }
     }
 
-    /// Mostly another alternative than `top`.
+    /// Mostly an alternative other than `top`.
     fn child(&mut self) -> Name {
         if self.once_in(12) {
             top()
@@ -103,13 +103,13 @@ impl Dice {
         }
     }
 
-    /// The key after the one that was drawn last in this way. The first follows the last.
+    /// The key after the last one that was drawn this way. The first follows the last.
     fn next_key(&mut self) -> Key {
         self.next = self.next.saturating_add(1) % KEYS;
         key(self.next)
     }
 
-    /// One of two values now and then, else one that no other draw gives.
+    /// Now and then one of two values, and otherwise one that no other draw gives.
     fn value(&mut self) -> Value {
         match self.below(6) {
             0 => return Value::default(),
@@ -122,8 +122,8 @@ impl Dice {
         Value::new(&bytes[..len]).unwrap_or_default()
     }
 
-    /// How many bytes a value has: mostly it is short, one time out of ten long, and now and then as long as
-    /// can be.
+    /// The length of a value in bytes: mostly short, one time out of ten long, and now and then as
+    /// long as possible.
     fn length(&mut self) -> usize
         ensures { result ≤ 4000 }
     {
@@ -142,9 +142,9 @@ impl Dice {
         }
     }
 
-    /// Settlements of these conflicts, in any order; or none, or such as do not fit: a key is
-    /// settled twice, another key is settled too, or a conflict is left, also with another key in
-    /// its place.
+    /// Settlements of these conflicts, in any order; or none, or ones that do not fit: a key is
+    /// settled twice, another key is settled too, or a conflict is left, possibly with another key
+    /// in its place.
     fn settled(&mut self, alloc: Global, conflicts: &[Conflict]) -> Result<Settled, AllocError> {
         let mut sides = Vec::new(alloc);
         for conflict in conflicts {
@@ -182,7 +182,7 @@ impl Dice {
         Ok(Command::Merge { alt, settled })
     }
 
-    /// A Drop, Uncheck or Remove. From 11 on, one key of `top` after another is taken out.
+    /// A Drop, Uncheck or Remove. From 11 on, one key of `top` after another is removed.
     fn removal(&mut self, n: u32) -> Command {
         match n {
             0..=2 => Command::Drop { alt: self.child() },
@@ -201,8 +201,8 @@ impl Dice {
         }
     }
 
-    /// A few more blocks than there are, or now and then many, as far as the disk has room, or else a bad
-    /// size.
+    /// A few more blocks than there are, or now and then many, as far as the disk has room, or else
+    /// a bad size.
     fn grow(&mut self, blocks: u32) -> Command {
         let more = 1
             + if self.once_in(4) {
@@ -220,7 +220,7 @@ impl Dice {
         }
     }
 
-    /// Any other command but a Merge, to a store of so many blocks. From 18 on it is a Put.
+    /// Any other command except a Merge, for a store of this many blocks. From 18 on it is a Put.
     fn addition(&mut self, n: u32, blocks: u32) -> Command {
         match n {
             0..=2 => Command::Commit,
@@ -253,8 +253,8 @@ impl Dice {
         }
     }
 
-    /// A command to a store that shows what the plain model does. Every second Merge is followed by a
-    /// Post at once.
+    /// A command for a store that shows what the plain model does. Every second Merge is followed
+    /// by a Post at once.
     pub(super) fn command(&mut self, alloc: Global, plain: &Plain) -> Result<Command, AllocError> {
         let merged = self.merged;
         self.merged = None;
@@ -280,15 +280,15 @@ impl Dice {
     }
 
     /// The bytes of a block.
-    pub(super) fn bytes(&mut self) -> [u8; 4096] {
+    pub(super) fn bytes(&mut self) -> Block {
         let mut bytes = [0; 4096];
         self.rng.fill_bytes(&mut bytes);
         bytes
     }
 
-    /// What a crash may leave in a block that was not synced: the bytes at the last sync, those that
-    /// were written last, a part of each, or any others.
-    pub(super) fn left(&mut self, synced: &[u8; 4096], written: &[u8; 4096]) -> [u8; 4096] {
+    /// What a crash may leave in a block that was not synced: the bytes at the last sync, those
+    /// that were last written, a part of each, or any others.
+    pub(super) fn left(&mut self, synced: &Block, written: &Block) -> Block {
         match self.below(6) {
             0 => *synced,
             1 => *written,

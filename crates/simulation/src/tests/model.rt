@@ -1,4 +1,4 @@
-//! The plain model, and which commands a store refuses for want of room.
+//! The plain model, and which commands a store refuses for lack of room.
 ghost use Rattle.std.specs.Prelude.{◌<◌, length, IfSome};
 
 use super::trees::{EMPTY, Trees};
@@ -7,10 +7,10 @@ use std::alloc::Global;
 use testkit::{Reply, Wrong, top};
 use vm_types::{Change, Command, Key, Name, Refusal, Value};
 
-/// How many blocks come before the first one for data.
+/// How many blocks come before the first data block.
 const FIRST_DATA: u32 = 34;
 
-/// How many blocks have to be spare for a record change.
+/// How many blocks must be spare for a record change.
 const BLOCKS_A_CHANGE: u32 = 17;
 
 /// The roots of the maps of one entry.
@@ -28,11 +28,11 @@ pub struct Model {
     pub plain: Plain,
     alloc: Global,
     free: u32,
-    // How many blocks are committed, and how many of these are free: they are taken before those that
-    // came by a Grow since.
+    // How many blocks are committed, and how many of these are free. They are taken before those
+    // that came by a Grow since then.
     kept: u32,
     kept_free: u32,
-    // The nodes that lie in blocks that came by a Grow since the last Commit.
+    // The nodes in blocks that came by a Grow since the last Commit.
     behind: Vec<usize>,
     trees: Trees,
     committed: Vec<Roots>,
@@ -48,7 +48,7 @@ fn position(entries: &[Roots], alt: &Name, saved: Option<Name>) -> Option<usize>
 }
 
 impl Model {
-    /// The model of a new store of so many blocks.
+    /// The model of a new store of this many blocks.
     pub(super) fn new(alloc: Global, blocks: u32) -> Result<Model, Wrong> {
         let first = Roots {
             alt: top(),
@@ -69,7 +69,7 @@ impl Model {
         })
     }
 
-    /// What the store is once it was closed and opened again.
+    /// The store after it was closed and opened again.
     pub(super) fn reopened(&self) -> Result<Model, Wrong> {
         let mut opened = Model {
             plain: self.plain.reopened()?,
@@ -86,7 +86,7 @@ impl Model {
         Ok(opened)
     }
 
-    /// The answer that a store owes, where the device serves.
+    /// The answer that a store must give if the device serves it.
     pub(super) fn apply(&mut self, command: &Command) -> Result<Reply, Wrong> {
         match command {
             Command::Merge { alt, .. } => self.merge(alt, command),
@@ -102,8 +102,8 @@ impl Model {
         }
     }
 
-    /// How many blocks are free: those for data in which no map lay at the last marking, and that no
-    /// change has taken since.
+    /// How many blocks are free: the data blocks that no map was in at the last marking, and that
+    /// no change has taken since.
     pub(super) fn free(&self) -> u32 {
         self.free
     }
@@ -127,7 +127,7 @@ impl Model {
         }
     }
 
-    /// Frees all blocks for data in which neither the committed maps nor the working ones lie.
+    /// Frees all data blocks that neither the committed maps nor the working ones are in.
     fn mark(&mut self) -> Result<(), Wrong> {
         let mut roots = Vec::new(self.alloc);
         for entries in [&self.committed, &self.working] {
@@ -154,8 +154,8 @@ impl Model {
         Ok(())
     }
 
-    /// Whether as many blocks are spare as so many record changes may take. Where fewer are free,
-    /// the blocks that maps lie in are marked.
+    /// Whether enough blocks are spare for this many record changes. If fewer are free, the blocks
+    /// that maps are in are marked.
     fn has_room(&mut self, changes: usize) -> Result<bool, Wrong> {
         if !self.has_free(changes) {
             self.mark()?;
@@ -176,7 +176,7 @@ impl Model {
         }
     }
 
-    /// The answer to a Merge. Its record changes are made one after another, by rising keys, where
+    /// The answer to a Merge. Its record changes are made one after another, by rising keys, if
     /// there is room for all.
     fn merge(&mut self, alt: &Name, command: &Command) -> Result<Reply, Wrong> {
         let mut merged = self.plain.copy()?;
@@ -203,7 +203,7 @@ impl Model {
         reply
     }
 
-    /// What an accepted command but a Merge or a Grow does to the blocks that maps lie in.
+    /// What an accepted command other than a Merge or a Grow does to the blocks that maps are in.
     fn follow(&mut self, command: &Command) -> Result<(), Wrong> {
         match command {
             Command::New { name, parent } => self.follow_new(name, parent, None)?,
@@ -242,8 +242,8 @@ impl Model {
         Ok(())
     }
 
-    /// The new alternative shares the blocks of what its parent shows, or of what a checkpoint of
-    /// it does.
+    /// The new alternative shares the blocks of what its parent shows, or of what one of the
+    /// parent's checkpoints does.
     fn follow_new(
         &mut self,
         name: &Name,
@@ -282,8 +282,8 @@ impl Model {
         Ok(())
     }
 
-    /// The blocks that were written since there were so many are not free any more. Each was the lowest
-    /// free one.
+    /// The blocks that were written since there were this many are no longer free. Each was the
+    /// lowest free one.
     fn take_new(&mut self, blocks: u32) -> Result<(), Wrong> {
         for node in blocks..self.trees.blocks() {
             self.free = self.free.saturating_sub(1);
@@ -296,7 +296,7 @@ impl Model {
         Ok(())
     }
 
-    /// After the changes the base lies in the blocks of what the parent shows.
+    /// After the changes the base is in the blocks of what the parent shows.
     fn follow_merge(&mut self, alt: &Name, changes: &[Change]) -> Result<(), Wrong> {
         for change in changes {
             match &change.after {
@@ -313,7 +313,7 @@ impl Model {
         Ok(())
     }
 
-    /// The parent and the base lie in the blocks of what the alternative shows.
+    /// The parent and the base are in the blocks of what the alternative shows.
     fn follow_post(&mut self, alt: &Name) -> Result<(), Wrong> {
         let parent = self.parent_of(alt)?.unwrap_or(*alt);
         let own = position(&self.working, alt, None);

@@ -1,4 +1,4 @@
-//! Fixed lists of commands, which are all accepted.
+//! Fixed lists of commands, all of which are accepted.
 use super::cast::{alternative, checkpoint, key};
 use std::alloc::Global;
 use testkit::{Reply, top};
@@ -7,7 +7,7 @@ use vm_types::{Answer, Command, Name, Settled, Value};
 /// A list of commands. The last one is a Commit.
 #[derive(Clone, Copy, Debug, PartialEq, Eq)]
 pub enum Script {
-    /// Each kind of command but Merge and Post.
+    /// Each kind of command except Merge and Post.
     Versions,
     /// An alternative is merged and posted, and the first one is changed after that.
     Posting,
@@ -108,7 +108,7 @@ impl Script {
     }
 
     /// How many calls the device can fail in: `format`, `open`, and the commands that read or write
-    /// blocks. The end is counted with them.
+    /// blocks. The end is counted as one of them.
     pub(super) fn stages(self) -> u32 {
         match self {
             Script::Versions => 13,

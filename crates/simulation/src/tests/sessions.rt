@@ -1,5 +1,5 @@
-//! Random sessions: a store lives several times on one disk, and each life ends by closing or by a
-//! device that stops, and maybe by a crash.
+//! Random sessions: a store lives several times on one disk, and each life ends with a close or
+//! with a device that stops, and maybe with a crash.
 use super::BLOCKS;
 use super::cast::{agrees, alternatives, shows};
 use super::dice::Dice;
@@ -15,7 +15,7 @@ use vm_types::{Command, Key, Name, Refusal};
 /// More device calls than a life makes.
 const NEVER: u32 = 1_000_000;
 
-/// How many blocks a disk has room for beside those that it has at first.
+/// How many blocks a disk has room for beyond those that it has at first.
 const ROOM: u32 = 64;
 
 /// How the life of a store ended.
@@ -26,7 +26,7 @@ enum End {
     StoppedInCommit,
 }
 
-/// What a command may change beside records.
+/// What a command may change apart from records.
 fn sight(model: &Model, command: &Command) -> Sight {
     let level = match command {
         Command::Put { alt, .. } | Command::Remove { alt, .. } | Command::Merge { alt, .. } => {
@@ -67,7 +67,7 @@ fn near(alloc: Global, model: &Model, command: &Command) -> Result<Vec<Name>, Wr
     Ok(names)
 }
 
-/// Compares the counts of blocks and of free ones with the model's.
+/// Compares the number of blocks and of free ones with the model's.
 fn count<D: Disk>(store: &Store<D>, model: &Model) -> Result<(), Wrong> {
     if store.blocks() != Ok(model.plain.blocks()) {
         return Err(Wrong::Blocks(model.plain.blocks()));
@@ -78,8 +78,8 @@ fn count<D: Disk>(store: &Store<D>, model: &Model) -> Result<(), Wrong> {
     Ok(())
 }
 
-/// Carries out a command, and compares its answer and the counts of blocks with the model's. Tells how
-/// the life ends, where the device stops in it.
+/// Carries out a command, and compares its answer and the numbers of blocks with the model's. Tells
+/// how the life ends, if the device stops in it.
 fn play<D: Disk>(
     store: &mut Store<D>,
     model: &mut Model,
@@ -118,8 +118,8 @@ fn compare<D: Disk>(
     if agreed? { Ok(None) } else { Err(Wrong::Shown) }
 }
 
-/// Carries out a command. Where the life looks, it compares what the store shows in the alternatives near
-/// it, and now and then in all.
+/// Carries out a command. If the life looks, it compares what the store shows in the alternatives
+/// near it, and now and then in all.
 fn step<D: Disk>(
     alloc: Global,
     store: &mut Store<D>,
@@ -143,7 +143,7 @@ fn step<D: Disk>(
     }
 }
 
-/// Carries out commands on a store that was just opened. At the end it compares all that the store
+/// Carries out commands on a freshly opened store. At the end it compares everything that the store
 /// shows.
 fn play_on<D: Disk>(
     alloc: Global,
@@ -164,7 +164,7 @@ fn play_on<D: Disk>(
     Ok(end.unwrap_or(End::Closed))
 }
 
-/// How many written blocks wait over the device, life by life; 0 where it is written at once.
+/// How many written blocks wait over the device, life by life. With 0 they are written at once.
 const WAITING: [usize; 8] = [0, 1, 2, 64, 0, 64, 2, 1];
 
 /// A life of a store on a disk: it opens, and plays until it is closed, or until the device stops.
@@ -187,8 +187,8 @@ fn live_over<D: Disk + Drop>(
     }
 }
 
-/// One life of a store on the disk, on a device that may stop at any call, where so many written blocks
-/// wait. Those that still wait at the end are lost.
+/// One life of a store on the disk, on a device that may stop at any call, with up to this many
+/// written blocks waiting. Those that still wait at the end are lost.
 fn live(
     alloc: Global,
     disk: RecordingDisk,
@@ -224,7 +224,7 @@ fn live(
 }
 
 /// Opens the disk that a life left, and finds which model it shows: what was committed, or what the
-/// Commit commits in which the device stopped. None where it shows both.
+/// Commit in which the device stopped commits. None if it shows both.
 fn resolve(
     alloc: Global,
     disk: RecordingDisk,
@@ -258,7 +258,7 @@ fn resolve(
     }
 }
 
-/// How many blocks a store has at first: the least, or room for a change more than one, or for
+/// How many blocks a store has at first: the minimum, or room for one change more than that, or for
 /// many.
 fn size(seed: u64) -> u32 {
     match seed % 6 {
@@ -268,8 +268,8 @@ fn size(seed: u64) -> u32 {
     }
 }
 
-/// The disk after a crash which leaves anything in blocks that were not synced, and takes any number of
-/// those that are not sure.
+/// The disk after a crash that leaves anything in blocks that were not synced, and takes away any
+/// number of those that are not sure.
 fn crash_at_random(
     alloc: Global,
     disk: RecordingDisk,
@@ -333,7 +333,7 @@ fn session(alloc: Global, seed: u64, tally: &mut Tally) -> Result<(), Wrong> {
     Ok(())
 }
 
-/// Plays a session of each seed up to another.
+/// Plays a session of each seed from one up to another.
 fn play_all<R: AllocGlobal + Abort>(rt: &R, from: u64, to: u64) -> Tally {
     let mut tally = Tally::new();
     for seed in from..to {

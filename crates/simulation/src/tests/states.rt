@@ -1,4 +1,4 @@
-//! What the script of a Merge and a Post commits, and how many blocks are free once that was opened.
+//! What the script of a Merge and a Post commits, and how many blocks are free after opening that.
 use super::BLOCKS;
 use super::cast::{alternative, checkpoint, key};
 use super::device_calls::run;
@@ -9,8 +9,8 @@ use vm_disk::MemDisk;
 use vm_store::{Store, format, open};
 use vm_types::{Change, Command, Key, Name, Value};
 
-/// What a store shows: the records of `top`, those of `ring` with what it changed since its base, the
-/// checkpoints of `ring`, and the number of free blocks.
+/// What a store shows: the records of `top`, those of `ring` with what it changed since its base,
+/// the checkpoints of `ring`, and the number of free blocks.
 #[derive(Clone, Copy)]
 struct State<'a> {
     top: &'a [(Key, Value)],
@@ -48,7 +48,7 @@ fn shows_nothing(alloc: Global, store: &mut Store<MemDisk>) -> Result<bool, Wron
     )
 }
 
-/// `ring` changed the one record, and has a checkpoint of that.
+/// `ring` changed the only record, and has a checkpoint of that.
 fn shows_the_change(alloc: Global, store: &mut Store<MemDisk>) -> Result<bool, Wrong> {
     let (old, new) = (record(1, b"a"), record(1, b"b"));
     let state = State {
@@ -70,7 +70,8 @@ fn shows_the_change(alloc: Global, store: &mut Store<MemDisk>) -> Result<bool, W
     Ok(before && shows(alloc, store, state)?)
 }
 
-/// What the store shows after so many commands of the script, the last of which was a Commit.
+/// Whether the store shows the right thing after this many commands of the script, the last of
+/// which was a Commit.
 fn shows_what_is_due(
     alloc: Global,
     store: &mut Store<MemDisk>,
@@ -97,7 +98,7 @@ fn shows_what_is_due(
     )
 }
 
-/// Carries out so many commands of the script on a new store, and opens what is left once more.
+/// Carries out this many commands of the script on a new store, and opens what is left once more.
 fn is_committed(alloc: Global, number: u32) -> Result<bool, Wrong> {
     let disk = format(MemDisk::new(alloc, BLOCKS)?, BLOCKS)?;
     let mut store = open(alloc, disk)?;

@@ -1,4 +1,4 @@
-//! Counts of what random sessions are to meet.
+//! Counts of what random sessions must meet.
 use std::cmp::Ordering;
 use testkit::Reply;
 use vm_types::{Answer, Command, Key, Name, Refusal, Side};
@@ -9,10 +9,10 @@ const KINDS: usize = 14;
 /// How many cases there are.
 const CASES: usize = 14;
 
-/// What sessions are to meet beside each kind of command and of refusal.
+/// What sessions must meet apart from each kind of command and of refusal.
 #[derive(Clone, Copy)]
 pub enum Case {
-    /// A command gave a map a level more.
+    /// A command added a level to a map.
     Grown,
     /// A command took a level from a map.
     Shrunk,
@@ -28,22 +28,22 @@ pub enum Case {
     Mine,
     /// A conflict was settled with the parent's value.
     Theirs,
-    /// A Merge found few blocks free, and marked those that maps lie in.
+    /// A Merge found few blocks free, and marked those that maps are in.
     Marked,
-    /// A Merge found no room for all of its changes, where one would have had room.
+    /// A Merge found no room for all of its changes, but there was room for one.
     MergedFull,
     /// An alternative was posted after it was merged.
     MergedAndPosted,
-    /// A store was opened on a disk that has more blocks than it.
+    /// A store was opened on a disk with more blocks than the store.
     LongerDisk,
-    /// A crash took blocks that were new.
+    /// A crash took new blocks away.
     CutShort,
     /// A Rollback took away blocks that came by a Grow.
     GrowthUndone,
 }
 
-/// What a command may change beside records: how many levels its alternative's map has, how many blocks
-/// are free, and how many there are.
+/// What a command may change apart from records: how many levels its alternative's map has, how
+/// many blocks are free, and how many there are.
 #[derive(Clone, Copy)]
 pub struct Sight {
     pub level: u32,
@@ -51,7 +51,7 @@ pub struct Sight {
     pub blocks: u32,
 }
 
-/// How often each was met: refusals by their number, accepted commands by their kind, and the cases.
+/// How often each was met: refusals by number, accepted commands by kind, and the cases.
 #[derive(Clone, Copy)]
 pub struct Tally {
     refused: [u32; 22],
@@ -148,7 +148,8 @@ impl Tally {
         }
     }
 
-    /// The first count that is too low, with what it counts: a kind of commands, a refusal or a case.
+    /// The first count that is too low, with what it counts: a kind of commands, a refusal or a
+    /// case.
     pub(super) fn too_low(&self) -> Option<(&'static str, usize, u32)> {
         for (kind, count) in self.accepted.iter().enumerate() {
             if *count <= 20 {

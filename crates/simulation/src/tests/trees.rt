@@ -1,52 +1,53 @@
-//! The blocks that maps lie in, as a plain list of nodes: a change copies the nodes of one path and
-//! leaves all others as they are. A node stands for a block, and two maps share the nodes that they
+//! The blocks that maps are in, as a plain list of nodes: a change copies the nodes of one path and
+//! leaves all others as they are. A node represents a block, and two maps share the nodes that they
 //! both reach. A long value has a node of its own.
 use std::alloc::{AllocError, Global};
 use vm_types::Key;
 
-/// The node of the empty map, which lies in no block.
+/// The node of the empty map, which is in no block.
 pub const EMPTY: usize = 0;
 
-/// How many records a leaf has at most.
+/// The maximum number of records in a leaf.
 const RECORDS: usize = 16;
 
-/// How many children an inner node has at most.
+/// The maximum number of children of an inner node.
 const CHILDREN: usize = 256;
 
-/// How many bytes a value has at most that stands in its leaf.
+/// The maximum length in bytes of a value that is stored in its leaf.
 const SHORT: usize = 240;
 
-/// A record of a leaf, or a child of an inner node with the lowest key under it. The child of a record is
-/// the node of its long value, or that of the empty map where its value is short.
+/// A record of a leaf, or a child of an inner node with the lowest key under it. The child of a
+/// record is the node of its long value, or that of the empty map if its value is short.
 #[derive(Clone, Copy)]
 struct Row {
     low: Key,
     child: usize,
 }
 
-/// A leaf has level 0, and the children of an inner node are one level below it. The rows are in the
-/// order of their keys. The node of a long value has none.
+/// A leaf has level 0, and the children of an inner node are one level below it. The rows are in
+/// key order. The node of a long value has none.
 #[derive(Drop)]
 struct Node {
     level: u32,
     rows: Vec<Row>,
 }
 
-/// All nodes that ever were. A child comes before the nodes that it is under.
+/// All nodes that ever existed. A child comes before the nodes above it.
 #[derive(Drop)]
 pub struct Trees {
     alloc: Global,
     nodes: Vec<Node>,
 }
 
-/// A key is put, with the node of its long value, or taken out.
+/// A key is put, with the node of its long value, or removed.
 #[derive(Clone, Copy, PartialEq, Eq)]
 enum Change {
     Put(usize),
     Remove,
 }
 
-/// At which child a key is: the last one whose lowest key isn't above it, or else the first one.
+/// Which child a key is under: the last one whose lowest key is not above it, or else the first
+/// one.
 fn place_of(rows: &[Row], key: Key) -> usize {
     let mut place = 0;
     for (n, row) in rows.iter().enumerate() {
@@ -109,7 +110,7 @@ fn with_others(
     Ok(all)
 }
 
-/// The child that a row names, or the node of the empty map where there is none.
+/// The child that a row names, or the node of the empty map if there is none.
 fn child_of(row: Option<Row>) -> usize {
     match row {
         Some(row) => row.child,
@@ -124,7 +125,7 @@ fn reach(reached: &mut [bool], node: usize) {
 }
 
 impl Trees {
-    /// No node but that of the empty map.
+    /// Only the node of the empty map.
     pub(super) fn new(alloc: Global) -> Result<Trees, AllocError> {
         let mut nodes = Vec::new(alloc);
         nodes.push(Node {
@@ -134,7 +135,7 @@ impl Trees {
         Ok(Trees { alloc, nodes })
     }
 
-    /// The same once more.
+    /// A copy of it.
     pub(super) fn copy(&self) -> Result<Trees, AllocError> {
         let mut nodes = Vec::new(self.alloc);
         for node in &self.nodes {
@@ -164,7 +165,7 @@ impl Trees {
         }
     }
 
-    /// The nodes from the root down to the leaf where a key is.
+    /// The nodes from the root down to the leaf of a key.
     fn path(&self, root: usize, key: Key) -> Result<Vec<usize>, AllocError> {
         let mut path = Vec::new(self.alloc);
         let mut node = root;
@@ -180,7 +181,7 @@ impl Trees {
         Ok(path)
     }
 
-    /// A new node with these rows. Gives the row that names it.
+    /// A new node with these rows. Returns the row that names it.
     fn add(&mut self, level: u32, rows: &[Row]) -> Result<Option<Row>, AllocError> {
         let Some(first) = rows.first() else {
             return Ok(None);
@@ -195,8 +196,7 @@ impl Trees {
     }
 
     /// New nodes with these rows, and the rows that name them: no node for no rows, and two nodes
-    /// for more rows than one has room for. The left one has one row more than the right one, or as
-    /// many.
+    /// for more rows than fit in one. The left one has as many rows as the right one, or one more.
     fn add_all(&mut self, level: u32, rows: &[Row]) -> Result<Vec<Row>, AllocError> {
         let room = if level == 0 { RECORDS } else { CHILDREN };
         let half = if rows.len() > room {
@@ -213,8 +213,8 @@ impl Trees {
         Ok(names)
     }
 
-    /// Copies the nodes of a path with a change of the leaf. Gives the rows that name the copies of
-    /// the root: none, one or two.
+    /// Copies the nodes of a path with a change of the leaf. Returns the rows that name the copies
+    /// of the root: none, one or two.
     fn copy_path(&mut self, root: usize, key: Key, change: Change) -> Result<Vec<Row>, AllocError> {
         let path = self.path(root, key)?;
         let mut names = Vec::new(self.alloc);
@@ -231,7 +231,7 @@ impl Trees {
         Ok(names)
     }
 
-    /// A new node for a value, where it is long, or else that of the empty map.
+    /// A new node for a value, if it is long, and otherwise that of the empty map.
     fn add_value(&mut self, len: usize) -> Result<usize, AllocError> {
         if len <= SHORT {
             return Ok(EMPTY);
@@ -244,9 +244,9 @@ impl Trees {
         Ok(node)
     }
 
-    /// The root of the map with a key more, whose value has so many bytes. The nodes of the path are
-    /// copied, and a long value has a new node, also where the key is there. Where the root is cut in
-    /// two, a new root stands above both.
+    /// The root of the map with one more key, whose value has `len` bytes. The nodes of the path
+    /// are copied, and a long value has a new node, even if the key is there. If the root splits in
+    /// two, a new root is put above both.
     pub(super) fn put(&mut self, root: usize, key: Key, len: usize) -> Result<usize, AllocError> {
         let level = self.level(root).saturating_add(1);
         let long = self.add_value(len)?;
@@ -258,8 +258,9 @@ impl Trees {
         Ok(child_of(name))
     }
 
-    /// The root of the map without a key. A node that would be empty is left out of the one above it,
-    /// and a root that would have one child is not made: the child takes its place, and so on down.
+    /// The root of the map without a key. A node that would be empty is left out of the one above
+    /// it, and a root that would have one child is not made: the child takes its place, and so on
+    /// down.
     pub(super) fn remove(&mut self, root: usize, key: Key) -> Result<usize, AllocError> {
         let names = self.copy_path(root, key, Change::Remove)?;
         let mut root = child_of(names.first().copied());
@@ -273,7 +274,7 @@ impl Trees {
         Ok(root)
     }
 
-    /// The child of an inner node that has one, or else the node.
+    /// The child of an inner node that has only one, or else the node.
     fn only_child(&self, node: usize) -> usize {
         match self.rows(node) {
             [only] if self.level(node) > 0 => only.child,
@@ -281,12 +282,12 @@ impl Trees {
         }
     }
 
-    /// How many nodes there are, but for that of the empty map.
+    /// How many nodes there are, without that of the empty map.
     pub(super) fn blocks(&self) -> u32 {
         u32::try_from(self.nodes.len().saturating_sub(1)).unwrap_or(u32::MAX)
     }
 
-    /// Which nodes are reached from these roots, but for that of the empty map.
+    /// Which nodes are reached from these roots, without that of the empty map.
     pub(super) fn reached(&self, roots: &[usize]) -> Result<Vec<bool>, AllocError> {
         let mut reached = Vec::from_elem(self.alloc, false, self.nodes.len())?;
         for root in roots {

@@ -6,7 +6,7 @@ use vm_disk::Disk;
 use vm_store::{Stop, Store};
 use vm_types::{Answer, Changes, Command, Key, Records, Refusal, Value};
 
-/// A value, or none, as a script shows it: `~` for none, `''` for the one without bytes, `61*300` for so
+/// A value, or none, as a script shows it: `~` for none, `''` for the empty one, `61*300` for this
 /// many bytes of one kind.
 #[derive(Clone, Copy)]
 struct Shown(Option<Value>);
@@ -34,7 +34,7 @@ fn value_of(bytes: Option<&[u8]>) -> Shown {
     Shown(bytes.and_then(Value::new))
 }
 
-/// What a call is answered: a text, or a refusal.
+/// The answer to a call: a text, or a refusal.
 type Given = Result<Result<String, Refusal>, Wrong>;
 
 pub(super) fn refusal_text(alloc: Global, refusal: Refusal) -> Result<String, Wrong> {
@@ -59,7 +59,7 @@ fn value_text(alloc: Global, found: Result<Option<Value>, Refusal>) -> Given {
     Ok(Ok(text))
 }
 
-/// The same, of the bytes in the block in which the value stands.
+/// The same for the bytes in the block that has the value.
 fn lent_text(alloc: Global, found: Result<Option<&[u8]>, Refusal>) -> Given {
     let found = match found {
         Ok(found) => found,
@@ -173,9 +173,22 @@ fn query<D: Disk>(alloc: Global, store: &mut Store<D>, words: &[&str]) -> Given 
         }
         ["list", alt] => records_text(alloc, store.list(alloc, &name(alt)?)),
         ["list_at", it] => records_text(alloc, store.list_at(alloc, &version(it)?)),
+        ["list_part", it, low, high] => {
+            let list = store.list_part(alloc, &version(it)?, key(low)?, key(high)?);
+            records_text(alloc, list)
+        }
+        ["list_from", it, low, count] => {
+            let list = store.list_from(alloc, &version(it)?, key(low)?, number(count)?);
+            records_text(alloc, list)
+        }
         ["changes", alt] => changes_text(alloc, store.changes(alloc, &name(alt)?)),
         ["diff", first, second] => {
             let list = store.diff(alloc, &version(first)?, &version(second)?);
+            changes_text(alloc, list)
+        }
+        ["diff_part", first, second, low, high] => {
+            let (low, high) = (key(low)?, key(high)?);
+            let list = store.diff_part(alloc, &version(first)?, &version(second)?, low, high);
             changes_text(alloc, list)
         }
         ["conflicts", alt] => conflicts(alloc, store, alt),
@@ -188,7 +201,8 @@ fn query<D: Disk>(alloc: Global, store: &mut Store<D>, words: &[&str]) -> Given 
     }
 }
 
-/// Puts a value into so many records, from this one on, and gives the first answer that is no `ok`.
+/// Puts a value into `count` records, from this one on, and returns the first answer that is not
+/// `ok`.
 fn put_all<D: Disk>(
     store: &mut Store<D>,
     alt: &str,
@@ -210,8 +224,8 @@ fn put_all<D: Disk>(
     Ok(Ok(Answer::Done))
 }
 
-/// Names the state of an alternative so many times, from `k001` on, and puts a value into a record
-/// before each of these, where one is given.
+/// Names the state of an alternative `count` times, from `k001` on. If a value is given, puts it
+/// into a record before each of these.
 fn check_all<D: Disk>(
     alloc: Global,
     store: &mut Store<D>,
@@ -236,7 +250,7 @@ fn check_all<D: Disk>(
     Ok(Ok(Answer::Done))
 }
 
-/// Carries out a list of commands, with `;` between two. Behind the answers stands how the list
+/// Carries out a list of commands, with `;` between two. After the answers comes how the list
 /// ended.
 fn run<D: Disk>(alloc: Global, store: &mut Store<D>, words: &[&str]) -> Result<String, Wrong> {
     let mut commands = Vec::new(alloc);

@@ -1,12 +1,13 @@
-//! The blocks of a disk in memory, looked at and changed by steps of a script.
+//! The blocks of a disk in memory, looked at and changed by the steps of a script.
 use super::words::{Wrong, byte, many_of, number};
 use std::alloc::Global;
 use vm_disk::{Disk, MemDisk};
+use vm_types::Block;
 
-/// What a disk in memory has in a block once it was forgotten.
-const FORGOTTEN: [u8; 4096] = [0xA5; 4096];
+/// What a disk in memory has in a forgotten block.
+const FORGOTTEN: Block = [0xA5; 4096];
 
-fn bytes_of(disk: &mut MemDisk, n: u32) -> Result<[u8; 4096], Wrong> {
+fn bytes_of(disk: &mut MemDisk, n: u32) -> Result<Block, Wrong> {
     let mut bytes = [0; 4096];
     if n >= disk.blocks() {
         return Err(Wrong::Unreadable);
@@ -15,7 +16,7 @@ fn bytes_of(disk: &mut MemDisk, n: u32) -> Result<[u8; 4096], Wrong> {
     Ok(bytes)
 }
 
-pub(super) fn set_block(disk: &mut MemDisk, n: u32, bytes: &[u8; 4096]) -> Result<(), Wrong> {
+pub(super) fn set_block(disk: &mut MemDisk, n: u32, bytes: &Block) -> Result<(), Wrong> {
     if n >= disk.blocks() {
         return Err(Wrong::Unreadable);
     }
@@ -23,8 +24,8 @@ pub(super) fn set_block(disk: &mut MemDisk, n: u32, bytes: &[u8; 4096]) -> Resul
     Ok(())
 }
 
-/// Sets bytes from a place on, as `0:534C` says.
-fn set_run(bytes: &mut [u8; 4096], run: &str) -> Result<(), Wrong> {
+/// Sets bytes from an offset on, as in `0:534C`.
+fn set_run(bytes: &mut Block, run: &str) -> Result<(), Wrong> {
     let (from, digits) = run.split_once(':').ok_or(Wrong::Unreadable)?;
     let from = number(from)? as usize;
     for (n, pair) in digits.as_bytes().chunks(2).enumerate() {
@@ -46,7 +47,7 @@ pub(super) fn set_bytes(disk: &mut MemDisk, n: u32, runs: &[&str]) -> Result<(),
     set_block(disk, n, &bytes)
 }
 
-/// The first blocks of a disk alone.
+/// Only the first blocks of a disk.
 pub(super) fn cut(alloc: Global, mut disk: MemDisk, blocks: u32) -> Result<MemDisk, Wrong> {
     let mut shorter = MemDisk::new(alloc, blocks)?;
     for n in 0..blocks {
@@ -56,7 +57,7 @@ pub(super) fn cut(alloc: Global, mut disk: MemDisk, blocks: u32) -> Result<MemDi
     Ok(shorter)
 }
 
-/// Sets behind a text the bytes of a run: `61*300`, where so many are of one kind.
+/// Appends the bytes of a run to a text, as `61*300` if this many are of one kind.
 fn push_run(text: &mut String, run: &[u8]) -> Result<(), Wrong> {
     if let Some(byte) = many_of(run) {
         write!(text, "{byte:02X}*{}", run.len())?;
@@ -68,8 +69,8 @@ fn push_run(text: &mut String, run: &[u8]) -> Result<(), Wrong> {
     Ok(())
 }
 
-/// The bytes that are not zero, behind the place of the first of each run.
-fn bytes_text(alloc: Global, bytes: &[u8; 4096]) -> Result<String, Wrong> {
+/// The nonzero bytes, each run after the offset of its first byte.
+fn bytes_text(alloc: Global, bytes: &Block) -> Result<String, Wrong> {
     let mut text = String::new(alloc);
     if bytes[0] != 0 && *bytes == [bytes[0]; 4096] {
         write!(text, "all={:02X}", bytes[0])?;
@@ -86,7 +87,7 @@ fn bytes_text(alloc: Global, bytes: &[u8; 4096]) -> Result<String, Wrong> {
     Ok(text)
 }
 
-/// The blocks that have other bytes than zeros.
+/// The blocks that have bytes other than zeros.
 fn written(alloc: Global, disk: &mut MemDisk) -> Result<String, Wrong> {
     let mut text = String::new(alloc);
     for n in 0..disk.blocks() {
@@ -108,7 +109,7 @@ fn forgotten(alloc: Global, disk: &mut MemDisk) -> Result<String, Wrong> {
     Ok(text)
 }
 
-/// What a step that looks at blocks is answered, if these words are one.
+/// The answer to a step that looks at blocks, if these words are such a step.
 pub(super) fn look(
     alloc: Global,
     disk: &mut MemDisk,

@@ -78,8 +78,8 @@ const LAST_SYNC_FAILS: &[Row] = &[
         get top 7:1 -> pipe
         get top 7:2 -> ~",
     ),
-    // Opening the store of `duct` makes five device calls, the Put two, and the Commit four. `pipe` is
-    // in block 35 then: the second Put takes block 34, and the Remove block 36.
+    // Opening the store of `duct` makes five device calls, the Put two, and the Commit four. `pipe`
+    // is then in block 35: the second Put takes block 34, and the Remove block 36.
     (
         "what was removed and not committed leaves no trace",
         DUCT,
@@ -127,7 +127,7 @@ fn put_that_is_not_committed_is_gone_after_a_crash(rt: HostRuntime) {
     }
 }
 
-/// The Puts write the blocks 35 and 36. The crash takes other bytes into both.
+/// The Puts write blocks 35 and 36. The crash puts other bytes into both.
 #[test]
 fn crash_after_a_closing_shows_what_was_committed(rt: HostRuntime) {
     let row = "

@@ -1,9 +1,9 @@
 //! What the blocks of a store hold, and what formatting refuses.
 use super::script::{DUCT, Row, each_on_both, on_both};
 
-/// `ALTSTORE`, one and the size of a block; the selector of slot B; both slots, which begin with
-/// `SLOT`, two and 64 blocks, with the entry of `top`, whose root is none in slot A and block 34 in
-/// slot B; and a leaf of the record 7:1, `duct`.
+/// `ALTSTORE`, one and the block size; the selector of slot B; both slots, which begin with `SLOT`,
+/// two and 64 blocks, with the entry of `top`, whose root is none in slot A and block 34 in slot B;
+/// and a leaf of the record 7:1, `duct`.
 const BLOCKS: &str = "
     written -> 0 1 2 18 34
     block 0 -> 0:414C5453544F524501 13:10

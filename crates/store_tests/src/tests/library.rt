@@ -1,4 +1,4 @@
-//! The smallest whole use of the library. The README shows the function `first_record`.
+//! The smallest complete use of the library.
 use std::alloc::Global;
 use std::test::Fail;
 use vm_disk::MemDisk;

@@ -1,10 +1,10 @@
 //! Values of more than 240 bytes: each has a block of its own, and its leaf a link to that block.
 mod blocks;
-mod counting;
+mod counts;
 mod crashes;
 mod damage;
 mod formats;
-mod merging;
+mod merges;
 
 use super::script::{NEW, Row, each_on_both, on_both, on_each, with_room};
 use vm_types::Value;
@@ -127,7 +127,7 @@ fn values_of_each_size_are_there_after_opening(rt: HostRuntime) {
     }
 }
 
-/// The Puts of twenty checkpoints take the blocks 34 to 73, the value before the leaf, and the last one
+/// The Puts of twenty checkpoints take blocks 34 to 73, the value before the leaf, and the last one
 /// takes block 74.
 #[test]
 fn long_values_are_in_new_blocks_of_a_store_that_grew(rt: HostRuntime) {
@@ -156,7 +156,7 @@ fn long_values_are_in_new_blocks_of_a_store_that_grew(rt: HostRuntime) {
     with_room(&rt, 96, &[NEW, row]);
 }
 
-/// All kinds of commands with long values, each time shown before and after an opening.
+/// All kinds of commands with long values, each shown before and after an opening.
 #[test]
 fn a_session_with_long_values_shows_the_same_on_each_disk(rt: HostRuntime) {
     let anew = "

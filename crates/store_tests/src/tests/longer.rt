@@ -2,7 +2,8 @@
 use super::script::{DUCT, RoomRow, each_with_room, with_room};
 
 const ON_LONGER_DISKS: &[RoomRow] = &[
-    // The disk was made longer behind the store's back: its blocks from 64 on are none of the store's.
+    // The disk was lengthened behind the store's back: its blocks from 64 on do not belong to the
+    // store.
     (
         "a longer disk shows the same store",
         80,

@@ -1,6 +1,6 @@
-//! Disks over one in memory: the disk itself, a cache of it, one that writes to it late, and one that keeps
-//! what is forgotten.
-use super::keeping::KeepingDisk;
+//! Disks over one in memory: the disk itself, a cache of it, one that delays the writes to it, and
+//! one that keeps what is forgotten.
+use super::stays::KeepingDisk;
 use std::alloc::Global;
 use vm_disk::{CachedDisk, DelayedDisk, Disk, MemDisk};
 use vm_types::Refusal;

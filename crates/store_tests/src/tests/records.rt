@@ -2,8 +2,8 @@
 use super::script::{DUCT, NEW, Row, each_in_memory, each_on_both, in_memory};
 use std::test::Fail;
 
-/// A closed store in which `duct` and the record beside it are committed, in one leaf. Opening it makes five
-/// device calls.
+/// A closed store in which `duct` and the record beside it are committed, in one leaf. Opening it
+/// makes five device calls.
 pub(super) const TWO_RECORDS: &str = "
     format 64
     open

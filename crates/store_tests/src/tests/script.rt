@@ -1,56 +1,61 @@
-//! Scripts: lines of steps, each with its answer, played over a disk in memory, and over others on top of it.
+//! Scripts: lines of steps, each with its answer, played over a disk in memory, and over others on
+//! top of it.
 //!
-//! A line is a step, and behind ` -> ` its answer, which is `ok` where the line says none. A refusal is
-//! `error` and its text. A line that begins with `#` is a comment. A record's key is `7:1`; `''` is the
-//! value without bytes, `~` no value, and `none` an empty list. A hundred bytes of one kind or more are
-//! `61*300`.
+//! A line is a step, and after ` -> ` comes its answer, which is `ok` if the line gives none. A
+//! refusal is `error` and its text. A line that begins with `#` is a comment. A record's key is
+//! `7:1`. `''` is the empty value, `~` no value, and `none` an empty list. A hundred or more bytes
+//! of one kind are `61*300`.
 //!
 //! | Step, while a store is open | Answer |
 //! |---|---|
-//! | `new`, `drop`, `put`, `remove`, `checkpoint`, `uncheck`, `back`, `merge`, `post`, `commit`, `rollback`, `reclaim`, `grow` | `ok`, and `ok 1` of a merge |
-//! | `puts top 1:1 17 v` | `ok`, where all of seventeen puts are answered so |
-//! | `checkpoints top 15` | the same of the checkpoints `k001` to `k015` |
+//! | `new`, `drop`, `put`, `remove`, `checkpoint`, `uncheck`, `back`, `merge`, `post`, `commit`, `rollback`, `reclaim`, `grow` | `ok`, or `ok 1` for a merge |
+//! | `puts top 1:1 17 v` | `ok`, if all seventeen puts are answered so |
+//! | `checkpoints top 15` | the same for the checkpoints `k001` to `k015` |
 //! | `kept top 1:1 v 15` | the same, with a put before each |
-//! | `run put a 1:1 y ; commit` | `ok ; ok ; end`: how the list ended stands last |
+//! | `run put a 1:1 y ; commit` | `ok ; ok ; end`: how the list ended comes last |
 //! | `get a 1:1`, `look a 1:1` | `y` |
 //! | `list a` | `1:1=y 1:2=z` |
 //! | `changes a` | `1:1=x/y`: the value before and after |
-//! | `get_at a@ 1:1`, `look_at a@c 1:1`, `list_at a@c`, `diff a@ a` | the same of versions: `a@` is the base of a, `a@c` its checkpoint c |
-//! | `conflicts a` | `1:1=x/z/y`: the value of the base, the parent's and one's own |
-//! | `tally a` | `2 3 1 no`: records changed since the base, by the parent since then, in conflict, and whether it can be posted |
+//! | `get_at a@ 1:1`, `look_at a@c 1:1`, `list_at a@c`, `diff a@ a` | the same for versions: `a@` is the base of a, `a@c` its checkpoint c |
+//! | `list_part a 1:1 1:9`, `list_from a@ 1:1 5`, `diff_part a@ a 1:1 1:9` | the same from one key to another, or the first five from a key on |
+//! | `conflicts a` | `1:1=x/z/y`: the value of the base, the parent's and its own |
+//! | `tally a` | `2 3 1 no`: records changed since the base, by the parent since then, and in conflict, and whether it can be posted |
 //! | `alts` | `top a<top` |
 //! | `checks a` | `b c` |
 //! | `free`, `blocks` | `30`: how many blocks are free, and how many the store has |
 //! | `close` | `ok` |
+//! | `copy 96 128` | `ok`: the store was copied to 96 blocks of a blank disk of 128, closed, and the copy is the device, taken anew |
+//! | `copy 64 64 formatted`, `copy 64 64 once 5` | the same to a disk with a new store, and to one whose sixth call fails |
 //!
-//! | Step, while none is | Answer |
+//! | Step, while no store is open | Answer |
 //! |---|---|
 //! | `format 64`, `open` | `ok` |
-//! | `calls` | `5`: the device calls since the device was taken anew |
+//! | `calls` | `5`: the device calls since the device was last made new |
 //! | `dirty` | `34 35`: the blocks that are not synced |
-//! | `anew` | `ok`: the device is taken anew, with nothing in its cache |
-//! | `written` | the device is taken anew; `0 1 2`: the blocks that have other bytes than zeros |
+//! | `anew` | `ok`: the device is made new, with nothing in its cache |
+//! | `written` | the device is made new; `0 1 2`: the blocks that have bytes other than zeros |
 //! | `forgotten` | the same; `34 35`: the blocks that were forgotten since the last sync, and not written again |
-//! | `block 18` | the same; `0:534C 195:40`: its bytes but zeros, from these places on; or `all=41` |
-//! | `once 5` | `ok`: the device is taken anew, and its sixth call fails |
-//! | `stop 5 A5 00` | the same of each call from the sixth on: a write leaves A5 and then zeros in its block |
-//! | `crash`, `crash all=41`, `crash 35=FF` | `ok`: the device is taken anew after a crash that may fill blocks |
+//! | `block 18` | the same; `0:534C 195:40`: its nonzero bytes, from these offsets on; or `all=41` |
+//! | `once 5` | `ok`: the device is made new, and its sixth call fails |
+//! | `stop 5 A5 00` | the same for each call from the sixth on: a write leaves A5 and then zeros in its block |
+//! | `crash`, `crash all=41`, `crash 35=FF` | `ok`: the device is made new after a crash that may fill blocks |
 //! | `zero 2` | the same, after a block was set to zeros |
-//! | `set 18 0:534C 195:40` | the same, after bytes of a block were set, from these places on |
-//! | `cut 21` | the same, with so many blocks of it |
-//! | `longer 80` | `ok`, or `fault`: the disk is asked to have so many blocks |
-//! | `short 64`, `short 64 35=FF` | `ok`: the device is taken anew after a crash that leaves so many blocks, and may fill some |
+//! | `set 18 0:534C 195:40` | the same, after bytes of a block were set, from these offsets on |
+//! | `cut 21` | the same, with only this many of its blocks |
+//! | `longer 80` | `ok`, or `fault`: the disk is asked to have this many blocks |
+//! | `short 64`, `short 64 35=FF` | `ok`: the device is made new after a crash that leaves this many blocks, and may fill some |
 ghost use Rattle.std.specs.Prelude.{◌≤◌};
 
 use super::answers::{answer, refusal_text};
 use super::blocks::{cut, look, set_block, set_bytes};
-use super::keeping::KeepingDisk;
 use super::over::OverMemory;
+use super::stays::KeepingDisk;
 use super::words::{Wrong, byte, number};
 use std::alloc::{AllocError, Global};
 use std::process::Abort;
 use vm_disk::{CachedDisk, DelayedDisk, Disk, FuseDisk, MemDisk};
-use vm_store::{Store, format, open};
+use vm_store::{Store, copy, format, open};
+use vm_types::Block;
 
 /// A new store, open.
 pub(super) const NEW: &str = "
@@ -68,8 +73,8 @@ pub(super) const DUCT: &str = "
     close
     anew";
 
-/// A closed store in which `top` has seventeen records, and `spur` under it the same map. Opening it makes
-/// seven device calls.
+/// A closed store in which `top` has seventeen records, and `spur` under it the same map. Opening
+/// it makes seven device calls.
 pub(super) const SEVENTEEN: &str = "
     format 64
     anew
@@ -80,13 +85,13 @@ pub(super) const SEVENTEEN: &str = "
     close
     anew";
 
-/// A row of a table: its name, which is told where it fails, the text before its own, and its own.
+/// A row of a table: its name, which is printed if it fails, the text before its own, and its own.
 pub(super) type Row = (&'static str, &'static str, &'static str);
 
-/// The same, with the room of the disk behind the name.
+/// The same, with the room of the disk after the name.
 pub(super) type RoomRow = (&'static str, u32, &'static str, &'static str);
 
-/// What is told in place of a name where a row is in no table.
+/// Printed instead of a name for a row that is in no table.
 const ROW: &str = "row";
 
 /// More device calls than any script makes.
@@ -101,12 +106,12 @@ enum Bench<D: Disk> {
 /// What a step leaves, and its answer.
 type Played<M> = Result<(Bench<FuseDisk<M>>, String), Wrong>;
 
-/// A device that fails after so many calls: once, or each call from there on.
+/// A device that fails after this many calls: once, or every call from there on.
 fn device<M: OverMemory>(
     alloc: Global,
     disk: MemDisk,
     passes: u32,
-    torn: Option<[u8; 4096]>,
+    torn: Option<Block>,
 ) -> Result<FuseDisk<M>, Wrong> {
     if passes > NEVER {
         return Err(Wrong::Unreadable);
@@ -118,8 +123,8 @@ fn device<M: OverMemory>(
     })
 }
 
-/// What a crash may leave: `all=41` fills each block with this byte, and `35=FF` one of them.
-fn filling(alloc: Global, blocks: u32, words: &[&str]) -> Result<Vec<(u32, [u8; 4096])>, Wrong> {
+/// What a crash may leave: `all=41` fills each block with this byte, and `35=FF` fills one of them.
+fn filling(alloc: Global, blocks: u32, words: &[&str]) -> Result<Vec<(u32, Block)>, Wrong> {
     let mut filling = Vec::new(alloc);
     for word in words {
         let (place, fill) = word.split_once('=').ok_or(Wrong::Unreadable)?;
@@ -136,7 +141,7 @@ fn filling(alloc: Global, blocks: u32, words: &[&str]) -> Result<Vec<(u32, [u8; 
     Ok(filling)
 }
 
-/// The disk after a crash that leaves so many blocks.
+/// The disk after a crash that leaves this many blocks.
 fn short(alloc: Global, disk: MemDisk, blocks: u32, fills: &[&str]) -> Result<MemDisk, Wrong> {
     if blocks < disk.sure() || blocks > disk.blocks() {
         return Err(Wrong::Unreadable);
@@ -162,7 +167,7 @@ fn changed(alloc: Global, mut disk: MemDisk, words: &[&str]) -> Result<MemDisk, 
     Ok(disk)
 }
 
-/// The device anew.
+/// A new device.
 fn renewed<M: OverMemory>(
     alloc: Global,
     disk: MemDisk,
@@ -179,7 +184,7 @@ fn renewed<M: OverMemory>(
     }
 }
 
-/// Asks for so many blocks, and tells whether they are there.
+/// Asks for this many blocks, and tells whether they are there.
 fn lengthen<D: Disk>(disk: &mut D, blocks: u32) -> Result<&'static str, Wrong> {
     if blocks < disk.blocks() {
         return Err(Wrong::Unreadable);
@@ -246,6 +251,48 @@ fn play_shut<M: OverMemory>(alloc: Global, mut disk: FuseDisk<M>, words: &[&str]
     }
 }
 
+/// A disk of this many blocks to which a store is to be copied.
+fn copy_target<M: OverMemory>(
+    alloc: Global,
+    available: &str,
+    words: &[&str],
+) -> Result<FuseDisk<M>, Wrong> {
+    let blank = MemDisk::new(alloc, number(available)?)?;
+    match words {
+        [] => device(alloc, blank, NEVER, None),
+        ["once", passes] => device(alloc, blank, number(passes)?, None),
+        ["formatted"] => {
+            let blank = device(alloc, blank, NEVER, None)?;
+            format(blank, 64).map_err(|_| Wrong::Unreadable)
+        }
+        _ => Err(Wrong::Unreadable),
+    }
+}
+
+/// Copies the store to this many blocks of another disk, which takes the place of its own.
+fn play_copy<M: OverMemory>(
+    alloc: Global,
+    mut store: Store<FuseDisk<M>>,
+    blocks: u32,
+    target: FuseDisk<M>,
+) -> Played<M> {
+    match copy(&mut store, target, blocks) {
+        Ok(disk) => {
+            let _source = store.close();
+            let disk = device(alloc, disk.into_inner().below(), NEVER, None)?;
+            let ok = String::from_str(alloc, "ok")?;
+            Ok((Bench::Shut(disk), ok))
+        }
+        Err((_target, refusal)) => match refusal_text(alloc, refusal) {
+            Ok(refused) => Ok((Bench::Open(store), refused)),
+            Err(_) => {
+                let _disk = store.close();
+                Err(Wrong::Memory)
+            }
+        },
+    }
+}
+
 /// Plays a step while a store is open.
 fn play_open<M: OverMemory>(
     alloc: Global,
@@ -256,6 +303,15 @@ fn play_open<M: OverMemory>(
         let disk = store.close();
         let ok = String::from_str(alloc, "ok")?;
         return Ok((Bench::Shut(disk), ok));
+    }
+    if let ["copy", blocks, available, target @ ..] = words {
+        return match (number(blocks), copy_target(alloc, available, target)) {
+            (Ok(blocks), Ok(target)) => play_copy(alloc, store, blocks, target),
+            _ => {
+                let _disk = store.close();
+                Err(Wrong::Unreadable)
+            }
+        };
     }
     match answer(alloc, &mut store, words) {
         Ok(text) => Ok((Bench::Open(store), text)),
@@ -283,7 +339,8 @@ fn play<M: OverMemory>(alloc: Global, bench: Bench<FuseDisk<M>>, step: &str) -> 
     }
 }
 
-/// Plays the lines of a text, and compares each answer. Where one differs, the name of the row is told.
+/// Plays the lines of a text, and compares each answer. If one differs, the name of the row is
+/// printed.
 fn plays<M: OverMemory, R: AllocGlobal + Abort>(
     rt: &R,
     name: &str,
@@ -352,7 +409,7 @@ pub(super) fn in_memory<R: AllocGlobal + Abort>(rt: &R, texts: &[&str]) {
     plays_all::<MemDisk, R>(rt, ROW, "in memory", blank, texts);
 }
 
-/// The same on a blank disk of 64 blocks with room for so many, and once more over a cache.
+/// The same on a blank disk of 64 blocks with this room, and once more over a cache.
 pub(super) fn with_room<R: AllocGlobal + Abort>(rt: &R, room: u32, texts: &[&str])
     requires { 64 ≤ room }
 {
@@ -369,15 +426,16 @@ pub(super) fn on_both<R: AllocGlobal + Abort>(rt: &R, texts: &[&str]) {
     plays_all::<CachedDisk<MemDisk>, R>(rt, ROW, "over a cache", blank, texts);
 }
 
-/// The same on a blank disk of 64 blocks with room for 80, over a cache, and over a disk that writes late.
+/// The same on a blank disk of 64 blocks with room for 80, over a cache, and over a disk that
+/// delays writes.
 pub(super) fn and_late<R: AllocGlobal + Abort>(rt: &R, texts: &[&str]) {
     with_room(rt, 80, texts);
     let blank = MemDisk::with_room(rt.alloc(), 64, 80);
     plays_all::<DelayedDisk<MemDisk>, R>(rt, ROW, "over a late disk", blank, texts);
 }
 
-/// The same on a blank disk of 256 blocks with room for 300, over a cache, over a disk that writes late, and on
-/// one that keeps what is forgotten.
+/// The same on a blank disk of 256 blocks with room for 300, over a cache, over a disk that delays
+/// writes, and on one that keeps what is forgotten.
 pub(super) fn on_each<R: AllocGlobal + Abort>(rt: &R, texts: &[&str]) {
     let blank = MemDisk::with_room(rt.alloc(), 256, 300);
     plays_all::<MemDisk, R>(rt, ROW, "in memory", blank, texts);
@@ -389,7 +447,7 @@ pub(super) fn on_each<R: AllocGlobal + Abort>(rt: &R, texts: &[&str]) {
     plays_all::<KeepingDisk, R>(rt, ROW, "with all kept", blank, texts);
 }
 
-/// Plays each row of a table on a blank disk of 64 blocks of its own.
+/// Plays each row of a table on its own blank disk of 64 blocks.
 pub(super) fn each_in_memory<R: AllocGlobal + Abort>(rt: &R, rows: &[Row]) {
     for (name, first, row) in rows {
         let blank = MemDisk::new(rt.alloc(), 64);

@@ -1,5 +1,5 @@
-//! Which blocks are forgotten: those that a Put or a Remove replaces, where the series took them that it goes on
-//! with. A disk in memory fills them with other bytes.
+//! Which blocks are forgotten: those that a Put or a Remove replaces, if the series that it
+//! continues took them. A disk in memory fills them with other bytes.
 use super::records::TWO_RECORDS;
 use super::script::{NEW, Row, SEVENTEEN, and_late, each_in_256_blocks, each_on_both, on_each};
 
@@ -16,8 +16,8 @@ fn each_put_but_the_first_forgets_the_leaf_before(rt: HostRuntime) {
 }
 
 const LOAD_AND_MERGE: &[Row] = &[
-    // The sixteenth Put takes block 49, and the next two leaves and a root. The other three take a
-    // leaf and a root each. The first leaf, the last one and the last root are left.
+    // The sixteenth Put takes block 49, and the next one two leaves and a root. The other three
+    // take a leaf and a root each. The first leaf, the last one and the last root are left.
     (
         "load leaves nothing but its tree",
         "",
@@ -31,7 +31,7 @@ const LOAD_AND_MERGE: &[Row] = &[
         close
         forgotten -> 34 35 36 37 38 39 40 41 42 43 44 45 46 47 48 49 51 52 53 54 55 56",
     ),
-    // The Puts take the blocks 34 to 36, and the changes of the Merge the next three.
+    // The Puts take blocks 34 to 36, and the changes of the Merge the next three.
     (
         "merge forgets what its own changes replace",
         "",
@@ -53,8 +53,8 @@ fn load_and_merge_forget_what_they_replace(rt: HostRuntime) {
 }
 
 const MARKINGS: &[Row] = &[
-    // The fifteenth Put finds 16 free blocks and marks, which leaves block 47 alone. It takes block 34
-    // again, the next one block 35, and the last one three blocks.
+    // The fifteenth Put finds 16 free blocks and marks, which leaves only block 47. It takes block
+    // 34 again, the next one block 35, and the last one three blocks.
     (
         "a series goes on over a marking",
         "",
@@ -66,8 +66,8 @@ const MARKINGS: &[Row] = &[
         close
         forgotten -> 34 35 39 40 41 42 43 44 45 46 47",
     ),
-    // Block 34 is committed. The fourteenth Put behind it finds 16 free blocks and marks, which leaves
-    // 34 and 47. It takes block 35 again, and the last one block 36.
+    // Block 34 is committed. The fourteenth Put after it finds 16 free blocks and marks, which
+    // leaves 34 and 47. It takes block 35 again, and the last one block 36.
     (
         "what is committed is not forgotten after a marking",
         "",
@@ -90,9 +90,9 @@ fn a_marking_ends_no_series(rt: HostRuntime) {
     each_on_both(&rt, MARKINGS);
 }
 
-/// The root is in block 38, over the leaves 36 and 37, which are committed. The first Put takes the
-/// blocks 34 and 35. The second one replaces both, the third one the leaf 37 and the root of the
-/// second, and the Remove both of the third.
+/// The root is in block 38, over leaves 36 and 37, which are committed. The first Put takes blocks
+/// 34 and 35. The second one replaces both, the third one leaf 37 and the root of the second, and
+/// the Remove both of the third.
 #[test]
 fn blocks_from_before_the_series_are_not_forgotten(rt: HostRuntime) {
     let [one, two, three, four] = [
@@ -134,7 +134,7 @@ fn removes_forget_what_the_series_took(rt: HostRuntime) {
     and_late(&rt, &[TWO_RECORDS, row]);
 }
 
-/// Alternatives `a` under `top` and `b` under `a`, with a record each, in the blocks 34 and 35.
+/// Alternatives `a` under `top` and `b` under `a`, with a record each, in blocks 34 and 35.
 const BRANCHES: &str = "
     format 64
     open
@@ -211,7 +211,7 @@ fn queries_and_refused_commands_do_not_end_it(rt: HostRuntime) {
     }
 }
 
-/// The Puts take the blocks 36 to 38.
+/// The Puts take blocks 36 to 38.
 #[test]
 fn a_series_begins_after_one_that_ended(rt: HostRuntime) {
     let row = "
@@ -224,20 +224,20 @@ fn a_series_begins_after_one_that_ended(rt: HostRuntime) {
     and_late(&rt, &[BRANCHES, row]);
 }
 
-/// The store closed, and opened again on what is committed.
+/// The store closed, and opened again at its last commit.
 const ANEW: &str = "
     commit
     close
     anew
     open";
 
-/// The same after a crash that leaves nothing of what is not synced.
+/// The same after a crash that leaves nothing unsynced.
 const CRASH: &str = "
     close
     crash all=41
     open";
 
-/// All commands, with series of each kind among them, and after each Commit an opening.
+/// All commands, with series of each kind among them, and an opening after each Commit.
 #[test]
 fn a_session_shows_the_same_on_each_disk(rt: HostRuntime) {
     let made = "
@@ -326,7 +326,7 @@ fn a_session_shows_the_same_on_each_disk(rt: HostRuntime) {
         made_shown,
         ANEW,
         made_shown,
-        // A leaf each of top, of the checkpoint and of a.
+        // A leaf each for top, for the checkpoint and for a.
         "free -> 219",
         branched,
         branched_shown,

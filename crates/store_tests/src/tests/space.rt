@@ -4,8 +4,8 @@ use super::script::{DUCT, NEW, Row, SEVENTEEN, each_in_256_blocks, each_in_memor
 const ON_BOTH: &[Row] = &[
     ("new store of 64 blocks has 30 free", NEW, "free -> 30"),
     // The seventeenth record splits the leaf: two leaves and a root are written. The Remove of the
-    // eleventh record marks, and that of the tenth leaves nine records, which are the first leaf: it
-    // writes no block.
+    // eleventh record marks, and that of the tenth leaves nine records, which are the first leaf:
+    // it writes no block.
     (
         "leaf is split and takes the place of the root again",
         NEW,
@@ -43,7 +43,8 @@ const ON_BOTH: &[Row] = &[
         get top 1:16 -> ~
         get top 1:17 -> ~",
     ),
-    // 30 blocks are for data. Each of the 14 checkpoints keeps one, so 16 are spare for the next Put.
+    // There are 30 data blocks. Each of the 14 checkpoints keeps one, so 16 are spare for the next
+    // Put.
     (
         "checkpoints keep their blocks",
         NEW,
@@ -77,8 +78,8 @@ const IN_MEMORY: &[Row] = &[
         free -> 29
         get top 7:1 -> tube",
     ),
-    // The Put takes one of thirty blocks. A new alternative shares its parent's, and what is refused
-    // takes none.
+    // The Put takes one of thirty blocks. A new alternative shares its parent's, and what is
+    // refused takes none.
     (
         "what is refused takes no block",
         NEW,
@@ -94,8 +95,8 @@ const IN_MEMORY: &[Row] = &[
         list nope -> error 1 NoSuchAlternative
         free -> 29",
     ),
-    // Fourteen Puts take the blocks 34 to 47. The fifteenth finds sixteen free and marks: block 47
-    // alone stays held, and the Put takes block 34.
+    // Fourteen Puts take blocks 34 to 47. The fifteenth finds sixteen free and marks: only block 47
+    // stays held, and the Put takes block 34.
     (
         "put marks where fewer than 17 blocks are free",
         NEW,
@@ -135,8 +136,8 @@ const IN_MEMORY: &[Row] = &[
         close
         dirty -> 34 35 36 37 38 39 40 41 42 43 44 45 46 47",
     ),
-    // A root over two leaves is the current map of both alternatives, and the base of one: each of the
-    // three blocks is held once. A record changed in one of them takes a leaf and a root more.
+    // A root over two leaves is the current map of both alternatives, and the base of one: each of
+    // the three blocks is held once. Changing a record in one of them takes one more leaf and root.
     (
         "shared blocks are held once",
         SEVENTEEN,
@@ -155,7 +156,7 @@ fn blocks_are_taken_kept_and_freed(rt: HostRuntime) {
 }
 
 const MERGES: &[Row] = &[
-    // Nine changes ask for 153 spare blocks. 28 are spare beside the two leaves.
+    // Nine changes ask for 153 spare blocks. Beside the two leaves, 28 are spare.
     (
         "merge is refused where too few blocks are spare",
         NEW,
@@ -171,7 +172,7 @@ const MERGES: &[Row] = &[
         put a 1:1 v
         free -> 27",
     ),
-    // 30 blocks are for data. Each of the 14 checkpoints keeps one, so 16 are spare, and one more
+    // There are 30 data blocks. Each of the 14 checkpoints keeps one, so 16 are spare, and one more
     // after an Uncheck. A Merge without changes asks for none.
     (
         "merge of one record asks for seventeen spare blocks",
@@ -192,8 +193,8 @@ const MERGES: &[Row] = &[
 ];
 
 const MERGES_IN_256_BLOCKS: &[Row] = &[
-    // 205 of 222 blocks are free before it. The first eight changes write a leaf each, and the ninth
-    // two leaves and a root.
+    // Before it, 205 of 222 blocks are free. The first eight changes write a leaf each, and the
+    // ninth two leaves and a root.
     (
         "merge makes one change after another",
         "",

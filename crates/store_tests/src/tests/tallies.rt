@@ -1,9 +1,9 @@
-//! How far an alternative has gone from its base and from its parent.
+//! How far an alternative is from its base and from its parent.
 use super::script::{NEW, Row, each_in_256_blocks, each_on_both};
 
 const IN_256_BLOCKS: &[Row] = &[
-    // Both sides changed the first record, the parent alone the second and the fourth, the alternative
-    // alone the third. A merge takes the parent's three, and a post leaves nothing.
+    // Both sides changed the first record, the parent alone the second and the fourth, the
+    // alternative alone the third. A merge takes the parent's three, and a post leaves nothing.
     (
         "tallies follow merges and posts",
         "",
@@ -29,7 +29,8 @@ const IN_256_BLOCKS: &[Row] = &[
 ];
 
 const ON_BOTH: &[Row] = &[
-    // What a parent took in of its own parent is a change of it. A record that it put back is none.
+    // What a parent took in from its own parent is a change of it. A record that it put back is
+    // not.
     (
         "tallies are between an alternative and its own parent",
         NEW,

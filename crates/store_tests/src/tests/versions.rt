@@ -126,6 +126,43 @@ const IN_MEMORY: &[Row] = &[
         diff a@q b -> error 3 NoSuchCheckpoint",
     ),
     (
+        "parts of versions are read and compared",
+        NEW,
+        "
+        put top 1:1 x
+        put top 1:9 x
+        put top 2:0 x
+        new a top
+        put a 1:1 y
+        checkpoint a c
+        put a 1:5 z
+        remove a 2:0
+        list_part a 1:1 1:9 -> 1:1=y 1:5=z 1:9=x
+        list_part a 1:2 1:8 -> 1:5=z
+        list_part a 1:5 1:5 -> 1:5=z
+        list_part a 1:9 1:1 -> none
+        list_part a@ 1:9 2:0 -> 1:9=x 2:0=x
+        list_part a@c 0:0 65535:18446744073709551615 -> 1:1=y 1:9=x 2:0=x
+        list_part top@ 0:0 65535:18446744073709551615 -> none
+        list_from a 1:1 2 -> 1:1=y 1:5=z
+        list_from a 1:2 2 -> 1:5=z 1:9=x
+        list_from a 1:2 0 -> none
+        list_from a@ 1:2 4294967295 -> 1:9=x 2:0=x
+        list_from a@c 2:1 5 -> none
+        diff_part a@ a 1:0 1:4 -> 1:1=x/y
+        diff_part a@ a 1:2 2:0 -> 1:5=~/z 2:0=x/~
+        diff_part a a@ 1:2 2:0 -> 1:5=z/~ 2:0=~/x
+        diff_part a@c a 1:0 1:5 -> 1:5=~/z
+        diff_part a@ a 2:0 1:0 -> none
+        diff_part a a 0:0 9:0 -> none
+        list_part b 1:1 1:9 -> error 1 NoSuchAlternative
+        list_part a@q 1:9 1:1 -> error 3 NoSuchCheckpoint
+        list_from b@q 1:1 0 -> error 1 NoSuchAlternative
+        list_from top@c 1:1 1 -> error 3 NoSuchCheckpoint
+        diff_part b a@q 1:1 1:9 -> error 1 NoSuchAlternative
+        diff_part a@q b 1:9 1:1 -> error 3 NoSuchCheckpoint",
+    ),
+    (
         "checkpoints go with their alternative",
         NEW,
         "
@@ -137,7 +174,7 @@ const IN_MEMORY: &[Row] = &[
         back a c -> error 3 NoSuchCheckpoint
         back top c",
     ),
-    // The name has the greatest length.
+    // The name has the maximum length.
     (
         "versions are there after opening",
         NEW,

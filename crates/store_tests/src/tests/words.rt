@@ -1,4 +1,4 @@
-//! What the words of a script stand for.
+//! What the words of a script mean.
 use std::alloc::{AllocError, Global};
 use std::fmt;
 use vm_disk::DeviceFault;
@@ -7,11 +7,11 @@ use vm_types::{At, Command, Key, Name, Of, Settled, Side, Value};
 /// Why a step has no answer.
 #[derive(Clone, Copy, Debug, PartialEq, Eq)]
 pub(super) enum Wrong {
-    /// No memory for the script itself.
+    /// Memory for the script itself could not be allocated.
     Memory,
     /// A device call of the script itself failed.
     Device,
-    /// The step is none.
+    /// There is no such step.
     Unreadable,
 }
 
@@ -68,7 +68,7 @@ pub(super) fn key(word: &str) -> Result<Key, Wrong> {
     Ok(Key { table, number })
 }
 
-/// So many bytes of one kind, as in `61*300`, if the word is such.
+/// This many bytes of one kind, as in `61*300`, if the word is of that form.
 fn repeated(word: &str) -> Option<Value> {
     let (digits, count) = word.split_once('*')?;
     let bytes = [byte(digits).ok()?; 4096];
@@ -76,14 +76,14 @@ fn repeated(word: &str) -> Option<Value> {
     Value::new(bytes.get(..count)?)
 }
 
-/// The byte of which alone these are a hundred or more, if there is one.
+/// The byte that these consist of, if they are a hundred or more of one kind.
 pub(super) fn many_of(bytes: &[u8]) -> Option<u8> {
     let first = *bytes.first()?;
     let same = [first; 4096];
     (bytes.len() >= 100 && same.get(..bytes.len()) == Some(bytes)).then_some(first)
 }
 
-/// A value, where `''` is the one without bytes, and `61*300` one of so many bytes.
+/// A value: `''` is the empty one, and `61*300` has this many bytes.
 pub(super) fn value(word: &str) -> Result<Value, Wrong> {
     if let Some(value) = repeated(word) {
         return Ok(value);

@@ -1,7 +1,7 @@
 //! Commands: one file for each that has a body of its own.
 //!
-//! All but a put have frames of their own: theirs are large, and a command that is put into its
-//! caller has it set up at each line.
+//! All except a put are kept out of line: their stack frames are large, and a caller with such a
+//! command inlined would set up the frame at each line.
 
 mod commit;
 mod entries;
@@ -18,9 +18,9 @@ use vm_disk::Disk;
 use vm_types::{Answer, Command, Refusal};
 
 impl<D: Disk> Store<D> {
-    ghost use Rattle.vm_store.specs.Running.{Performs};
+    ghost use Rattle.vm_store.specs.Commands.{Performs};
 
-    /// Carries out one command, and leaves it to `apply` to note that the device failed.
+    /// Carries out one command. Noting that the device failed is left to `apply`.
     pub(super) fn dispatch(&mut self, command: &Command) -> Result<Answer, Refusal>
         ensures { Performs self.old self.new command.now result }
     {

@@ -6,7 +6,7 @@ use crate::versions::Versions;
 use vm_alloc::{Baseline, Held, Marks};
 use vm_block::{Entry, SlotName};
 
-/// What is known of a store beside its disk.
+/// What is known of a store, without its disk.
 #[derive(Drop)]
 pub struct Parts {
     pub blocks: u32,

@@ -1,4 +1,4 @@
-//! Queries: they change nothing, and what they answer is of the working state.
+//! Queries: they change nothing, and answer for the working state.
 ghost use Rattle.std.specs.Prelude.{◌≡◌, true, false, IfErr, OnOk};
 
 mod differences;

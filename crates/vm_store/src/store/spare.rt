@@ -1,14 +1,14 @@
-//! Blocks that no version needs: marked, and counted.
+//! Blocks that no version needs: marking and counting them.
 ghost use Rattle.std.specs.Prelude.{◌≡◌, ◌≢◌, ◌↔◌, ◌<◌, ◌≤◌, ◌*◌, true, false, ℕ, List, length, Ok, Err, OnOk, IfOk, IfErr, IsTrue};
 ghost use Rattle.vm_types.specs.State.{State, blocks_a_change};
 ghost use Rattle.vm_disk.specs.Disk.{Goes};
 ghost use Rattle.vm_disk.specs.Moments.{OnlyReads};
 ghost use Rattle.vm_tree.specs.Answers.{OkOrDevice};
-ghost use Rattle.vm_check.specs.Marking.{IsClosed, MarksMore};
+ghost use Rattle.vm_check.specs.Marks.{IsClosed, MarksMore};
 ghost use Rattle.vm_check.specs.Noted.{inner_of};
 ghost use Rattle.vm_store.specs.Answers.{IsEarly};
-ghost use Rattle.vm_store.specs.Marking.{AreReached};
-ghost use Rattle.vm_store.specs.Resting.{spare_of};
+ghost use Rattle.vm_store.specs.Marks.{AreReached};
+ghost use Rattle.vm_store.specs.Rest.{spare_of};
 
 use super::Store;
 use crate::version::Version;
@@ -18,7 +18,7 @@ use vm_disk::Disk;
 use vm_tree::TreeFault;
 use vm_types::Refusal;
 
-/// How many blocks have to be spare for a record change: one more than it takes at most.
+/// How many blocks must be spare for a record change: one more than it takes at most.
 const BLOCKS_A_CHANGE: u32 = 17;
 
 /// Marks all blocks under the trees of the versions, without memory.
@@ -52,8 +52,9 @@ fn mark_versions<D: Disk>(
 impl<D: Disk> Store<D> {
     ghost use Rattle.vm_store.specs.Store.{has_failed, entries_of, root_of, Holds, free_of, IsHonest, GoesOn, ReadsAlone, SpareIsFree};
 
-    /// How many blocks are not held. They are spare; each spare block is among them after an opening
-    /// and after a Reclaim, and from then on each block that is written is taken from them.
+    /// The number of free blocks. Free blocks are always spare. After an opening and after a
+    /// Reclaim, every spare block is free; from then on, each block that is written is taken from
+    /// them.
     pub fn free(&self) -> Result<u32, Refusal>
         ensures failed { has_failed self.now ≡ true → result ≡ Err Refusal.Failed }
         ensures counted { has_failed self.now ≡ false → result ≡ Ok (free_of self.now) }
@@ -64,9 +65,9 @@ impl<D: Disk> Store<D> {
         Ok(self.held.free_count())
     }
 
-    /// Holds just the blocks that the committed or the working entries reach, beside the store's
-    /// own. A series goes on over it: what its alternative's records alone need was not held before
-    /// it, and is not now.
+    /// Holds exactly the blocks that the committed or the working entries reach, together with the
+    /// store's own. An open series stays open: what only its alternative's records need was not
+    /// held before the series, and is not now.
     #[inline(never)]
     pub(super) fn mark_all(&mut self) -> Result<(), Refusal>
         ensures any { GoesOn (result ≡ Err Refusal.Device) self.old self.new }
@@ -90,15 +91,15 @@ impl<D: Disk> Store<D> {
         Ok(())
     }
 
-    /// Whether as many blocks are free as so many record changes ask for.
+    /// Whether enough blocks are free for this many record changes.
     pub(super) fn has_free(&self, changes: usize) -> bool
         ensures { IsTrue result ↔ (blocks_a_change * changes ≤ free_of self.now) }
     {
         changes <= (self.held.free_count() / BLOCKS_A_CHANGE) as usize
     }
 
-    /// Whether as many blocks are spare as so many record changes ask for. Where fewer are free,
-    /// it marks what the entries reach.
+    /// Whether enough blocks are spare for this many record changes. If fewer are free, it marks
+    /// what the entries reach.
     pub(super) fn has_spare(&mut self, changes: usize) -> Result<bool, Refusal>
         ensures any { GoesOn (result ≡ Err Refusal.Device) self.old self.new }
         ensures failed { has_failed self.new ≡ has_failed self.old }

@@ -25,7 +25,7 @@ fn alternative_under(parent: &Name, name: &Name, root: Root) -> Version
 }
 
 impl Versions {
-    /// Makes a new alternative, whose current and base records are the parent's current ones.
+    /// Makes a new alternative. Its current and base records are the parent's current ones.
     pub(super) fn make_alternative(&mut self, name: &Name, parent: &Name) -> Result<Answer, Refusal>
         ensures { Turns self.old self.new (New name.now parent.now) result }
     {
@@ -42,7 +42,7 @@ impl Versions {
         Ok(Answer::Done)
     }
 
-    /// Makes a new alternative, whose current and base records are the current ones of a checkpoint
+    /// Makes a new alternative. Its current and base records are the current ones of a checkpoint
     /// of the parent.
     pub(super) fn make_alternative_at(
         &mut self,
@@ -68,7 +68,7 @@ impl Versions {
         Ok(Answer::Done)
     }
 
-    /// Takes out an alternative that has a parent and no children, and its checkpoints.
+    /// Removes an alternative that has a parent and no children, together with its checkpoints.
     pub(super) fn drop_alternative(&mut self, alt: &Name) -> Result<Answer, Refusal>
         ensures { Turns self.old self.new (Drop alt.now) result }
     {
@@ -86,9 +86,9 @@ impl Versions {
     }
 }
 
-/// The alternatives among the versions, each with its parent, in their order.
+/// The alternatives among the versions, each with its parent, in order.
 ///
-/// It answers `Memory` where there is none for the list.
+/// Returns `Memory` if there is none for the list.
 pub fn alternatives_among(
     alloc: Global,
     versions: &[Version],

@@ -1,4 +1,4 @@
-//! Checkpoints: made, taken out, gone back to, and listed.
+//! Checkpoints: made, removed, gone back to, and listed.
 ghost use Rattle.std.specs.Prelude.{◌≡◌, IfOk, IfErr};
 ghost use Rattle.vm_types.specs.declared.command.Command.TheVariants.{Checkpoint, Uncheck, Back};
 ghost use Rattle.vm_store.specs.Turns.{Turns};
@@ -33,7 +33,7 @@ impl Versions {
         Ok(Answer::Done)
     }
 
-    /// Takes a checkpoint out.
+    /// Removes a checkpoint.
     pub(super) fn uncheck(&mut self, alt: &Name, name: &Name) -> Result<Answer, Refusal>
         ensures { Turns self.old self.new (Uncheck alt.now name.now) result }
     {
@@ -62,9 +62,9 @@ impl Versions {
     }
 }
 
-/// The names of the alternative's checkpoints among the versions, in their order.
+/// The names of the alternative's checkpoints among the versions, in order.
 ///
-/// It answers `Memory` where there is none for the list.
+/// Returns `Memory` if there is none for the list.
 pub fn checkpoints_among(
     alloc: Global,
     versions: &[Version],

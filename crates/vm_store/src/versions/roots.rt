@@ -8,8 +8,8 @@ use vm_tree::Root;
 use vm_types::{At, Name, Of, Refusal};
 
 impl Versions {
-    /// The root of a version. It answers `NoSuchAlternative` where the alternative is not there, and else
-    /// `NoSuchCheckpoint` where it has no such checkpoint.
+    /// The root of a version. Returns `NoSuchAlternative` if the alternative is not there, and
+    /// otherwise `NoSuchCheckpoint` if it has no such checkpoint.
     pub fn root_at(&mut self, at: &At) -> Result<Root, Refusal>
         ensures root { result ≡ root_at self.old at.now }
         ensures same { self.new ≡ self.old }
@@ -27,7 +27,7 @@ impl Versions {
         }
     }
 
-    /// The root of the records of a checkpoint, refused as by `root_at`.
+    /// The root of the records of a checkpoint. Refuses as `root_at` does.
     fn saved_root(&self, alt: &Name, name: &Name) -> Result<Root, Refusal>
         ensures { result ≡ saved_root self.now alt.now name.now (find (is_alternative_of alt.now) self.now) }
     {

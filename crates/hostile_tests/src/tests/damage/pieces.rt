@@ -5,21 +5,21 @@ use testkit::Wrong;
 use vm_block::{Child, Entry, Kind, SlotFormat, SlotName, write_header, write_node};
 use vm_catalog::write_slot;
 use vm_disk::{Disk, MemDisk};
-use vm_types::Key;
+use vm_types::{Block, Key};
 
 /// An alternative: its name, its parent, and its current and its base root.
 pub type Line = (&'static [u8], &'static [u8], u32, u32);
 
-/// A row of a leaf: its key in table 1, how many bytes its value has, and the first four that stand there:
-/// those of a short value, or the number of a long one's block.
+/// A row of a leaf: its key in table 1, how many bytes its value has, and the first four bytes that
+/// it stores: those of a short value, or the block number of a long one.
 pub type Row = (u64, u16, u32);
 
 /// What is written on a disk.
 #[derive(Clone, Copy)]
 pub enum Piece {
-    /// A block, a byte of it, and what it is set to.
+    /// A block, one of its bytes, and what that is set to.
     Byte(u32, usize, u8),
-    /// The same of four bytes.
+    /// The same for four bytes.
     Word(u32, usize, u32),
     /// A leaf of keys of table 1, with empty values.
     Leaf(u32, &'static [u64]),
@@ -29,9 +29,9 @@ pub enum Piece {
     Long(u32, u64, u16),
     /// An inner block of a level: of each child the lowest key, in table 1, and the block.
     Node(u32, u8, &'static [(u64, u32)]),
-    /// The entries of slot A, behind `top` with root 34.
+    /// The entries of slot A, after `top` with root 34.
     Slot(&'static [Line]),
-    /// Slot A with `top` and so many children of it, all of which are empty.
+    /// Slot A with `top` and this many children of it, all of them empty.
     Children(usize),
 }
 
@@ -41,7 +41,7 @@ pub const LEAF: &'static [u8] = b"LEAF";
 
 pub const LEF2: &'static [u8] = b"LEF2";
 
-pub(super) fn set_block(disk: &mut MemDisk, n: u32, bytes: &[u8; 4096]) -> Result<(), Wrong> {
+pub(super) fn set_block(disk: &mut MemDisk, n: u32, bytes: &Block) -> Result<(), Wrong> {
     if n >= disk.blocks() {
         return Err(Wrong::Device);
     }
@@ -59,8 +59,8 @@ pub(super) fn set_bytes(disk: &mut MemDisk, n: u32, at: usize, bytes: &[u8]) -> 
     set_block(disk, n, &block)
 }
 
-/// Sets bytes of a block that is written then.
-fn lay(block: &mut [u8; 4096], at: usize, bytes: &[u8]) {
+/// Sets bytes of a block that is written afterwards.
+fn lay(block: &mut Block, at: usize, bytes: &[u8]) {
     for (place, byte) in block.iter_mut().skip(at).zip(bytes) {
         *place = *byte;
     }
@@ -147,7 +147,7 @@ fn write_entries(disk: &mut MemDisk, entries: &[Entry]) -> Result<(), Wrong> {
     Ok(())
 }
 
-/// The entries are `top`, and these behind it.
+/// Makes the entries `top`, and these after it.
 fn put_slot(alloc: Global, disk: &mut MemDisk, lines: &[Line]) -> Result<(), Wrong> {
     let mut entries = Vec::new(alloc);
     entries.push(entry((b"top", b"", 34, 0)))?;
@@ -157,7 +157,7 @@ fn put_slot(alloc: Global, disk: &mut MemDisk, lines: &[Line]) -> Result<(), Wro
     write_entries(disk, &entries)
 }
 
-/// The entries are `top`, and so many children of it.
+/// Makes the entries `top`, and this many children of it.
 fn put_children(alloc: Global, disk: &mut MemDisk, count: usize) -> Result<(), Wrong> {
     let mut entries = Vec::new(alloc);
     let top = entry((b"top", b"", 34, 0));

@@ -1,10 +1,10 @@
-//! What is written on a disk, and what opening it answers then.
+//! What is written on a disk, and what opening it then answers.
 use super::pieces::Piece::{Byte, Children, Leaf, Long, Node, Rows, Slot, Word};
 use super::pieces::{LEAF, LEF2, Piece};
 use vm_types::Refusal;
 
-/// What is written on a store whose first alternative has one record in block 34, and the free blocks
-/// then, or why it is refused.
+/// What is written on a store whose first alternative has one record in block 34, and then the
+/// number of free blocks, or why the store is refused.
 pub const ROWS: [(&'static [Piece], Result<u32, Refusal>); 26] = [
     (&[], Ok(29)),
     (&[Byte(0, 8, 2)], Err(Refusal::NotAStore)),
@@ -64,13 +64,13 @@ pub const ROWS: [(&'static [Piece], Result<u32, Refusal>); 26] = [
     (&[Byte(2, 128 + 2, b' ')], Err(Refusal::Damaged(2))),
 ];
 
-/// What makes a slot of the second format of one of the first.
+/// Turns a slot of the first format into one of the second.
 const FORMAT_2: Piece = Byte(2, 4, 2);
 
-/// A leaf in block 34 with a value of 300 bytes, whose block is 35.
+/// A leaf in block 34 with a value of 300 bytes in block 35.
 const LONG_LEAF: Piece = Rows(34, LEF2, &[(1, 300, 35)]);
 
-/// The same of formats, and of long values.
+/// The same for formats and long values.
 pub const LONG_ROWS: [(&'static [Piece], Result<u32, Refusal>); 46] = [
     (&[FORMAT_2], Ok(29)),
     (&[Byte(2, 4, 0)], Err(Refusal::Damaged(2))),

@@ -2,7 +2,7 @@
 use crate::tests::script::{NEW, Row, and_late, each_on_both, in_256_blocks};
 
 const ON_BOTH: &[Row] = &[
-    // The block of the value is written first. A short value in its place is in a leaf as ever.
+    // The block of the value is written first. A short value in its place is in a leaf as usual.
     (
         "long value stands in a block of its own",
         NEW,
@@ -28,7 +28,7 @@ const ON_BOTH: &[Row] = &[
         dirty -> 36
         block 36 -> 0:4C454146 8:01 16:07 18:01 26:04 28:64756374",
     ),
-    // The first value takes the blocks 34 and 35. A change of its neighbour copies the leaf alone, which
+    // The first value takes blocks 34 and 35. A change of its neighbour copies only the leaf, which
     // links to block 34 as before.
     (
         "leaf that is copied links to the same block",
@@ -82,7 +82,7 @@ fn leaves_link_to_the_blocks_of_long_values(rt: HostRuntime) {
     each_on_both(&rt, ON_BOTH);
 }
 
-/// The first Put takes the blocks 34 and 35, the next fifteen one each, and the last one a leaf for
+/// The first Put takes blocks 34 and 35, the next fifteen one each, and the last one a leaf for
 /// nine records, one for eight, and the root. The long value is the first record.
 #[test]
 fn only_the_half_with_a_long_value_is_a_leaf_of_the_new_form(rt: HostRuntime) {
@@ -123,7 +123,7 @@ fn only_the_half_with_a_long_value_is_a_leaf_of_the_new_form(rt: HostRuntime) {
     in_256_blocks(&rt, &[made, halves, node]);
 }
 
-/// The first Put takes the blocks 34 and 35, the second one 36, the third 37 and 38, and the Remove 39.
+/// The first Put takes blocks 34 and 35, the second 36, the third 37 and 38, and the Remove 39.
 #[test]
 fn block_of_a_long_value_is_forgotten_in_its_own_series_alone(rt: HostRuntime) {
     let [one, two, three, four] = [

@@ -2,7 +2,7 @@
 use super::formats::OLD;
 use crate::tests::script::{DUCT, in_memory, on_both};
 
-/// What is shown after a crash: `duct` alone, and then the long value, which is put once more.
+/// What is shown after a crash: only `duct`, and then the long value, which is put once more.
 const ONLY_DUCT: &str = "
     open
     list top -> 7:1=duct
@@ -21,9 +21,9 @@ const ONLY_LONG: &str = "
     list top -> 7:1=61*300
     free -> 28";
 
-/// An opening makes five device calls. The Put reads the leaf, and writes the value and the leaf. The
-/// Commit writes the slot, syncs, writes the selector, in which an odd byte names the old slot, and
-/// syncs.
+/// An opening makes five device calls. The Put reads the leaf, and writes the value and the leaf.
+/// The Commit writes the slot, syncs, writes the selector, in which an odd byte names the old slot,
+/// and syncs.
 #[test]
 fn crash_in_a_put_of_a_long_value_or_its_commit_shows_before_or_after(rt: HostRuntime) {
     let in_the_put = "
@@ -63,9 +63,9 @@ fn crash_in_a_put_of_a_long_value_or_its_commit_shows_before_or_after(rt: HostRu
     }
 }
 
-/// `top` has put another long value since `a` was made under it. An opening makes eight device calls: it
-/// reads both leaves and both values. The Merge reads these four, and the leaf of `a`, and writes the value
-/// and the leaf. The Commit makes four.
+/// `top` has put another long value since `a` was made under it. An opening makes eight device
+/// calls: it reads both leaves and both values. The Merge reads these four, and the leaf of `a`,
+/// and writes the value and the leaf. The Commit makes four.
 #[test]
 fn crash_in_a_merge_of_a_long_value_shows_before_or_after(rt: HostRuntime) {
     let made = "
@@ -113,7 +113,7 @@ fn crash_in_a_merge_of_a_long_value_shows_before_or_after(rt: HostRuntime) {
     }
 }
 
-/// A failure in place of a crash: the store is opened again, and shows the same.
+/// A failure instead of a crash: the store is opened again, and shows the same.
 #[test]
 fn failure_in_a_put_of_a_long_value_leaves_what_is_committed(rt: HostRuntime) {
     let row = "

@@ -1,7 +1,7 @@
 //! Blocks of long values that no store wrote.
 use crate::tests::script::{NEW, in_memory};
 
-/// The leaf is block 35, and the block of the value 34.
+/// The leaf is block 35, and the block of the value is 34.
 #[test]
 fn block_of_a_long_value_has_its_key_and_length(rt: HostRuntime) {
     let row = "
@@ -33,8 +33,8 @@ fn block_of_a_long_value_has_its_key_and_length(rt: HostRuntime) {
     }
 }
 
-/// Both values are in the blocks 34 and 36, under the leaf 37, which two alternatives have. What was met
-/// before is not read again, but its key and its length are compared all the same.
+/// Both values are in blocks 34 and 36, under the leaf 37, which two alternatives share. What was
+/// met before is not read again, but its key and its length are compared all the same.
 #[test]
 fn blocks_that_were_met_before_are_compared_all_the_same(rt: HostRuntime) {
     let two = "

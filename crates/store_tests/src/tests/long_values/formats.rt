@@ -1,8 +1,8 @@
-//! Stores from before there were long values.
+//! Stores from before long values.
 use crate::tests::script::{in_memory, on_both};
 
-/// A disk as it was left before there were long values: both slots have the format 1. `duct` is committed
-/// in block 34, by slot B.
+/// A disk as it was left before long values: both slots have format 1. `duct` is committed in block
+/// 34, by slot B.
 pub const OLD: &str = "
     set 0 0:414C5453544F524501 13:10
     set 1 0:01
@@ -10,7 +10,7 @@ pub const OLD: &str = "
     set 18 0:534C4F5401 8:40 12:01 128:4103746F70 195:22
     set 34 0:4C454146 8:01 16:07 18:01 26:04 28:64756374";
 
-/// A disk without long values opens as ever. Slot A is written with format 2, and selected.
+/// A disk without long values opens as usual. Slot A is written with format 2, and selected.
 #[test]
 fn commit_raises_the_format_of_the_store(rt: HostRuntime) {
     let row = "
@@ -65,7 +65,7 @@ fn crash_in_the_commit_that_raises_the_format_shows_the_same(rt: HostRuntime) {
     }
 }
 
-/// The leaf in block 34, with a link to block 35, is one of the form that there was not then. Under
+/// The leaf in block 34, with a link to block 35, is of a form that did not exist then. Under
 /// format 2 the same is a map.
 #[test]
 fn leaf_with_a_long_value_is_damage_under_format_one(rt: HostRuntime) {
@@ -80,7 +80,7 @@ fn leaf_with_a_long_value_is_damage_under_format_one(rt: HostRuntime) {
         get top 7:1 -> 00*300";
     on_both(&rt, &[OLD, long, "open -> error 18 Damaged 34"]);
     on_both(&rt, &[OLD, long, opened]);
-    // Behind a root, too: block 36 has the leaf as its one child.
+    // Also below a root: block 36 has the leaf as its only child.
     let behind = "
         set 36 0:4E4F4445 4:01 8:01 16:07 18:01 26:22
         set 18 195:24";

@@ -1,6 +1,6 @@
 use Rattle.std.proofs.Common.{refl}
 use Rattle.vm_alloc.specs.Held.{IsHeld}
-use Rattle.vm_tree.specs.Replacing.{IsHeldBeside, path_under}
+use Rattle.vm_tree.specs.Replacement.{IsHeldBeside, path_under}
 use Rattle.vm_tree.proofs.Looking.{passed_on}
 use Rattle.vm_tree.proofs.Touching.{unsynced_then}
 use Rattle.vm_store.proofs.ForgetLemmas.{fault_alike}

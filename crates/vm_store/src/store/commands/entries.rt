@@ -1,4 +1,5 @@
-//! The commands that change entries alone: those that make, drop and go back to alternatives and checkpoints.
+//! The commands that change only entries: those that make, drop and go back to alternatives and
+//! checkpoints.
 ghost use Rattle.std.specs.Prelude.{◌≡◌, ◌≢◌, OnErr};
 ghost use Rattle.vm_store.specs.Answers.{ChangesEntriesAlone};
 
@@ -9,7 +10,7 @@ use vm_types::{Answer, Command, Refusal};
 impl<D: Disk> Store<D> {
     ghost use Rattle.vm_store.specs.Store.{disk_of, has_failed, entries_of, IsCarriedOut, held_of, GoesOn, EarlyKeeps};
 
-    /// Carries one of them out. It makes no device call.
+    /// Carries out one of them. It makes no device call.
     #[inline(never)]
     pub(super) fn change_entries(&mut self, command: &Command) -> Result<Answer, Refusal>
         requires { ChangesEntriesAlone command.now }

@@ -1,4 +1,4 @@
-//! Making a store larger.
+//! Growing a store.
 ghost use Rattle.std.specs.Prelude.{◌≡◌, ◌≢◌, ◌≤◌, true, false, IfErr, OnOk};
 ghost use Rattle.vm_types.specs.State.{State};
 ghost use Rattle.vm_disk.specs.Disk.{Enlarges};
@@ -12,7 +12,8 @@ use vm_types::{Answer, MAX_BLOCKS, Refusal};
 impl<D: Disk> Store<D> {
     ghost use Rattle.vm_store.specs.Store.{blocks_of, disk_of, has_failed, entries_of, EarlyLeavesDisk, IsCarriedOut, IsNoLonger, NewAreFree, Holds, IsHonest, IsSameButDisk, GrowsOn, EarlyKeeps};
 
-    /// How many blocks the store has, those of the slots included. The next Commit keeps that many.
+    /// How many blocks the store has, including those of the slots. The next Commit keeps that
+    /// number.
     pub fn blocks(&self) -> Result<u32, Refusal>
         ensures failed { has_failed self.now ≡ true → result ≡ Err Refusal.Failed }
         ensures counted { has_failed self.now ≡ false → result ≡ Ok (blocks_of self.now) }
@@ -23,8 +24,8 @@ impl<D: Disk> Store<D> {
         Ok(self.blocks)
     }
 
-    /// Gives the store so many blocks in all. Room for what is held and marked is found before the
-    /// disk is asked for blocks, so that nothing is to be undone.
+    /// Grows the store to `blocks` blocks in all. Memory for the held and the marked blocks is
+    /// allocated before the disk is asked for blocks, so that nothing has to be undone.
     #[inline(never)]
     pub(super) fn grow(&mut self, blocks: u32) -> Result<Answer, Refusal>
         ensures any { GrowsOn (result ≡ Err Refusal.Device) self.old self.new }
@@ -61,7 +62,7 @@ impl<D: Disk> Store<D> {
         Ok(Answer::Done)
     }
 
-    /// Gives the disk blocks where it has fewer than so many.
+    /// Lengthens the disk if it has fewer than `blocks` blocks.
     fn lengthen(&mut self, blocks: u32) -> Result<(), Refusal>
         ensures same { IsSameButDisk self.old self.new }
         ensures any { GrowsOn (result ≡ Err Refusal.Device) self.old self.new }

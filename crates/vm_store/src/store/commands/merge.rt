@@ -3,7 +3,7 @@ ghost use Rattle.std.specs.Prelude.{◌≡◌, ◌≢◌, true, OnErr, IfErr};
 ghost use Rattle.vm_types.specs.State.{State};
 ghost use Rattle.vm_types.specs.declared.command.Command.TheVariants.{Merge};
 
-use crate::changing::make_changes;
+use crate::change_list::make_changes;
 use crate::sides::{ThreeRoots, changes_of_merge};
 use crate::store::Store;
 use vm_disk::Disk;
@@ -13,7 +13,7 @@ impl<D: Disk> Store<D> {
     ghost use Rattle.vm_store.specs.Store.{has_failed, entries_of, Carries, Holds, IsHonest, GoesOn, EarlyKeeps, FirstReads};
 
     /// Changes the alternative's records to those of the merge, and makes the parent's records its
-    /// base. All that takes memory comes before a marking and before the first write.
+    /// base. Everything that takes memory comes before a marking and before the first write.
     #[inline(never)]
     pub(super) fn merge(&mut self, alt: &Name, settled: &[(Key, Side)]) -> Result<Answer, Refusal>
         ensures any { GoesOn (result ≡ Err Refusal.Device) self.old self.new }

@@ -9,7 +9,7 @@ use vm_types::{Answer, Command, Name, Refusal};
 impl<D: Disk> Store<D> {
     ghost use Rattle.vm_store.specs.Store.{has_failed, entries_of, held_of, IsCarriedOut, IsHonest, GoesOn, ReadsAlone, EarlyKeeps};
 
-    /// Gives the parent the alternative's records, which become the alternative's base, too. The
+    /// Gives the parent the alternative's records, which also become the alternative's base. The
     /// parent must have no other records than that base.
     #[inline(never)]
     pub(super) fn post(&mut self, alt: &Name) -> Result<Answer, Refusal>

@@ -1,4 +1,4 @@
-//! The command that gives a record a value.
+//! The command that sets the value of a record.
 ghost use Rattle.std.specs.Prelude.{◌≡◌, ◌≢◌, ◌≤◌, true, length, OnErr};
 ghost use Rattle.vm_types.specs.Bytes.{longest};
 ghost use Rattle.vm_types.specs.State.{State};
@@ -11,8 +11,8 @@ use vm_types::{Answer, Command, Key, Name, Refusal};
 impl<D: Disk> Store<D> {
     ghost use Rattle.vm_store.specs.Store.{has_failed, entries_of, Carries, Holds, IsHonest, GoesOn, EarlyKeeps, FirstReads, FullLeavesSpare, TakesUpTo};
 
-    /// Gives a record of the alternative a value. The blocks that the series took for the path as
-    /// it was are forgotten.
+    /// Sets the value of a record of the alternative. The blocks that the series took for the old
+    /// path are forgotten.
     pub(crate) fn put_value(
         &mut self,
         alt: &Name,

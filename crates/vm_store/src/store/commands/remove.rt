@@ -1,4 +1,4 @@
-//! The command that takes a record out.
+//! The command that removes a record.
 ghost use Rattle.std.specs.Prelude.{◌≡◌, ◌≢◌, ◌⊎◌, ◌*◌, ◌≤◌, true, find, None, Some, Ok, OnErr, IfErr};
 ghost use Rattle.vm_types.specs.State.{State, blocks_a_change};
 ghost use Rattle.vm_types.specs.declared.command.Command.TheVariants.{Remove};
@@ -16,8 +16,8 @@ use vm_types::{Answer, Key, Name, Refusal};
 impl<D: Disk> Store<D> {
     ghost use Rattle.vm_store.specs.Store.{has_failed, entries_of, free_of, series_of, Carries, Holds, IsHonest, GoesOn, EarlyKeeps, FirstReads, FullLeavesSpare, TakesUpTo};
 
-    /// Takes a record out of the alternative. Where its series goes on and enough blocks are free,
-    /// its path is gone down once.
+    /// Removes a record from the alternative. If its series goes on and enough blocks are free,
+    /// there is only one descent to the record.
     #[inline(never)]
     pub(super) fn remove(&mut self, alt: &Name, key: Key) -> Result<Answer, Refusal>
         ensures any { GoesOn (result ≡ Err Refusal.Device) self.old self.new }
@@ -40,8 +40,7 @@ impl<D: Disk> Store<D> {
         self.remove_after_look(alt, version, key)
     }
 
-    /// Looks for the record first, so that no blocks are marked, and no series begins, for one that
-    /// is absent.
+    /// Looks for the record first, so that an absent one marks no blocks and begins no series.
     #[inline(never)]
     fn remove_after_look(
         &mut self,
@@ -78,8 +77,8 @@ impl<D: Disk> Store<D> {
         self.remove_in_series(alt, version, key, Refusal::Damaged(root.block))
     }
 
-    /// Takes a record out of the alternative whose series goes on, or of one where none does, or
-    /// answers that it is missing. The blocks that the series took for the path as it was are
+    /// Removes a record from the alternative whose series goes on, or from one if no series does,
+    /// or answers that it is missing. The blocks that the series took for the old path are
     /// forgotten.
     fn remove_in_series(
         &mut self,

@@ -8,9 +8,9 @@ use vm_types::{Answer, Command};
 impl<D: Disk> Store<D> {
     ghost use Rattle.vm_store.specs.Store.{has_failed, IsCarriedOut, RollsBack};
 
-    /// Makes the committed entries the working ones, and leaves out the blocks that came by a Grow
-    /// since then. It makes no device call, takes no block and is never refused. The blocks that only
-    /// the entries from before need stay held up to the next marking.
+    /// Makes the committed entries the working ones, and drops the blocks that a Grow added since
+    /// then. It makes no device call, takes no block and is never refused. The blocks that only the
+    /// entries from before need stay held until the next marking.
     #[inline(never)]
     pub(super) fn rollback(&mut self) -> Answer
         ensures failed { has_failed self.new ≡ has_failed self.old }

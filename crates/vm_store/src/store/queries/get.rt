@@ -8,9 +8,9 @@ ghost use Rattle.vm_store.specs.Answers.{IsDueOrDevice, copied_answer};
 use crate::store::Store;
 use vm_disk::Disk;
 use vm_tree::get;
-use vm_types::{At, Key, Name, Of, Refusal, Value};
+use vm_types::{At, Block, Key, Name, Of, Refusal, Value};
 
-/// A copy of a value that is lent.
+/// A copy of a borrowed value.
 fn copy_of(value: Option<&[u8]>) -> Option<Value>
     requires { IfSome value (λ bytes. length bytes.now ≤ longest) }
     ensures { result ≡ option_copied value.entry }
@@ -22,15 +22,15 @@ fn copy_of(value: Option<&[u8]>) -> Option<Value>
 }
 
 impl<D: Disk> Store<D> {
-    ghost use Rattle.vm_store.specs.Querying.{Queries};
+    ghost use Rattle.vm_store.specs.Queries.{Queries};
 
-    /// The value of a record of a version in the working state, lent from this room, into which it is
-    /// read or copied.
+    /// The value of a record of a version in the working state, lent from this buffer, into which
+    /// it is read or copied.
     pub fn look_at<'a>(
         &mut self,
         at: &At,
         key: Key,
-        room: &'a mut [u8; 4096],
+        room: &'a mut Block,
     ) -> Result<Option<&'a [u8]>, Refusal>
         ensures query { Queries self.old self.new result
             (λ s. IsDueOrDevice (copied_answer result) (value_at s.working at.now key)) }
@@ -42,13 +42,13 @@ impl<D: Disk> Store<D> {
         Ok(get(&mut self.disk, self.blocks, root, key, room)?)
     }
 
-    /// The value of a record in the working state of an alternative, lent from this room, into which it
-    /// is read or copied.
+    /// The value of a record in the working state of an alternative, lent from this buffer, into
+    /// which it is read or copied.
     pub fn look<'a>(
         &mut self,
         alt: &Name,
         key: Key,
-        room: &'a mut [u8; 4096],
+        room: &'a mut Block,
     ) -> Result<Option<&'a [u8]>, Refusal>
         ensures query { Queries self.old self.new result
             (λ s. IsDueOrDevice (copied_answer result) (value_in s.working alt.now key)) }

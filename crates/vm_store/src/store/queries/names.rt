@@ -13,8 +13,8 @@ use vm_types::{Name, Refusal};
 impl<D: Disk> Store<D> {
     ghost use Rattle.vm_store.specs.Store.{has_failed, InState};
 
-    /// The alternatives of the working state, each with its parent, in order of creation. It makes no
-    /// device call. It answers `Memory` where there is none for the list.
+    /// The alternatives of the working state, each with its parent, in order of creation. Makes no
+    /// device call. Returns `Memory` if there is none for the list.
     pub fn alternatives(&self, alloc: Global) -> Result<Vec<(Name, Option<Name>)>, Refusal>
         ensures refused { has_failed self.now ≡ true → result ≡ Err Refusal.Failed }
         ensures only_then { has_failed self.now ≡ false
@@ -25,8 +25,8 @@ impl<D: Disk> Store<D> {
         alternatives_among(alloc, self.working.as_slice())
     }
 
-    /// The names of an alternative's checkpoints in the working state, in order of creation. It makes no
-    /// device call. It answers `NoSuchAlternative` where the alternative is not there, and `Memory` where
+    /// The names of an alternative's checkpoints in the working state, in order of creation. Makes
+    /// no device call. Returns `NoSuchAlternative` if the alternative is not there, and `Memory` if
     /// there is none for the list.
     pub fn checkpoints(&self, alloc: Global, alt: &Name) -> Result<Vec<Name>, Refusal>
         ensures refused { has_failed self.now ≡ true → result ≡ Err Refusal.Failed }

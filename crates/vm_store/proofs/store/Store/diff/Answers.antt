@@ -1,4 +1,4 @@
-use Rattle.std.proofs.Common.{◌≡◌, ◌∙◌, Err, List, Ok, Result, ap, inr, refl, sym, rules}
+use Rattle.std.proofs.Common.{◌∙◌, Err, List, Ok, Result, ap, inr, refl, sym, rules}
 use Rattle.vm_types.specs.declared.refusal.Refusal.{Refusal}
 use Rattle.vm_types.specs.Map.{Map}
 use Rattle.vm_types.specs.Versions.{delta_between, delta_from, map_at}

@@ -1,5 +1,5 @@
 use Rattle.std.proofs.Common.{◌≤◌, subst, sym}
-use Rattle.vm_store.specs.Resting.{spare_of}
+use Rattle.vm_store.specs.Rest.{spare_of}
 use Rattle.vm_store.proofs.MarkedLemmas.{free_at_most}
 use Rattle.vm_store.proofs.store.Store.free.Goals as goal
 

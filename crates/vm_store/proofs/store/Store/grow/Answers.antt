@@ -6,7 +6,7 @@ use Rattle.vm_disk.specs.Moments.{OnlyReads, Throughout}
 use Rattle.vm_disk.proofs.MomentLemmas.{started}
 use Rattle.vm_alloc.specs.Held.{IsHeld}
 use Rattle.vm_store.specs.Guarded.{IsGuarded}
-use Rattle.vm_store.specs.Resting.{HoldsWith}
+use Rattle.vm_store.specs.Rest.{HoldsWith}
 use Rattle.vm_store.proofs.LongerLemmas.{grow_is_accepted, grow_is_refused, longer_crash, longer_guarded, longer_unsynced, rests_longer, rests_renamed, still_held}
 use Rattle.vm_store.proofs.CarryLemmas.{looked, stayed}
 use Rattle.vm_store.proofs.SeriesLemmas.{holds_alone}

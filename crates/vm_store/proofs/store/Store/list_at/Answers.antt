@@ -1,38 +1,42 @@
 use Rattle.std.proofs.Common.{◌∙◌, Err, Ok, ap, inr, refl, sym, rules}
 use Rattle.vm_tree.proofs.Looking.{passed_on}
 use Rattle.vm_store.specs.Sizes.{sizes}
-use Rattle.vm_store.proofs.AtLemmas.{at_there}
+use Rattle.vm_store.proofs.AtLemmas.{at_rooted, at_there}
 use Rattle.vm_store.proofs.Listing.{list_refused, wanting}
 use Rattle.vm_store.proofs.QueryLemmas.{query_failed, query_lacking, query_listed}
 use Rattle.vm_store.proofs.store.Store.list_at.Goals as goal
 
-pub returns-in_err-ready : goal.returns-in_err-ready
-returns-in_err-ready g c =
-    record { query = query_failed _ _ _ c.in_err-ready.ensures.err.1 (passed_on _ c.from_residual.ensures.1 ∙ ap Err c.in_err-ready.ensures.err.0) }
+pub returns-in_err-ready-clause-query : goal.returns-in_err-ready-clause-query
+returns-in_err-ready-clause-query g c =
+    query_failed _ _ _ c.in_err-ready.ensures.err.1 (passed_on _ c.from_residual.ensures.1 ∙ ap Err c.in_err-ready.ensures.err.0)
 
-pub returns-in_err-root : goal.returns-in_err-root
-returns-in_err-root g c =
+pub returns-in_err-root-clause-query : goal.returns-in_err-root-clause-query
+returns-in_err-root-clause-query g c =
     let is = passed_on _ c.from_residual-in_err-root.ensures.1 in
-    record {
-      query = query_lacking _ _ _ _ c.in_ok-ready.ensures.ok (search rules) refl c.args.at.now _ c.in_err-root.ensures.root is
-          (λ s holds lacks. rw is (inr lacks));
-    }
+    query_lacking _ _ _ _ c.in_ok-ready.ensures.ok (search rules) refl c.args.at.now _ c.in_err-root.ensures.root is
+    (λ s holds lacks. rw is (inr lacks))
 
-pub returns-in_err-scan : goal.returns-in_err-scan
-returns-in_err-scan g c =
+pub returns-in_err-scan-clause-query : goal.returns-in_err-scan-clause-query
+returns-in_err-scan-clause-query g c =
     let is = passed_on _ c.from_residual-in_err-scan.ensures.1 in
-    record {
-      query = query_listed _ _ _ _ _ c.in_ok-ready.ensures.ok (search rules) c.in_err-scan.ensures.looks is
-          (λ honest well s holds.
-          let at = at_there _ _ _ _ _ _ s holds.rests c.args.at.now c.in_ok-root.root (sym c.in_ok-root.ensures.root) in
-          rw is (wanting _ _ _ at.is (list_refused c.in_err-scan.field-0.0 _ ⊥ (c.in_err-scan.ensures.records sizes honest at.records at.stands.stands_in at.stands.rooted))));
-    }
+    query_listed _ _ _ _ _ c.in_ok-ready.ensures.ok (search rules) c.in_err-scan.ensures.looks is
+    (λ honest well s holds.
+    let at = at_there _ _ _ _ _ _ s holds.rests c.args.at.now c.in_ok-root.root (sym c.in_ok-root.ensures.root) in
+    rw is (wanting _ _ _ at.is (list_refused c.in_err-scan.field-0.0 _ ⊥ (c.in_err-scan.ensures.records sizes honest at.records at.stands.stands_in at.stands.rooted))))
 
-pub returns : goal.returns
-returns g c =
-    record {
-      query = query_listed _ _ _ _ _ c.in_ok-ready.ensures.ok (search rules) c.in_ok-scan.ensures.looks refl
-          (λ honest well s holds.
-          let at = at_there _ _ _ _ _ _ s holds.rests c.args.at.now c.in_ok-root.root (sym c.in_ok-root.ensures.root) in
-          at.is ∙ ap Ok (sym (c.in_ok-scan.ensures.records sizes honest at.records at.stands.stands_in at.stands.rooted)));
-    }
+pub returns-clause-query : goal.returns-clause-query
+returns-clause-query g c =
+    query_listed _ _ _ _ _ c.in_ok-ready.ensures.ok (search rules) c.in_ok-scan.ensures.looks refl
+    (λ honest well s holds.
+    let at = at_there _ _ _ _ _ _ s holds.rests c.args.at.now c.in_ok-root.root (sym c.in_ok-root.ensures.root) in
+    at.is ∙ ap Ok (sym (c.in_ok-scan.ensures.records sizes honest at.records at.stands.stands_in at.stands.rooted)))
+
+pub returns-clause-bound : goal.returns-clause-bound
+returns-clause-bound g c honest s holds =
+    let at = at_rooted _ _ _ _ _ _ s holds.rests c.args.at.now c.in_ok-root.root (sym c.in_ok-root.ensures.root) in
+    c.in_ok-scan.ensures.bound honest sizes at.0 _ at.1
+
+pub returns-in_err-scan-clause-bound : goal.returns-in_err-scan-clause-bound
+returns-in_err-scan-clause-bound g c honest s holds =
+    let at = at_rooted _ _ _ _ _ _ s holds.rests c.args.at.now c.in_ok-root.root (sym c.in_ok-root.ensures.root) in
+    c.in_err-scan.ensures.bound honest sizes at.0 _ at.1

@@ -1,4 +1,4 @@
-use Rattle.std.proofs.Common.{◌≡◌, ◌∙◌, Ok, Err, Result, inl, inr, ap, refl, sym, rules}
+use Rattle.std.proofs.Common.{◌∙◌, Ok, Err, Result, inl, inr, ap, refl, sym, rules}
 use Rattle.vm_types.specs.declared.refusal.Refusal.{Refusal}
 use Rattle.vm_types.specs.declared.refusal.Refusal.TheVariants.{Memory}
 use Rattle.vm_types.specs.Map.{Map}

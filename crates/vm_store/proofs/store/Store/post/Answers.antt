@@ -3,7 +3,7 @@ use Rattle.vm_types.specs.declared.command.Command.TheVariants.{Post}
 use Rattle.vm_types.specs.Firsts.{change_first}
 use Rattle.vm_tree.specs.Faults.{refusal_of}
 use Rattle.vm_tree.proofs.Looking.{passed_on}
-use Rattle.vm_store.specs.Resting.{spare_of}
+use Rattle.vm_store.specs.Rest.{spare_of}
 use Rattle.vm_store.specs.Sizes.{sizes}
 use Rattle.vm_store.specs.Versions.{is_alternative_of, with_base}
 use Rattle.vm_store.proofs.CarryLemmas.{looked, stayed}

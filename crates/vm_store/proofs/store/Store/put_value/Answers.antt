@@ -13,7 +13,7 @@ use Rattle.vm_store.proofs.SpareTests.{room_for, full_for}
 use Rattle.vm_store.proofs.TopLemmas.{rooted_of, grown_of, lacks_under, lacks_over}
 use Rattle.vm_store.proofs.RestingLemmas.{found_entry, answers_absent, answers_full, answers_done, answers_fault, deep_here, here_deep}
 use Rattle.vm_store.proofs.SeriesLemmas.{went_on, in_series, holds_as, holds_more, holds_then, put_holds}
-use Rattle.vm_store.specs.Resting.{before_of}
+use Rattle.vm_store.specs.Rest.{before_of}
 use Rattle.vm_store.proofs.store.Store.put_value.Goals as goal
 
 pub returns-in_default-clause-carried : goal.returns-in_default-clause-carried

@@ -7,7 +7,7 @@ use Rattle.vm_alloc.specs.Held.{free_count}
 use Rattle.vm_tree.specs.Free.{is_free}
 use Rattle.vm_tree.proofs.Looking.{passed_on}
 use Rattle.vm_store.specs.Answers.{IsAnswer}
-use Rattle.vm_store.specs.Resting.{before_of, spare_of}
+use Rattle.vm_store.specs.Rest.{before_of, spare_of}
 use Rattle.vm_store.proofs.CarryLemmas.{changed, wrote}
 use Rattle.vm_store.proofs.FirstLemmas.{fault_takes, late_fault}
 use Rattle.vm_store.proofs.MarkedLemmas.{free_at_most}

@@ -1,4 +1,4 @@
-use Rattle.std.proofs.Common.{◌<◌, ℕ, Ok, List, refl, ap, arith}
+use Rattle.std.proofs.Common.{Ok, List, refl, ap}
 use Rattle.vm_types.specs.declared.answer.Answer.TheVariants.{Done}
 use Rattle.vm_types.specs.declared.command.Command.TheVariants.{Rollback}
 use Rattle.vm_types.specs.State.{next}

@@ -8,7 +8,7 @@ use Rattle.vm_types.proofs.Runs.{after_more}
 use Rattle.vm_types.proofs.IsolationLemmas.{isolated}
 use Rattle.vm_types.specs.declared.answer.Answer.{Answer}
 use Rattle.vm_types.specs.declared.refusal.Refusal.{Refusal}
-use Rattle.vm_store.specs.Running.{EndsWithDevice}
+use Rattle.vm_store.specs.Commands.{EndsWithDevice}
 use Rattle.vm_store.specs.Store.{disk_of, Holds}
 use Rattle.vm_store.proofs.GuardLemmas.{guarded_at_rest}
 use Rattle.vm_store.proofs.RunLemmas.{ran_none, ran_more, rests_show, guarded_none, guarded_more, in_turn_more, none_more, take_one_more, no_failure}

@@ -2,7 +2,7 @@ use Rattle.std.proofs.Common.{◌≡◌, ◌≢◌, ◌≤◌, All, true, false,
 use Rattle.vm_types.specs.State.{State, after}
 use Rattle.vm_disk.specs.Moments.{Throughout}
 use Rattle.vm_types.specs.declared.refusal.Refusal.TheVariants.{Failed}
-use Rattle.vm_store.specs.Running.{AnswersInTurn, IsGuardedOnTheWay, NoneIsDevice}
+use Rattle.vm_store.specs.Commands.{AnswersInTurn, IsGuardedOnTheWay, NoneIsDevice}
 use Rattle.vm_store.specs.Store.{disk_of, has_failed, Holds}
 use Rattle.vm_store.proofs.RunLemmas.{Ran}
 use Rattle.vm_store.proofs.store.Store.run.Given as goal

@@ -1,0 +1,66 @@
+//! What an opening leaves in a cache, by the calls that reach the disk below.
+use std::alloc::Global;
+use std::test::Fail;
+use vm_disk::{CachedDisk, FuseDisk, MemDisk};
+use vm_store::{format, open};
+use vm_types::{Command, Key, Name, Refusal, Value};
+
+type Cached = CachedDisk<FuseDisk<MemDisk>>;
+
+/// A cache with room for all blocks that are in use.
+fn cached(alloc: Global, disk: MemDisk) -> Result<Cached, Refusal> {
+    CachedDisk::new(alloc, FuseDisk::stop(disk, 1000, [0; 4096]), 16).map_err(|_| Refusal::Memory)
+}
+
+/// The disk of a store with an inner block and two leaves.
+fn seventeen(alloc: Global, top: &Name) -> Result<MemDisk, Refusal> {
+    let disk = MemDisk::new(alloc, 64).map_err(|_| Refusal::Memory)?;
+    let disk = format(disk, 64).map_err(|refused| refused.1)?;
+    let mut store = open(alloc, disk).map_err(|refused| refused.1)?;
+    let mut done = store.put(
+        top,
+        Key {
+            table: 1,
+            number: 1,
+        },
+        b"v",
+    );
+    for number in 2..18 {
+        done = done.and(store.put(top, Key { table: 1, number }, b"v"));
+    }
+    done = done.and(store.apply(&Command::Commit));
+    let disk = store.close();
+    done?;
+    Ok(disk)
+}
+
+/// How many calls an opening through a new cache makes together with these gets, if each finds its
+/// value.
+fn calls(alloc: Global, gets: &[u64]) -> Result<Option<u32>, Refusal> {
+    let Some(top) = Name::new(b"top") else {
+        return Ok(None);
+    };
+    let disk = seventeen(alloc, &top)?;
+    let disk = cached(alloc, disk)?;
+    let mut store = open(alloc, disk).map_err(|refused| refused.1)?;
+    let mut found = true;
+    for &number in gets {
+        let value = store.get(&top, Key { table: 1, number });
+        found = found && value == Ok(Value::new(b"v"));
+    }
+    let calls = store.close().into_inner().calls();
+    Ok(found.then_some(calls))
+}
+
+/// An opening makes seven calls: a sync, and a read of the header, the selector, a block of the
+/// slot, the inner block and each leaf. It leaves the inner block in the cache and no leaf; a get
+/// leaves its leaf.
+#[test]
+fn an_opening_keeps_no_leaf_under_an_inner_block(rt: HostRuntime) -> Result<(), Fail> {
+    let alloc = rt.alloc();
+    assert_eq!(rt; calls(alloc, &[]), Ok(Some(7)));
+    assert_eq!(rt; calls(alloc, &[1]), Ok(Some(8)));
+    assert_eq!(rt; calls(alloc, &[1, 2, 1]), Ok(Some(8)));
+    assert_eq!(rt; calls(alloc, &[1, 17]), Ok(Some(9)));
+    Ok(())
+}

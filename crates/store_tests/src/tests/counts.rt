@@ -1,0 +1,236 @@
+//! How many device calls each call makes: none reads or writes a block twice without need.
+use super::records::TWO_RECORDS;
+use super::script::{DUCT, NEW, Row, SEVENTEEN, each_in_memory, from_disk, in_memory};
+use super::settlements::CONFLICT;
+use std::test::Fail;
+use vm_disk::MemDisk;
+
+/// Opening the store of `duct` makes five device calls: a sync, and four reads. So does opening the
+/// one of two records.
+const CALLS: &[Row] = &[
+    (
+        "format, open and commit",
+        "",
+        "
+        format 64
+        calls -> 7
+        open
+        close
+        calls -> 11
+        open
+        commit
+        close
+        calls -> 19",
+    ),
+    (
+        "get and put at a leaf",
+        DUCT,
+        "
+        open
+        get top 7:1 -> duct
+        close
+        calls -> 6
+        open
+        put top 7:1 pipe
+        close
+        calls -> 13",
+    ),
+    (
+        "remove of one of two records at a leaf",
+        TWO_RECORDS,
+        "
+        open
+        remove top 7:2
+        close
+        calls -> 8",
+    ),
+    (
+        "remove of an absent record at a leaf",
+        DUCT,
+        "
+        open
+        remove top 7:2 -> error 5 NoSuchRecord
+        close
+        calls -> 6",
+    ),
+    (
+        "remove of the last record at a leaf",
+        DUCT,
+        "
+        open
+        remove top 7:1
+        close
+        calls -> 7
+        dirty -> none",
+    ),
+    // Opening makes four device calls, and the thirteen Puts 25. The second Remove looks first,
+    // since it may have to mark blocks. It does, which ends the series, and goes on with one of its
+    // own.
+    (
+        "remove with fewer than 17 free blocks looks first",
+        NEW,
+        "
+        puts top 1:1 13 v
+        free -> 17
+        remove top 1:1
+        free -> 16
+        remove top 1:2
+        free -> 28
+        remove top 1:3
+        free -> 27
+        close
+        # 4 + 25 + 2 + 3 + 2
+        calls -> 36",
+    ),
+    // The Put reads and writes a root and a leaf. The Merge reads these two and the two before
+    // them, and then reads and writes a root and a leaf. From then on its base is the parent's map.
+    (
+        "merge reads only what differs",
+        SEVENTEEN,
+        "
+        open
+        put top 1:1 w
+        merge spur -> ok 1
+        post spur
+        close
+        # 7 + (2 + 2) + (4 + 2 + 2)
+        calls -> 19",
+    ),
+    // Opening makes seven device calls, and the Merge reads two blocks to find what either side
+    // changed. It reads its own block once more, and writes the lowest free one.
+    (
+        "merge of one record writes one leaf",
+        CONFLICT,
+        "
+        open
+        merge a 1:1=theirs -> ok 1
+        close
+        calls -> 13
+        dirty -> 37",
+    ),
+];
+
+#[test]
+fn calls_are_counted(rt: HostRuntime) {
+    each_in_memory(&rt, CALLS);
+}
+
+/// Opening the store makes five device calls. A Put reads and writes a leaf. So does a Remove,
+/// which reads its leaf once more to look for the record if it begins a series.
+#[test]
+fn remove_in_a_series_reads_its_leaf_once(rt: HostRuntime) {
+    let [put, other, remove, absent] = [
+        "put top 7:3 z",
+        "put a 7:3 z",
+        "remove top 7:2",
+        "remove top 7:9 -> error 5 NoSuchRecord",
+    ];
+    for (one, two, three, calls) in &[
+        (remove, "", "", "calls -> 8"),
+        (remove, "remove top 7:1", "", "calls -> 9"),
+        (put, remove, "", "calls -> 9"),
+        (put, "get top 7:1 -> duct", remove, "calls -> 10"),
+        (put, absent, remove, "calls -> 10"),
+        (absent, remove, "", "calls -> 9"),
+        (put, "new b top", remove, "calls -> 10"),
+        (put, "reclaim", remove, "calls -> 10"),
+        (other, remove, "", "calls -> 10"),
+        (put, other, remove, "calls -> 12"),
+    ] {
+        let row = [
+            TWO_RECORDS,
+            "open",
+            "new a top",
+            one,
+            two,
+            three,
+            "close",
+            calls,
+        ];
+        in_memory(&rt, &row);
+    }
+}
+
+/// Each Remove and each Put reads two blocks of the path, and writes two.
+#[test]
+fn remove_in_a_series_reads_a_path_of_two_levels_once(rt: HostRuntime) {
+    for (first, calls) in &[
+        ("", "calls -> 13"),
+        ("remove top 1:16", "calls -> 17"),
+        ("put top 1:1 w", "calls -> 15"),
+        ("get top 1:16 -> v", "calls -> 15"),
+    ] {
+        let row = [SEVENTEEN, "open", first, "remove top 1:17", "close", calls];
+        in_memory(&rt, &row);
+    }
+}
+
+/// The leaves have nine records each, except the last one, which has eight. With 257 leaves there
+/// are two blocks above them, and the root. An opening reads these 260 blocks, and makes four more
+/// calls.
+#[test]
+fn remove_in_a_series_reads_a_path_of_three_levels_once(rt: HostRuntime) -> Result<(), Fail> {
+    let made = "
+        format 2048
+        open
+        puts top 1:1 2312 v
+        commit
+        close
+        anew
+        open
+        free -> 1754";
+    for (first, calls) in &[
+        ("", "calls -> 273"),
+        ("remove top 1:2", "calls -> 279"),
+        ("put top 1:2 w", "calls -> 276"),
+    ] {
+        let disk = MemDisk::new(rt.alloc(), 2048)?;
+        from_disk(&rt, disk, &[made, first, "remove top 1:1", "close", calls]);
+    }
+    Ok(())
+}
+
+/// On a map of two levels. An opening syncs and reads the header, the selector and one block of the
+/// slot, and each block of the tree that both alternatives have: seven calls. A get reads two
+/// blocks, a list three, and a Put writes the two that it has read. A Remove that begins a series
+/// reads its path a second time, and a Reclaim reads only the root. What both alternatives share is
+/// not read to compare them.
+#[test]
+fn each_block_is_read_and_written_once(rt: HostRuntime) {
+    let list = "list top -> 1:1=v 1:2=v 1:3=v 1:4=v 1:5=v 1:6=v 1:7=v 1:8=v 1:9=v 1:10=v 1:11=v \
+        1:12=v 1:13=v 1:14=v 1:15=v 1:16=v 1:17=v";
+    let due = [
+        ("", "calls -> 7"),
+        ("get top 1:17 -> v", "calls -> 9"),
+        (list, "calls -> 10"),
+        ("put top 1:17 v", "calls -> 11"),
+        ("remove top 1:17", "calls -> 13"),
+        ("reclaim", "calls -> 8"),
+        ("changes spur -> none", "calls -> 7"),
+        ("conflicts spur -> none", "calls -> 7"),
+        ("tally spur -> 0 0 0 yes", "calls -> 7"),
+        ("merge spur -> ok 0", "calls -> 7"),
+        ("post spur", "calls -> 7"),
+    ];
+    for (call, calls) in &due {
+        in_memory(&rt, &[SEVENTEEN, "open", call, "close", calls]);
+    }
+}
+
+/// Opening makes seven device calls. Each Merge reads two blocks to find what either side changed.
+/// A Merge that is refused, or that keeps all values, writes no block.
+#[test]
+fn merge_that_changes_nothing_writes_nothing(rt: HostRuntime) {
+    let after = "
+        close
+        calls -> 11
+        dirty -> none";
+    for merge in &[
+        "merge a 1:1=theirs 1:1=theirs -> error 11 SettledTwice 1:1",
+        "merge a 1:1=theirs 1:17=theirs -> error 10 NotInConflict 1:17",
+        "merge a -> error 9 Unsettled 1",
+        "merge a 1:1=mine -> ok 0",
+    ] {
+        in_memory(&rt, &[CONFLICT, "open", merge, after]);
+    }
+}

@@ -1,0 +1,53 @@
+use Rattle.std.proofs.Common.{List, ap, inl, inr, refl, subst, sym}
+use Rattle.std.specs.Result.{is_err}
+use Rattle.vm_disk.proofs.MomentLemmas.{and_then, at_end, weaken}
+use Rattle.vm_store.specs.Store.{disk_of}
+use Rattle.vm_store.specs.declared.version.Version.{Version}
+use Rattle.vm_store.specs.Copies.{HasVersions, IsCopying, IsOfCopy, IsOfFill, IsOfTarget, in_blocks}
+use Rattle.vm_store.proofs.CopyingLemmas.{both_after, both_target, fill_blank, fill_late, refused_so, versions_kept}
+use Rattle.vm_store.proofs.FormattingLemmas.{none_synced, not_true, still_there}
+use Rattle.vm_store.proofs.store.copies.copy_to.Goals as goal
+
+pub returns-in-Err-clause-was_there : goal.returns-in-Err-clause-was_there
+returns-in-Err-clause-was_there g c honest header = (refl, still_there _ _ (at_end _ _ _ (c.in-Err.ensures.moments honest)))
+
+pub returns-in-Err-clause-both : goal.returns-in-Err-clause-both
+returns-in-Err-clause-both g c = both_target _ c.has_header.ensures.any (λ is. ap is_err c.in-Err.is)
+
+pub returns-in-Err-clause-moments : goal.returns-in-Err-clause-moments
+returns-in-Err-clause-moments g c source s holds honest =
+    let old = (g.T.Disk.state c.args.target.now).now in
+    weaken _ _ _ (IsCopying (in_blocks s c.args.blocks) old) (λ m so_far. inl so_far) (c.in-Err.ensures.moments honest)
+
+pub returns-clause-both : goal.returns-clause-both
+returns-clause-both g c = both_after c.has_header.ensures.any c.fill.ensures.both (λ is. is)
+
+pub returns-clause-late : goal.returns-clause-late
+returns-clause-late g c = refused_so _ IsOfFill _ fill_late c.fill.ensures.refusals
+
+pub returns-clause-sound : goal.returns-clause-sound
+returns-clause-sound g c source s holds =
+    refused_so _ IsOfTarget IsOfCopy (λ r is. inr (inr (inr (inr is)))) (c.fill.ensures.sound source s.committed (subst (λ (vs : List Version). HasVersions s.committed c.args.source.now.kept vs (g.S.Disk.state (disk_of c.args.source.now)).now.contents) (sym c.as_slice.ensures.items) (versions_kept _ _ _ _ _ _ _ s holds.keeps holds.rests)))
+
+pub returns-clause-already : goal.returns-clause-already
+returns-clause-already g c honest is = absurd (fill_blank _ c.fill.ensures.refusals is)
+
+pub returns-clause-was_there : goal.returns-clause-was_there
+returns-clause-was_there g c honest header =
+    absurd (not_true _ c.in-Ok-false.field-0-test (c.in-Ok-false.ensures.header (c.fill.ensures.both.target.earlier honest)) header)
+
+pub returns-clause-copied : goal.returns-clause-copied
+returns-clause-copied g c source s holds honest =
+    c.fill.ensures.filled source s.committed (subst (λ (vs : List Version). HasVersions s.committed c.args.source.now.kept vs (g.S.Disk.state (disk_of c.args.source.now)).now.contents) (sym c.as_slice.ensures.items) (versions_kept _ _ _ _ _ _ _ s holds.keeps holds.rests)) honest
+
+pub returns-clause-moments : goal.returns-clause-moments
+returns-clause-moments g c source s holds honest =
+    let old = (g.T.Disk.state c.args.target.now).now in
+    let before = c.fill.ensures.both.target.earlier honest in
+    let synced = c.in-Ok-false.ensures.synced before (λ e. cc) in
+    let none = not_true _ c.in-Ok-false.field-0-test (c.in-Ok-false.ensures.header before) in
+    let P = IsCopying (in_blocks s c.args.blocks) old in
+    let has = subst (λ (vs : List Version). HasVersions s.committed c.args.source.now.kept vs (g.S.Disk.state (disk_of c.args.source.now)).now.contents) (sym c.as_slice.ensures.items) (versions_kept _ _ _ _ _ _ _ s holds.keeps holds.rests) in
+    let looked = weaken _ _ _ P (λ m so_far. inl so_far) (c.has_header.ensures.moments before) in
+    let filled = weaken _ _ _ P (λ m leaves. inr (none, leaves)) (c.fill.ensures.moments source s.committed has honest (synced.clean 0) (none_synced _ _ synced none)) in
+    and_then _ _ _ P looked filled

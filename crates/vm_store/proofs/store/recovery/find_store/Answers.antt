@@ -1,0 +1,50 @@
+use Rattle.std.proofs.Common.{IfErr, subst, sym, ap, ◌∙◌}
+use Rattle.vm_disk.specs.Disk.{Contents, block, Medium}
+use Rattle.vm_disk.proofs.MomentLemmas.{then_reads, same_medium}
+use Rattle.vm_block.specs.Selector.{named_slot}
+use Rattle.vm_catalog.specs.Catalog.{SlotAt}
+use Rattle.vm_tree.proofs.Looking.{passed_on}
+use Rattle.vm_store.specs.Refused.{IsStore, IsRefused}
+use Rattle.vm_store.proofs.OpeningLemmas.{settled_then}
+use Rattle.vm_store.proofs.store.recovery.find_store.Goals as goal
+
+pub returns-clause-moments : goal.returns-clause-moments
+returns-clause-moments g c honest =
+    then_reads _ _ _ _ (then_reads _ _ _ _ (c.find_slot.ensures.moments (c.load_slot.ensures.any.earlier (c.read_maps.ensures.any.earlier honest))) (c.load_slot.ensures.reads (c.read_maps.ensures.any.earlier honest))) (c.read_maps.ensures.reads honest)
+
+pub returns-clause-synced : goal.returns-clause-synced
+returns-clause-synced g c honest other =
+    settled_then _ _ _ (settled_then _ _ _ (c.in_ok-slot_name.ensures.synced (c.load_slot.ensures.any.earlier (c.read_maps.ensures.any.earlier honest)) (λ e. cc)) (c.load_slot.ensures.reads (c.read_maps.ensures.any.earlier honest))) (c.read_maps.ensures.reads honest)
+
+pub returns-clause-holds : goal.returns-clause-holds
+returns-clause-holds g c honest =
+    let synced = settled_then _ _ _ (c.in_ok-slot_name.ensures.synced (c.load_slot.ensures.any.earlier (c.read_maps.ensures.any.earlier honest)) (λ e. cc)) (c.load_slot.ensures.reads (c.read_maps.ensures.any.earlier honest)) in
+    let found = c.in_ok-slot_name.ensures.found (c.load_slot.ensures.any.earlier (c.read_maps.ensures.any.earlier honest)) in
+    let same = same_medium _ _ (c.load_slot.ensures.reads (c.read_maps.ensures.any.earlier honest)) in
+    c.read_maps.ensures.holds honest synced.clean (subst IsStore (sym synced.same) found.0) (found.1 ∙ ap (λ x. named_slot (block x 1)) (sym synced.same))
+    (subst (λ (m : Medium). SlotAt m.contents c.in_ok-slot_name.slot_name c.in_ok-slot.slot.format c.in_ok-slot.slot.blocks c.in_ok-slot.slot.entries.items) (sym same) (c.in_ok-slot.ensures.found (c.read_maps.ensures.any.earlier honest)))
+
+pub returns-clause-refused : goal.returns-clause-refused
+returns-clause-refused g c honest =
+    let synced = settled_then _ _ _ (c.in_ok-slot_name.ensures.synced (c.load_slot.ensures.any.earlier (c.read_maps.ensures.any.earlier honest)) (λ e. cc)) (c.load_slot.ensures.reads (c.read_maps.ensures.any.earlier honest)) in
+    let found = c.in_ok-slot_name.ensures.found (c.load_slot.ensures.any.earlier (c.read_maps.ensures.any.earlier honest)) in
+    let same = same_medium _ _ (c.load_slot.ensures.reads (c.read_maps.ensures.any.earlier honest)) in
+    subst (λ (x : Contents). IfErr c.read_maps.result (IsRefused x)) synced.same
+    (c.read_maps.ensures.refused honest (subst IsStore (sym synced.same) found.0) (found.1 ∙ ap (λ x. named_slot (block x 1)) (sym synced.same))
+    (subst (λ (m : Medium). SlotAt m.contents c.in_ok-slot_name.slot_name c.in_ok-slot.slot.format c.in_ok-slot.slot.blocks c.in_ok-slot.slot.entries.items) (sym same) (c.in_ok-slot.ensures.found (c.read_maps.ensures.any.earlier honest))))
+
+pub returns-in_err-slot-clause-moments : goal.returns-in_err-slot-clause-moments
+returns-in_err-slot-clause-moments g c honest =
+    then_reads _ _ _ _ (c.find_slot.ensures.moments (c.load_slot.ensures.any.earlier honest)) (c.load_slot.ensures.reads honest)
+
+pub returns-in_err-slot-clause-synced : goal.returns-in_err-slot-clause-synced
+returns-in_err-slot-clause-synced g c honest other =
+    settled_then _ _ _ (c.in_ok-slot_name.ensures.synced (c.in_err-slot.ensures.any.earlier honest) (λ e. cc)) (c.load_slot.ensures.reads honest)
+
+pub returns-in_err-slot-clause-refused : goal.returns-in_err-slot-clause-refused
+returns-in_err-slot-clause-refused g c honest =
+    let synced = c.in_ok-slot_name.ensures.synced (c.in_err-slot.ensures.any.earlier honest) (λ e. cc) in
+    let found = c.in_ok-slot_name.ensures.found (c.in_err-slot.ensures.any.earlier honest) in
+    rw (passed_on _ c.from_residual-in_err-slot.ensures.1)
+    (subst (λ (x : Contents). IsRefused x c.in_err-slot.field-0.0) synced.same
+    (c.in_err-slot.ensures.refused honest (subst IsStore (sym synced.same) found.0) (found.1 ∙ ap (λ x. named_slot (block x 1)) (sym synced.same))))

@@ -1,0 +1,227 @@
+//! Opening a store.
+ghost use Rattle.std.specs.Prelude.{◌≡◌, ◌*◌, ◌≤◌, length, true, false, vec_capacity, IfOk, IfErr, OnOk, IsErrAnd, IfSome};
+ghost use Rattle.vm_disk.specs.Disk.{Goes};
+ghost use Rattle.vm_disk.specs.Moments.{OnlyReads};
+ghost use Rattle.vm_block.specs.Slot.{SlotFits};
+ghost use Rattle.vm_catalog.specs.Calls.{LoadsHeld};
+ghost use Rattle.vm_check.specs.Noted.{inner_of};
+ghost use Rattle.vm_store.specs.Refused.{SyncsAtMost, SyncsUnless, IsRefused};
+ghost use Rattle.vm_store.specs.Recovery.{FindsSlot, IsTwice, OpensAs, PartsHold, ReadsMaps, RefusesFor, RefusesMaps, RefusesNothing, RefusesSlot, disk_in};
+ghost use Rattle.vm_store.specs.Store.{has_failed};
+ghost use Rattle.vm_store.specs.Versions.{numbers_of, versions_of};
+
+use super::Store;
+use super::parts::Parts;
+use crate::versions::Versions;
+use crate::{FAN, LEAF, LEVELS};
+use std::alloc::Global;
+use vm_alloc::{Baseline, Held};
+use vm_block::{Entry, SlotName};
+use vm_catalog::{LoadFault, Slot, first_block, load, slot_in_use};
+use vm_check::{NotedDisk, verify};
+use vm_disk::Disk;
+use vm_tree::Root;
+use vm_types::{MAX_VERSIONS, MIN_BLOCKS, Refusal};
+
+/// Syncs, and tells whether there is a store, and which slot its selector names.
+fn find_slot<D: Disk>(disk: &mut D) -> Result<SlotName, Refusal>
+    ensures any { Goes (result ≡ Err Refusal.Device) (D.state disk.old) (D.state disk.new) }
+    ensures room { OnOk result (MIN_BLOCKS ≤ (D.state disk.old).blocks) }
+    ensures moments { SyncsAtMost (D.state disk.old) (D.state disk.new) }
+    ensures synced { SyncsUnless (result ≡ Err Refusal.Device) (D.state disk.old) (D.state disk.new) }
+    ensures found { FindsSlot (D.state disk.old) (D.state disk.new) result }
+    ensures refused { (D.state disk.new).honest ≡ true
+        → IfErr result (IsRefused (D.state disk.old).now.contents) }
+{
+    let Ok(()) = disk.sync() else {
+        return Err(Refusal::Device);
+    };
+    if disk.blocks() < MIN_BLOCKS {
+        return Err(Refusal::NotAStore);
+    }
+    match slot_in_use(disk) {
+        Ok(Some(slot_name)) => Ok(slot_name),
+        Ok(None) => Err(Refusal::NotAStore),
+        Err(_) => Err(Refusal::Device),
+    }
+}
+
+/// The entries of that slot, if the store lies within the disk.
+fn load_slot<D: Disk>(alloc: Global, disk: &mut D, slot_name: SlotName) -> Result<Slot, Refusal>
+    requires { MIN_BLOCKS ≤ (D.state disk.old).blocks }
+    ensures any { Goes (result ≡ Err Refusal.Device) (D.state disk.old) (D.state disk.new) }
+    ensures reads { (D.state disk.new).honest ≡ true
+        → OnlyReads (D.state disk.old) (D.state disk.new) }
+    ensures fits { IfOk result (λ slot. SlotFits slot.blocks slot.entries.items) }
+    ensures reserved { IfOk result (λ slot. MAX_VERSIONS ≤ vec_capacity slot.entries) }
+    ensures inside { IfOk result (λ slot. slot.blocks ≤ (D.state disk.old).blocks) }
+    ensures found { LoadsHeld result (D.state disk.old) (D.state disk.new) slot_name }
+    ensures refused { RefusesSlot (D.state disk.old) (D.state disk.new) result slot_name }
+{
+    match load(alloc, disk, slot_name) {
+        Ok(slot) => {
+            if slot.blocks > disk.blocks() {
+                return Err(Refusal::BadSize);
+            }
+            Ok(slot)
+        }
+        Err(LoadFault::Device) => Err(Refusal::Device),
+        Err(LoadFault::Memory) => Err(Refusal::Memory),
+        Err(LoadFault::Damaged) => Err(Refusal::Damaged(first_block(slot_name))),
+    }
+}
+
+/// The blocks of the roots of entries, in order, current before base. None if memory for them could
+/// not be allocated.
+fn root_numbers(alloc: Global, entries: &[Entry]) -> Option<Vec<u32>>
+    ensures { IfSome result (λ numbers. numbers.items ≡ numbers_of entries.now) }
+{
+    let mut numbers = Vec::new(alloc);
+    for entry in entries {
+        let Ok(()) = numbers.extend_from_slice(&[entry.current, entry.base]) else {
+            return None;
+        };
+    }
+    Some(numbers)
+}
+
+/// The versions of entries with these roots, twice. None if memory for them could not be allocated.
+fn versions_twice(alloc: Global, entries: &[Entry], roots: &[Root]) -> Option<(Versions, Versions)>
+    requires few { length entries.now ≤ MAX_VERSIONS }
+    requires roots { length roots.now ≡ 2 * length entries.now }
+    ensures { IfSome result (IsTwice (versions_of entries.now roots.now)) }
+{
+    let (Ok(committed), Ok(working)) = (
+        Versions::of_entries(alloc, entries, roots),
+        Versions::of_entries(alloc, entries, roots),
+    ) else {
+        return None;
+    };
+    Some((committed, working))
+}
+
+/// Reads the maps of a slot, allocates what a store needs, and holds the blocks that are reached.
+fn read_maps<D: Disk>(
+    alloc: Global,
+    disk: &mut NotedDisk<D>,
+    slot_name: SlotName,
+    slot: Slot,
+) -> Result<Parts, Refusal>
+    requires inside { slot.blocks ≤ (D.state (inner_of disk.old)).blocks }
+    requires fits { SlotFits slot.blocks slot.entries.items }
+    requires reserved { MAX_VERSIONS ≤ vec_capacity slot.entries }
+    ensures any { Goes (result ≡ Err Refusal.Device) (D.state (inner_of disk.old)) (D.state (inner_of disk.new)) }
+    ensures reads { (D.state (inner_of disk.new)).honest ≡ true
+        → OnlyReads (D.state (inner_of disk.old)) (D.state (inner_of disk.new)) }
+    ensures inside { IfOk result (λ parts. parts.blocks ≤ (D.state (inner_of disk.old)).blocks) }
+    ensures holds { ReadsMaps (D.state (inner_of disk.old)) (D.state (inner_of disk.new)) result slot_name slot }
+    ensures refused { RefusesMaps (D.state (inner_of disk.old)) (D.state (inner_of disk.new)) result slot_name slot }
+{
+    let Slot {
+        format,
+        blocks,
+        entries,
+    } = slot;
+    let (Some(numbers), Ok(mut held), Ok(before), Ok(())) = (
+        root_numbers(alloc, &entries),
+        Held::new(alloc, blocks),
+        Baseline::new(alloc, blocks),
+        disk.reserve(alloc, blocks),
+    ) else {
+        return Err(Refusal::Memory);
+    };
+    let (roots, marks) = verify::<NotedDisk<D>, LEAF, FAN, LEVELS>(
+        alloc,
+        disk,
+        blocks,
+        format.has_long(),
+        &numbers,
+    )?;
+    held.replace(&marks);
+    let Some((committed, working)) = versions_twice(alloc, &entries, &roots) else {
+        return Err(Refusal::Memory);
+    };
+    Ok(Parts {
+        blocks,
+        slot_name,
+        entries,
+        committed,
+        working,
+        held,
+        marks,
+        before,
+    })
+}
+
+/// Everything that is known of the store on a disk.
+fn find_store<D: Disk>(alloc: Global, disk: &mut NotedDisk<D>) -> Result<Parts, Refusal>
+    ensures any { Goes (result ≡ Err Refusal.Device) (D.state (inner_of disk.old)) (D.state (inner_of disk.new)) }
+    ensures inside { IfOk result (λ parts. parts.blocks ≤ (D.state (inner_of disk.old)).blocks) }
+    ensures moments { SyncsAtMost (D.state (inner_of disk.old)) (D.state (inner_of disk.new)) }
+    ensures synced { SyncsUnless (result ≡ Err Refusal.Device) (D.state (inner_of disk.old)) (D.state (inner_of disk.new)) }
+    ensures holds { (D.state (inner_of disk.new)).honest ≡ true
+        → IfOk result (PartsHold (D.state (inner_of disk.new)).now) }
+    ensures refused { (D.state (inner_of disk.new)).honest ≡ true
+        → IfErr result (IsRefused (D.state (inner_of disk.old)).now.contents) }
+{
+    let slot_name = find_slot(disk)?;
+    let slot = load_slot(alloc, disk, slot_name)?;
+    read_maps(alloc, disk, slot_name, slot)
+}
+
+/// Opens the store on a disk, as it was last committed. It syncs first; after that it only reads.
+/// On refusal, the disk comes back with the refusal.
+pub fn open<D: Disk>(alloc: Global, disk: D) -> Result<Store<D>, (D, Refusal)>
+    // On any disk.
+    ensures any { Goes (IsErrAnd result
+        (λ e. e.1 ≡ Refusal.Device)) (D.state disk) (D.state (disk_in result)) }
+    ensures well { IfOk result (λ store. has_failed store ≡ false) }
+
+    // The store represents the tree that is shown, and exactly the spare blocks are free.
+    ensures opened { (D.state (disk_in result)).honest ≡ true
+        → IfOk result (OpensAs (D.state disk).now.contents) }
+
+    // A refusal has its reason. Except for the device and memory, it comes exactly when nothing is
+    // shown.
+    ensures refused { RefusesFor (D.state disk) (D.state (disk_in result)) result }
+    ensures none { RefusesNothing (D.state disk) (D.state (disk_in result)) result }
+
+    // At each moment nothing has changed, or everything is synced. At the end everything is, even
+    // if it refuses, unless the device failed.
+    ensures moments { SyncsAtMost (D.state disk) (D.state (disk_in result)) }
+    ensures synced { SyncsUnless (IsErrAnd result
+        (λ e. e.1 ≡ Refusal.Device)) (D.state disk) (D.state (disk_in result)) }
+{
+    let mut disk = NotedDisk::new(disk);
+    match find_store(alloc, &mut disk) {
+        Ok(parts) => {
+            let Parts {
+                blocks,
+                slot_name,
+                entries,
+                committed,
+                working,
+                held,
+                marks,
+                before,
+            } = parts;
+            Ok(Store {
+                disk,
+                alloc,
+                blocks,
+                kept: blocks,
+                slot_name,
+                entries,
+                committed,
+                working,
+                held,
+                marks,
+                before,
+                series: None,
+                changes: 0,
+                failed: false,
+            })
+        }
+        Err(refusal) => Err((disk.into_inner(), refusal)),
+    }
+}
