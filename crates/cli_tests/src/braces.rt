@@ -1,10 +1,10 @@
-//! What stands in braces, and words.
+//! What is written in braces, and words.
 
 use anyhow::{Result, bail};
 use std::alloc::Global;
 
-/// Appends what a text stands for: `{lf}`, `{cr}` and `{space}` are one character, `{}` is none, `{9 * x}` is nine
-/// times an x, and `{session}` the session.
+/// Appends what a text means: `{lf}`, `{cr}` and `{space}` are one character, `{}` is none, `{9 *
+/// x}` is nine times an x, and `{session}` the session.
 pub fn expand(to: &mut String, text: &str, session: &str) -> Result<()> {
     let mut parts = text.split('{');
     to.push_str(parts.next().unwrap_or(""))?;
@@ -25,7 +25,7 @@ pub fn expand(to: &mut String, text: &str, session: &str) -> Result<()> {
     Ok(())
 }
 
-/// Appends a text as often as stands before it.
+/// Appends a text as often as the number before it says.
 fn repeat(to: &mut String, times: &str) -> Result<()> {
     let Some((count, text)) = times.split_once(" * ") else {
         bail!("{times:?} in braces means nothing");
@@ -36,7 +36,7 @@ fn repeat(to: &mut String, times: &str) -> Result<()> {
     Ok(())
 }
 
-/// The words of a text, with spaces between them. One in single quotes may have spaces, or be empty.
+/// The words of a text, separated by spaces. One in single quotes may have spaces, or be empty.
 pub fn words(alloc: Global, text: &str) -> Result<Vec<String>> {
     let mut words = Vec::new(alloc);
     let mut is_quoted = false;
@@ -56,7 +56,7 @@ pub fn words(alloc: Global, text: &str) -> Result<Vec<String>> {
     Ok(words)
 }
 
-/// Appends the word that a text stands for.
+/// Appends the word that a text means.
 fn push_word(words: &mut Vec<String>, text: &str) -> Result<()> {
     let mut word = String::new(*words.allocator());
     expand(&mut word, text, "")?;

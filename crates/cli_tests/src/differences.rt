@@ -1,11 +1,11 @@
-//! Where a step gave something else than is due.
+//! Differences between what a step gave and what was expected.
 
 use crate::step::{Due, Step};
 use anyhow::Result;
 use std::fmt::Write;
 use std::str;
 
-/// Appends where a step gave something else.
+/// Appends the differences of a step.
 pub fn push_differences(step: &Step, text: &mut String) -> Result<()> {
     let before = text.len();
     let due = &step.due;
@@ -30,7 +30,7 @@ pub fn push_differences(step: &Step, text: &mut String) -> Result<()> {
     Ok(())
 }
 
-/// Appends where one text is not the other: the first line.
+/// Appends the first line in which one text differs from the other.
 fn compare(what: &str, wanted: &str, given: &str, text: &mut String) -> Result<()> {
     if wanted == given {
         return Ok(());
@@ -54,7 +54,7 @@ fn compare(what: &str, wanted: &str, given: &str, text: &mut String) -> Result<(
     Ok(())
 }
 
-/// Appends what is not so of an output of which only this is known.
+/// Appends what is wrong with an output of which only this is known.
 fn look_for(due: &Due, output: &str, text: &mut String) -> Result<()> {
     let start = due.start.as_str();
     if !output.starts_with(start) {

@@ -1,4 +1,4 @@
-//! Files in memory, and what a step does with one beside the program.
+//! Files in memory, and what a step does with one apart from the program.
 
 use crate::step::Step;
 use anyhow::{Result, bail};
@@ -21,7 +21,7 @@ fn word(words: &[String], n: usize) -> Result<&str> {
     }
 }
 
-/// The number that stands as the word with this number.
+/// The number that the word with this number spells.
 fn number(words: &[String], n: usize) -> Result<u32> {
     Ok(word(words, n)?.parse::<u32>()?)
 }
@@ -34,7 +34,7 @@ impl Files {
         }
     }
 
-    /// Plays a step that is done with a file, or with the errors alone.
+    /// Plays a step that uses only a file, or only the errors.
     pub fn play(&mut self, alloc: Global, step: &mut Step) -> Result<()> {
         let words = step.words.as_slice();
         let mut end = 0;
@@ -85,7 +85,7 @@ impl Files {
         Ok(())
     }
 
-    /// Changes a block of the disk that is out: a byte of it, or all to zeros.
+    /// Changes a block of the disk that is out: one of its bytes, or all of them to zeros.
     fn change(&mut self, block: u32, byte: Option<(usize, u8)>) -> Result<()> {
         let mut bytes = [0; 4096];
         let Some(disk) = &mut self.held else {

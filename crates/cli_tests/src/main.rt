@@ -1,8 +1,8 @@
 //! The program `cli_tests`: plays the scripts in the folder that it is started in.
 //!
-//! A script has cases, and a case has steps: each says what the program `altctl`, a talk or a file is to do and what it
-//! is to give. They are played over files in memory. It prints a line for each case, and more where something else
-//! came, and then ends with an error.
+//! A script has cases, and a case has steps. Each step says what the program `altctl`, a session or
+//! a file has to do and what it has to give. They are played over files in memory. It prints a line
+//! for each case, and more if something else came, and then ends with an error.
 #![tactic(auto)]
 
 mod braces;
@@ -16,7 +16,7 @@ mod step;
 use anyhow::{Context, Result, bail};
 use std::fs;
 
-/// How many cases were played, and how many of them gave something else than is due.
+/// How many cases were played, and how many of them gave something other than expected.
 #[derive(Default, Drop)]
 struct Tally {
     cases: u32,

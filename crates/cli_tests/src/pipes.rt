@@ -19,8 +19,8 @@ impl Read for Input<'_> {
     }
 }
 
-/// Keeps what it takes. Where its room is limited, it takes one byte at a time, and then none. Where its flushes are
-/// limited, it keeps a bar for each, and then they fail.
+/// Keeps what it takes. If its room is limited, it takes one byte at a time, and then none. If its
+/// flushes are limited, it keeps a bar for each, and then they fail.
 #[derive(Drop)]
 pub struct Output {
     pub taken: Vec<u8>,

@@ -1,4 +1,4 @@
-//! How the steps of a case are played.
+//! Playing the steps of a case.
 
 use crate::differences::push_differences;
 use crate::files::Files;
@@ -7,11 +7,11 @@ use crate::script::Case;
 use crate::step::Step;
 use anyhow::{Context, Result, bail};
 use std::alloc::Global;
-use vm_cli::{Job, OnRefusal, job, run_words, serve};
+use vm_cli::{InMemory, Job, Manner, OnCommand, OnRefusal, buffer_for, job, run_words, serve};
 use vm_disk::{FuseDisk, MemDisk};
 use vm_store::{Store, format, open};
 
-/// Plays a case, and says where it gave something else than is due.
+/// Plays a case, and says where it gave something other than expected.
 pub fn play(alloc: Global, mut case: Case<'_>) -> Result<String> {
     if case.steps.is_empty() || case.title.is_empty() {
         bail!("a case has no steps or no title");
@@ -33,7 +33,7 @@ pub fn play(alloc: Global, mut case: Case<'_>) -> Result<String> {
     Ok(text)
 }
 
-/// Plays a step that is no talk.
+/// Plays a step that is not a session.
 fn play_step(alloc: Global, files: &mut Files, step: &mut Step) -> Result<()> {
     let Some((first, others)) = step.words.as_slice().split_first() else {
         bail!("a step has no words");
@@ -70,23 +70,28 @@ fn asked(alloc: Global, words: &[String]) -> Result<Vec<u8>> {
             Job::Run {
                 file,
                 in_memory,
-                on_refusal,
+                manner,
             },
         ) => format!(in alloc;
-            "run {file}, cache {}, buffer {}, {on_refusal:?}\n",
-            in_memory.cache, in_memory.buffer
+            "run {file}, cache {}, buffer {}, {:?}, {:?}\n",
+            in_memory.cache,
+            buffers(alloc, in_memory)?,
+            manner.on_refusal,
+            manner.on_command
         )?,
         Ok(
             Job::Do {
                 file,
                 input,
                 in_memory,
-                on_refusal,
+                manner,
             },
         ) => format!(in alloc;
-            "do {file}, cache {}, buffer {}, {on_refusal:?}\n{}",
+            "do {file}, cache {}, buffer {}, {:?}, {:?}\n{}",
             in_memory.cache,
-            in_memory.buffer,
+            buffers(alloc, in_memory)?,
+            manner.on_refusal,
+            manner.on_command,
             String::from_utf8(input)?
         )?,
         Ok(_) => bail!("a job that is not asked for here"),
@@ -95,7 +100,18 @@ fn asked(alloc: Global, words: &[String]) -> Result<Vec<u8>> {
     Ok(asked.into_bytes())
 }
 
-/// Plays talks over a new store of 64 blocks, whose device fails once behind so many calls.
+/// How many written blocks may wait in stores of 64, 100,000 and 1,048,576 blocks.
+fn buffers(alloc: Global, in_memory: InMemory) -> Result<String> {
+    let said = in_memory.buffer;
+    Ok(format!(in alloc;
+        "{} {} {}",
+        buffer_for(said, 64),
+        buffer_for(said, 100_000),
+        buffer_for(said, 1_048_576)
+    )?)
+}
+
+/// Plays sessions over a new store of 64 blocks. Its device fails once, after this many calls.
 fn play_talks(alloc: Global, passes: u32, steps: &mut [Step]) -> Result<()> {
     let disk = match format(MemDisk::new(alloc, 64)?, 64) {
         Ok(disk) => disk,
@@ -116,22 +132,36 @@ fn play_talks(alloc: Global, passes: u32, steps: &mut [Step]) -> Result<()> {
     played
 }
 
-/// Plays a talk.
-fn talk(alloc: Global, store: &mut Store<FuseDisk<MemDisk>>, step: &mut Step) -> Result<()> {
-    let on_refusal = match step.words.as_slice() {
-        [verb, meaning] if verb.as_str() == "serve" => match meaning.as_str() {
-            "ignore" => OnRefusal::Ignore,
-            "tell" => OnRefusal::Tell,
-            "stop" => OnRefusal::Stop,
-            _ => bail!("no meaning of a refused line"),
-        },
+/// The manner of a session that words give: `serve ignore`, `tell` or `stop`, followed by
+/// `read-only` if commands are refused.
+fn manner(words: &[String]) -> Result<Manner> {
+    let (meaning, on_command) = match words {
+        [verb, meaning] if verb.as_str() == "serve" => (meaning, OnCommand::CarryOut),
+        [verb, meaning, more] if verb.as_str() == "serve" && more.as_str() == "read-only" => {
+            (meaning, OnCommand::Refuse)
+        }
         _ => bail!("a step over a store is a talk"),
     };
+    let on_refusal = match meaning.as_str() {
+        "ignore" => OnRefusal::Ignore,
+        "tell" => OnRefusal::Tell,
+        "stop" => OnRefusal::Stop,
+        _ => bail!("no meaning of a refused line"),
+    };
+    Ok(Manner {
+        on_command,
+        on_refusal,
+    })
+}
+
+/// Plays a session.
+fn talk(alloc: Global, store: &mut Store<FuseDisk<MemDisk>>, step: &mut Step) -> Result<()> {
+    let manner = manner(step.words.as_slice())?;
     let mut input = Input {
         bytes: step.input.as_bytes(),
         fails: step.input_fails,
     };
-    step.end = match serve(alloc, &mut input, &mut step.output, store, on_refusal) {
+    step.end = match serve(alloc, &mut input, &mut step.output, store, manner) {
         Ok(false) => String::from_str(alloc, "0")?,
         Ok(true) => String::from_str(alloc, "a line was refused")?,
         Err(fault) => format!(in alloc; "the talk ended: {fault}")?,

@@ -9,12 +9,12 @@ use std::alloc::Global;
 pub struct Line<'a> {
     pub number: usize,
     pub mark: &'a str,
-    /// What stands behind the mark and a space.
+    /// What follows the mark and a space.
     pub rest: &'a str,
     pub whole: &'a str,
 }
 
-/// Steps over files, of which none is there, or talks over a store.
+/// Steps over files, none of which exists yet, or sessions over a store.
 #[derive(Drop)]
 pub struct Case<'a> {
     pub title: &'a str,
@@ -24,7 +24,7 @@ pub struct Case<'a> {
 }
 
 impl Case<'_> {
-    /// Takes a line, which begins a step or belongs to the last one.
+    /// Takes a line. It begins a step or belongs to the last one.
     fn take(&mut self, alloc: Global, line: &Line<'_>) -> Result<()> {
         match self.steps.last_mut() {
             None if line.mark == "@" => self.store = Some(device_calls(line.rest)?),
@@ -40,7 +40,8 @@ impl Case<'_> {
     }
 }
 
-/// After how many calls the device of a store fails. One that never does fails after more than are made.
+/// After how many calls the device of a store fails. One that never does fails after more calls
+/// than are made.
 fn device_calls(text: &str) -> Result<u32> {
     if text == "store" {
         return Ok(1_000_000);

@@ -1,4 +1,4 @@
-//! A step: its words, what it reads, and what it is to give.
+//! A step: its words, what it reads, and what it has to give.
 
 use crate::braces::{expand, words};
 use crate::pipes::Output;
@@ -6,22 +6,22 @@ use crate::script::Line;
 use anyhow::{Result, bail};
 use std::alloc::Global;
 
-/// What a step is to give.
+/// What a step has to give.
 #[derive(Drop)]
 pub struct Due {
-    /// Its status, or how its talk ends.
+    /// Its status, or how its session ends.
     pub end: String,
     pub output: String,
     pub errors: String,
-    /// Any errors will do, but not none.
+    /// Any errors will do, but there must be some.
     pub any_errors: bool,
-    /// What the output begins with, and what stands in it. Where something is said here, the whole
-    /// is not known.
+    /// What the output begins with, and what it contains. If this is given, the whole output is not
+    /// known.
     pub start: String,
     pub parts: Vec<String>,
     /// How many lines the output has.
     pub lines: Option<usize>,
-    /// How many bytes a line of the output has at most.
+    /// The maximum length in bytes of a line of the output.
     pub columns: usize,
 }
 
@@ -36,14 +36,14 @@ pub struct Step {
     pub end: String,
     pub output: Output,
     pub errors: Output,
-    /// Its input and output as the script has them, two spaces before each line.
+    /// Its input and output as the script has them, with two spaces before each line.
     pub shown: String,
     /// Those of the step before.
     session: String,
 }
 
 impl Step {
-    /// A step of the words of this line, behind a step that is shown so.
+    /// A step of the words of this line, after a step that is shown so.
     pub fn new(alloc: Global, line: &Line<'_>, session: &str) -> Result<Step> {
         Ok(Step {
             number: line.number,
@@ -114,7 +114,7 @@ impl Step {
     }
 }
 
-/// Appends a line as it stands in the script.
+/// Appends a line as it is in the script.
 fn push_shown(shown: &mut String, line: &str) -> Result<()> {
     shown.push_str("  ")?;
     shown.push_str(line)?;
@@ -122,7 +122,7 @@ fn push_shown(shown: &mut String, line: &str) -> Result<()> {
     Ok(())
 }
 
-/// Appends the line that a text stands for, without a line feed where the text says that it has none.
+/// Appends the line that a text means, without a line feed if the text says that it has none.
 fn push_line(lines: &mut String, text: &str) -> Result<()> {
     match text.strip_suffix("{end}") {
         Some(text) => expand(lines, text, ""),
@@ -134,7 +134,7 @@ fn push_line(lines: &mut String, text: &str) -> Result<()> {
     }
 }
 
-/// How many bytes the last line has, with its line feed.
+/// The length in bytes of the last line, with its line feed.
 fn last_line_len(text: &str) -> usize {
     match text.lines().last() {
         Some(line) => line.len().saturating_add(1),

@@ -1,15 +1,15 @@
-//! The commands by a call for each.
+//! The commands, each by a call of its own.
 use crate::commands::{COMMANDS, GROW, MERGE, Reply, command, write_reply};
-use crate::opening::{new_store, reopen};
+use crate::memory_faults::{Wanting, Wrong};
 use crate::sight::{expect, look};
-use crate::wanting::{Wanting, Wrong};
+use crate::stores::{new_store, reopen};
 use std::alloc::Global;
 use vm_disk::MemDisk;
 use vm_store::Store;
 use vm_types::Refusal;
 
-/// Carries out a command. Only a merge and a grow may want memory: then nothing has changed, and it
-/// is carried out once more.
+/// Carries out a command. Only a merge and a grow may lack memory: then nothing has changed, and
+/// the command is carried out once more.
 fn apply(
     alloc: Global,
     store: &mut Store<MemDisk>,

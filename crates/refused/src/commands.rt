@@ -1,10 +1,10 @@
-//! The list of commands, and the same as lines.
-use crate::opening::GROWN;
-use crate::wanting::Wrong;
+//! The list of commands, and the same list as lines.
+use crate::memory_faults::Wrong;
+use crate::stores::GROWN;
 use std::alloc::Global;
 use vm_types::{Answer, Command, Key, Name, Refusal, Settled, Value};
 
-/// What a command is answered.
+/// The answer to a command.
 pub type Reply = Result<Answer, Refusal>;
 
 /// How many commands there are.
@@ -13,10 +13,10 @@ pub const COMMANDS: usize = 14;
 /// Which of them is the merge, counted from 0.
 pub const MERGE: usize = 6;
 
-/// Which of them makes the store larger.
+/// Which of them grows the store.
 pub const GROW: usize = 9;
 
-/// The commands as lines, and the queries behind them.
+/// The commands as lines, and the queries after them.
 pub const LINES: [&str; COMMANDS + 5] = [
     "put top 1 1 a",
     "new x top",
@@ -46,7 +46,7 @@ fn top() -> Name {
     name
 }
 
-/// A name, or `top` where the bytes are none.
+/// A name, or `top` if the bytes are not one.
 fn name(bytes: &[u8]) -> Name {
     Name::new(bytes).unwrap_or(top())
 }
@@ -63,7 +63,7 @@ fn put(alt: Name, number: u64, bytes: &[u8]) -> Command {
     }
 }
 
-/// The command of this number, from 0. It takes no memory.
+/// The command of this number, from 0. Takes no memory.
 pub(crate) fn command(alloc: Global, n: usize) -> Command {
     let (x, c) = (name(b"x"), name(b"c"));
     match n {
@@ -102,7 +102,7 @@ pub(crate) fn commands(alloc: Global, without: Option<usize>) -> Result<Vec<Comm
     Ok(commands)
 }
 
-/// Writes an answer in one word, or two.
+/// Writes an answer in one or two words.
 pub(crate) fn write_reply(text: &mut String, reply: Reply) -> Result<(), Wrong> {
     match reply {
         Ok(Answer::Done) => text.push_str("ok\n")?,

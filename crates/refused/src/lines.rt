@@ -1,15 +1,15 @@
 //! The commands as lines.
 use crate::commands::LINES;
-use crate::opening::{new_store, reopen};
+use crate::memory_faults::{Wanting, Wrong};
 use crate::sight::{expect, look};
-use crate::wanting::{Wanting, Wrong};
+use crate::stores::{new_store, reopen};
 use std::alloc::Global;
 use std::str;
-use vm_cli::{OnRefusal, serve};
+use vm_cli::{Manner, OnCommand, OnRefusal, serve};
 use vm_disk::MemDisk;
 use vm_store::Store;
 
-/// The answer to a line that wants memory.
+/// The answer to a line that lacks memory.
 const REFUSED: &[u8] = b"error 16 Memory\n";
 
 /// More bytes than the answers to two of the lines have.
@@ -21,13 +21,17 @@ fn serve_lines(
     mut lines: &[u8],
 ) -> Result<Vec<u8>, Wrong> {
     let mut output = Vec::with_capacity(alloc, ROOM)?;
-    match serve(alloc, &mut lines, &mut output, store, OnRefusal::Ignore) {
+    let manner = Manner {
+        on_command: OnCommand::CarryOut,
+        on_refusal: OnRefusal::Ignore,
+    };
+    match serve(alloc, &mut lines, &mut output, store, manner) {
         Ok(_) => Ok(output),
         Err(_) => Err(Wrong::Found("lines are not answered to their end")),
     }
 }
 
-/// Says a line, and `free` in the same talk. Where the first one wants memory, the second is
+/// Says a line, and `free` in the same session. If the first one lacks memory, the second is
 /// answered, nothing has changed, and both are said once more.
 fn say(
     alloc: Global,

@@ -1,15 +1,15 @@
 //! The commands as one list.
 use crate::commands::{GROW, MERGE, Reply, commands, write_reply};
-use crate::opening::{new_store, reopen};
+use crate::memory_faults::{Wanting, Wrong};
 use crate::sight::{expect, look};
-use crate::wanting::{Wanting, Wrong};
+use crate::stores::{new_store, reopen};
 use std::alloc::Global;
 use vm_disk::MemDisk;
 use vm_store::{Stop, Store};
 use vm_types::{Command, Refusal};
 
-/// Runs a list. Where there is no memory for the answers, nothing has changed, and it is run once
-/// more.
+/// Runs a list. If there is no memory for the answers, nothing has changed, and the list is run
+/// once more.
 fn run(
     alloc: Global,
     store: &mut Store<MemDisk>,
@@ -37,7 +37,8 @@ fn run(
     }
 }
 
-/// Runs a list on a new store, and gives the answers and all that is shown then, opened again too.
+/// Runs a list on a new store, and returns the answers and everything that is shown then, including
+/// after a new opening.
 fn run_whole(
     alloc: Global,
     list: &[Command],
@@ -50,8 +51,8 @@ fn run_whole(
     Ok((answers?, reopen(alloc, disk, shown?, wanting)?))
 }
 
-/// Whether a list of which a command was refused was answered, and has left, what the list without
-/// it does.
+/// Whether a list with a refused command was answered, and left the store, as the list without that
+/// command does.
 fn is_without(
     alloc: Global,
     refused: usize,

@@ -1,23 +1,23 @@
-//! The program `refused`: one list of commands, carried out where an allocation is refused.
+//! The program `refused`: one list of commands, carried out while allocations are refused.
 //!
-//! It carries the commands out over disks in memory, by a call for each, as one list, and as lines, and prints
-//! what is answered and what the store shows. Where it meets a refusal, it looks whether anything was lost,
-//! asks once more, and says on its standard error what was refused; its output is the same each time.
-//! `tools/refuse_allocations.sh` refuses it one allocation after another.
+//! It carries out the commands over disks in memory, by a call for each, as one list, and as lines,
+//! and prints the answers and what the store shows. When it meets a refusal, it checks whether
+//! anything was lost, asks once more, and says on its standard error what was refused. Its output
+//! is the same each time. `tools/refuse_allocations.sh` refuses it one allocation after another.
 #![tactic(auto)]
 
 mod calls;
-mod closing;
 mod commands;
 mod lines;
 mod lists;
-mod opening;
+mod memory_faults;
+mod merge_commands;
 mod sight;
-mod wanting;
+mod stores;
 
+use memory_faults::{Wanting, Wrong};
 use std::alloc::Global;
 use std::io::{self, ErrorKind};
-use wanting::{Wanting, Wrong};
 
 /// How the commands are carried out.
 #[derive(Clone, Copy)]
@@ -35,11 +35,12 @@ fn try_way(alloc: Global, way: Way, wanting: &mut Wanting) -> Result<String, Wro
         Way::Calls => calls::carry_out(alloc, wanting),
         Way::List => lists::carry_out(alloc, wanting),
         Way::Lines => lines::carry_out(alloc, wanting),
-        Way::Closing => closing::carry_out(alloc, wanting),
+        Way::Closing => merge_commands::carry_out(alloc, wanting),
     }
 }
 
-/// Begins anew where that is asked for, as where the memory that was refused is this program's own.
+/// Starts over when that is asked for, for example because the memory that was refused is this
+/// program's own.
 fn carry_out(alloc: Global, way: Way, wanting: &mut Wanting) -> Result<String, Wrong> {
     match try_way(alloc, way, wanting) {
         Err(Wrong::Again) => {

@@ -1,5 +1,5 @@
-//! What a store shows, as a text.
-use crate::wanting::{Wanting, Wrong};
+//! What a store shows, as text.
+use crate::memory_faults::{Wanting, Wrong};
 use std::alloc::{AllocError, Global};
 use std::str;
 use vm_disk::MemDisk;
@@ -9,7 +9,7 @@ use vm_types::{Name, Refusal};
 /// Why nothing is shown.
 #[derive(Clone, Copy)]
 enum Blind {
-    /// A query was refused for want of memory.
+    /// A query was refused for lack of memory.
     Wanting(&'static str),
     /// Another reason.
     Other(Wrong),
@@ -21,7 +21,7 @@ impl From<AllocError> for Blind {
     }
 }
 
-/// What a query gives. It may only want memory.
+/// What a query gives. It may only lack memory.
 fn given<T>(query: &'static str, answer: Result<T, Refusal>) -> Result<T, Blind> {
     match answer {
         Ok(value) => Ok(value),
@@ -30,12 +30,12 @@ fn given<T>(query: &'static str, answer: Result<T, Refusal>) -> Result<T, Blind>
     }
 }
 
-/// The bytes of a value as a text.
+/// The bytes of a value as text.
 fn shown(value: &[u8]) -> &str {
     str::from_utf8(value).unwrap_or("?")
 }
 
-/// A value as a text, `~` for none.
+/// A value as text, `~` for none.
 fn text_of(value: Option<&[u8]>) -> &str {
     match value {
         Some(value) => shown(value),
@@ -63,7 +63,7 @@ fn write_maps(
     Ok(())
 }
 
-/// Writes what an alternative has in conflict with its parent.
+/// Writes an alternative's conflicts with its parent.
 fn write_conflicts(
     alloc: Global,
     store: &mut Store<MemDisk>,
@@ -96,8 +96,9 @@ fn see(alloc: Global, store: &mut Store<MemDisk>) -> Result<String, Blind> {
     Ok(text)
 }
 
-/// All that a store shows: alternatives, records, changes, conflicts, checkpoints, how many blocks it
-/// has, and how many are free. Where a query is refused for want of memory, all is asked once more.
+/// Everything that a store shows: alternatives, records, changes, conflicts, checkpoints, how many
+/// blocks it has, and how many are free. If a query is refused for lack of memory, everything is
+/// asked once more.
 pub(crate) fn look(
     alloc: Global,
     store: &mut Store<MemDisk>,
@@ -117,7 +118,7 @@ pub(crate) fn look(
     }
 }
 
-/// Looks whether the store shows this.
+/// Checks whether the store shows this.
 pub(crate) fn expect(
     alloc: Global,
     store: &mut Store<MemDisk>,

@@ -22,7 +22,7 @@ use Rattle.clap.specs.Faults.{fault_of, level_fault, values_fault}
 use Rattle.clap.specs.declared.builder.value_parser.ValueParser.TheVariants as vp
 use Rattle.clap.specs.declared.builder.value_parser.ValueParser.{ValueParser}
 use Rattle.clap.proofs.ValueTestLemmas.{Accepts-accepts, accepts-Accepts}
-use Rattle.vm_cli.specs.Words.{Wanted, altctl, asked_of, blocks_rule, buffer_rule, cache_rule, check_app, create_app, do_app, file_rule, line_rule, no_lock_rule, number_in, refusal_by, run_app, strict_rule, tree_app, wait_rule}
+use Rattle.vm_cli.specs.Words.{Wanted, altctl, asked_of, blocks_rule, buffer_rule, cache_rule, check_app, command_with, create_app, do_app, file_rule, grow_rule, grow_to_rule, buffer_by, is_set, line_rule, no_lock_rule, number_in, read_only_rule, refusal_by, run_app, strict_rule, tree_app, wait_rule}
 use Rattle.vm_cli.specs.Given.{input_of}
 use Rattle.vm_cli.specs.Words.Wanted.{check, create, do_lines, draw, run}
 use Rattle.vm_cli.specs.declared.talk.OnRefusal.TheVariants.{Ignore, Tell}
@@ -132,10 +132,10 @@ create_known : Every (IsKnown create_level.rules) create_level.rules
 create_known = (valued refl (lit< tt) refl refl, (valued refl (lit< tt) refl refl, (help refl refl, tt)))
 
 run_known : Every (IsKnown run_level.rules) run_level.rules
-run_known = (valued refl (lit< tt) refl refl, (flag (codes "true") refl refl refl refl, (flag (codes "true") refl refl refl refl, (flag (codes "true") refl refl refl refl, (valued refl (lit< tt) refl refl, (valued refl (lit< tt) refl refl, (help refl refl, tt)))))))
+run_known = (valued refl (lit< tt) refl refl, (flag (codes "true") refl refl refl refl, (flag (codes "true") refl refl refl refl, (flag (codes "true") refl refl refl refl, (flag (codes "true") refl refl refl refl, (flag (codes "true") refl refl refl refl, (valued refl (lit< tt) refl refl, (valued refl (lit< tt) refl refl, (valued refl (lit< tt) refl refl, (help refl refl, tt))))))))))
 
 do_known : Every (IsKnown do_level.rules) do_level.rules
-do_known = (valued refl (lit< tt) refl refl, (listed refl (lit< tt) refl refl, (flag (codes "true") refl refl refl refl, (flag (codes "true") refl refl refl refl, (flag (codes "true") refl refl refl refl, (valued refl (lit< tt) refl refl, (valued refl (lit< tt) refl refl, (help refl refl, tt))))))))
+do_known = (valued refl (lit< tt) refl refl, (listed refl (lit< tt) refl refl, (flag (codes "true") refl refl refl refl, (flag (codes "true") refl refl refl refl, (flag (codes "true") refl refl refl refl, (flag (codes "true") refl refl refl refl, (flag (codes "true") refl refl refl refl, (valued refl (lit< tt) refl refl, (valued refl (lit< tt) refl refl, (valued refl (lit< tt) refl refl, (help refl refl, tt)))))))))))
 
 check_known : Every (IsKnown check_level.rules) check_level.rules
 check_known = (valued refl (lit< tt) refl refl, (flag (codes "true") refl refl refl refl, (flag (codes "true") refl refl refl refl, (help refl refl, tt))))
@@ -177,6 +177,9 @@ cache_option = filled cache_rule
 abbrev buffer_option : Rule
 buffer_option = filled buffer_rule
 
+abbrev grow_option : Rule
+grow_option = filled grow_to_rule
+
 create_rows : (rows : List Row) → Every (IsFilled create_level.rules) rows → is_given (codes "file") rows ≡ true → is_given (codes "blocks") rows ≡ true
     → (w : Wanted) × (asked_of (Some (codes "create", rows)) ≡ Some w)
 create_rows rows filled file_given blocks_given =
@@ -185,27 +188,31 @@ create_rows rows filled file_given blocks_given =
     let number = number_read create_level.rules blocks_place 64 1048576 rows blocks.0 (lit< tt) refl refl refl blocks.2 blocks.1 blocks.3 in
     (create file.2.first number.0, rw (first_text create_level.rules rows (codes "file") file.0 file.2 file.1, number.1) refl)
 
-run_rows : (rows : List Row) → Every (IsFilled run_level.rules) rows → is_given (codes "file") rows ≡ true → has_row (codes "cache") rows ≡ true → has_row (codes "buffer") rows ≡ true
+run_rows : (rows : List Row) → Every (IsFilled run_level.rules) rows → is_given (codes "file") rows ≡ true → has_row (codes "grow-to") rows ≡ true → has_row (codes "cache") rows ≡ true
     → (w : Wanted) × (asked_of (Some (codes "run", rows)) ≡ Some w)
-run_rows rows filled file_given cache_held buffer_held =
+run_rows rows filled file_given grow_held cache_held =
     let file = given_row run_level run_known refl rows (codes "file") filled file_given in
+    let grow = held_row run_level run_known refl rows (codes "grow-to") filled grow_held in
+    let most = number_read run_level.rules grow_option 0 1048576 rows grow.0 (lit< tt) refl refl refl grow.2 grow.1 grow.3 in
     let cache = held_row run_level run_known refl rows (codes "cache") filled cache_held in
     let stay = number_read run_level.rules cache_option 0 65536 rows cache.0 (lit< tt) refl refl refl cache.2 cache.1 cache.3 in
-    let buffer = held_row run_level run_known refl rows (codes "buffer") filled buffer_held in
-    let wait = number_read run_level.rules buffer_option 0 65536 rows buffer.0 (lit< tt) refl refl refl buffer.2 buffer.1 buffer.3 in
-    (run file.2.first (record { cache = stay.0; buffer = wait.0 }) (refusal_by Ignore rows), rw (first_text run_level.rules rows (codes "file") file.0 file.2 file.1, stay.1, wait.1) refl)
+    let command = command_with (is_set (first_of (codes "read-only") rows)) (is_set (first_of (codes "grow") rows)) most.0 in (
+      run file.2.first (record { cache = stay.0; buffer = buffer_by rows }) (record { on_command = command; on_refusal = refusal_by Ignore rows }),
+      rw (first_text run_level.rules rows (codes "file") file.0 file.2 file.1, stay.1, most.1) refl,
+    )
 
-do_rows : (rows : List Row) → Every (IsFilled do_level.rules) rows → is_given (codes "file") rows ≡ true → is_given (codes "line") rows ≡ true → has_row (codes "cache") rows ≡ true → has_row (codes "buffer") rows ≡ true
+do_rows : (rows : List Row) → Every (IsFilled do_level.rules) rows → is_given (codes "file") rows ≡ true → is_given (codes "line") rows ≡ true → has_row (codes "grow-to") rows ≡ true → has_row (codes "cache") rows ≡ true
     → (w : Wanted) × (asked_of (Some (codes "do", rows)) ≡ Some w)
-do_rows rows filled file_given line_given cache_held buffer_held =
+do_rows rows filled file_given line_given grow_held cache_held =
     let file = given_row do_level do_known refl rows (codes "file") filled file_given in
     let line = given_row do_level do_known refl rows (codes "line") filled line_given in
+    let grow = held_row do_level do_known refl rows (codes "grow-to") filled grow_held in
+    let most = number_read do_level.rules grow_option 0 1048576 rows grow.0 (lit< tt) refl refl refl grow.2 grow.1 grow.3 in
     let cache = held_row do_level do_known refl rows (codes "cache") filled cache_held in
     let stay = number_read do_level.rules cache_option 0 65536 rows cache.0 (lit< tt) refl refl refl cache.2 cache.1 cache.3 in
-    let buffer = held_row do_level do_known refl rows (codes "buffer") filled buffer_held in
-    let wait = number_read do_level.rules buffer_option 0 65536 rows buffer.0 (lit< tt) refl refl refl buffer.2 buffer.1 buffer.3 in (
-      do_lines file.2.first (input_of line.0.values) (record { cache = stay.0; buffer = wait.0 }) (refusal_by Tell rows),
-      rw (first_text do_level.rules rows (codes "file") file.0 file.2 file.1, line.1, stay.1, wait.1) refl,
+    let command = command_with (is_set (first_of (codes "read-only") rows)) (is_set (first_of (codes "grow") rows)) most.0 in (
+      do_lines file.2.first (input_of line.0.values) (record { cache = stay.0; buffer = buffer_by rows }) (record { on_command = command; on_refusal = refusal_by Tell rows }),
+      rw (first_text do_level.rules rows (codes "file") file.0 file.2 file.1, line.1, stay.1, most.1) refl,
     )
 
 check_rows : (rows : List Row) → Every (IsFilled check_level.rules) rows → is_given (codes "file") rows ≡ true
@@ -222,26 +229,31 @@ tree_rows rows filled file_given =
 
 -- at the end of a level the default values stand where no word said others
 module _ (rows : List Row) where
+  abbrev with_grow : List Row
+  with_grow = with_default rows grow_option
+
   abbrev with_cache : List Row
-  with_cache = with_default rows cache_option
+  with_cache = with_default with_grow cache_option
 
   abbrev with_buffer : List Row
   with_buffer = with_default with_cache buffer_option
 
   cache_ends : has_row (codes "cache") (with_default with_buffer (filled help_rule)) ≡ true
   cache_ends =
-      let here : has_row (codes "cache") with_cache ≡ true = has-default cache_option rows (codes "256") [] refl in
+      let here : has_row (codes "cache") with_cache ≡ true = has-default cache_option with_grow (codes "256") [] refl in
       let there : has_row (codes "cache") with_buffer ≡ true = has-stays (codes "cache") buffer_option with_cache here in
       subst (λ ends. has_row (codes "cache") ends ≡ true) (sym (no-default (filled help_rule) with_buffer refl)) there
 
-  buffer_ends : has_row (codes "buffer") (with_default with_buffer (filled help_rule)) ≡ true
-  buffer_ends =
-      let there : has_row (codes "buffer") with_buffer ≡ true = has-default buffer_option with_cache (codes "16384") [] refl in
-      subst (λ ends. has_row (codes "buffer") ends ≡ true) (sym (no-default (filled help_rule) with_buffer refl)) there
+  grow_ends : has_row (codes "grow-to") (with_default with_buffer (filled help_rule)) ≡ true
+  grow_ends =
+      let here : has_row (codes "grow-to") with_grow ≡ true = has-default grow_option rows (codes "0") [] refl in
+      let then : has_row (codes "grow-to") with_cache ≡ true = has-stays (codes "grow-to") cache_option with_grow here in
+      let there : has_row (codes "grow-to") with_buffer ≡ true = has-stays (codes "grow-to") buffer_option with_cache then in
+      subst (λ ends. has_row (codes "grow-to") ends ≡ true) (sym (no-default (filled help_rule) with_buffer refl)) there
 
 -- so it is in both levels, where the flags come before these options
 abbrev flag_ends : List Row → List Row
-flag_ends rows = with_default (with_default (with_default rows (filled no_lock_rule)) (filled wait_rule)) (filled strict_rule)
+flag_ends rows = with_default (with_default (with_default (with_default (with_default rows (filled no_lock_rule)) (filled wait_rule)) (filled strict_rule)) (filled read_only_rule)) (filled grow_rule)
 
 abbrev run_ends : List Row → List Row
 run_ends rows = flag_ends (with_default rows (with_index 1 (filled file_rule)))
@@ -262,7 +274,7 @@ run_asks words e =
     let rows = rows_after run_level.rules [] words in
     let given = each_given run_level run_known refl run_level.rules rows (nothing_wanting false false (list_any (λ a. a.required && not (is_given a.id rows)) run_level.rules) level.1).1 in
     let ends = run_ends (settled run_level.rules (walk run_level.rules [] nothing_held words).held).rows in
-    run_rows rows level.0 (given.0 refl) (cache_ends ends) (buffer_ends ends)
+    run_rows rows level.0 (given.0 refl) (grow_ends ends) (cache_ends ends)
 
 do_asks : Asks do_level
 do_asks words e =
@@ -270,7 +282,7 @@ do_asks words e =
     let rows = rows_after do_level.rules [] words in
     let given = each_given do_level do_known refl do_level.rules rows (nothing_wanting false false (list_any (λ a. a.required && not (is_given a.id rows)) do_level.rules) level.1).1 in
     let ends = do_ends (settled do_level.rules (walk do_level.rules [] nothing_held words).held).rows in
-    do_rows rows level.0 (given.0 refl) (given.1.0 refl) (cache_ends ends) (buffer_ends ends)
+    do_rows rows level.0 (given.0 refl) (given.1.0 refl) (grow_ends ends) (cache_ends ends)
 
 check_asks : Asks check_level
 check_asks words e =

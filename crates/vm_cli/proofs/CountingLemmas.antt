@@ -16,7 +16,7 @@ use Rattle.vm_disk.specs.Disk.{Contents}
 use Rattle.vm_disk.specs.declared.disk.Disk.{Ghosts}
 use Rattle.vm_store.specs.Answers.{IsDueOrMemory}
 use Rattle.vm_store.specs.Filed.{Filed, add, bare, with_filed, saved_of, with_saved}
-use Rattle.vm_store.specs.Opening.{OpensAs}
+use Rattle.vm_store.specs.Recovery.{OpensAs}
 use Rattle.vm_store.specs.Store.{Holds, disk_of, free_of}
 use Rattle.vm_store.specs.declared.store.Store.{Store}
 use Rattle.vm_store.proofs.FiledLemmas.{named_back}
@@ -25,8 +25,8 @@ use Rattle.vm_store.proofs.MovedLemmas.{standing_length}
 use Rattle.vm_store.proofs.SlotLemmas.{slot-length}
 use Rattle.vm_store.proofs.TurnLemmas.{in_order}
 use Rattle.vm_store.proofs.VersionLemmas.{standing}
-use Rattle.vm_cli.specs.Counting.{IsCounted, checkpoint_count}
-use Rattle.vm_cli.specs.declared.program.counting.Counts.{Counts}
+use Rattle.vm_cli.specs.StoreCounts.{IsCounted, checkpoint_count}
+use Rattle.vm_cli.specs.declared.program.store_counts.Counts.{Counts}
 
 -- no alternative is called like an earlier one
 abbrev Apart : Tree → Type 0

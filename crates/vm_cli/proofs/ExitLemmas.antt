@@ -1,17 +1,17 @@
 -- How the program ends, from what its parts did.
-use Rattle.std.proofs.Common.{◌≡◌, ◌≤◌, ◌⊎◌, ◌++◌, arith, ℕ, List, [], ◌∷◌, Option, refl, inl, inr}
+use Rattle.std.proofs.Common.{◌≡◌, ◌≤◌, ◌⊎◌, ◌++◌, arith, ℕ, List, Option, refl, inl, inr}
 use Rattle.std.specs.Io.KnownBytes.{Appends}
 use Rattle.clap.specs.Words.{IsAmong, Text, fault_of}
 use Rattle.clap.specs.declared.error.kind.ErrorKind.{ErrorKind}
 use Rattle.clap.specs.declared.error.kind.ErrorKind.TheVariants.{DisplayHelp, DisplayVersion}
 use Rattle.vm_cli.specs.Carried.{WritesStart}
-use Rattle.vm_cli.specs.Drawing.{drawing}
+use Rattle.vm_cli.specs.Branches.{drawing}
 use Rattle.vm_cli.specs.Exits.{AskTalk, Ends, IsHelp, IsJob, JobEnds, MayEnd, Tells, TellsRefused, check_text, created_text, named_text, status_of}
 use Rattle.vm_cli.specs.Words.{Wanted, altctl}
 use Rattle.vm_cli.specs.Words.Wanted.{check, create, draw}
 use Rattle.vm_cli.specs.declared.program.Exit.{Exit}
 use Rattle.vm_cli.specs.declared.program.Exit.TheVariants.{Done, LineRefused, Refused, WrongWords, Stopped}
-use Rattle.vm_cli.specs.declared.talk.OnRefusal.{OnRefusal}
+use Rattle.vm_cli.specs.declared.talk.Manner.{Manner}
 use Rattle.vm_cli.proofs.CarriedLemmas.{begins-more, begins-then}
 
 -- ---- a line with the name of a file
@@ -86,8 +86,8 @@ module _ {W F : Type 0} (in_output : W → Option (List ℕ)) (in_errors : F →
   made file blocks exit job (inr (same, (text, says, inr (is, begun)))) = rw is (inr (same, (text, inl (create file blocks, job, says), begun)))
 
   -- lines were to be answered
-  pub talked : (job : Wanted) (on : OnRefusal) (exit : Exit) → IsJob words job → AskTalk words on
-      → ((errors' ≡ errors) × MayEnd on exit) ⊎ ((output' ≡ output) × TellsRefused in_output in_errors job exit errors errors')
+  pub talked : (job : Wanted) (on : Manner) (exit : Exit) → IsJob words job → AskTalk words on
+      → ((errors' ≡ errors) × MayEnd on.on_refusal exit) ⊎ ((output' ≡ output) × TellsRefused in_output in_errors job exit errors errors')
       → Ends in_output in_errors exit words output output' errors errors'
   talked job on exit asked asks (inl (same, inl is)) = rw is (same, inr (on, asks))
   talked job on exit asked asks (inl (same, inr (inl is))) = rw is (inl (same, inr (inr (on, asks))))

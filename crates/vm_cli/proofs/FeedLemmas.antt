@@ -8,15 +8,15 @@ use Rattle.memchr.specs.Find.{IsFirstByte, is_byte}
 use Rattle.vm_types.specs.declared.answer.Answer.{Answer}
 use Rattle.vm_types.specs.declared.command.Command.{Command}
 use Rattle.vm_types.specs.declared.refusal.Refusal.{Refusal}
-use Rattle.vm_types.specs.State.{State, after}
+use Rattle.vm_types.specs.State.{State, after, next}
 use Rattle.vm_store.specs.Store.{Holds, has_failed, disk_of}
 use Rattle.vm_store.specs.declared.store.Store.{Store}
 use Rattle.vm_cli.specs.Carried.{WritesStart}
-use Rattle.vm_cli.specs.Feeding.{Fed, Writes}
+use Rattle.vm_cli.specs.Feeds.{Fed, Writes}
 use Rattle.vm_cli.specs.Lines.{IsPart, lines_of, onto_first}
-use Rattle.vm_cli.specs.Talk.{Done, EndsTalk, HandlesLine, HasTalked, ServesLines, Stood, Talks, after_line, with_answer, with_command}
+use Rattle.vm_cli.specs.Talk.{Done, EndsTalk, HandlesLine, HasTalked, ServesLines, Stood, Talks, after_each, after_line, each_answer, each_command, with_answer, with_command}
 use Rattle.vm_cli.specs.Replies.{is_error}
-use Rattle.vm_cli.specs.declared.talk.OnRefusal.{OnRefusal}
+use Rattle.vm_cli.specs.declared.talk.Manner.{Manner}
 use Rattle.vm_cli.specs.declared.talk.OnRefusal.TheVariants.{Stop}
 use Rattle.vm_cli.specs.declared.talk.ServeFault.{ServeFault}
 use Rattle.vm_cli.specs.declared.talk.ServeFault.TheVariants as fault
@@ -24,17 +24,29 @@ use Rattle.vm_cli.proofs.HandledLemmas.{handled_stops}
 use Rattle.vm_cli.proofs.Known.{Appends-nil, Appends-then}
 use Rattle.vm_cli.proofs.Parts.{IsPart-append}
 
+each-after : (s : State) (each : List (Command × Result Answer Refusal)) (later : List Command) (others : List (Result Answer Refusal)) → after s (each_command each later) (each_answer each others) ≡ after (after_each s each) later others
+each-after s [] later others = refl
+each-after s ((command, answer) ∷ more) later others = each-after (next s command answer) more later others
+
 pub after-with : (s : State) (done : Done) (later : List Command) (others : List (Result Answer Refusal)) → after s (with_command done later) (with_answer done others) ≡ after (after_line s done) later others
 after-with s None later others = refl
-after-with s (Some (command, answer)) later others = refl
+after-with s (Some each) later others = each-after s each later others
+
+each_command-append : (each : List (Command × Result Answer Refusal)) (later more : List Command) → each_command each later ++ more ≡ each_command each (later ++ more)
+each_command-append [] later more = refl
+each_command-append ((command, answer) ∷ each) later more = ap (λ cs. command ∷ cs) (each_command-append each later more)
 
 command-append : (done : Done) (later more : List Command) → with_command done later ++ more ≡ with_command done (later ++ more)
 command-append None later more = refl
-command-append (Some (command, answer)) later more = refl
+command-append (Some each) later more = each_command-append each later more
+
+each_answer-append : (each : List (Command × Result Answer Refusal)) (others more : List (Result Answer Refusal)) → each_answer each others ++ more ≡ each_answer each (others ++ more)
+each_answer-append [] others more = refl
+each_answer-append ((command, answer) ∷ each) others more = ap (λ rs. answer ∷ rs) (each_answer-append each others more)
 
 answer-append : (done : Done) (others more : List (Result Answer Refusal)) → with_answer done others ++ more ≡ with_answer done (others ++ more)
 answer-append None others more = refl
-answer-append (Some (command, answer)) others more = refl
+answer-append (Some each) others more = each_answer-append each others more
 
 or-assoc : (a b c : Bool) → ((a || b) || c) ≡ (a || (b || c))
 or-assoc true b c = refl
@@ -55,30 +67,30 @@ joined refused (Err fault) = Err fault
 
 module _ {D : Type 0} {members : _} where
   -- the state after further commands
-  after-join : (old new : Store D members) (s : State) (lines : List (List ℕ)) (text : List ℕ) (commands later : List Command) (answers others : List (Result Answer Refusal)) (refused : Bool) → Talks old new s lines text commands answers refused
+  after-join : (on : Manner) (old new : Store D members) (s : State) (lines : List (List ℕ)) (text : List ℕ) (commands later : List Command) (answers others : List (Result Answer Refusal)) (refused : Bool) → Talks old new s on lines text commands answers refused
       → after s (commands ++ later) (answers ++ others) ≡ after (after s commands answers) later others
-  after-join old new s [] text commands later answers others refused (d, e, f, g, h) = rw (f, g) refl
-  after-join old new s (line ∷ lines) text commands later answers others refused (mid, first, rest, later1, others1, step, e, f, g, again, h, talks) =
+  after-join on old new s [] text commands later answers others refused (d, e, f, g, h) = rw (f, g) refl
+  after-join on old new s (line ∷ lines) text commands later answers others refused (mid, first, rest, later1, others1, step, e, f, g, again, h, talks) =
       rw (f, g, command-append step.done later1 later, answer-append step.done others1 others, after-with s step.done (later1 ++ later) (others1 ++ others), after-with s step.done later1 others1)
-      (after-join mid new (after_line s step.done) lines rest later1 later others1 others again talks)
+      (after-join on mid new (after_line s step.done) lines rest later1 later others1 others again talks)
 
   -- further lines
-  talks-join : (old mid new : Store D members) (s : State) (lines more : List (List ℕ)) (text second : List ℕ) (commands later : List Command) (answers others : List (Result Answer Refusal)) (refused again : Bool)
-      → Talks old mid s lines text commands answers refused → Talks mid new (after s commands answers) more second later others again
-      → Talks old new s (lines ++ more) (text ++ second) (commands ++ later) (answers ++ others) (refused || again)
-  talks-join old mid new s [] more text second commands later answers others refused again (d, e, f, g, h) q =
+  talks-join : (on : Manner) (old mid new : Store D members) (s : State) (lines more : List (List ℕ)) (text second : List ℕ) (commands later : List Command) (answers others : List (Result Answer Refusal)) (refused again : Bool)
+      → Talks old mid s on lines text commands answers refused → Talks mid new (after s commands answers) on more second later others again
+      → Talks old new s on (lines ++ more) (text ++ second) (commands ++ later) (answers ++ others) (refused || again)
+  talks-join on old mid new s [] more text second commands later answers others refused again (d, e, f, g, h) q =
       let text_is : second ≡ text ++ second = rw e refl in
       let commands_are : later ≡ commands ++ later = rw f refl in
       let answers_are : others ≡ answers ++ others = rw g refl in
       let state : after s commands answers ≡ s = rw f refl in
       let refusals_are : again ≡ (refused || again) = rw h refl in
-      let from_old : Talks old new (after s commands answers) more second later others again = subst (λ (t : Store D members). Talks t new (after s commands answers) more second later others again) d q in
-      let from_here : Talks old new s more second later others again = subst (λ t. Talks old new t more second later others again) state from_old in
-      let a : Talks old new s more (text ++ second) later others again = subst (λ t. Talks old new s more t later others again) text_is from_here in
-      let b : Talks old new s more (text ++ second) (commands ++ later) others again = subst (λ t. Talks old new s more (text ++ second) t others again) commands_are a in
-      let c : Talks old new s more (text ++ second) (commands ++ later) (answers ++ others) again = subst (λ t. Talks old new s more (text ++ second) (commands ++ later) t again) answers_are b in
-      subst (λ t. Talks old new s more (text ++ second) (commands ++ later) (answers ++ others) t) refusals_are c
-  talks-join old mid new s (line ∷ lines) more text second commands later answers others refused again (next, first, rest, later1, others1, step, e, f, g, rest_refused, h, talks) q =
+      let from_old : Talks old new (after s commands answers) on more second later others again = subst (λ (t : Store D members). Talks t new (after s commands answers) on more second later others again) d q in
+      let from_here : Talks old new s on more second later others again = subst (λ t. Talks old new t on more second later others again) state from_old in
+      let a : Talks old new s on more (text ++ second) later others again = subst (λ t. Talks old new s on more t later others again) text_is from_here in
+      let b : Talks old new s on more (text ++ second) (commands ++ later) others again = subst (λ t. Talks old new s on more (text ++ second) t others again) commands_are a in
+      let c : Talks old new s on more (text ++ second) (commands ++ later) (answers ++ others) again = subst (λ t. Talks old new s on more (text ++ second) (commands ++ later) t again) answers_are b in
+      subst (λ t. Talks old new s on more (text ++ second) (commands ++ later) (answers ++ others) t) refusals_are c
+  talks-join on old mid new s (line ∷ lines) more text second commands later answers others refused again (next, first, rest, later1, others1, step, e, f, g, rest_refused, h, talks) q =
       let state : after s commands answers ≡ after (after_line s step.done) later1 others1 = rw (f, g) (after-with s step.done later1 others1) in (
         next,
         first,
@@ -91,18 +103,18 @@ module _ {D : Type 0} {members : _} where
         rw g (answer-append step.done others1 others),
         rest_refused || again,
         rw h (or-assoc (is_error first) rest_refused again),
-        talks-join next mid new (after_line s step.done) lines more rest second later1 later others1 others rest_refused again talks (subst (λ t. Talks mid new t more second later others again) state q),
+        talks-join on next mid new (after_line s step.done) lines more rest second later1 later others1 others rest_refused again talks (subst (λ t. Talks mid new t on more second later others again) state q),
       )
 
   -- a disk that is honest after a talk was so before it
-  talks-back : (old new : Store D members) (s : State) (lines : List (List ℕ)) (text : List ℕ) (commands : List Command) (answers : List (Result Answer Refusal)) (refused : Bool) → Talks old new s lines text commands answers refused
+  talks-back : (on : Manner) (old new : Store D members) (s : State) (lines : List (List ℕ)) (text : List ℕ) (commands : List Command) (answers : List (Result Answer Refusal)) (refused : Bool) → Talks old new s on lines text commands answers refused
       → (members.state (disk_of new)).honest ≡ true → (members.state (disk_of old)).honest ≡ true
-  talks-back old new s [] text commands answers refused (d, e, f, g, h) honest = subst (λ (t : Store D members). (members.state (disk_of t)).honest ≡ true) d honest
-  talks-back old new s (line ∷ lines) text commands answers refused (mid, first, rest, later, others, step, e, f, g, again, h, talks) honest =
-      step.passes.goes.earlier (talks-back mid new (after_line s step.done) lines rest later others again talks honest)
+  talks-back on old new s [] text commands answers refused (d, e, f, g, h) honest = subst (λ (t : Store D members). (members.state (disk_of t)).honest ≡ true) d honest
+  talks-back on old new s (line ∷ lines) text commands answers refused (mid, first, rest, later, others, step, e, f, g, again, h, talks) honest =
+      step.passes.goes.earlier (talks-back on mid new (after_line s step.done) lines rest later others again talks honest)
 
   -- no line
-  abbrev pub talked-none : (store : Store D members) (s : State) (on : OnRefusal) → HasTalked store store s on [] []
+  abbrev pub talked-none : (store : Store D members) (s : State) (on : Manner) → HasTalked store store s on [] []
   talked-none store s on = record {
     commands = [];
     answers = [];
@@ -114,8 +126,8 @@ module _ {D : Type 0} {members : _} where
   }
 
   -- one line
-  abbrev pub talked-line : (old new : Store D members) (s : State) (on : OnRefusal) (part text : List ℕ) → HandlesLine old new s part text false
-      → (on ≡ Stop → is_error text ≡ false) → HasTalked old new s on (part ∷ []) text
+  abbrev pub talked-line : (old new : Store D members) (s : State) (on : Manner) (part text : List ℕ) → HandlesLine old new s on part text false
+      → (on.on_refusal ≡ Stop → is_error text ≡ false) → HasTalked old new s on (part ∷ []) text
   talked-line old new s on part text handled goes_on = record {
     commands = with_command handled.done [];
     answers = with_answer handled.done [];
@@ -127,14 +139,14 @@ module _ {D : Type 0} {members : _} where
   }
 
   -- further lines
-  module _ (old mid new : Store D members) (s : State) (on : OnRefusal) (lines : List (List ℕ)) (text : List ℕ) (first : HasTalked old mid s on lines text) where
+  module _ (old mid new : Store D members) (s : State) (on : Manner) (lines : List (List ℕ)) (text : List ℕ) (first : HasTalked old mid s on lines text) where
     state-then : (more : List (List ℕ)) (second : List ℕ) (then : HasTalked mid new (after s first.commands first.answers) on more second) → after s (first.commands ++ then.commands) (first.answers ++ then.answers) ≡ after (after s first.commands first.answers) then.commands then.answers
-    state-then more second then = after-join old mid s lines text first.commands then.commands first.answers then.answers first.refused first.talks
+    state-then more second then = after-join on old mid s lines text first.commands then.commands first.answers then.answers first.refused first.talks
 
     -- the store between stood for what the first lines leave, where this one did for what came before
     stood-then : (more : List (List ℕ)) (second : List ℕ) (then : HasTalked mid new (after s first.commands first.answers) on more second) → Stood old new s → has_failed new ≡ false → Stood mid new (after s first.commands first.answers)
     stood-then more second then stood fine =
-        let back = talks-back mid new (after s first.commands first.answers) more second then.commands then.answers then.refused then.talks stood.honest in
+        let back = talks-back on mid new (after s first.commands first.answers) more second then.commands then.answers then.refused then.talks stood.honest in
         record { honest = stood.honest; holds = first.holds (record { honest = back; holds = stood.holds }) (sym then.still ∙ fine) }
 
     pub talked-join : (more : List (List ℕ)) (second : List ℕ) → HasTalked mid new (after s first.commands first.answers) on more second → HasTalked old new s on (lines ++ more) (text ++ second)
@@ -142,20 +154,20 @@ module _ {D : Type 0} {members : _} where
       commands = first.commands ++ then.commands;
       answers = first.answers ++ then.answers;
       refused = first.refused || then.refused;
-      talks = talks-join old mid new s lines more text second first.commands then.commands first.answers then.answers first.refused then.refused first.talks then.talks;
+      talks = talks-join on old mid new s lines more text second first.commands then.commands first.answers then.answers first.refused then.refused first.talks then.talks;
       goes_on = λ stop. neither first.refused then.refused (first.goes_on stop) (then.goes_on stop);
       still = then.still ∙ first.still;
       holds = λ stood fine. subst (λ t. Holds new t) (sym (state-then more second then)) (then.holds (stood-then more second then stood fine) fine);
     }
 
   -- a talk that ends after further lines
-  module _ (old mid new : Store D members) (s : State) (on : OnRefusal) (lines : List (List ℕ)) (text : List ℕ) (first : HasTalked old mid s on lines text) where
+  module _ (old mid new : Store D members) (s : State) (on : Manner) (lines : List (List ℕ)) (text : List ℕ) (first : HasTalked old mid s on lines text) where
     ends-after : (ends : Bool) (all : List (List ℕ)) (second : List ℕ) → EndsTalk mid new (after s first.commands first.answers) on ends all second → EndsTalk old new s on ends (lines ++ all) (text ++ second)
     unfolding talked-join
     ends-after ends all second e =
         let then = e.talked in
         let state : after s (first.commands ++ then.commands) (first.answers ++ then.answers) ≡ after (after s first.commands first.answers) then.commands then.answers =
-        after-join old mid s lines text first.commands then.commands first.answers then.answers first.refused first.talks in
+        after-join on old mid s lines text first.commands then.commands first.answers then.answers first.refused first.talks in
         record {
           mid = e.mid;
           lines = lines ++ e.lines;
@@ -166,7 +178,7 @@ module _ {D : Type 0} {members : _} where
           cut = ap (λ ls. lines ++ ls) e.cut ∙ sym (append_assoc lines e.lines (e.line ∷ e.others));
           texts = ap (λ bs. text ++ bs) e.texts ∙ sym (append_assoc text e.earlier e.last);
           talked = talked-join old mid e.mid s on lines text first e.lines e.earlier then;
-          handled = subst (λ t. HandlesLine e.mid new t e.line e.last ends) (sym state) e.handled;
+          handled = subst (λ t. HandlesLine e.mid new t on e.line e.last ends) (sym state) e.handled;
           stops = e.stops;
         }
 
@@ -196,8 +208,8 @@ module _ {D : Type 0} {members : _} where
         (text ++ second, ends, ends-after ends all second ended, begins-after a b c second written more)
 
   -- a talk of one line
-  module _ (old new : Store D members) (s : State) (on : OnRefusal) (line : List ℕ) where
-    abbrev ends-line : (ends : Bool) (text : List ℕ) (others : List (List ℕ)) → HandlesLine old new s line text ends → EndsTalk old new s on ends (line ∷ others) text
+  module _ (old new : Store D members) (s : State) (on : Manner) (line : List ℕ) where
+    abbrev ends-line : (ends : Bool) (text : List ℕ) (others : List (List ℕ)) → HandlesLine old new s on line text ends → EndsTalk old new s on ends (line ∷ others) text
     ends-line ends text others handled = record {
       mid = old;
       lines = [];
@@ -209,11 +221,11 @@ module _ {D : Type 0} {members : _} where
       texts = refl;
       talked = talked-none old s on;
       handled = handled;
-      stops = handled_stops old new s line text ends handled;
+      stops = handled_stops old new s on line text ends handled;
     }
 
     pub serves-line : (result : Result Bool ServeFault) (a b : Option (List ℕ)) (others : List (List ℕ)) → OnOk result (others ≡ [])
-        → Writes on (HandlesLine old new s line) result a b → ServesLines old new s on result a b (line ∷ others)
+        → Writes on (HandlesLine old new s on line) result a b → ServesLines old new s on result a b (line ∷ others)
     serves-line (Ok refused) a b others none (text, handled, same, goes_on, written) =
         subst (λ ls. ServesLines old new s on (Ok refused) a b (line ∷ ls)) (sym none)
         (text, talked-line old new s on line text handled (λ stop. sym same ∙ goes_on stop), same, written)
@@ -260,7 +272,7 @@ lines-end (b ∷ from) more part =
     rw other (ap (onto_first b) (lines-end from more part.1))
 
 module _ {D : Type 0} {members : _} where
-  module _ (store : Store D members) (s : State) (on : OnRefusal) (from : List ℕ) where
+  module _ (store : Store D members) (s : State) (on : Manner) (from : List ℕ) where
     -- no byte
     pub fed-nothing : (a : Option (List ℕ)) → Fed store store s on false [] from from a a
     fed-nothing a = record {
@@ -284,12 +296,12 @@ module _ {D : Type 0} {members : _} where
     }
 
   -- the last bytes of the line, and its line feed
-  module _ (old new : Store D members) (s : State) (on : OnRefusal) (from bytes : List ℕ) (part : IsPart (from ++ bytes)) (a b : Option (List ℕ)) where
+  module _ (old new : Store D members) (s : State) (on : Manner) (from bytes : List ℕ) (part : IsPart (from ++ bytes)) (a b : Option (List ℕ)) where
     cut-line : (more : List ℕ) → lines_of (from ++ ((bytes ++ 10 ∷ []) ++ more)) ≡ (from ++ bytes) ∷ lines_of more
     cut-line more =
         ap (λ bs. lines_of (from ++ bs)) (append_assoc bytes (10 ∷ []) more) ∙ ap lines_of (sym (append_assoc from bytes (10 ∷ more))) ∙ lines-end (from ++ bytes) more part
 
-    pub fed-line : (refused : Bool) → Writes on (HandlesLine old new s (from ++ bytes)) (Ok refused) a b → Fed old new s on refused (bytes ++ 10 ∷ []) from [] a b
+    pub fed-line : (refused : Bool) → Writes on (HandlesLine old new s on (from ++ bytes)) (Ok refused) a b → Fed old new s on refused (bytes ++ 10 ∷ []) from [] a b
     fed-line refused (text, handled, same, goes_on, written) = record {
       lines = (from ++ bytes) ∷ [];
       text = text;
@@ -299,13 +311,13 @@ module _ {D : Type 0} {members : _} where
       written = written;
     }
 
-    pub ended-line : (why : ServeFault) (more : List ℕ) → Writes on (HandlesLine old new s (from ++ bytes)) (Err why) a b
+    pub ended-line : (why : ServeFault) (more : List ℕ) → Writes on (HandlesLine old new s on (from ++ bytes)) (Err why) a b
         → ServesLines old new s on (Err why) a b (lines_of (from ++ ((bytes ++ 10 ∷ []) ++ more)))
     ended-line why more writes =
         subst (λ ls. ServesLines old new s on (Err why) a b ls) (sym (cut-line more)) (serves-line old new s on (from ++ bytes) (Err why) a b (lines_of more) tt writes)
 
   -- further bytes
-  module _ (old mid new : Store D members) (s : State) (on : OnRefusal) (refused : Bool) (bytes then from middle : List ℕ) (a b c : Option (List ℕ)) (first : Fed old mid s on refused bytes from middle a b) where
+  module _ (old mid new : Store D members) (s : State) (on : Manner) (refused : Bool) (bytes then from middle : List ℕ) (a b c : Option (List ℕ)) (first : Fed old mid s on refused bytes from middle a b) where
     cut-join : (more : List ℕ) → lines_of (from ++ ((bytes ++ then) ++ more)) ≡ first.lines ++ lines_of (middle ++ (then ++ more))
     cut-join more = ap (λ bs. lines_of (from ++ bs)) (append_assoc bytes then more) ∙ first.cut (then ++ more)
 

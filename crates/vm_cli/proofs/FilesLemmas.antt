@@ -15,23 +15,25 @@ use Rattle.vm_disk.specs.declared.cached.CachedDisk.{CachedDisk}
 use Rattle.vm_disk.specs.declared.delayed.DelayedDisk.{DelayedDisk}
 use Rattle.vm_disk.specs.declared.disk.Disk.{Ghosts}
 use Rattle.vm_disk.proofs.MomentLemmas.{at_end}
-use Rattle.vm_store.specs.Formatting.{IsBadSize}
+use Rattle.vm_store.specs.NewStore.{IsBadSize}
 use Rattle.vm_store.specs.Refused.{IsAtMostSynced}
 use Rattle.vm_store.specs.Shown.{Shows}
-use Rattle.vm_cli.specs.Caching.{IsNotServed, IsServed, answers_told, commands_told}
-use Rattle.vm_cli.specs.Delaying.{IsRefusedLate, IsServedLate, answers_late, commands_late}
+use Rattle.vm_cli.specs.CachedLines.{buffer_for, IsNotServed, IsServed, answers_told, commands_told}
+use Rattle.vm_cli.specs.DelayedLines.{IsRefusedLate, IsServedLate, answers_late, commands_late}
 use Rattle.vm_cli.specs.Exits.{IsJob, Tells}
 use Rattle.vm_cli.specs.Keeps.{Keeps, answers_of, commands_of}
 use Rattle.vm_cli.specs.Files.{Answers, Counts, Draws, Declines, Does, KeepsAll, Makes}
 use Rattle.vm_cli.specs.Places.{KeepsOthers, PlaceState}
-use Rattle.vm_cli.specs.Runs.{Disks, LooksOnly, ServesIn, ServesWords}
+use Rattle.vm_cli.specs.Runs.{AsksToWrite, Disks, IsLook, LooksOnly, ServesIn, ServesWords}
 use Rattle.vm_cli.specs.Sessions.{HasRefused}
 use Rattle.vm_cli.specs.Words.{Wanted, altctl}
 use Rattle.vm_cli.specs.Words.Wanted.{check, create, do_lines, draw, run}
 use Rattle.vm_cli.specs.declared.program.Exit.{Exit}
 use Rattle.vm_cli.specs.declared.program.task.InMemory.{InMemory}
 use Rattle.vm_cli.specs.declared.program.Exit.TheVariants.{Done, Refused, Stopped}
-use Rattle.vm_cli.specs.declared.talk.OnRefusal.{OnRefusal}
+use Rattle.vm_cli.specs.declared.talk.Manner.{Manner}
+use Rattle.vm_cli.specs.declared.talk.OnCommand.{OnCommand}
+use Rattle.vm_cli.specs.declared.talk.OnCommand.TheVariants.{Refuse}
 use Rattle.vm_cli.proofs.CachingLemmas.{keeps_below, refused_below, refused_there}
 use Rattle.vm_cli.proofs.DelayingLemmas.{keeps_late, refused_late}
 use Rattle.vm_cli.proofs.SessionLemmas.{clean_leaves}
@@ -70,16 +72,18 @@ keeps_all name old new others same other = go (bytes_eq other name) refl
 pub one_job : (words : List Text) (job other : Wanted) → IsJob words job → IsJob words other → other ≡ job
 one_job words job other is also = let same : Some other ≡ Some job = sym also.1 ∙ is.1 in cc
 
--- words ask for this job, and where it is a check or a drawing no file was asked for to be written
+-- words ask for this job, and where it only looks at a file none was asked for to be written
 pub looks_for : {P : Type 0} (to_write : P → ℕ) (place place' : P) (words : List Text) (job : Wanted) → IsJob words job
-    → ((name : Text) → (check name ≡ job) ⊎ (draw name ≡ job) → to_write place' ≡ to_write place) → LooksOnly to_write place place' words
+    → (IsLook job → to_write place' ≡ to_write place) → LooksOnly to_write place place' words
 looks_for to_write place place' words job asked reads = (
-  (λ name looks. elim looks [
-    | inl is ↦ reads name (inl (one_job words job (check name) asked is))
-    | inr is ↦ reads name (inr (one_job words job (draw name) asked is))
-  ]),
+  (λ other is looks. reads (subst IsLook (one_job words job other asked is) looks)),
   (λ no. absurd (no job asked)),
 )
+
+-- no file was asked for to be written where commands are refused
+pub looks_with : (on : OnCommand) (asked asked' : ℕ) → AsksToWrite on asked asked' → on ≡ Refuse → asked' ≡ asked
+looks_with Refuse asked asked' asks is = asks
+looks_with on asked asked' asks is = cc
 
 -- words that ask for a job have no fault
 pub no_fault : (kind : ErrorKind) (words : List Text) (job : Wanted) → IsJob words job → IsAmong kind (fault_of altctl words) → ⊥
@@ -87,7 +91,7 @@ no_fault kind words job asked among = subst (IsAmong kind) asked.0 among
 
 -- lines that were answered over a disk, or over a late disk over it, whose state is that of `delayed_state`
 module _ {D : Type 0} (members : Ghosts D) (late : Ghosts (DelayedDisk D members)) (same : (disk : DelayedDisk D members) → late.state disk ≡ delayed_state members.state disk)
-    (buffer : ℕ) (on : OnRefusal) (found back : D) (exit : Exit) (input before after : Option (List ℕ)) (served : IsServedLate members late buffer on found back exit input before after) (honest : (members.state back).honest ≡ true) where
+    (buffer : ℕ) (on : Manner) (found back : D) (exit : Exit) (input before after : Option (List ℕ)) (served : IsServedLate members late buffer on found back exit input before after) (honest : (members.state back).honest ≡ true) where
   -- the late disk was honest at its end
   honest_above : (last : DelayedDisk D members) → back ≡ below last → (late.state last).honest ≡ true
   honest_above last given = rw (same last) (subst (λ (d : D). (members.state d).honest ≡ true) given honest)
@@ -166,7 +170,7 @@ module _ {D : Type 0} (members : Ghosts D) (cached : Ghosts (CachedDisk D member
     (same_late : (disk : DelayedDisk D members) → late.state disk ≡ delayed_state members.state disk)
     (same_above : (disk : DelayedDisk (CachedDisk D members) cached) → late_cached.state disk ≡ delayed_state cached.state disk)
     (in_memory : InMemory) (found back : D) where
-  module _ (on : OnRefusal) (exit : Exit) (input before after : Option (List ℕ))
+  module _ (on : Manner) (exit : Exit) (input before after : Option (List ℕ))
       (served : IsServed members cached late late_cached in_memory on found back exit input before after) (honest : (members.state back).honest ≡ true) where
     -- the cache was honest at its end
     cache_honest : (last : CachedDisk D members) → back ≡ inner_of last → (cached.state last).honest ≡ true
@@ -177,24 +181,24 @@ module _ {D : Type 0} (members : Ghosts D) (cached : Ghosts (CachedDisk D member
     was_honest = go served
       where
         go : IsServed members cached late late_cached in_memory on found back exit input before after → (members.state found).honest ≡ true
-        go (inl served) = was_honest_late members late same_late in_memory.buffer on found back exit input before after served honest
+        go (inl served) = was_honest_late members late same_late (buffer_for in_memory.buffer (members.state found).blocks) on found back exit input before after served honest
         go (inr over) =
             honest_below members cached same found over.first over.empty.inner
-            (was_honest_late cached late_cached same_above in_memory.buffer on over.first over.last exit input before after over.done (cache_honest over.last over.given_back))
+            (was_honest_late cached late_cached same_above (buffer_for in_memory.buffer (members.state found).blocks) on over.first over.last exit input before after over.done (cache_honest over.last over.given_back))
 
     -- what a crash leaves at each moment, the commands so far keep
     pub kept_told : (members.state found).past ≡ [] → IsClean (members.state found).now → (seen : Seen) → Shows (members.state found).now.contents seen
-        → Keeps (members.state found) (members.state back) (opened seen) (commands_told members cached late late_cached served (opened seen)) (answers_told members cached late late_cached served (opened seen))
+        → Keeps (members.state found) (members.state back) (opened seen) (commands_told members cached late late_cached in_memory served (opened seen)) (answers_told members cached late late_cached in_memory served (opened seen))
     kept_told fresh clean seen shows = go served
       where
         go : (served : IsServed members cached late late_cached in_memory on found back exit input before after)
-            → Keeps (members.state found) (members.state back) (opened seen) (commands_told members cached late late_cached served (opened seen)) (answers_told members cached late late_cached served (opened seen))
-        go (inl served) = kept_told_late members late same_late in_memory.buffer on found back exit input before after served honest fresh clean seen shows
+            → Keeps (members.state found) (members.state back) (opened seen) (commands_told members cached late late_cached in_memory served (opened seen)) (answers_told members cached late late_cached in_memory served (opened seen))
+        go (inl served) = kept_told_late members late same_late (buffer_for in_memory.buffer (members.state found).blocks) on found back exit input before after served honest fresh clean seen shows
         go (inr over) =
             let commands = commands_late cached late_cached over.done (opened seen) in
             let answers = answers_late cached late_cached over.done (opened seen) in
             let above : Keeps (cached.state over.first) (cached.state over.last) (opened seen) commands answers =
-            kept_told_late cached late_cached same_above in_memory.buffer on over.first over.last exit input before after over.done (cache_honest over.last over.given_back)
+            kept_told_late cached late_cached same_above (buffer_for in_memory.buffer (members.state found).blocks) on over.first over.last exit input before after over.done (cache_honest over.last over.given_back)
             (fresh_above members cached same found over.first over.empty.inner fresh) (clean_above members cached same found over.first over.empty.inner clean)
             seen (shows_above members cached same found over.first over.empty.inner seen shows) in
             let kept : Keeps (cached_state members.state over.first) (cached_state members.state over.last) (opened seen) commands answers =
@@ -207,10 +211,10 @@ module _ {D : Type 0} (members : Ghosts D) (cached : Ghosts (CachedDisk D member
   -- a disk that was refused, with something over it or without, was so itself
   pub refused_told : (refusal : Refusal) → (members.state found).past ≡ [] → ((members.state found).honest ≡ true → IsClean (members.state found).now)
       → IsNotServed members cached late late_cached in_memory found back refusal → HasRefused (members.state found) (members.state back) refusal
-  refused_told refusal fresh clean (inl refused) = refused_told_late members late same_late in_memory.buffer found back refusal fresh clean refused
+  refused_told refusal fresh clean (inl refused) = refused_told_late members late same_late (buffer_for in_memory.buffer (members.state found).blocks) found back refusal fresh clean refused
   refused_told refusal fresh clean (inr over) =
       let above : HasRefused (cached.state over.first) (cached.state over.last) refusal =
-      refused_told_late cached late_cached same_above in_memory.buffer over.first over.last refusal (fresh_above members cached same found over.first over.empty.inner fresh)
+      refused_told_late cached late_cached same_above (buffer_for in_memory.buffer (members.state found).blocks) over.first over.last refusal (fresh_above members cached same found over.first over.empty.inner fresh)
       (λ honest. clean_above members cached same found over.first over.empty.inner (clean (honest_below members cached same found over.first over.empty.inner honest))) over.done in
       let shown : HasRefused (cached_state members.state over.first) (cached_state members.state over.last) refusal =
       subst (λ (t : DiskState). HasRefused (cached_state members.state over.first) t refusal) (same over.last)
@@ -219,11 +223,11 @@ module _ {D : Type 0} (members : Ghosts D) (cached : Ghosts (CachedDisk D member
       (refused_below members over.first over.last refusal shown)
 
 module _ {D : Type 0} (members : Ghosts D) (cached : Ghosts (CachedDisk D members)) (late : Ghosts (DelayedDisk D members))
-    (late_cached : Ghosts (DelayedDisk (CachedDisk D members) cached)) (Untouched Reads Opens : Type 0) (Denied : Text → Type 0) (words : List Text) (exit : Exit)
+    (late_cached : Ghosts (DelayedDisk (CachedDisk D members) cached)) (Untouched Reads Opens : Type 0) (OpensFor : OnCommand → Type 0) (Denied : Text → Type 0) (words : List Text) (exit : Exit)
     (old new : PlaceState) (input before after errors errors' : Option (List ℕ)) where
   -- what was done
   abbrev Did : Type 0
-  Did = Does members cached late late_cached Untouched Reads Opens Denied words exit old new input before after errors errors'
+  Did = Does members cached late late_cached Untouched Reads Opens OpensFor Denied words exit old new input before after errors errors'
 
   -- a store was to be made
   pub did_create : (name : Text) (blocks : ℕ) → IsJob words (create name blocks) → Opens → Makes members (Denied name) name blocks exit old new before after errors errors' → Did
@@ -240,7 +244,7 @@ module _ {D : Type 0} (members : Ghosts D) (cached : Ghosts (CachedDisk D member
   }
 
   -- lines were to be answered
-  pub did_run : (name : Text) (in_memory : InMemory) (on : OnRefusal) → IsJob words (run name in_memory on) → Opens
+  pub did_run : (name : Text) (in_memory : InMemory) (on : Manner) → IsJob words (run name in_memory on) → OpensFor on.on_command
       → Answers members cached late late_cached name in_memory on exit old new input before after ⊎ Declines members (Denied name) name exit old new errors errors' → Did
   did_run name in_memory on job opens answers = record {
     creates = λ other size asked. let same : create other size ≡ run name in_memory on = one_job words (run name in_memory on) (create other size) job asked in absurd (cc);
@@ -248,7 +252,7 @@ module _ {D : Type 0} (members : Ghosts D) (cached : Ghosts (CachedDisk D member
         let name_is : other ≡ name = cc in
         let size_is : size ≡ in_memory = cc in
         let on_is : refusal ≡ on = cc in
-        inl (opens, rw (name_is, size_is, on_is) answers);
+        inl (rw on_is opens, rw (name_is, size_is, on_is) answers);
     does = λ other lines size refusal asked. let same : do_lines other lines size refusal ≡ run name in_memory on = one_job words (run name in_memory on) (do_lines other lines size refusal) job asked in absurd (cc);
     checks = λ other asked. let same : check other ≡ run name in_memory on = one_job words (run name in_memory on) (check other) job asked in absurd (cc);
     draws = λ other asked. let same : draw other ≡ run name in_memory on = one_job words (run name in_memory on) (draw other) job asked in absurd (cc);
@@ -256,7 +260,7 @@ module _ {D : Type 0} (members : Ghosts D) (cached : Ghosts (CachedDisk D member
   }
 
   -- lines that were given were to be answered
-  pub did_lines : (name : Text) (lines : List ℕ) (in_memory : InMemory) (on : OnRefusal) → IsJob words (do_lines name lines in_memory on) → Opens
+  pub did_lines : (name : Text) (lines : List ℕ) (in_memory : InMemory) (on : Manner) → IsJob words (do_lines name lines in_memory on) → OpensFor on.on_command
       → Answers members cached late late_cached name in_memory on exit old new (Some lines) before after ⊎ Declines members (Denied name) name exit old new errors errors' → Did
   did_lines name lines in_memory on job opens answers = record {
     creates = λ other size asked. let same : create other size ≡ do_lines name lines in_memory on = one_job words (do_lines name lines in_memory on) (create other size) job asked in absurd (cc);
@@ -266,7 +270,7 @@ module _ {D : Type 0} (members : Ghosts D) (cached : Ghosts (CachedDisk D member
         let lines_are : given ≡ lines = cc in
         let size_is : size ≡ in_memory = cc in
         let on_is : refusal ≡ on = cc in
-        inl (opens, rw (name_is, lines_are, size_is, on_is) answers);
+        inl (rw on_is opens, rw (name_is, lines_are, size_is, on_is) answers);
     checks = λ other asked. let same : check other ≡ do_lines name lines in_memory on = one_job words (do_lines name lines in_memory on) (check other) job asked in absurd (cc);
     draws = λ other asked. let same : draw other ≡ do_lines name lines in_memory on = one_job words (do_lines name lines in_memory on) (draw other) job asked in absurd (cc);
     none = λ no. absurd (no (do_lines name lines in_memory on) job);
@@ -324,7 +328,7 @@ module _ {D : Type 0} (members : Ghosts D) (cached : Ghosts (CachedDisk D member
 -- what holds on any place, by the job that the words ask for
 module _ {P D : Type 0} (over : Disks D) (denied : P → List Text) (place place' : P) (words : List Text) (exit : Exit) (input before after errors errors' : Option (List ℕ)) where
   -- lines were to be answered
-  pub served_run : (name : Text) (in_memory : InMemory) (on : OnRefusal) → IsJob words (run name in_memory on)
+  pub served_run : (name : Text) (in_memory : InMemory) (on : Manner) → IsJob words (run name in_memory on)
       → ServesIn over denied place place' name in_memory on exit input before after errors errors' → ServesWords over denied place place' words exit input before after errors errors'
   served_run name in_memory on job serves = (
     (λ other size refusal asked.
@@ -337,7 +341,7 @@ module _ {P D : Type 0} (over : Disks D) (denied : P → List Text) (place place
   )
 
   -- lines that were given were
-  pub served_lines : (name : Text) (lines : List ℕ) (in_memory : InMemory) (on : OnRefusal) → IsJob words (do_lines name lines in_memory on)
+  pub served_lines : (name : Text) (lines : List ℕ) (in_memory : InMemory) (on : Manner) → IsJob words (do_lines name lines in_memory on)
       → ServesIn over denied place place' name in_memory on exit (Some lines) before after errors errors' → ServesWords over denied place place' words exit input before after errors errors'
   served_lines name lines in_memory on job serves = (
     (λ other size refusal asked. let same : run other size refusal ≡ do_lines name lines in_memory on = one_job words (do_lines name lines in_memory on) (run other size refusal) job asked in absurd (cc)),
@@ -351,14 +355,14 @@ module _ {P D : Type 0} (over : Disks D) (denied : P → List Text) (place place
   )
 
   -- no lines were to be answered, or the program stopped before
-  pub served_none : ((name : Text) (in_memory : InMemory) (on : OnRefusal) → IsJob words (run name in_memory on) → (exit ≡ Stopped) × (place' ≡ place))
-      → ((name : Text) (lines : List ℕ) (in_memory : InMemory) (on : OnRefusal) → IsJob words (do_lines name lines in_memory on) → (exit ≡ Stopped) × (place' ≡ place))
+  pub served_none : ((name : Text) (in_memory : InMemory) (on : Manner) → IsJob words (run name in_memory on) → (exit ≡ Stopped) × (place' ≡ place))
+      → ((name : Text) (lines : List ℕ) (in_memory : InMemory) (on : Manner) → IsJob words (do_lines name lines in_memory on) → (exit ≡ Stopped) × (place' ≡ place))
       → ServesWords over denied place place' words exit input before after errors errors'
   served_none runs does = ((λ name in_memory on asked. inr (runs name in_memory on asked)), (λ name lines in_memory on asked. inr (does name lines in_memory on asked)))
 
   -- words that ask for something else
-  pub served_other : (job : Wanted) → IsJob words job → ((name : Text) (in_memory : InMemory) (on : OnRefusal) → run name in_memory on ≡ job → ⊥)
-      → ((name : Text) (lines : List ℕ) (in_memory : InMemory) (on : OnRefusal) → do_lines name lines in_memory on ≡ job → ⊥)
+  pub served_other : (job : Wanted) → IsJob words job → ((name : Text) (in_memory : InMemory) (on : Manner) → run name in_memory on ≡ job → ⊥)
+      → ((name : Text) (lines : List ℕ) (in_memory : InMemory) (on : Manner) → do_lines name lines in_memory on ≡ job → ⊥)
       → ServesWords over denied place place' words exit input before after errors errors'
   served_other job asked no_run no_lines = served_none
       (λ name in_memory on other. absurd (no_run name in_memory on (one_job words job (run name in_memory on) asked other)))

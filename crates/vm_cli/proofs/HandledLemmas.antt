@@ -1,26 +1,31 @@
 -- What a store has done when a line is answered.
-use Rattle.std.proofs.Common.{◌≡◌, ◌≢◌, ◌⊎◌, inl, inr, ℕ, Bool, true, false, List, [], ◌++◌, ◌≤◌, length, Option, Some, None, Result, Err, Ok, refl, ap, sym, subst, ◌∙◌}
+use Rattle.std.proofs.Common.{◌≡◌, ◌≢◌, ◌⊎◌, inl, inr, ℕ, Bool, true, false, List, [], ◌∷◌, ◌++◌, ◌≤◌, length, Option, Some, None, Result, Err, Ok, refl, ap, sym, subst, ◌∙◌}
 use Rattle.vm_types.specs.declared.answer.Answer.{Answer}
 use Rattle.vm_types.specs.declared.command.Command.{Command}
+use Rattle.vm_types.specs.declared.command.Command.TheVariants.{Merge}
 use Rattle.vm_types.specs.declared.refusal.Refusal.{Refusal}
 use Rattle.vm_types.specs.declared.refusal.Refusal.TheVariants.{Device, Failed, Memory}
 use Rattle.vm_types.specs.State.{State}
-use Rattle.vm_store.specs.Running.{CarriesOut}
+use Rattle.vm_store.specs.Commands.{CarriesOut}
 use Rattle.vm_store.specs.Store.{GrowsOn, Holds, has_failed}
 use Rattle.vm_store.specs.declared.store.Store.{Store}
-use Rattle.vm_cli.specs.Feeding.{AnsweredWords, HandlesRequest, HandlesWords, Replied, Replies}
-use Rattle.vm_cli.specs.Reading.{HoldsLine, KindHolds, without_return}
+use Rattle.vm_cli.specs.Feeds.{AnsweredOrWanting, HandlesRequest, HandlesOrWants, Replied, Replies, TriesSome}
+use Rattle.vm_cli.specs.Input.{HoldsLine, KindHolds, without_return}
 use Rattle.vm_cli.specs.Replies.{ends_talk, is_error, reply_text}
-use Rattle.vm_cli.specs.Requests.{request_of}
+use Rattle.vm_cli.specs.Requests.{asked_in, request_of}
+use Rattle.vm_cli.specs.Settlements.{for_all}
 use Rattle.vm_cli.specs.Spaces.{words_of}
-use Rattle.vm_cli.specs.Talk.{Answered, AnsweredRequest, Done, Failing, Handled, HandlesLine, Meets, Passes, SaysFailed, Stood, Stops, answer_text, error_text}
+use Rattle.vm_cli.specs.Talk.{Answered, AnsweredRequest, AnswersWithin, Done, FailsInLast, Failing, Handled, HandlesLine, Meets, Passes, SaysFailed, Stood, Stops, answer_text, error_text}
 use Rattle.vm_cli.specs.declared.lines.line.LineKind.TheVariants.{Kept, Long}
 use Rattle.vm_cli.specs.declared.lines.line.Line.{Line}
 use Rattle.vm_cli.specs.declared.answers.reply.Reply.{Reply}
 use Rattle.vm_cli.specs.declared.answers.reply.Reply.TheVariants as reply
 use Rattle.vm_cli.specs.Asking.{Request}
-use Rattle.vm_cli.specs.declared.answers.writing.WriteFault.{WriteFault}
+use Rattle.vm_cli.specs.declared.talk.Manner.{Manner}
+use Rattle.vm_cli.specs.declared.answers.output.WriteFault.{WriteFault}
+use Rattle.vm_cli.specs.declared.talk.growth.TheConstants.{GROWTHS}
 use Rattle.vm_cli.proofs.CarriedLemmas.{carries-nothing}
+use Rattle.vm_cli.proofs.ChainLemmas.{Chain, Led, chain_holds, chain_one, led_at_once, led_fails, tries_chain}
 use Rattle.vm_cli.proofs.PassLemmas.{failed_or, grows_any, grows_none, never_both, passes_command, passes_left, passes_none}
 
 -- a reply that is the whole answer
@@ -68,55 +73,60 @@ module _ {D : Type 0} {members : _} (store : Store D members) (s : State) where
       either (inl sound) = inl (sound, sym sound, (refl, sound, (refl, refl), tt))
       either (inr failed) = inr (failed, refl, refl, (refl, refl))
 
-  -- words for which there was no memory
-  pub memory_told : (words : List (List ℕ)) → HandlesWords store store s words (reply_text (reply.Refused Memory)) false
-  memory_told words = unmoved false _ (inl (refl, refl, refl, refl))
+  -- a command, where the store is only read
+  pub forbidden_handled : HandlesRequest store store s Request.Forbidden (reply_text reply.ReadOnly) false
+  forbidden_handled = unmoved false (AnsweredRequest store store s Request.Forbidden (reply_text reply.ReadOnly) false) (either (failed_or (has_failed store)))
+    where
+      either : (has_failed store ≡ false) ⊎ (has_failed store ≡ true) → AnsweredRequest store store s Request.Forbidden (reply_text reply.ReadOnly) false None
+      either (inl sound) = inl (sound, sym sound, (refl, sound, (refl, refl), tt))
+      either (inr failed) = inr (failed, refl, refl, (refl, refl))
+
+  -- a request for which there was no memory
+  pub memory_told : (request : Request) → HandlesOrWants store store s request (reply_text (reply.Refused Memory)) false
+  memory_told request = unmoved false _ (inl (refl, refl, refl, refl))
 
   -- a line for which there was no memory
-  pub memory_handled : (part : List ℕ) → HandlesLine store store s part (reply_text (reply.Refused Memory)) false
-  memory_handled part = unmoved false _ (inl (refl, refl, refl, refl))
+  pub memory_handled : (on : Manner) (part : List ℕ) → HandlesLine store store s on part (reply_text (reply.Refused Memory)) false
+  memory_handled on part = unmoved false _ (inl (refl, refl, refl, refl))
 
   -- a line that is too long
-  pub long_handled : (line : Line) (part : List ℕ) → HoldsLine line part → line.kind ≡ Long → HandlesLine store store s part (reply_text reply.LongLine) false
-  long_handled line part h is =
+  pub long_handled : (on : Manner) (line : Line) (part : List ℕ) → HoldsLine line part → line.kind ≡ Long → HandlesLine store store s on part (reply_text reply.LongLine) false
+  long_handled on line part h is =
       let long : KindHolds Long line.bytes.items part = rw is at h.kind in
       unmoved false _ (inr (inl (long, refl, refl, refl, refl)))
 
 module _ {D : Type 0} {members : _} (old new : Store D members) (s : State) where
-  -- words that ask for this
-  pub asked_handled : (words : List (List ℕ)) (asked : Request) → asked ≡ request_of words → (text : List ℕ) (ends : Bool) → HandlesRequest old new s asked text ends → HandlesWords old new s words text ends
-  asked_handled words asked asks text ends handled = record {
+  -- a request for which memory may be wanting
+  pub asked_handled : (asked : Request) (text : List ℕ) (ends : Bool) → HandlesRequest old new s asked text ends → HandlesOrWants old new s asked text ends
+  asked_handled asked text ends handled = record {
     done = handled.done;
-    answers = inr (subst (λ q. AnsweredRequest old new s q text ends handled.done) asks handled.answers);
+    answers = inr handled.answers;
     passes = handled.passes;
     still = handled.still;
     holds = handled.holds;
   }
 
-  pub asked_replied : (words : List (List ℕ)) (asked : Request) → asked ≡ request_of words → (r : Result Reply WriteFault) (a b : Option (List ℕ)) (rest : List ℕ) → Replies (HandlesRequest old new s asked) r a b rest
-      → Replies (HandlesWords old new s words) r a b rest
-  asked_replied words asked asks = replies_as (HandlesRequest old new s asked) (HandlesWords old new s words) (asked_handled words asked asks)
-
-  -- words that are these
-  pub words_as : (words those : List (List ℕ)) → words ≡ those → (r : Result Reply WriteFault) (a b : Option (List ℕ)) (rest : List ℕ) → Replies (HandlesWords old new s those) r a b rest
-      → Replies (HandlesWords old new s words) r a b rest
-  words_as words those is r a b rest p = subst (λ ws. Replies (HandlesWords old new s ws) r a b rest) (sym is) p
+  pub asked_replied : (asked : Request) (r : Result Reply WriteFault) (a b : Option (List ℕ)) (rest : List ℕ) → Replies (HandlesRequest old new s asked) r a b rest
+      → Replies (HandlesOrWants old new s asked) r a b rest
+  asked_replied asked = replies_as (HandlesRequest old new s asked) (HandlesOrWants old new s asked) (asked_handled asked)
 
   -- a line of words
-  line_answered : (words : List (List ℕ)) (part text : List ℕ) (ends : Bool) (was : Done) → length part ≤ 1048576 → words ≡ words_of (without_return part) → AnsweredWords old new s words text ends was
-      → Answered old new s part text ends was
-  line_answered words part text ends was short same (inl memory) = inl memory
-  line_answered words part text ends was short same (inr answered) = inr (inr (short, subst (λ ws. AnsweredRequest old new s (request_of ws) text ends was) same answered))
+  line_answered : (on : Manner) (words : List (List ℕ)) (part text : List ℕ) (ends : Bool) (was : Done) → length part ≤ 1048576 → words ≡ words_of (without_return part)
+      → AnsweredOrWanting old new s (asked_in on.on_command (request_of words)) text ends was → Answered old new s on part text ends was
+  line_answered on words part text ends was short same (inl memory) = inl memory
+  line_answered on words part text ends was short same (inr answered) =
+      inr (inr (short, subst (λ ws. AnsweredRequest old new s (asked_in on.on_command (request_of ws)) text ends was) same answered))
 
-  pub kept_handled : (line : Line) (part : List ℕ) → HoldsLine line part → line.kind ≡ Kept → (bytes : List ℕ) → bytes ≡ without_return line.bytes.items
-      → (r : Result Reply WriteFault) (a b : Option (List ℕ)) (rest : List ℕ) → Replies (HandlesWords old new s (words_of bytes)) r a b rest → Replies (HandlesLine old new s part) r a b rest
-  kept_handled line part h is bytes whose =
+  pub kept_handled : (on : Manner) (line : Line) (part : List ℕ) → HoldsLine line part → line.kind ≡ Kept → (bytes : List ℕ) → bytes ≡ without_return line.bytes.items
+      → (r : Result Reply WriteFault) (a b : Option (List ℕ)) (rest : List ℕ) → Replies (HandlesOrWants old new s (asked_in on.on_command (request_of (words_of bytes)))) r a b rest
+      → Replies (HandlesLine old new s on part) r a b rest
+  kept_handled on line part h is bytes whose =
       let kept : KindHolds Kept line.bytes.items part = rw is at h.kind in
       let same : words_of bytes ≡ words_of (without_return part) = ap words_of (whose ∙ ap without_return kept.0) in
-      replies_as (HandlesWords old new s (words_of bytes)) (HandlesLine old new s part)
+      replies_as (HandlesOrWants old new s (asked_in on.on_command (request_of (words_of bytes)))) (HandlesLine old new s on part)
       (λ text ends handled. record {
         done = handled.done;
-        answers = line_answered (words_of bytes) part text ends handled.done kept.1 same handled.answers;
+        answers = line_answered on (words_of bytes) part text ends handled.done kept.1 same handled.answers;
         passes = handled.passes;
         still = handled.still;
         holds = handled.holds;
@@ -182,9 +192,9 @@ module _ {D : Type 0} {members : _} (old new : Store D members) (s : State) (com
       either (inl sound) =
           let carries = applied.done sound in
           record {
-            done = Some (command, answer);
+            done = Some ((command, answer) ∷ []);
             answers = inl (sound, last sound, (refl, carries, says));
-            passes = passes_command old new command answer (applied_goes old new command answer applied);
+            passes = passes_command old new ((command, answer) ∷ []) (applied_goes old new command answer applied);
             still = λ e. sym (last sound) ∙ e ∙ sym sound;
             holds = λ stood fine. (carries.performs.carried stood.honest s stood.holds).state (λ device. never_both _ fine (carries.failed.1 device));
           }
@@ -198,37 +208,102 @@ module _ {D : Type 0} {members : _} (old new : Store D members) (s : State) (com
             holds = λ stood fine. absurd (never_both _ fine (ap (λ (t : Store D members). has_failed t) same ∙ failed));
           }
 
+-- a command for which the store may grow
+module _ {D : Type 0} {members : _} (old new : Store D members) (s : State) (most : ℕ) (command : Command) where
+  pub grown_handled : (text : List ℕ) (ends : Bool) → (has_failed old ≡ false → TriesSome GROWTHS most command old new text) → (has_failed old ≡ true → (text ≡ error_text Failed) × (ends ≡ true))
+      → (has_failed old ≡ true → new ≡ old) → GrowsOn ⊥ old new → (has_failed old ≡ false → ends ≡ has_failed new) → HandlesRequest old new s (Request.Growing most command) text ends
+  grown_handled text ends tried refused left goes last = either (failed_or (has_failed old))
+    where
+      either : (has_failed old ≡ false) ⊎ (has_failed old ≡ true) → HandlesRequest old new s (Request.Growing most command) text ends
+      either (inl sound) =
+          let each = (tried sound).0 in
+          let tries = (tried sound).1 in
+          record {
+            done = Some each;
+            answers = inl (sound, last sound, tries);
+            passes = passes_command old new each goes;
+            still = λ e. sym (last sound) ∙ e ∙ sym sound;
+            holds = λ stood fine. chain_holds each old new s (tries_chain GROWTHS most command old new text each tries) stood.honest fine stood.holds;
+          }
+      either (inr failed) =
+          let same = left failed in
+          record {
+            done = None;
+            answers = inr (failed, same, refl, refused failed);
+            passes = passes_left old new same;
+            still = λ e. ap (λ (t : Store D members). has_failed t) same;
+            holds = λ stood fine. absurd (never_both _ fine (ap (λ (t : Store D members). has_failed t) same ∙ failed));
+          }
+
+-- commands are not none
+never_none : {A : Type 0} (each : List (Command × Result Answer Refusal)) → ◌≡◌ {A = Done} (Some each) None → A
+never_none each none = let bad : ⊥ = cc in absurd bad
+
+-- what a request was that was answered by commands
+module _ {D : Type 0} {members : _} (old new : Store D members) (s : State) where
+  within_chain : (limit : Option ℕ) (from : Store D members) (command : Command) (text : List ℕ) (each : List (Command × Result Answer Refusal)) → AnswersWithin limit from new command text (Some each) → Chain from new each
+  within_chain None from command text [] answers = absurd answers
+  within_chain None from command text ((asked, answer) ∷ []) answers = chain_one from new asked command answer answers.0 answers.1
+  within_chain None from command text (first ∷ (second ∷ more)) answers = absurd answers
+  within_chain (Some most) from command text each answers = tries_chain GROWTHS most command from new text each answers
+
+  pub meets_led : (asked : Request) (text : List ℕ) (each : List (Command × Result Answer Refusal)) → Meets old new s asked text (Some each) → Led old new each
+  meets_led (Request.Command command) text each meets = led_at_once old new each (within_chain None old command text each meets)
+  meets_led (Request.Growing most command) text each meets = led_at_once old new each (within_chain (Some most) old command text each meets)
+  meets_led (Request.MergeAll limit alt side settled) text each meets =
+      record { begun = meets.mid; asks = meets.asks; still = meets.still; chain = within_chain limit meets.mid (Merge alt (for_all side settled meets.conflicts)) text each meets.merges }
+  meets_led (Request.Get at key) text each meets = never_none each meets.0
+  meets_led (Request.List at) text each meets = never_none each meets.0
+  meets_led (Request.Part at low high) text each meets = never_none each meets.0
+  meets_led (Request.Page at low count) text each meets = never_none each meets.0
+  meets_led Request.Alternatives text each meets = never_none each meets.0
+  meets_led (Request.Checkpoints alt) text each meets = never_none each meets.0
+  meets_led (Request.Changes alt) text each meets = never_none each meets.0
+  meets_led (Request.Diff first second) text each meets = never_none each meets.0
+  meets_led (Request.DiffPart first second low high) text each meets = never_none each meets.0
+  meets_led (Request.Conflicts alt) text each meets = never_none each meets.0
+  meets_led (Request.Tally alt) text each meets = never_none each meets.0
+  meets_led Request.Free text each meets = never_none each meets.0
+  meets_led Request.Blocks text each meets = never_none each meets.0
+  meets_led Request.Nothing text each meets = never_none each meets.0
+  meets_led Request.Bad text each meets = never_none each meets.0
+  meets_led Request.Forbidden text each meets = never_none each meets.0
+
 -- an answer that ends the talk
 module _ {D : Type 0} {members : _} (old new : Store D members) (s : State) where
-  -- the device failed in a command
-  carries_device : (asked : Command) (given : Result Answer Refusal) → CarriesOut old new asked given → has_failed new ≡ true → (command : Command) × CarriesOut old new command (Err Device)
-  carries_device asked given carries failed = (asked, subst (λ (a : Result Answer Refusal). CarriesOut old new asked a) (carries.failed.0 failed) carries)
-
   -- it can be no query's, unless the store had failed
-  meets_stops : (asked : Request) (text : List ℕ) (was : Done) → has_failed new ≡ true → Meets old new s asked text was → (command : Command) × CarriesOut old new command (Err Device)
-  meets_stops (Request.Command command) text None failed meets = absurd meets
-  meets_stops (Request.Command command) text (Some (other, answer)) failed meets = carries_device command answer meets.1 failed
-  meets_stops (Request.Get at key) text was failed meets = absurd (never_both _ meets.1 failed)
-  meets_stops (Request.List at) text was failed meets = absurd (never_both _ meets.1 failed)
-  meets_stops Request.Alternatives text was failed meets = absurd (never_both _ meets.1 failed)
-  meets_stops (Request.Checkpoints alt) text was failed meets = absurd (never_both _ meets.1 failed)
-  meets_stops (Request.Changes alt) text was failed meets = absurd (never_both _ meets.1 failed)
-  meets_stops (Request.Diff first second) text was failed meets = absurd (never_both _ meets.1 failed)
-  meets_stops (Request.Conflicts alt) text was failed meets = absurd (never_both _ meets.1 failed)
-  meets_stops (Request.Tally alt) text was failed meets = absurd (never_both _ meets.1 failed)
-  meets_stops Request.Free text was failed meets = absurd (never_both _ meets.1 failed)
-  meets_stops Request.Blocks text was failed meets = absurd (never_both _ meets.1 failed)
-  meets_stops Request.Nothing text was failed meets = absurd (never_both _ meets.1 failed)
-  meets_stops Request.Bad text was failed meets = absurd (never_both _ meets.1 failed)
+  meets_stops : (asked : Request) (text : List ℕ) (was : Done) → has_failed old ≡ false → has_failed new ≡ true → Meets old new s asked text was → FailsInLast old new
+  meets_stops (Request.Command command) text None sound failed meets = absurd meets
+  meets_stops (Request.Command command) text (Some each) sound failed meets = led_fails old new each (meets_led old new s (Request.Command command) text each meets) sound failed
+  meets_stops (Request.Growing most command) text None sound failed meets = absurd meets
+  meets_stops (Request.Growing most command) text (Some each) sound failed meets = led_fails old new each (meets_led old new s (Request.Growing most command) text each meets) sound failed
+  meets_stops (Request.MergeAll limit alt side settled) text None sound failed meets = absurd (never_both _ meets.0 failed)
+  meets_stops (Request.MergeAll limit alt side settled) text (Some each) sound failed meets = led_fails old new each (meets_led old new s (Request.MergeAll limit alt side settled) text each meets) sound failed
+  meets_stops (Request.Get at key) text was sound failed meets = absurd (never_both _ meets.1 failed)
+  meets_stops (Request.List at) text was sound failed meets = absurd (never_both _ meets.1 failed)
+  meets_stops (Request.Part at low high) text was sound failed meets = absurd (never_both _ meets.1 failed)
+  meets_stops (Request.Page at low count) text was sound failed meets = absurd (never_both _ meets.1 failed)
+  meets_stops Request.Alternatives text was sound failed meets = absurd (never_both _ meets.1 failed)
+  meets_stops (Request.Checkpoints alt) text was sound failed meets = absurd (never_both _ meets.1 failed)
+  meets_stops (Request.Changes alt) text was sound failed meets = absurd (never_both _ meets.1 failed)
+  meets_stops (Request.Diff first second) text was sound failed meets = absurd (never_both _ meets.1 failed)
+  meets_stops (Request.DiffPart first second low high) text was sound failed meets = absurd (never_both _ meets.1 failed)
+  meets_stops (Request.Conflicts alt) text was sound failed meets = absurd (never_both _ meets.1 failed)
+  meets_stops (Request.Tally alt) text was sound failed meets = absurd (never_both _ meets.1 failed)
+  meets_stops Request.Free text was sound failed meets = absurd (never_both _ meets.1 failed)
+  meets_stops Request.Blocks text was sound failed meets = absurd (never_both _ meets.1 failed)
+  meets_stops Request.Nothing text was sound failed meets = absurd (never_both _ meets.1 failed)
+  meets_stops Request.Bad text was sound failed meets = absurd (never_both _ meets.1 failed)
+  meets_stops Request.Forbidden text was sound failed meets = absurd (never_both _ meets.1 failed)
 
   request_stops : (asked : Request) (text : List ℕ) (ends : Bool) (was : Done) → ends ≡ true → AnsweredRequest old new s asked text ends was → Stops old new
-  request_stops asked text ends was e (inl (sound, last, meets)) = inl (sound, meets_stops asked text was (sym last ∙ e) meets)
+  request_stops asked text ends was e (inl (sound, last, meets)) = inl (sound, meets_stops asked text was sound (sym last ∙ e) meets)
   request_stops asked text ends was e (inr (failed, same, none, says)) = inr (failed, same)
 
-  line_stops : (line text : List ℕ) (ends : Bool) (was : Done) → ends ≡ true → Answered old new s line text ends was → Stops old new
-  line_stops line text ends was e (inl (same, none, goes_on, says)) = absurd (never_both ends goes_on e)
-  line_stops line text ends was e (inr (inl (long, same, none, goes_on, says))) = absurd (never_both ends goes_on e)
-  line_stops line text ends was e (inr (inr (short, answered))) = request_stops (request_of (words_of (without_return line))) text ends was e answered
+  line_stops : (on : Manner) (line text : List ℕ) (ends : Bool) (was : Done) → ends ≡ true → Answered old new s on line text ends was → Stops old new
+  line_stops on line text ends was e (inl (same, none, goes_on, says)) = absurd (never_both ends goes_on e)
+  line_stops on line text ends was e (inr (inl (long, same, none, goes_on, says))) = absurd (never_both ends goes_on e)
+  line_stops on line text ends was e (inr (inr (short, answered))) = request_stops (asked_in on.on_command (request_of (words_of (without_return line)))) text ends was e answered
 
-  pub handled_stops : (line text : List ℕ) (ends : Bool) → HandlesLine old new s line text ends → ends ≡ true → Stops old new
-  handled_stops line text ends handled e = line_stops line text ends handled.done e handled.answers
+  pub handled_stops : (on : Manner) (line text : List ℕ) (ends : Bool) → HandlesLine old new s on line text ends → ends ≡ true → Stops old new
+  handled_stops on line text ends handled e = line_stops on line text ends handled.done e handled.answers

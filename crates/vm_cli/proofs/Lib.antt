@@ -18,13 +18,17 @@ pub mod CountingLemmas
 pub mod PassLemmas
 mod SurveyLemmas
 pub mod TalkLemmas
+pub mod ChainLemmas
 pub mod HandledLemmas
 pub mod RequestLemmas
 pub mod ListedLemmas
+pub mod MergeLemmas
+pub mod OthersLemmas
 pub mod VerbLemmas
 pub mod WritesLemmas
 pub mod FeedLemmas
 pub mod ServeLemmas
+pub mod ReadOnlyLemmas
 pub mod ExitLemmas
 pub mod KeepLemmas
 pub mod TalkKeepLemmas

@@ -9,13 +9,13 @@ use Rattle.vm_store.specs.Answers.{IsDueOrMemory}
 use Rattle.vm_store.specs.Store.{Holds, has_failed}
 use Rattle.vm_store.specs.declared.store.Store.{Store}
 use Rattle.vm_cli.specs.Carried.{Carries, WritesStart}
-use Rattle.vm_cli.specs.Feeding.{HandlesRequest, ListReplied, Replied, Replies, joined}
+use Rattle.vm_cli.specs.Feeds.{HandlesRequest, ListReplied, Replied, Replies, joined}
 use Rattle.vm_cli.specs.Replies.{ends_talk, is_error, reply_text}
 use Rattle.vm_cli.specs.Talk.{Meets, Passes, SaysAnswer, SaysFailed, Stood, error_text, list_lines}
 use Rattle.vm_cli.specs.declared.answers.reply.Reply.{Reply}
 use Rattle.vm_cli.specs.declared.answers.reply.Reply.TheVariants.{End}
 use Rattle.vm_cli.specs.Asking.{Request}
-use Rattle.vm_cli.specs.declared.answers.writing.WriteFault.{WriteFault}
+use Rattle.vm_cli.specs.declared.answers.output.WriteFault.{WriteFault}
 use Rattle.vm_cli.proofs.HandledLemmas.{refusal_handled, replied_whole, told}
 use Rattle.vm_cli.proofs.TalkLemmas.{list_replies, says_refusal, was_sound}
 

@@ -6,9 +6,10 @@ use Rattle.clap.specs.Words.{Row, Text, all_of, first_of, subcommand_rows}
 use Rattle.clap.specs.declared.parser.matches.ArgMatches.TheViews.{out-SubCommand}
 use Rattle.clap.specs.declared.parser.matches.SubCommand.{SubCommand}
 use Rattle.vm_cli.specs.Given.{input_of}
-use Rattle.vm_cli.specs.Words.{asked_by, asked_of, memory_by, do_by, refusal_by}
+use Rattle.vm_cli.specs.Words.{asked_by, asked_of, memory_by, do_by, manner_by}
 use Rattle.vm_cli.specs.Words.Wanted.{do_lines}
 use Rattle.vm_cli.specs.declared.program.task.InMemory.{InMemory}
+use Rattle.vm_cli.specs.declared.talk.Manner.{Manner}
 use Rattle.vm_cli.specs.declared.talk.OnRefusal.TheVariants.{Tell}
 
 pub subcommand_rows-parts : (Z : Type 0) (o : Option (Box SubCommand Z)) (name : Text) (rows : List Row)
@@ -23,10 +24,10 @@ pub asked_of-entered : (entered : Option (Text × List Row)) (name : Text) (rows
     → entered ≡ Some (name, rows) → first_of (codes "file") rows ≡ Some file → asked_of entered ≡ asked_by name rows file
 asked_of-entered entered name rows file e f = rw (e, f) refl
 
--- what `do` asks for, where its lines and the numbers of blocks are there
-pub do_by-lines : (rows : List Row) (file : Text) (lines : List Text) (in_memory : InMemory) → all_of (codes "line") rows ≡ Some lines → memory_by rows ≡ Some in_memory
-    → do_by rows file ≡ Some (do_lines file (input_of lines) in_memory (refusal_by Tell rows))
-do_by-lines rows file lines in_memory given number = rw (given, number) refl
+-- what `do` asks for, where its lines, the numbers of blocks and the manner are there
+pub do_by-lines : (rows : List Row) (file : Text) (lines : List Text) (in_memory : InMemory) (manner : Manner) → all_of (codes "line") rows ≡ Some lines → memory_by rows ≡ Some in_memory
+    → manner_by Tell rows ≡ Some manner → do_by rows file ≡ Some (do_lines file (input_of lines) in_memory manner)
+do_by-lines rows file lines in_memory manner given number how = rw (given, number, how) refl
 
 -- without lines it asks for nothing
 pub do_by-none : (rows : List Row) (file : Text) → all_of (codes "line") rows ≡ None → do_by rows file ≡ None

@@ -1,5 +1,5 @@
 -- How a store goes over into another, and what became of its device.
-use Rattle.std.proofs.Common.{◌≡◌, ◌⊎◌, inl, inr, Bool, true, false, Some, None, Result, refl, ap, sym, subst, ◌∙◌, arith}
+use Rattle.std.proofs.Common.{◌≡◌, ◌⊎◌, inl, inr, List, Bool, true, false, Some, None, Result, refl, ap, sym, subst, ◌∙◌, arith}
 use Rattle.vm_types.specs.declared.answer.Answer.{Answer}
 use Rattle.vm_types.specs.declared.command.Command.{Command}
 use Rattle.vm_types.specs.declared.refusal.Refusal.{Refusal}
@@ -7,7 +7,7 @@ use Rattle.vm_disk.specs.Disk.{DiskState, Goes}
 use Rattle.vm_disk.specs.Moments.{OnlyReads}
 use Rattle.vm_disk.proofs.GoesLemmas.{goes_at, goes_nowhere, goes_then}
 use Rattle.vm_disk.proofs.MomentLemmas.{started}
-use Rattle.vm_store.specs.Growing.{Grows}
+use Rattle.vm_store.specs.Growth.{Grows}
 use Rattle.vm_store.specs.Store.{GoesOn, GrowsOn, IsSameButDisk, has_failed, disk_of}
 use Rattle.vm_store.specs.declared.store.Store.{Store}
 use Rattle.vm_store.proofs.LongerLemmas.{goes_grow}
@@ -80,9 +80,9 @@ module _ {D : Type 0} {members : _} where
   pub passes_reads : (old new : Store D members) → GoesOn ⊥ old new → ((members.state (disk_of new)).honest ≡ true → OnlyReads (members.state (disk_of old)) (members.state (disk_of new))) → IsSameButDisk old new → Passes old new None
   passes_reads old new goes reads unchanged = record { goes = goes_grow ⊥ _ _ goes; as_long = λ e. goes.same_blocks; reads = λ honest e. reads honest; unchanged = λ e. unchanged }
 
-  -- into one that carried out a command
-  pub passes_command : (old new : Store D members) (command : Command) (answer : Result Answer Refusal) → GrowsOn ⊥ old new → Passes old new (Some (command, answer))
-  passes_command old new command answer goes = record { goes = goes; as_long = λ e. cc; reads = λ honest e. cc; unchanged = λ e. cc }
+  -- into one that carried out commands
+  pub passes_command : (old new : Store D members) (each : List (Command × Result Answer Refusal)) → GrowsOn ⊥ old new → Passes old new (Some each)
+  passes_command old new each goes = record { goes = goes; as_long = λ e. cc; reads = λ honest e. cc; unchanged = λ e. cc }
 
   -- no command makes the disk longer
   pub passes_goes : (old new : Store D members) → Passes old new None → GoesOn ⊥ old new

@@ -6,10 +6,6 @@ use Rattle.vm_types.specs.declared.key.Key.{Key}
 use Rattle.vm_cli.specs.Requests.{names_of, new_command, new_of, put_asked, put_of, record_at_of, record_of, request_of}
 use Rattle.vm_cli.specs.Asking.{Request}
 
--- no words
-pub nothing_asked : (words : List (List ℕ)) → words ≡ [] → Request.Nothing ≡ request_of words
-nothing_asked words none = rw none refl
-
 -- words that ask for a record, or for nothing
 pub get_asks : (words : List (List ℕ)) (asked : At × Key) → Some asked ≡ record_at_of words → request_of (codes "get" ∷ words) ≡ Request.Get asked.0 asked.1
 get_asks words asked is = rw (← is) refl

@@ -5,11 +5,11 @@ use Rattle.std.proofs.KnownBytes.{Consumes-trans, Consumes-whole}
 use Rattle.std.specs.Io.KnownBytes.{Consumes, IsAtEnd}
 use Rattle.vm_types.specs.State.{State, after}
 use Rattle.vm_store.specs.declared.store.Store.{Store}
-use Rattle.vm_cli.specs.Feeding.{Fed, Writes}
+use Rattle.vm_cli.specs.Feeds.{Fed, Writes}
 use Rattle.vm_cli.specs.Lines.{IsPart, lines_of, onto_first}
-use Rattle.vm_cli.specs.Reading.{is_nil}
+use Rattle.vm_cli.specs.Input.{is_nil}
 use Rattle.vm_cli.specs.Talk.{HandlesLine, Serves, ServesLines}
-use Rattle.vm_cli.specs.declared.talk.OnRefusal.{OnRefusal}
+use Rattle.vm_cli.specs.declared.talk.Manner.{Manner}
 use Rattle.vm_cli.specs.declared.talk.ServeFault.{ServeFault}
 use Rattle.vm_cli.specs.declared.talk.ServeFault.TheVariants as fault
 use Rattle.vm_cli.proofs.CarriedLemmas.{on_ok}
@@ -39,7 +39,7 @@ last-line (b ∷ c ∷ to) part e =
     let other : (b == 10) ≡ false = grind (arith, nat_tests, part.0) in
     rw other (ap (onto_first b) (last-line (c ∷ to) part.1 refl))
 
-module _ {D : Type 0} {members : _} (old mid : Store D members) (s : State) (on : OnRefusal) (refused : Bool) (bytes to : List ℕ) (a b : Option (List ℕ)) (f : Fed old mid s on refused bytes [] to a b) where
+module _ {D : Type 0} {members : _} (old mid : Store D members) (s : State) (on : Manner) (refused : Bool) (bytes to : List ℕ) (a b : Option (List ℕ)) (f : Fed old mid s on refused bytes [] to a b) where
   cut-all : lines_of bytes ≡ f.lines ++ lines_of (to ++ [])
   cut-all = ap lines_of (sym (append-nil bytes)) ∙ f.cut []
 
@@ -55,7 +55,7 @@ module _ {D : Type 0} {members : _} (old mid : Store D members) (s : State) (on 
 
   -- it ended within a line
   pub serves-last : (new : Store D members) (c known : Option (List ℕ)) (r : Result Bool ServeFault) → IfSome known (λ own. own ≡ bytes) → IsPart to → is_nil to ≡ false
-      → Writes on (HandlesLine mid new (after s f.talked.commands f.talked.answers) to) r b c → Serves old new s on (joined refused r) a c known
+      → Writes on (HandlesLine mid new (after s f.talked.commands f.talked.answers) on to) r b c → Serves old new s on (joined refused r) a c known
   serves-last new c known r own part e w =
       let lines : lines_of bytes ≡ f.lines ++ (to ∷ []) = cut-all ∙ ap (λ ls. f.lines ++ ls) (last-line to part e) in
       let line = serves-line mid new (after s f.talked.commands f.talked.answers) on to r b c [] (on_ok r refl) w in
@@ -78,7 +78,7 @@ module _ {D : Type 0} {members : _} (old mid : Store D members) (s : State) (on 
       }
 
 -- the talk ended among these bytes
-pub serves-some : {D : Type 0} {members : _} (old new : Store D members) (s : State) (on : OnRefusal) (result : Result Bool ServeFault) (a c known left : Option (List ℕ)) (bytes : List ℕ) → Consumes known left bytes
+pub serves-some : {D : Type 0} {members : _} (old new : Store D members) (s : State) (on : Manner) (result : Result Bool ServeFault) (a c known left : Option (List ℕ)) (bytes : List ℕ) → Consumes known left bytes
     → ((more : List ℕ) → ServesLines old new s on result a c (lines_of (bytes ++ more))) → Serves old new s on result a c known
 serves-some old new s on result a c known left bytes read ended =
     let rest = read-some known left bytes read in

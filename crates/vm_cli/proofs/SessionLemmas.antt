@@ -6,8 +6,8 @@ use Rattle.vm_disk.specs.Disk as disk
 use Rattle.vm_disk.specs.Disk.{Contents, DiskState, IsClean, MayLeave, Medium}
 use Rattle.vm_disk.specs.Moments.{Leaves, Throughout}
 use Rattle.vm_disk.proofs.MomentLemmas.{clean_sure, weaken}
-use Rattle.vm_store.specs.Growing.{Grows}
-use Rattle.vm_store.specs.Opening.{OpensAs}
+use Rattle.vm_store.specs.Growth.{Grows}
+use Rattle.vm_store.specs.Recovery.{OpensAs}
 use Rattle.vm_store.specs.Refused.{IsAtMostSynced}
 use Rattle.vm_store.specs.Shown.{Shows}
 use Rattle.vm_store.specs.Store.{Holds, disk_of, has_failed}
@@ -16,7 +16,8 @@ use Rattle.vm_store.proofs.ShownLemmas.{shown_one}
 use Rattle.vm_cli.specs.Keeps.{Keeps, answers_of, commands_of}
 use Rattle.vm_cli.specs.Talk.{Serves}
 use Rattle.vm_cli.specs.Exits.{MayEnd}
-use Rattle.vm_cli.specs.Sessions.{end_of}
+use Rattle.vm_cli.specs.Sessions.{end_of, end_refused}
+use Rattle.vm_cli.specs.declared.talk.Manner.{Manner}
 use Rattle.vm_cli.specs.declared.talk.OnRefusal.{OnRefusal}
 use Rattle.vm_cli.specs.declared.talk.OnRefusal.TheVariants.{Ignore, Stop, Tell}
 use Rattle.vm_cli.specs.declared.talk.ServeFault.{ServeFault}
@@ -53,7 +54,7 @@ module _ (old new : DiskState) (seen : Seen) (leaves : Leaves (λ x. Shows x see
 -- and so does one on which lines were answered
 module _ {D : Type 0} {members : _} (old : DiskState) (first last : Store D members) (opens : (members.state (disk_of first)).honest ≡ true → OpensAs old.now.contents first)
     (synced : (members.state (disk_of first)).honest ≡ true → Throughout old (members.state (disk_of first)) (IsAtMostSynced old.now)) (well : has_failed first ≡ false) (goes : Grows ⊥ (members.state (disk_of first)) (members.state (disk_of last))) where
-  session_keeps : (on : OnRefusal) (result : Result Bool ServeFault) (before then known : Option (List ℕ)) (serves : (s : State) → Serves first last s on result before then known)
+  session_keeps : (on : Manner) (result : Result Bool ServeFault) (before then known : Option (List ℕ)) (serves : (s : State) → Serves first last s on result before then known)
       → (members.state (disk_of last)).honest ≡ true → (seen : Seen) → Leaves (λ x. Shows x seen) old.now
       → Keeps old (members.state (disk_of last)) (opened seen) (commands_of (serves (opened seen))) (answers_of (serves (opened seen)))
   session_keeps on result before then known serves honest seen leaves =
@@ -64,7 +65,7 @@ module _ {D : Type 0} {members : _} (old : DiskState) (first last : Store D memb
       (subst (λ t. Holds first (opened t)) same at_first.holds) on result before then known (serves (opened seen))
 
   -- also on the disk that the store gives back
-  pub session_kept : (on : OnRefusal) (result : Result Bool ServeFault) (before then known : Option (List ℕ)) (serves : (s : State) → Serves first last s on result before then known)
+  pub session_kept : (on : Manner) (result : Result Bool ServeFault) (before then known : Option (List ℕ)) (serves : (s : State) → Serves first last s on result before then known)
       → (new : D) → new ≡ disk_of last → (members.state new).honest ≡ true → (seen : Seen)
       → Leaves (λ x. Shows x seen) old.now
       → Keeps old (members.state new) (opened seen) (commands_of (serves (opened seen))) (answers_of (serves (opened seen)))
@@ -72,13 +73,17 @@ module _ {D : Type 0} {members : _} (old : DiskState) (first last : Store D memb
       subst (λ d. Keeps old (members.state d) (opened seen) (commands_of (serves (opened seen))) (answers_of (serves (opened seen)))) (sym given)
       (session_keeps on result before then known serves (subst (λ d. (members.state d).honest ≡ true) given honest) seen leaves)
 
+-- how the program may end after a talk in which a line was refused
+after_refusal : (on : OnRefusal) → MayEnd on (end_refused on)
+after_refusal Ignore = inl refl
+after_refusal Tell = inr (inr (refl, λ e. cc))
+after_refusal Stop = inr (inr (refl, λ e. cc))
+
 -- how the program may end after a talk
-pub may_end : {D : Type 0} {members : _} (first last : Store D members) (s : State) (on : OnRefusal) (result : Result Bool ServeFault) (before then known : Option (List ℕ)) → Serves first last s on result before then known
-    → MayEnd on (end_of on result)
+pub may_end : {D : Type 0} {members : _} (first last : Store D members) (s : State) (on : Manner) (result : Result Bool ServeFault) (before then known : Option (List ℕ)) → Serves first last s on result before then known
+    → MayEnd on.on_refusal (end_of on.on_refusal result)
 may_end first last s on (Ok false) before then known serves = inl refl
-may_end first last s Ignore (Ok true) before then known serves = inl refl
-may_end first last s Tell (Ok true) before then known serves = inr (inr (refl, λ e. cc))
-may_end first last s Stop (Ok true) before then known serves = inr (inr (refl, λ e. cc))
+may_end first last s on (Ok true) before then known serves = after_refusal on.on_refusal
 may_end first last s on (Err fault.Read) before then known serves = inr (inl refl)
 may_end first last s on (Err fault.Write) before then known serves = inr (inl refl)
 may_end first last s on (Err fault.Store) before then known serves = inr (inl refl)

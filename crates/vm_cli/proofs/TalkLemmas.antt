@@ -4,13 +4,13 @@ use Rattle.vm_types.specs.declared.answer.Answer.{Answer}
 use Rattle.vm_types.specs.declared.refusal.Refusal.{Refusal}
 use Rattle.vm_types.specs.declared.refusal.Refusal.TheVariants.{Device, Failed}
 use Rattle.vm_cli.specs.Carried.{WritesStart, Carries}
-use Rattle.vm_cli.specs.Feeding.{Replies}
+use Rattle.vm_cli.specs.Feeds.{Replies}
 use Rattle.vm_cli.specs.Replies.{found_text, is_error, reply_text}
 use Rattle.vm_types.specs.Queries.{IsListing}
 use Rattle.vm_cli.specs.Talk.{SaysAnswer, error_text, list_lines, list_text}
 use Rattle.vm_cli.specs.declared.answers.reply.Reply.{Reply}
 use Rattle.vm_cli.specs.declared.answers.reply.Reply.TheVariants.{End}
-use Rattle.vm_cli.specs.declared.answers.writing.WriteFault.{WriteFault}
+use Rattle.vm_cli.specs.declared.answers.output.WriteFault.{WriteFault}
 use Rattle.vm_cli.proofs.CarriedLemmas.{begins-more}
 
 -- the answer to a command ends the talk just where the store has failed

@@ -1,7 +1,8 @@
 -- What a line may ask for.
-use Rattle.std.specs.Prelude.{ℕ, List as ListOf}
+use Rattle.std.specs.Prelude.{ℕ, List as ListOf, Option}
 use Rattle.vm_types.specs.declared.at.At.{At}
 use Rattle.vm_types.specs.declared.command.Command.{Command as TheCommand}
+use Rattle.vm_types.specs.declared.command.Side.{Side}
 use Rattle.vm_types.specs.declared.key.Key.{Key}
 
 -- what a line asks for
@@ -13,6 +14,10 @@ pub data Request : Type 0 where
   Get : At → Key → Request
   -- all records of a version
   List : At → Request
+  -- those from one key to another, both included
+  Part : At → Key → Key → Request
+  -- the first ones at a key and after it, at most so many
+  Page : At → Key → ℕ → Request
   -- all alternatives, with their parents
   Alternatives : Request
   -- the checkpoints of an alternative
@@ -21,6 +26,8 @@ pub data Request : Type 0 where
   Changes : ListOf ℕ → Request
   -- the changes from one version to another
   Diff : At → At → Request
+  -- those from one key to another, both included
+  DiffPart : At → At → Key → Key → Request
   -- the conflicts of an alternative with its parent
   Conflicts : ListOf ℕ → Request
   -- how far an alternative has gone from its base and from its parent
@@ -29,5 +36,12 @@ pub data Request : Type 0 where
   Free : Request
   -- the number of blocks
   Blocks : Request
+  -- a command for which the store may grow, to so many blocks at most
+  Growing : ℕ → TheCommand → Request
+  -- a merge of an alternative with these settlements, and with this side for each other conflict; the store may grow for it where a number
+  -- of blocks is given, to that many
+  MergeAll : Option ℕ → ListOf ℕ → Side → ListOf (Key × Side) → Request
   -- the line is none of those that there are
   Bad : Request
+  -- the line is a command, where the store is only to be read
+  Forbidden : Request

@@ -8,15 +8,16 @@ use Rattle.clap.specs.declared.error.kind.ErrorKind.{ErrorKind}
 use Rattle.clap.specs.declared.error.kind.ErrorKind.TheVariants.{DisplayHelp, DisplayVersion, OutOfMemory}
 use Rattle.vm_types.specs.Texts.{refusal_text}
 use Rattle.vm_types.specs.declared.refusal.Refusal.{Refusal}
-use Rattle.vm_store.specs.Formatting.{IsOfFormat}
+use Rattle.vm_store.specs.NewStore.{IsOfFormat}
 use Rattle.vm_cli.specs.Carried.{WritesStart}
-use Rattle.vm_cli.specs.Drawing.{Branch, drawing}
+use Rattle.vm_cli.specs.Branches.{Branch, drawing}
 use Rattle.vm_cli.specs.Words.{Wanted, altctl, asked_of}
 use Rattle.vm_cli.specs.Words.Wanted.{check, create, do_lines, draw, run}
 use Rattle.vm_cli.specs.declared.program.Exit.{Exit}
-use Rattle.vm_cli.specs.declared.program.counting.Counts.{Counts}
+use Rattle.vm_cli.specs.declared.program.store_counts.Counts.{Counts}
 use Rattle.vm_cli.specs.declared.program.task.InMemory.{InMemory}
 use Rattle.vm_cli.specs.declared.program.Exit.TheVariants.{Done, LineRefused, Refused, WrongWords, Stopped}
+use Rattle.vm_cli.specs.declared.talk.Manner.{Manner}
 use Rattle.vm_cli.specs.declared.talk.OnRefusal.{OnRefusal}
 use Rattle.vm_cli.specs.declared.talk.OnRefusal.TheVariants.{Ignore}
 
@@ -105,17 +106,17 @@ IsNews words text =
 abbrev pub IsRefusal : List Text → List ℕ → Type 0
 IsRefusal words text = (job : Wanted) × IsJob words job × SaysRefused job text
 
--- the words ask that lines are answered, and say what a refused one means
-abbrev pub AskTalk : List Text → OnRefusal → Type 0
+-- the words ask that lines are answered in this manner
+abbrev pub AskTalk : List Text → Manner → Type 0
 AskTalk words on = (file : Text) × (in_memory : InMemory) × (IsJob words (run file in_memory on) ⊎ ((input : List ℕ) × IsJob words (do_lines file input in_memory on)))
 
 -- the words ask that lines are answered
 abbrev pub AskLines : List Text → Type 0
-AskLines words = (on : OnRefusal) × AskTalk words on
+AskLines words = (on : Manner) × AskTalk words on
 
 -- the words ask that lines are answered, and that it is told where one is refused
 abbrev pub AskTold : List Text → Type 0
-AskTold words = (on : OnRefusal) × (on ≢ Ignore) × AskTalk words on
+AskTold words = (on : Manner) × (on.on_refusal ≢ Ignore) × AskTalk words on
 
 -- lines that were answered may end so
 abbrev pub MayEnd : OnRefusal → Exit → Type 0
@@ -221,8 +222,8 @@ module _ {W F : Type 0} (in_output : W → Option (List ℕ)) (in_errors : F →
   -- a job was done: what the output is told then, or how lines that were answered may end
   abbrev pub TellsDone : Wanted → Exit → W → W → Type 0
   TellsDone (create file blocks) exit output output' = TellsOn in_output Done exit output output' (created_text blocks)
-  TellsDone (run file in_memory on) exit output output' = MayEnd on exit
-  TellsDone (do_lines file input in_memory on) exit output output' = MayEnd on exit
+  TellsDone (run file in_memory on) exit output output' = MayEnd on.on_refusal exit
+  TellsDone (do_lines file input in_memory on) exit output output' = MayEnd on.on_refusal exit
   TellsDone (check file) exit output output' = TellsCounts exit output output'
   TellsDone (draw file) exit output output' = TellsDrawing exit output output'
 

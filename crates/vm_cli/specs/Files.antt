@@ -9,10 +9,10 @@ use Rattle.vm_disk.specs.Moments.{Throughout}
 use Rattle.vm_disk.specs.declared.cached.CachedDisk.{CachedDisk}
 use Rattle.vm_disk.specs.declared.delayed.DelayedDisk.{DelayedDisk}
 use Rattle.vm_disk.specs.declared.disk.Disk.{Ghosts}
-use Rattle.vm_store.specs.Formatting.{IsFormatted, IsFormatting, IsOfFormat}
+use Rattle.vm_store.specs.NewStore.{IsFormatted, IsFormatting, IsOfFormat}
 use Rattle.vm_store.specs.Shown.{Shows}
-use Rattle.vm_cli.specs.Caching.{IsServed, answers_told, commands_told}
-use Rattle.vm_cli.specs.Drawing.{tree_text}
+use Rattle.vm_cli.specs.CachedLines.{IsServed, answers_told, commands_told}
+use Rattle.vm_cli.specs.Branches.{tree_text}
 use Rattle.vm_cli.specs.Exits.{IsJob, Tells, check_text, created_text, file_text, refused_text}
 use Rattle.vm_cli.specs.Keeps.{Keeps}
 use Rattle.vm_cli.specs.Places.{KeepsCame, KeepsOthers, PlaceState, WasLent}
@@ -22,7 +22,8 @@ use Rattle.vm_cli.specs.Words.Wanted.{check, create, do_lines, draw, run}
 use Rattle.vm_cli.specs.declared.program.Exit.{Exit}
 use Rattle.vm_cli.specs.declared.program.task.InMemory.{InMemory}
 use Rattle.vm_cli.specs.declared.program.Exit.TheVariants.{Done, Refused, Stopped}
-use Rattle.vm_cli.specs.declared.talk.OnRefusal.{OnRefusal}
+use Rattle.vm_cli.specs.declared.talk.Manner.{Manner}
+use Rattle.vm_cli.specs.declared.talk.OnCommand.{OnCommand}
 
 -- every file is as it was
 abbrev pub KeepsAll : PlaceState → PlaceState → Type 0
@@ -100,7 +101,7 @@ module _ {D : Type 0} (members : Ghosts D) where
 module _ {D : Type 0} (members : Ghosts D) (cached : Ghosts (CachedDisk D members)) (late : Ghosts (DelayedDisk D members))
     (late_cached : Ghosts (DelayedDisk (CachedDisk D members) cached)) where
   -- the lines of an input were answered over the file of this name, of which up to so many blocks stayed or waited in memory
-  pub record Answers (name : List ℕ) (in_memory : InMemory) (on : OnRefusal) (exit : Exit) (old new : PlaceState) (input before after : Option (List ℕ)) : Type 0 where
+  pub record Answers (name : List ℕ) (in_memory : InMemory) (on : Manner) (exit : Exit) (old new : PlaceState) (input before after : Option (List ℕ)) : Type 0 where
     pub found : D
     pub back : D
     pub served : IsServed members cached late late_cached in_memory on found back exit input before after
@@ -113,22 +114,22 @@ module _ {D : Type 0} (members : Ghosts D) (cached : Ghosts (CachedDisk D member
     -- file at the end
     pub kept : (seen : Seen) → Shows (members.state found).now.contents seen
         → Keeps (members.state found) (members.state back) (opened seen)
-        (commands_told members cached late late_cached served (opened seen)) (answers_told members cached late late_cached served (opened seen))
+        (commands_told members cached late late_cached in_memory served (opened seen)) (answers_told members cached late late_cached in_memory served (opened seen))
 
   -- what a run of the program does to the files, where `Untouched` says that no call of the place was made, `Reads` that no file was made
-  -- or opened to be written, `Opens` that just one was to be, and `Denied` that a call gave no disk of a name, which was the
+  -- or opened to be written, `Opens` that just one was to be, `OpensFor` that one or none was, by what is done with commands, and `Denied` that a call gave no disk of a name, which was the
   -- only one. A job is left undone without a call
   -- only where the program stops, as where memory for the words is wanting
-  pub record Does (Untouched Reads Opens : Type 0) (Denied : Text → Type 0) (words : List Text) (exit : Exit) (old new : PlaceState) (input before after errors errors' : Option (List ℕ)) : Type 0 where
+  pub record Does (Untouched Reads Opens : Type 0) (OpensFor : OnCommand → Type 0) (Denied : Text → Type 0) (words : List Text) (exit : Exit) (old new : PlaceState) (input before after errors errors' : Option (List ℕ)) : Type 0 where
     -- words that ask for a new store make its file
     pub creates : (name : Text) (blocks : ℕ) → IsJob words (create name blocks)
         → (Opens × Makes members (Denied name) name blocks exit old new before after errors errors') ⊎ ((exit ≡ Stopped) × Untouched)
-    -- words that ask that lines are answered have them answered over the file, which is opened to be written, or it is said why not
-    pub runs : (name : Text) (in_memory : InMemory) (on : OnRefusal) → IsJob words (run name in_memory on)
-        → (Opens × (Answers name in_memory on exit old new input before after ⊎ Declines members (Denied name) name exit old new errors errors')) ⊎ ((exit ≡ Stopped) × Untouched)
+    -- words that ask that lines are answered have them answered over the file, which is opened to be written unless commands are refused, or it is said why not
+    pub runs : (name : Text) (in_memory : InMemory) (on : Manner) → IsJob words (run name in_memory on)
+        → (OpensFor on.on_command × (Answers name in_memory on exit old new input before after ⊎ Declines members (Denied name) name exit old new errors errors')) ⊎ ((exit ≡ Stopped) × Untouched)
     -- so have words that give lines, whose input they are
-    pub does : (name : Text) (lines : List ℕ) (in_memory : InMemory) (on : OnRefusal) → IsJob words (do_lines name lines in_memory on)
-        → (Opens × (Answers name in_memory on exit old new (Some lines) before after ⊎ Declines members (Denied name) name exit old new errors errors')) ⊎ ((exit ≡ Stopped) × Untouched)
+    pub does : (name : Text) (lines : List ℕ) (in_memory : InMemory) (on : Manner) → IsJob words (do_lines name lines in_memory on)
+        → (OpensFor on.on_command × (Answers name in_memory on exit old new (Some lines) before after ⊎ Declines members (Denied name) name exit old new errors errors')) ⊎ ((exit ≡ Stopped) × Untouched)
     -- words that ask for a check have the store in the file counted, or it is said why not; either way files are only read
     pub checks : (name : Text) → IsJob words (check name)
         → Reads × (Counts members name exit old new before after ⊎ (Declines members (Denied name) name exit old new errors errors' ⊎ ((exit ≡ Stopped) × Untouched)))

@@ -10,7 +10,7 @@ use Rattle.vm_disk.specs.Disk.{Contents, DiskState, LeftAt, moment}
 use Rattle.vm_store.specs.Shown.{Shows}
 use Rattle.vm_store.specs.declared.store.Store.{Store}
 use Rattle.vm_cli.specs.Talk.{EndsTalk, Serves, with_answer, with_command}
-use Rattle.vm_cli.specs.declared.talk.OnRefusal.{OnRefusal}
+use Rattle.vm_cli.specs.declared.talk.Manner.{Manner}
 use Rattle.vm_cli.specs.declared.talk.ServeFault.{ServeFault}
 use Rattle.vm_cli.specs.declared.talk.ServeFault.TheVariants as fault
 
@@ -29,17 +29,17 @@ pub record Keeps (old new : DiskState) (s : State) (commands : List Command) (an
 
 module _ {D : Type 0} {members : _} where
   -- the commands of a talk that ended with a line: that line's own comes last
-  abbrev pub commands_ended : {old new : Store D members} {s : State} {on : OnRefusal} {ends : Bool} {all : List (List ℕ)} {text : List ℕ}
+  abbrev pub commands_ended : {old new : Store D members} {s : State} {on : Manner} {ends : Bool} {all : List (List ℕ)} {text : List ℕ}
       → EndsTalk old new s on ends all text → List Command
   commands_ended ended = ended.talked.commands ++ with_command ended.handled.done []
 
   -- the answers to them
-  abbrev pub answers_ended : {old new : Store D members} {s : State} {on : OnRefusal} {ends : Bool} {all : List (List ℕ)} {text : List ℕ}
+  abbrev pub answers_ended : {old new : Store D members} {s : State} {on : Manner} {ends : Bool} {all : List (List ℕ)} {text : List ℕ}
       → EndsTalk old new s on ends all text → List (Result Answer Refusal)
   answers_ended ended = ended.talked.answers ++ with_answer ended.handled.done []
 
   -- the commands among the lines that a talk answered, also the last one where its answer wasn't written whole
-  abbrev pub commands_of : {old new : Store D members} {s : State} {on : OnRefusal} {result : Result Bool ServeFault}
+  abbrev pub commands_of : {old new : Store D members} {s : State} {on : Manner} {result : Result Bool ServeFault}
       {before after known : Option (List ℕ)} → Serves old new s on result before after known → List Command
   commands_of {result = Ok refused} serves = serves.served.1.commands
   commands_of {result = Err fault.Read} serves = serves.served.4.commands
@@ -48,7 +48,7 @@ module _ {D : Type 0} {members : _} where
   commands_of {result = Err fault.Write} serves = commands_ended serves.served.2
 
   -- the answers to them
-  abbrev pub answers_of : {old new : Store D members} {s : State} {on : OnRefusal} {result : Result Bool ServeFault}
+  abbrev pub answers_of : {old new : Store D members} {s : State} {on : Manner} {result : Result Bool ServeFault}
       {before after known : Option (List ℕ)} → Serves old new s on result before after known → List (Result Answer Refusal)
   answers_of {result = Ok refused} serves = serves.served.1.answers
   answers_of {result = Err fault.Read} serves = serves.served.4.answers

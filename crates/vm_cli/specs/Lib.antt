@@ -1,5 +1,5 @@
 pub mod Escapes
-pub mod Reading
+pub mod Input
 pub mod Lines
 pub mod Listings
 pub mod Numbers
@@ -14,15 +14,15 @@ pub mod Settlements
 pub mod Exits
 pub mod Carried
 pub mod Talk
-pub mod Feeding
+pub mod Feeds
 pub mod Keeps
 pub mod Standing
 pub mod Sessions
 pub mod Told
-pub mod Delaying
-pub mod Caching
-pub mod Counting
-pub mod Drawing
+pub mod DelayedLines
+pub mod CachedLines
+pub mod StoreCounts
+pub mod Branches
 pub mod Places
 pub mod Progress
 pub mod Files

@@ -6,7 +6,7 @@ use Rattle.vm_store.specs.declared.tally.Tally.{Tally as Numbers}
 use Rattle.vm_types.specs.Texts.{refusal_text}
 use Rattle.vm_cli.specs.Escapes.{value_text}
 use Rattle.vm_cli.specs.declared.answers.reply.Reply.{Reply}
-use Rattle.vm_cli.specs.declared.answers.reply.Reply.TheVariants.{Nothing, Done, Merged, Free, Blocks, Tally, End, Refused, Last, BadLine, LongLine}
+use Rattle.vm_cli.specs.declared.answers.reply.Reply.TheVariants.{Nothing, Done, Merged, Free, Blocks, Tally, End, Refused, Last, BadLine, LongLine, ReadOnly}
 
 -- a yes or a no
 abbrev pub yes_or_no : Bool → List ℕ
@@ -31,6 +31,7 @@ reply_text (Refused refusal) = codes "error " ++ (refusal_text refusal ++ 10 ∷
 reply_text (Last refusal) = codes "error " ++ (refusal_text refusal ++ 10 ∷ [])
 reply_text BadLine = codes "error 22 BadLine" ++ 10 ∷ []
 reply_text LongLine = codes "error 23 LongLine" ++ 10 ∷ []
+reply_text ReadOnly = codes "error 24 ReadOnly" ++ 10 ∷ []
 
 -- the line of a record's value, or that there is none
 abbrev pub found_text : Option (List ℕ) → List ℕ

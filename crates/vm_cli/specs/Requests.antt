@@ -6,13 +6,16 @@ use Rattle.vm_types.specs.declared.at.At.{At}
 use Rattle.vm_types.specs.declared.at.Of.{Of}
 use Rattle.vm_types.specs.declared.at.Of.TheVariants as meant
 use Rattle.vm_types.specs.declared.command.Command.{Command}
+use Rattle.vm_types.specs.declared.command.Side.{Side}
 use Rattle.vm_types.specs.declared.command.Command.TheVariants.{New, NewAt, Drop, Put, Remove, Checkpoint, Uncheck, Back, Merge, Post, Commit, Rollback, Reclaim, Grow}
 use Rattle.vm_types.specs.declared.key.Key.{Key}
 use Rattle.vm_cli.specs.Asking.{Request}
+use Rattle.vm_cli.specs.declared.talk.OnCommand.{OnCommand}
+use Rattle.vm_cli.specs.declared.talk.OnCommand.TheVariants.{CarryOut, GrowIfFull, Refuse}
 use Rattle.vm_cli.specs.Escapes.{value_of}
 use Rattle.vm_cli.specs.Numbers.{key_of, number_of}
 use Rattle.vm_cli.specs.Pieces.{before_mark, behind_mark}
-use Rattle.vm_cli.specs.Settlements.{settled_of}
+use Rattle.vm_cli.specs.Settlements.{settled_of, side_for_all}
 
 -- a byte may stand in a name: an ASCII letter or digit, `_`, `-` or `.`
 abbrev pub is_name_byte : ℕ → Bool
@@ -56,15 +59,41 @@ abbrev pub record_at_of : List (List ℕ) → Option (At × Key)
 record_at_of (at ∷ table ∷ number ∷ []) = option_and_then (λ a. option_map (λ k. (a, k)) (key_of table number)) (at_of at)
 record_at_of _ = None
 
--- `AT`
-abbrev pub one_at_of : List (List ℕ) → Option At
-one_at_of (at ∷ []) = at_of at
-one_at_of _ = None
+-- the first and the last key of a part: `TABLE`, which is all of the table, or `TABLE FIRST LAST`; no word is no part
+abbrev pub part_of : List (List ℕ) → Option (Option (Key × Key))
+part_of [] = Some None
+part_of (table ∷ []) =
+    option_map (λ t. Some (record { table = t; number = 0 }, record { table = t; number = 18446744073709551615 })) (number_of 65535 table)
+part_of (table ∷ first ∷ last ∷ []) =
+    option_and_then (λ low. option_map (λ high. Some (low, high)) (key_of table last)) (key_of table first)
+part_of _ = None
 
--- `AT AT`
-abbrev pub two_ats_of : List (List ℕ) → Option (At × At)
-two_ats_of (first ∷ second ∷ []) = option_and_then (λ a. option_map (λ b. (a, b)) (at_of second)) (at_of first)
-two_ats_of _ = None
+-- `AT`, and a part
+abbrev pub at_part_of : List (List ℕ) → Option (At × Option (Key × Key))
+at_part_of [] = None
+at_part_of (at ∷ words) = option_and_then (λ a. option_map (λ part. (a, part)) (part_of words)) (at_of at)
+
+-- what a list of a version asks for, all of it or a part
+abbrev pub list_asked : At × Option (Key × Key) → Request
+list_asked (at, None) = Request.List at
+list_asked (at, Some keys) = Request.Part at keys.0 keys.1
+
+-- `AT AT`, and a part
+abbrev pub ats_part_of : List (List ℕ) → Option (At × At × Option (Key × Key))
+ats_part_of (first ∷ second ∷ words) =
+    option_and_then (λ a. option_and_then (λ b. option_map (λ part. (a, b, part)) (part_of words)) (at_of second)) (at_of first)
+ats_part_of _ = None
+
+-- what a difference of two versions asks for, all of it or a part
+abbrev pub diff_asked : At × At × Option (Key × Key) → Request
+diff_asked (first, second, None) = Request.Diff first second
+diff_asked (first, second, Some keys) = Request.DiffPart first second keys.0 keys.1
+
+-- `AT TABLE NUMBER COUNT`, a count that 32 bits hold
+abbrev pub page_of : List (List ℕ) → Option (At × Key × ℕ)
+page_of (at ∷ table ∷ number ∷ count ∷ []) =
+    option_and_then (λ a. option_and_then (λ k. option_map (λ n. (a, k, n)) (number_of 4294967295 count)) (key_of table number)) (at_of at)
+page_of _ = None
 
 -- the command of two names, or of three
 abbrev pub new_command : List ℕ × List ℕ × Option (List ℕ) → Command
@@ -94,10 +123,20 @@ abbrev pub grow_of : List (List ℕ) → Option Command
 grow_of (blocks ∷ []) = option_map Grow (number_of 4294967295 blocks)
 grow_of _ = None
 
--- `merge ALT` and settlements
-abbrev pub merge_of : List (List ℕ) → Option Command
+-- a merge of this alternative, where its first settlement is for all conflicts, or is not
+abbrev pub merge_by : List ℕ → Option Side → List ℕ → List (List ℕ) → Option Request
+merge_by alt (Some side) word words = option_map (λ settled. Request.MergeAll None alt side settled) (settled_of words)
+merge_by alt None word words = option_map (λ settled. Request.Command (Merge alt settled)) (settled_of (word ∷ words))
+
+-- a merge of this alternative, with the settlements that these words say
+abbrev pub merge_with : List ℕ → List (List ℕ) → Option Request
+merge_with alt [] = Some (Request.Command (Merge alt []))
+merge_with alt (word ∷ words) = merge_by alt (side_for_all word) word words
+
+-- `merge ALT` and settlements, the first of which may be `all=SIDE`
+abbrev pub merge_of : List (List ℕ) → Option Request
 merge_of [] = None
-merge_of (alt ∷ words) = option_and_then (λ a. option_map (λ settled. Merge a settled) (settled_of words)) (name_of alt)
+merge_of (alt ∷ words) = option_and_then (λ a. merge_with a words) (name_of alt)
 
 -- no further word
 abbrev pub alone : {X : Type 0} → X → List (List ℕ) → Option X
@@ -124,15 +163,16 @@ command_of verb words =
 abbrev pub query_of : List ℕ → List (List ℕ) → Option Request
 query_of verb words =
     if bytes_eq verb (codes "get") then option_map (λ r. Request.Get r.0 r.1) (record_at_of words)
-    else (if bytes_eq verb (codes "list") then option_map Request.List (one_at_of words)
+    else (if bytes_eq verb (codes "list") then option_map list_asked (at_part_of words)
     else (if bytes_eq verb (codes "checks") then option_map Request.Checkpoints (named_of words)
     else (if bytes_eq verb (codes "changes") then option_map Request.Changes (named_of words)
     else (if bytes_eq verb (codes "conflicts") then option_map Request.Conflicts (named_of words)
     else (if bytes_eq verb (codes "alts") then alone Request.Alternatives words
     else (if bytes_eq verb (codes "free") then alone Request.Free words
-    else (if bytes_eq verb (codes "diff") then option_map (λ ats. Request.Diff ats.0 ats.1) (two_ats_of words)
+    else (if bytes_eq verb (codes "diff") then option_map diff_asked (ats_part_of words)
     else (if bytes_eq verb (codes "tally") then option_map Request.Tally (named_of words)
-    else (if bytes_eq verb (codes "blocks") then alone Request.Blocks words else None)))))))))
+    else (if bytes_eq verb (codes "blocks") then alone Request.Blocks words
+    else (if bytes_eq verb (codes "next") then option_map (λ p. Request.Page p.0 p.1 p.2) (page_of words) else None))))))))))
 
 -- a command, or else a query
 abbrev pub command_or : Option Command → Option Request → Option Request
@@ -142,7 +182,7 @@ command_or None query = query
 -- what the words after the first ask for
 abbrev pub asked_by : List ℕ → List (List ℕ) → Option Request
 asked_by verb words =
-    if bytes_eq verb (codes "merge") then option_map Request.Command (merge_of words)
+    if bytes_eq verb (codes "merge") then merge_of words
     else command_or (command_of verb words) (query_of verb words)
 
 -- a merge with further words after its alternative: to read a line takes memory only where it is one
@@ -159,3 +199,17 @@ is_comment (b ∷ bytes) = b == 35
 abbrev pub request_of : List (List ℕ) → Request
 request_of [] = Request.Nothing
 request_of (verb ∷ words) = if is_comment verb then Request.Nothing else unwrap_or (asked_by verb words) Request.Bad
+
+-- what a line that asks for this asks for in a talk where this is done with commands: nothing that changes the store, if it is only read
+abbrev pub asked_in : OnCommand → Request → Request
+asked_in Refuse (Request.Command command) = Request.Forbidden
+asked_in Refuse (Request.Growing most command) = Request.Forbidden
+asked_in Refuse (Request.MergeAll limit alt side settled) = Request.Forbidden
+asked_in (GrowIfFull most) (Request.MergeAll limit alt side settled) = Request.MergeAll (Some most) alt side settled
+asked_in (GrowIfFull most) (Request.Command command) = Request.Growing most command
+asked_in on request = request
+
+-- to how many blocks the store may grow for a command, if it may
+abbrev pub limit_of : OnCommand → Option ℕ
+limit_of (GrowIfFull most) = Some most
+limit_of on = None

@@ -5,17 +5,19 @@ use Rattle.vm_types.specs.declared.refusal.Refusal.{Refusal}
 use Rattle.vm_disk.specs.declared.cached.CachedDisk.{CachedDisk}
 use Rattle.vm_disk.specs.declared.delayed.DelayedDisk.{DelayedDisk}
 use Rattle.vm_disk.specs.declared.disk.Disk.{Ghosts}
-use Rattle.vm_cli.specs.Caching.{IsNotServed, IsServed}
+use Rattle.vm_cli.specs.CachedLines.{IsNotServed, IsServed}
 use Rattle.vm_cli.specs.Carried.{WritesStart}
 use Rattle.vm_cli.specs.Exits.{IsJob, Tells, TellsOn, file_text, refused_text, status_of, stopped_text}
 use Rattle.vm_cli.specs.Files.{Answers, Counts, Declines, Does, Draws, Makes}
 use Rattle.vm_cli.specs.Places.{PlaceState}
 use Rattle.vm_cli.specs.Words.{Wanted}
-use Rattle.vm_cli.specs.Words.Wanted.{check, do_lines, draw, run}
+use Rattle.vm_cli.specs.Words.Wanted.{check, create, do_lines, draw, run}
 use Rattle.vm_cli.specs.declared.program.Exit.{Exit}
 use Rattle.vm_cli.specs.declared.program.Exit.TheVariants.{Refused, Stopped}
 use Rattle.vm_cli.specs.declared.program.task.InMemory.{InMemory}
-use Rattle.vm_cli.specs.declared.talk.OnRefusal.{OnRefusal}
+use Rattle.vm_cli.specs.declared.talk.Manner.{Manner}
+use Rattle.vm_cli.specs.declared.talk.OnCommand.{OnCommand}
+use Rattle.vm_cli.specs.declared.talk.OnCommand.TheVariants.{Refuse}
 
 -- the disks over which lines may be answered: a file's own, one with blocks of it in memory, one of which written blocks wait, and one
 -- with both
@@ -32,7 +34,7 @@ disks own cached late late_cached = record { own = own; cached = cached; late = 
 -- lines were to be answered over one of them, and the disk came back beside this end
 module _ {D : Type 0} (over : Disks D) (old : D) (result : Exit × D) (in_memory : InMemory) where
   -- they were, of the reader, to the writer
-  abbrev pub AnswersInMemory : {R W : Type 0} → (R → Option (List ℕ)) → (W → Option (List ℕ)) → OnRefusal → R → W → W → Type 0
+  abbrev pub AnswersInMemory : {R W : Type 0} → (R → Option (List ℕ)) → (W → Option (List ℕ)) → Manner → R → W → W → Type 0
   AnswersInMemory input_of contents on reader writer writer' =
       IsServed over.own over.cached over.late over.late_cached in_memory on old result.1 result.0 (input_of reader) (contents writer) (contents writer')
 
@@ -73,9 +75,22 @@ EndsAs {F} in_errors status errors' IsEnd =
     × (exit ≡ Stopped → WritesStart (in_errors said) (in_errors errors') stopped_text)
     × IsEnd exit said
 
+-- lines are to be answered with this done with commands: a place is asked for one disk that may be written, or, if they are refused, for none
+abbrev pub AsksToWrite : OnCommand → ℕ → ℕ → Type 0
+AsksToWrite Refuse asked asked' = asked' ≡ asked
+AsksToWrite on asked asked' = asked' ≡ asked + 1
+
+-- a job that only looks at a file
+abbrev pub IsLook : Wanted → Type 0
+IsLook (create file blocks) = ⊥
+IsLook (run file in_memory on) = on.on_command ≡ Refuse
+IsLook (do_lines file input in_memory on) = on.on_command ≡ Refuse
+IsLook (check file) = Unit {0}
+IsLook (draw file) = Unit {0}
+
 module _ {P D : Type 0} (over : Disks D) (state : P → PlaceState) (denied : P → List Text) (place place' : P) where
   -- lines were to be answered over a file
-  abbrev pub AnswersIn : Text → InMemory → OnRefusal → Exit → Option (List ℕ) → Option (List ℕ) → Option (List ℕ) → Option (List ℕ) → Option (List ℕ) → Type 0
+  abbrev pub AnswersIn : Text → InMemory → Manner → Exit → Option (List ℕ) → Option (List ℕ) → Option (List ℕ) → Option (List ℕ) → Option (List ℕ) → Type 0
   AnswersIn name in_memory on exit input before after errors errors' =
       (state place').honest ≡ true
       → Answers over.own over.cached over.late over.late_cached name in_memory on exit (state place) (state place') input before after
@@ -84,7 +99,7 @@ module _ {P D : Type 0} (over : Disks D) (state : P → PlaceState) (denied : P 
   -- a run of the program with these words came to this end, before it is said that the program stopped
   abbrev pub DoesIn : (P → ℕ) → List Text → Exit → Option (List ℕ) → Option (List ℕ) → Option (List ℕ) → Option (List ℕ) → Option (List ℕ) → Type 0
   DoesIn to_write words exit input before after errors errors' =
-      Does over.own over.cached over.late over.late_cached (place' ≡ place) (to_write place' ≡ to_write place) (to_write place' ≡ to_write place + 1)
+      Does over.own over.cached over.late over.late_cached (place' ≡ place) (to_write place' ≡ to_write place) (to_write place' ≡ to_write place + 1) (λ on. AsksToWrite on (to_write place) (to_write place'))
       (λ name. denied place' ≡ name ∷ denied place) words exit (state place) (state place') input before after errors errors'
 
   -- a run of the program with these words gave this status
@@ -97,7 +112,7 @@ module _ {P D : Type 0} (over : Disks D) (state : P → PlaceState) (denied : P 
 module _ {P D : Type 0} (over : Disks D) (denied : P → List Text) (place place' : P) where
   -- lines that were to be answered over a file were, over a disk that came back; or that was refused, and it is told why; or it is told
   -- that the place gave no disk of it
-  abbrev pub ServesIn : Text → InMemory → OnRefusal → Exit → Option (List ℕ) → Option (List ℕ) → Option (List ℕ) → Option (List ℕ) → Option (List ℕ) → Type 0
+  abbrev pub ServesIn : Text → InMemory → Manner → Exit → Option (List ℕ) → Option (List ℕ) → Option (List ℕ) → Option (List ℕ) → Option (List ℕ) → Type 0
   ServesIn name in_memory on exit input before after errors errors' =
       ((found : D) × (back : D) × IsServed over.own over.cached over.late over.late_cached in_memory on found back exit input before after)
       ⊎ (((found : D) × (back : D) × (refusal : Refusal) × IsNotServed over.own over.cached over.late over.late_cached in_memory found back refusal
@@ -107,9 +122,9 @@ module _ {P D : Type 0} (over : Disks D) (denied : P → List Text) (place place
   -- words that ask for that have it so, of the input or of their own lines, or the program stopped, and no call of the place was made
   abbrev pub ServesWords : List Text → Exit → Option (List ℕ) → Option (List ℕ) → Option (List ℕ) → Option (List ℕ) → Option (List ℕ) → Type 0
   ServesWords words exit input before after errors errors' =
-      ((name : Text) (in_memory : InMemory) (on : OnRefusal) → IsJob words (run name in_memory on)
+      ((name : Text) (in_memory : InMemory) (on : Manner) → IsJob words (run name in_memory on)
       → ServesIn name in_memory on exit input before after errors errors' ⊎ ((exit ≡ Stopped) × (place' ≡ place)))
-      × ((name : Text) (lines : List ℕ) (in_memory : InMemory) (on : OnRefusal) → IsJob words (do_lines name lines in_memory on)
+      × ((name : Text) (lines : List ℕ) (in_memory : InMemory) (on : Manner) → IsJob words (do_lines name lines in_memory on)
       → ServesIn name in_memory on exit (Some lines) before after errors errors' ⊎ ((exit ≡ Stopped) × (place' ≡ place)))
 
   -- a run of the program with these words gave this status
@@ -117,9 +132,9 @@ module _ {P D : Type 0} (over : Disks D) (denied : P → List Text) (place place
   ServesRun words status input before after in_errors errors errors' =
       EndsAs in_errors status errors' (λ exit said. ServesWords words exit input before after (in_errors errors) (in_errors said))
 
--- on any place: where the words ask for a check or a drawing, it is asked for no disk that may be written, and where they ask for no job, for
--- none at all
+-- on any place: where the words ask for a check or a drawing, or for lines that are answered with commands refused, it is asked for no disk
+-- that may be written, and where they ask for no job, for none at all
 abbrev pub LooksOnly : {P : Type 0} → (P → ℕ) → P → P → List Text → Type 0
 LooksOnly to_write place place' words =
-    ((name : Text) → IsJob words (check name) ⊎ IsJob words (draw name) → to_write place' ≡ to_write place)
+    ((job : Wanted) → IsJob words job → IsLook job → to_write place' ≡ to_write place)
     × (((job : Wanted) → IsJob words job → ⊥) → place' ≡ place)

@@ -1,23 +1,25 @@
 -- What becomes of a disk on which a store is made, or lines are answered.
-use Rattle.std.specs.Prelude.{◌≡◌, ◌↔◌, ℕ, Bool, List, true, false, Option, Result, Ok, Err}
+use Rattle.std.specs.Prelude.{◌≡◌, ◌↔◌, ℕ, Bool, List, true, false, Option, None, Result, Ok, Err}
 use Rattle.vm_types.specs.declared.refusal.Refusal.{Refusal}
 use Rattle.vm_types.specs.declared.refusal.Refusal.TheVariants.{AlreadyAStore, BadSize, Device}
 use Rattle.vm_types.specs.State.{Seen, State, committed_of, opened}
 use Rattle.vm_disk.specs.Disk.{DiskState, Goes, NoCalls}
 use Rattle.vm_disk.specs.Moments.{Leaves, Throughout}
 use Rattle.vm_disk.specs.declared.disk.Disk.{Ghosts}
-use Rattle.vm_store.specs.Formatting.{IsBadSize, IsFormatted}
-use Rattle.vm_store.specs.Growing.{Grows}
-use Rattle.vm_store.specs.Opening.{OpensAs}
+use Rattle.vm_store.specs.NewStore.{IsBadSize, IsFormatted}
+use Rattle.vm_store.specs.Growth.{Grows}
+use Rattle.vm_store.specs.Recovery.{OpensAs}
 use Rattle.vm_store.specs.Refused.{IsAtMostSynced, IsNoStore, IsRefused, IsStore}
 use Rattle.vm_store.specs.Shown.{Shows}
 use Rattle.vm_store.specs.Store.{Holds, disk_of, has_failed}
 use Rattle.vm_store.specs.declared.store.Store.{Store}
-use Rattle.vm_cli.specs.Counting.{IsCounted}
+use Rattle.vm_cli.specs.StoreCounts.{IsCounted}
 use Rattle.vm_cli.specs.Keeps.{Keeps, answers_of, commands_of}
-use Rattle.vm_cli.specs.Talk.{Serves}
+use Rattle.vm_cli.specs.Talk.{Passes, Serves}
 use Rattle.vm_cli.specs.declared.program.Exit.{Exit}
 use Rattle.vm_cli.specs.declared.program.Exit.TheVariants.{Done, LineRefused, Stopped}
+use Rattle.vm_cli.specs.declared.talk.Manner.{Manner}
+use Rattle.vm_cli.specs.declared.talk.OnCommand.TheVariants.{Refuse}
 use Rattle.vm_cli.specs.declared.talk.OnRefusal.{OnRefusal}
 use Rattle.vm_cli.specs.declared.talk.OnRefusal.TheVariants.{Ignore, Stop, Tell}
 use Rattle.vm_cli.specs.declared.talk.ServeFault.{ServeFault}
@@ -74,7 +76,7 @@ module _ {D : Type 0} (members : Ghosts D) where
   -- the store that the disk showed was opened, the lines of an input were answered, which is the reader's own where that is known,
   -- and the disk came back as the store left it: it shows what was committed. The talk is told for each state, so for that of the
   -- opening, and each part as long as the disk is honest
-  pub record HasServed (on : OnRefusal) (old new : D) (exit : Exit) (input before after : Option (List ℕ)) : Type 0 where
+  pub record HasServed (on : Manner) (old new : D) (exit : Exit) (input before after : Option (List ℕ)) : Type 0 where
     pub first : Store D members
     pub last : Store D members
     pub served : Result Bool ServeFault
@@ -83,7 +85,9 @@ module _ {D : Type 0} (members : Ghosts D) where
     pub well : has_failed first ≡ false
     pub opens : (members.state (disk_of first)).honest ≡ true → OpensAs (members.state old).now.contents first
     pub serves : (s : State) → Serves first last s on served before after input
-    pub ends : exit ≡ end_of on served
+    -- where commands are refused the disk is only read
+    pub reads : on.on_command ≡ Refuse → Passes first last None
+    pub ends : exit ≡ end_of on.on_refusal served
     pub given_back : new ≡ disk_of last
     pub shown : (members.state new).honest ≡ true → has_failed last ≡ false → (s : State) → Holds last s
         → Shows (members.state new).now.contents (committed_of s)

@@ -4,8 +4,8 @@ use Rattle.vm_types.specs.Shape.{shape}
 use Rattle.vm_types.specs.State.{State}
 use Rattle.vm_types.specs.declared.refusal.Refusal.{Refusal}
 use Rattle.vm_types.specs.declared.refusal.Refusal.TheVariants.{Device, Memory}
-use Rattle.vm_cli.specs.Counting.{checkpoint_count}
-use Rattle.vm_cli.specs.Drawing.{Branch, branches_of, tree_text}
+use Rattle.vm_cli.specs.StoreCounts.{checkpoint_count}
+use Rattle.vm_cli.specs.Branches.{Branch, branches_of, tree_text}
 use Rattle.vm_store.specs.Store.{Holds, IsHonest, has_failed}
 use Rattle.vm_store.specs.declared.store.Store.{Store}
 

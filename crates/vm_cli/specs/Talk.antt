@@ -1,21 +1,25 @@
 -- What a talk promises: what each line is answered, and what the store is after it.
-use Rattle.std.specs.Prelude.{◌≡◌, ◌≢◌, ◌⊎◌, ◌||◌, ◌<◌, ◌≤◌, ℕ, Bool, true, false, List, [], ◌∷◌, ◌++◌, Option, Some, None, Result, Ok, Err, IfSome, flat_map, length}
+use Rattle.std.specs.Prelude.{◌≡◌, ◌≢◌, ◌⊎◌, ◌||◌, ◌+◌, ◌<◌, ◌≤◌, ◌*◌, ◌/◌, ℕ, zero, suc, Bool, true, false, List, [], ◌∷◌, ◌++◌, Option, Some, None, Result, Ok, Err, IfSome, flat_map, if◌then◌else◌, length, nat_le}
 use Rattle.std.specs.Io.KnownBytes.{Appends}
 use Rattle.vm_types.specs.declared.answer.Answer.{Answer}
 use Rattle.vm_types.specs.declared.answer.Answer.TheVariants as answer
 use Rattle.vm_types.specs.declared.command.Command.{Command}
+use Rattle.vm_types.specs.declared.command.Command.TheVariants.{Grow, Merge}
+use Rattle.vm_types.specs.declared.command.Side.{Side}
+use Rattle.vm_types.specs.declared.change.Conflict.{Conflict}
 use Rattle.vm_types.specs.declared.key.Key.{Key}
 use Rattle.vm_types.specs.declared.refusal.Refusal.{Refusal}
-use Rattle.vm_types.specs.declared.refusal.Refusal.TheVariants.{Device, Failed, Memory}
+use Rattle.vm_types.specs.declared.refusal.Refusal.TheVariants.{Device, Failed, Full, Memory}
 use Rattle.vm_types.specs.Shape.{shape}
 use Rattle.vm_types.specs.State.{State, after, next}
 use Rattle.vm_disk.specs.Moments.{OnlyReads}
 use Rattle.vm_types.specs.Queries.{IsListing, changes_in, checkpoints_in, conflicts_in}
 use Rattle.vm_types.specs.Versions.{delta_at, map_at, value_at}
 use Rattle.vm_store.specs.Answers.{IsDueOrDevice, IsDueOrWanting}
-use Rattle.vm_store.specs.Resting.{spare_of}
-use Rattle.vm_store.specs.Running.{CarriesOut}
-use Rattle.vm_store.specs.Shared.{unshared_at, unshared_of, unshared_on_sides}
+use Rattle.vm_store.specs.Rest.{spare_of}
+use Rattle.vm_store.specs.Commands.{CarriesOut}
+use Rattle.vm_store.specs.Parts.{diff_at, from_at, part_at}
+use Rattle.vm_store.specs.Shared.{blocks_at, blocks_of_page, blocks_of_part, unshared_at, unshared_of, unshared_on_sides, unshared_part}
 use Rattle.vm_store.specs.Store.{GrowsOn, Holds, IsSameButDisk, ReadsAtMost, blocks_of, free_of, has_failed, disk_of}
 use Rattle.vm_store.specs.Tallies.{tally_in}
 use Rattle.vm_store.specs.declared.store.Store.{Store}
@@ -24,13 +28,15 @@ use Rattle.vm_cli.specs.declared.lines.line.TheConstants.{MAX_BYTES}
 use Rattle.vm_cli.specs.Carried.{WritesStart}
 use Rattle.vm_cli.specs.Lines.{lines_of}
 use Rattle.vm_cli.specs.Listings.{alternative_text, change_text, checkpoint_text, conflict_text, record_text}
-use Rattle.vm_cli.specs.Reading.{without_return}
+use Rattle.vm_cli.specs.Input.{without_return}
 use Rattle.vm_cli.specs.Replies.{found_text, is_error, reply_text}
-use Rattle.vm_cli.specs.Requests.{request_of}
+use Rattle.vm_cli.specs.Requests.{asked_in, request_of}
+use Rattle.vm_cli.specs.Settlements.{for_all}
 use Rattle.vm_cli.specs.Spaces.{words_of}
 use Rattle.vm_cli.specs.declared.answers.reply.Reply.TheVariants as reply
 use Rattle.vm_cli.specs.Asking.{Request}
-use Rattle.vm_cli.specs.declared.talk.OnRefusal.{OnRefusal}
+use Rattle.vm_cli.specs.declared.talk.Manner.{Manner}
+use Rattle.vm_cli.specs.declared.talk.growth.TheConstants.{GROWTHS}
 use Rattle.vm_cli.specs.declared.talk.OnRefusal.TheVariants.{Stop}
 use Rattle.vm_cli.specs.declared.talk.ServeFault.{ServeFault}
 use Rattle.vm_cli.specs.declared.talk.ServeFault.TheVariants as fault
@@ -77,26 +83,46 @@ pub record SaysAnswer {T : Type 0} (Fails : Type 0) (text_of : Result T Refusal 
 abbrev pub SaysFailed : Request → List ℕ → Bool → Type 0
 SaysFailed Request.Nothing text ends = (text ≡ []) × (ends ≡ false)
 SaysFailed Request.Bad text ends = (text ≡ reply_text reply.BadLine) × (ends ≡ false)
+SaysFailed Request.Forbidden text ends = (text ≡ reply_text reply.ReadOnly) × (ends ≡ false)
 SaysFailed request text ends = (text ≡ error_text Failed) × (ends ≡ true)
 
--- the command that a line was, with its answer, or that it was none
+-- the commands that a line was, each with its answer, in the order in which they were carried out; or that it was none
 abbrev pub Done : Type 0
-Done = Option (Command × Result Answer Refusal)
+Done = Option (List (Command × Result Answer Refusal))
 
--- the state after a line, which only a command changes
+-- the state after commands
+abbrev pub after_each : State → List (Command × Result Answer Refusal) → State
+after_each s [] = s
+after_each s ((command, answer) ∷ more) = after_each (next s command answer) more
+
+-- these commands in front of later ones
+abbrev pub each_command : List (Command × Result Answer Refusal) → List Command → List Command
+each_command [] commands = commands
+each_command ((command, answer) ∷ more) commands = command ∷ each_command more commands
+
+-- their answers in front of later ones
+abbrev pub each_answer : List (Command × Result Answer Refusal) → List (Result Answer Refusal) → List (Result Answer Refusal)
+each_answer [] answers = answers
+each_answer ((command, answer) ∷ more) answers = answer ∷ each_answer more answers
+
+-- the state after a line, which only commands change
 abbrev pub after_line : State → Done → State
 after_line s None = s
-after_line s (Some (command, answer)) = next s command answer
+after_line s (Some each) = after_each s each
 
--- the command that a line was, if it was one, in front of later ones
+-- the commands that a line was, if it was any, in front of later ones
 abbrev pub with_command : Done → List Command → List Command
 with_command None commands = commands
-with_command (Some (command, answer)) commands = command ∷ commands
+with_command (Some each) commands = each_command each commands
 
--- its answer in front of later ones
+-- their answers in front of later ones
 abbrev pub with_answer : Done → List (Result Answer Refusal) → List (Result Answer Refusal)
 with_answer None answers = answers
-with_answer (Some (command, answer)) answers = answer ∷ answers
+with_answer (Some each) answers = each_answer each answers
+
+-- the blocks of a store that grows: twice as many as it has, but no more than the most
+abbrev pub larger : ℕ → ℕ → ℕ
+larger most blocks = if nat_le blocks (most / 2) then blocks * 2 else most
 
 module _ {D : Type 0} {members : _} where
   -- a device call failed on the way from the one store to the other
@@ -131,11 +157,16 @@ module _ {D : Type 0} {members : _} where
     pub reads : (members.state (disk_of new)).honest ≡ true → done ≡ None → OnlyReads (members.state (disk_of old)) (members.state (disk_of new))
     pub unchanged : done ≡ None → IsSameButDisk old new
 
-  -- the store failed in a command, and a crash at any moment of it leaves what was committed, or what that command commits; or it
-  -- had failed before, and was left as it was
+  -- calls led to a store that has not failed, and in a command it failed then
+  abbrev pub FailsInLast : Store D members → Store D members → Type 0
+  FailsInLast old new =
+      (mid : Store D members) × (command : Command) × GrowsOn ⊥ old mid × (has_failed mid ≡ false) × CarriesOut mid new command (Err Device)
+
+  -- the store failed in a command, the last one of a line, and a crash at any moment of it leaves what was committed before it, or what it
+  -- commits; or it had failed before, and was left as it was
   abbrev pub Stops : Store D members → Store D members → Type 0
   Stops old new =
-      ((has_failed old ≡ false) × ((command : Command) × CarriesOut old new command (Err Device)))
+      ((has_failed old ≡ false) × FailsInLast old new)
       ⊎ ((has_failed old ≡ true) × (new ≡ old))
 
   -- the number of blocks that are not held is answered; where the store stands for the state, all of them are spare
@@ -161,9 +192,15 @@ module _ {D : Type 0} {members : _} where
   Says old new s (Request.Get at key) text = SaysRead old new s value_line (λ answer. IsDueOrDevice answer (value_at s.working at key)) text
   Says old new s (Request.List at) text =
       SaysRead old new s (list_lines (λ (r : Key × List ℕ). record_text r.0 r.1)) (λ answer. IsListing answer (map_at s.working at)) text
+  Says old new s (Request.Part at low high) text =
+      SaysRead old new s (list_lines (λ (r : Key × List ℕ). record_text r.0 r.1)) (λ answer. IsListing answer (part_at s.working at low high)) text
+  Says old new s (Request.Page at low count) text =
+      SaysRead old new s (list_lines (λ (r : Key × List ℕ). record_text r.0 r.1)) (λ answer. IsListing answer (from_at s.working at low count)) text
   Says old new s (Request.Changes alt) text = SaysRead old new s (list_lines change_text) (λ answer. IsListing answer (changes_in s.working alt)) text
   Says old new s (Request.Diff first second) text =
       SaysRead old new s (list_lines change_text) (λ answer. IsListing answer (delta_at s.working first second)) text
+  Says old new s (Request.DiffPart first second low high) text =
+      SaysRead old new s (list_lines change_text) (λ answer. IsListing answer (diff_at s.working first second low high)) text
   Says old new s (Request.Conflicts alt) text =
       SaysRead old new s (list_lines conflict_text) (λ answer. IsListing answer (conflicts_in s.working alt)) text
   Says old new s (Request.Tally alt) text = SaysRead old new s tally_line (λ answer. IsDueOrWanting answer (tally_in s.working alt)) text
@@ -174,26 +211,94 @@ module _ {D : Type 0} {members : _} where
   Says old new s Request.Blocks text = (new ≡ old) × SaysBlocks old s text
   Says old new s Request.Nothing text = (new ≡ old) × (text ≡ [])
   Says old new s Request.Bad text = (new ≡ old) × (text ≡ reply_text reply.BadLine)
+  Says old new s Request.Forbidden text = (new ≡ old) × (text ≡ reply_text reply.ReadOnly)
   Says old new s (Request.Command command) text = ⊥
+  Says old new s (Request.Growing most command) text = ⊥
+  Says old new s (Request.MergeAll limit alt side settled) text = ⊥
 
+  -- a list makes no more reads than the tree of its version has blocks, one of a part or a page no more than it has blocks with a record of
+  -- that under them, and 8 more;
   -- a query for changes makes no more reads than there are blocks that only one of the base and the current tree of its alternative has,
-  -- one for a difference no more than there are that only one of its two trees has, and one for conflicts or a tally no more than those of
+  -- one for a difference no more than there are that only one of its two trees has, one for a part of it no more than there are of these
+  -- with a record of the part under them, and 16 more, and one for conflicts or a tally no more than those of
   -- the changes and the blocks that only one of its base and its parent's current tree has
   abbrev pub ReadsFew : Store D members → Store D members → Request → Type 0
+  ReadsFew old new (Request.List at) = ReadsAtMost old new (λ s holds. length (blocks_at holds.rests at))
+  ReadsFew old new (Request.Part at low high) = ReadsAtMost old new (λ s holds. length (blocks_of_part holds.rests low high at) + 8)
+  ReadsFew old new (Request.Page at low count) = ReadsAtMost old new (λ s holds. length (blocks_of_page holds.rests low count at) + 8)
   ReadsFew old new (Request.Changes alt) = ReadsAtMost old new (λ s holds. unshared_of holds.rests alt)
   ReadsFew old new (Request.Diff first second) = ReadsAtMost old new (λ s holds. unshared_at holds.rests first second)
+  ReadsFew old new (Request.DiffPart first second low high) = ReadsAtMost old new (λ s holds. unshared_part holds.rests low high first second + 16)
   ReadsFew old new (Request.Conflicts alt) = ReadsAtMost old new (λ s holds. unshared_on_sides holds.rests alt)
   ReadsFew old new (Request.Tally alt) = ReadsAtMost old new (λ s holds. unshared_on_sides holds.rests alt)
   ReadsFew old new request = Unit {0}
 
   -- a command is answered as the store carried it out
   abbrev pub AnswersCommand : Store D members → Store D members → Command → List ℕ → Done → Type 0
-  AnswersCommand old new command text None = ⊥
-  AnswersCommand old new command text (Some (asked, answer)) = (asked ≡ command) × CarriesOut old new command answer × (text ≡ answer_text answer)
+  AnswersCommand old new command text (Some ((asked, answer) ∷ [])) = (asked ≡ command) × CarriesOut old new command answer × (text ≡ answer_text answer)
+  AnswersCommand old new command text was = ⊥
+
+  -- a command was answered Full by a store of fewer blocks than the most, and a Grow of it was answered so
+  pub record GrowsFirst (most : ℕ) (command : Command) (old new : Store D members) (asked grow : Command) (answer grown : Result Answer Refusal) : Type 0 where
+    pub full : Store D members
+    pub same : asked ≡ command
+    pub is_full : answer ≡ Err Full
+    pub tried : CarriesOut old full command answer
+    pub fewer : blocks_of full < most
+    pub size : grow ≡ Grow (larger most (blocks_of full))
+    pub carries : CarriesOut full new grow grown
+
+  -- a command is carried out, and where it is answered Full the store grows and it is carried out again, so many times at most: the text is
+  -- that of its last answer, which is Full only where the store has the most blocks that it may have, or has grown so often; or that of the
+  -- refusal of a Grow
+  abbrev pub Tries : ℕ → ℕ → Command → Store D members → Store D members → List ℕ → List (Command × Result Answer Refusal) → Type 0
+  Tries left most command old new text [] = ⊥
+  Tries left most command old new text ((asked, answer) ∷ []) =
+      (asked ≡ command) × CarriesOut old new command answer × (text ≡ answer_text answer) × (answer ≡ Err Full → (most ≤ blocks_of new) ⊎ (left ≡ 0))
+  Tries zero most command old new text (first ∷ (second ∷ more)) = ⊥
+  Tries (suc left) most command old new text ((asked, answer) ∷ ((grow, Err refusal) ∷ [])) =
+      GrowsFirst most command old new asked grow answer (Err refusal) × (text ≡ error_text refusal)
+  Tries (suc left) most command old new text ((asked, answer) ∷ ((grow, Err refusal) ∷ (other ∷ more))) = ⊥
+  Tries (suc left) most command old new text ((asked, answer) ∷ ((grow, Ok done) ∷ more)) =
+      (mid : Store D members) × GrowsFirst most command old mid asked grow answer (Ok done) × Tries left most command mid new text more
+
+  -- a command for which the store may grow is answered so
+  abbrev pub AnswersGrowing : Store D members → Store D members → ℕ → Command → List ℕ → Done → Type 0
+  AnswersGrowing old new most command text None = ⊥
+  AnswersGrowing old new most command text (Some each) = Tries GROWTHS most command old new text each
+
+  -- a command is answered so, for which the store may grow where a number of blocks is given
+  abbrev pub AnswersWithin : Option ℕ → Store D members → Store D members → Command → List ℕ → Done → Type 0
+  AnswersWithin None old new command text done = AnswersCommand old new command text done
+  AnswersWithin (Some most) old new command text done = AnswersGrowing old new most command text done
+
+  -- a merge with a side for all conflicts is refused before it begins: they could not be told, or there was no memory for their settlements
+  pub record RefusesMerge (old new : Store D members) (s : State) (alt text : List ℕ) : Type 0 where
+    pub refusal : Refusal
+    pub says : text ≡ error_text refusal
+    pub device : refusal ≡ Device → Failing old new
+    pub only_then : refusal ≢ Failed
+    pub due : Stood old new s → IsListing (Err refusal) (conflicts_in s.working alt)
+
+  -- the conflicts of an alternative were told, and with a settlement for each of them a Merge of it was answered
+  pub record SettlesAll (limit : Option ℕ) (old new : Store D members) (s : State) (alt : List ℕ) (side : Side) (settled : List (Key × Side)) (text : List ℕ) (each : List (Command × Result Answer Refusal)) : Type 0 where
+    pub mid : Store D members
+    pub conflicts : List Conflict
+    pub asks : Passes old mid None
+    pub still : has_failed mid ≡ has_failed old
+    pub told : Stood old mid s → conflicts_in s.working alt ≡ Ok conflicts
+    pub merges : AnswersWithin limit mid new (Merge alt (for_all side settled conflicts)) text (Some each)
+
+  -- a merge with a side for all conflicts is answered so
+  abbrev pub AnswersMerge : Option ℕ → Store D members → Store D members → State → List ℕ → Side → List (Key × Side) → List ℕ → Done → Type 0
+  AnswersMerge limit old new s alt side settled text None = (has_failed new ≡ false) × RefusesMerge old new s alt text
+  AnswersMerge limit old new s alt side settled text (Some each) = SettlesAll limit old new s alt side settled text each
 
   -- what a request is answered by a store that had not failed: no query makes it fail
   abbrev pub Meets : Store D members → Store D members → State → Request → List ℕ → Done → Type 0
   Meets old new s (Request.Command command) text done = AnswersCommand old new command text done
+  Meets old new s (Request.Growing most command) text done = AnswersGrowing old new most command text done
+  Meets old new s (Request.MergeAll limit alt side settled) text done = AnswersMerge limit old new s alt side settled text done
   Meets old new s query text done = (done ≡ None) × (has_failed new ≡ false) × Says old new s query text × ReadsFew old new query
 
   -- a request is answered, and the talk ends with it where the device fails in a command, or the store had failed before, which is
@@ -203,13 +308,13 @@ module _ {D : Type 0} {members : _} where
       ((has_failed old ≡ false) × (ends ≡ has_failed new) × Meets old new s request text done)
       ⊎ ((has_failed old ≡ true) × (new ≡ old) × (done ≡ None) × SaysFailed request text ends)
 
-  -- a line is answered that memory was wanting, or as too long where it has more than 1,048,576 bytes, or as its words ask where it
-  -- hasn't; the first two leave the store as it was, and end no talk
-  abbrev pub Answered : Store D members → Store D members → State → List ℕ → List ℕ → Bool → Done → Type 0
-  Answered old new s line text ends done =
+  -- a line is answered that memory was wanting, or as too long if it has more than 1,048,576 bytes, or else as its words ask in a talk of
+  -- this manner; the first two leave the store as it was, and end no talk
+  abbrev pub Answered : Store D members → Store D members → State → Manner → List ℕ → List ℕ → Bool → Done → Type 0
+  Answered old new s on line text ends done =
       ((new ≡ old) × (done ≡ None) × (ends ≡ false) × (text ≡ error_text Memory))
       ⊎ (((MAX_BYTES < length line) × (new ≡ old) × (done ≡ None) × (ends ≡ false) × (text ≡ reply_text reply.LongLine))
-      ⊎ ((length line ≤ MAX_BYTES) × AnsweredRequest old new s (request_of (words_of (without_return line))) text ends done))
+      ⊎ ((length line ≤ MAX_BYTES) × AnsweredRequest old new s (asked_in on.on_command (request_of (words_of (without_return line)))) text ends done))
 
   -- something was answered so: a store that hasn't failed stands for what is left, where it stood for the state before and the disk is
   -- honest after it; and it fails only where the talk ends
@@ -221,34 +326,34 @@ module _ {D : Type 0} {members : _} where
     pub holds : Stood old new s → has_failed new ≡ false → Holds new (after_line s done)
 
   -- a line was answered so
-  abbrev pub HandlesLine : Store D members → Store D members → State → List ℕ → List ℕ → Bool → Type 0
-  HandlesLine old new s line text ends = Handled old new s ends (Answered old new s line text ends)
+  abbrev pub HandlesLine : Store D members → Store D members → State → Manner → List ℕ → List ℕ → Bool → Type 0
+  HandlesLine old new s on line text ends = Handled old new s ends (Answered old new s on line text ends)
 
   -- lines are answered one after another, and no answer ends the talk: each by the store that the line before left; the texts
   -- joined, the commands among the lines with their answers, and whether a line was refused
-  abbrev pub Talks : Store D members → Store D members → State → List (List ℕ) → List ℕ → List Command → List (Result Answer Refusal) → Bool → Type 0
-  Talks old new s [] text commands answers refused = (new ≡ old) × (text ≡ []) × (commands ≡ []) × (answers ≡ []) × (refused ≡ false)
-  Talks old new s (line ∷ lines) text commands answers refused =
+  abbrev pub Talks : Store D members → Store D members → State → Manner → List (List ℕ) → List ℕ → List Command → List (Result Answer Refusal) → Bool → Type 0
+  Talks old new s on [] text commands answers refused = (new ≡ old) × (text ≡ []) × (commands ≡ []) × (answers ≡ []) × (refused ≡ false)
+  Talks old new s on (line ∷ lines) text commands answers refused =
       (mid : Store D members) × (first : List ℕ) × (rest : List ℕ) × (later : List Command) × (others : List (Result Answer Refusal))
-      × (step : HandlesLine old mid s line first false)
+      × (step : HandlesLine old mid s on line first false)
       × (text ≡ first ++ rest) × (commands ≡ with_command step.done later) × (answers ≡ with_answer step.done others)
       × (again : Bool) × (refused ≡ (is_error first || again))
-      × Talks mid new (after_line s step.done) lines rest later others again
+      × Talks mid new (after_line s step.done) on lines rest later others again
 
   -- lines were answered so, and the store, where it hasn't failed, stands for what their commands leave, if it stood for the state before
   -- and the disk is honest after them. Where a refusal is to end the talk, none of them was refused
-  pub record HasTalked (old new : Store D members) (s : State) (on : OnRefusal) (lines : List (List ℕ)) (text : List ℕ) : Type 0 where
+  pub record HasTalked (old new : Store D members) (s : State) (on : Manner) (lines : List (List ℕ)) (text : List ℕ) : Type 0 where
     pub commands : List Command
     pub answers : List (Result Answer Refusal)
     pub refused : Bool
-    pub talks : Talks old new s lines text commands answers refused
-    pub goes_on : on ≡ Stop → refused ≡ false
+    pub talks : Talks old new s on lines text commands answers refused
+    pub goes_on : on.on_refusal ≡ Stop → refused ≡ false
     pub still : has_failed new ≡ has_failed old
     pub holds : Stood old new s → has_failed new ≡ false → Holds new (after s commands answers)
 
   -- a talk over all these lines that ended with one of them: those before it were answered, then it was, and no other. Where its
   -- answer ends the talk, the store failed in it, from the state that the answers before it leave, or had failed before
-  pub record EndsTalk (old new : Store D members) (s : State) (on : OnRefusal) (ends : Bool) (all : List (List ℕ)) (text : List ℕ) : Type 0 where
+  pub record EndsTalk (old new : Store D members) (s : State) (on : Manner) (ends : Bool) (all : List (List ℕ)) (text : List ℕ) : Type 0 where
     pub mid : Store D members
     pub lines : List (List ℕ)
     pub line : List ℕ
@@ -258,24 +363,24 @@ module _ {D : Type 0} {members : _} where
     pub cut : all ≡ lines ++ line ∷ others
     pub texts : text ≡ earlier ++ last
     pub talked : HasTalked old mid s on lines earlier
-    pub handled : HandlesLine mid new (after s talked.commands talked.answers) line last ends
+    pub handled : HandlesLine mid new (after s talked.commands talked.answers) on line last ends
     pub stops : ends ≡ true → Stops mid new
 
   -- a talk over all these lines. At Ok each was answered, and it is said whether one was refused; at Read the first of them were; at
   -- Store the answer to one of them ended the talk; at Refused one of them was refused, which was to end the talk; and at Write the
   -- writer failed in the answer to one of them, and only a beginning of the texts was written
-  abbrev pub ServesLines : Store D members → Store D members → State → OnRefusal → Result Bool ServeFault → Option (List ℕ) → Option (List ℕ) → List (List ℕ) → Type 0
+  abbrev pub ServesLines : Store D members → Store D members → State → Manner → Result Bool ServeFault → Option (List ℕ) → Option (List ℕ) → List (List ℕ) → Type 0
   ServesLines old new s on (Ok refused) before after all =
       (text : List ℕ) × (talked : HasTalked old new s on all text) × (refused ≡ talked.refused) × Appends before after text
   ServesLines old new s on (Err fault.Read) before after all =
       (text : List ℕ) × (lines : List (List ℕ)) × (others : List (List ℕ)) × (all ≡ lines ++ others) × HasTalked old new s on lines text × Appends before after text
   ServesLines old new s on (Err fault.Store) before after all = (text : List ℕ) × EndsTalk old new s on true all text × Appends before after text
   ServesLines old new s on (Err fault.Refused) before after all =
-      (text : List ℕ) × (ended : EndsTalk old new s on false all text) × (is_error ended.last ≡ true) × (on ≡ Stop) × Appends before after text
+      (text : List ℕ) × (ended : EndsTalk old new s on false all text) × (is_error ended.last ≡ true) × (on.on_refusal ≡ Stop) × Appends before after text
   ServesLines old new s on (Err fault.Write) before after all = (text : List ℕ) × (ends : Bool) × EndsTalk old new s on ends all text × WritesStart before after text
 
   -- a talk over some input, which is what the reader had to give, where that is known
-  pub record Serves (old new : Store D members) (s : State) (on : OnRefusal) (result : Result Bool ServeFault) (before after : Option (List ℕ)) (known : Option (List ℕ)) : Type 0 where
+  pub record Serves (old new : Store D members) (s : State) (on : Manner) (result : Result Bool ServeFault) (before after : Option (List ℕ)) (known : Option (List ℕ)) : Type 0 where
     pub input : List ℕ
     pub own : IfSome known (λ bytes. bytes ≡ input)
     pub served : ServesLines old new s on result before after (lines_of input)

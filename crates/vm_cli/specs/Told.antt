@@ -6,14 +6,14 @@ use Rattle.vm_disk.specs.Disk.{DiskState}
 use Rattle.vm_disk.specs.Moments.{Throughout}
 use Rattle.vm_disk.specs.declared.delayed.DelayedDisk.{DelayedDisk}
 use Rattle.vm_disk.specs.declared.disk.Disk.{Ghosts}
-use Rattle.vm_store.specs.Formatting.{IsFormatting, IsOfFormat}
-use Rattle.vm_cli.specs.Delaying.{IsRefusedLate, IsServedLate}
-use Rattle.vm_cli.specs.Drawing.{tree_text}
+use Rattle.vm_store.specs.NewStore.{IsFormatting, IsOfFormat}
+use Rattle.vm_cli.specs.DelayedLines.{IsRefusedLate, IsServedLate}
+use Rattle.vm_cli.specs.Branches.{tree_text}
 use Rattle.vm_cli.specs.Exits.{TellsOn, check_text, created_text, refused_text}
 use Rattle.vm_cli.specs.Sessions.{HasCounted, HasMade, HasMadeNone, HasRefused, HasServed, HasShown}
 use Rattle.vm_cli.specs.declared.program.Exit.{Exit}
 use Rattle.vm_cli.specs.declared.program.Exit.TheVariants.{Done, Refused}
-use Rattle.vm_cli.specs.declared.talk.OnRefusal.{OnRefusal}
+use Rattle.vm_cli.specs.declared.talk.Manner.{Manner}
 
 -- at each moment nothing has changed, or all is synced; or there was no store, and a crash shows at most the new one
 abbrev pub FormatsOnly : ℕ → DiskState → DiskState → Type 0
@@ -55,7 +55,7 @@ module _ {D W : Type 0} (members : Ghosts D) (contents : W → Option (List ℕ)
       (refusal : Refusal) × HasRefused (members.state old) (members.state result.1) refusal × TellsOn contents Refused result.0 writer writer' (refused_text refusal)
 
 -- lines were answered over a disk, which came back beside this end: what of the reader and the writer
-module _ {D R W : Type 0} (members : Ghosts D) (input_of : R → Option (List ℕ)) (contents : W → Option (List ℕ)) (on : OnRefusal) (old : D) (result : Exit × D) where
+module _ {D R W : Type 0} (members : Ghosts D) (input_of : R → Option (List ℕ)) (contents : W → Option (List ℕ)) (on : Manner) (old : D) (result : Exit × D) where
   -- over the disk itself
   abbrev pub AnswersOver : R → W → W → Type 0
   AnswersOver reader writer writer' = HasServed members on old result.1 result.0 (input_of reader) (contents writer) (contents writer')

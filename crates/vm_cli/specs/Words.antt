@@ -1,5 +1,5 @@
 -- The command line of the program as clap reads it, and the job that clap's matches ask for.
-use Rattle.std.specs.Prelude.{◌≡◌, ℕ, Bool, true, false, pos, List, [], ◌∷◌, Option, Some, None, codes, if◌then◌else◌, option_map, option_and_then, IsOkAnd, Result}
+use Rattle.std.specs.Prelude.{◌≡◌, ℕ, Bool, true, false, pos, List, [], ◌∷◌, Option, Some, None, codes, if◌then◌else◌, nat_lt, option_map, option_and_then, IsOkAnd, Result}
 use Rattle.std.specs.Str.{bytes_eq}
 use Rattle.std.specs.Str.Parse.{digits_value, without_leading_plus}
 use Rattle.clap.specs.ValueTests.{is_unsigned_in}
@@ -10,7 +10,11 @@ use Rattle.clap.specs.declared.builder.command.Command.TheViews.{out-Command}
 use Rattle.clap.specs.declared.builder.action.ArgAction.TheVariants.{Append, SetTrue}
 use Rattle.clap.specs.declared.builder.value_parser.ValueParser.TheVariants as vp
 use Rattle.vm_types.specs.declared.sizes.TheConstants.{MIN_BLOCKS, MAX_BLOCKS}
-use Rattle.vm_cli.specs.declared.program.words.TheConstants.{MAX_CACHE, MAX_BUFFER}
+use Rattle.vm_cli.specs.declared.program.task.TheConstants.{MAX_BUFFER}
+use Rattle.vm_cli.specs.declared.program.words.TheConstants.{MAX_CACHE}
+use Rattle.vm_cli.specs.declared.talk.Manner.{Manner}
+use Rattle.vm_cli.specs.declared.talk.OnCommand.{OnCommand}
+use Rattle.vm_cli.specs.declared.talk.OnCommand.TheVariants.{CarryOut, GrowIfFull, Refuse}
 use Rattle.vm_cli.specs.declared.talk.OnRefusal.{OnRefusal}
 use Rattle.vm_cli.specs.declared.talk.OnRefusal.TheVariants.{Ignore, Stop, Tell}
 use Rattle.vm_cli.specs.declared.program.task.InMemory.{InMemory}
@@ -34,22 +38,21 @@ blocks_rule = record (new_rule (codes "blocks")) {
 abbrev pub create_app : App
 create_app = with_rule (with_rule (new_app (codes "create")) file_rule) blocks_rule
 
--- an option that says how many blocks are in memory: a number up to the most, and the default where no word says one
-abbrev pub amount_rule : Text → Text → ℕ → Rule
-amount_rule name default most = record (new_rule name) {
+-- an option for a number from 0 up to the most
+abbrev pub amount_rule : Text → ℕ → Rule
+amount_rule name most = record (new_rule name) {
   long = Some name;
   value_names = 1;
-  defaults = default ∷ [];
   parser = Some (vp.Signed (pos 0) (pos most));
 }
 
 -- how many blocks are kept in memory: 256 where no word says it
 abbrev pub cache_rule : Rule
-cache_rule = amount_rule (codes "cache") (codes "256") MAX_CACHE
+cache_rule = record (amount_rule (codes "cache") MAX_CACHE) { defaults = codes "256" ∷ [] }
 
--- how many written blocks wait in memory: 16384 where no word says it
+-- how many written blocks may wait in memory, if a word says it
 abbrev pub buffer_rule : Rule
-buffer_rule = amount_rule (codes "buffer") (codes "16384") MAX_BUFFER
+buffer_rule = amount_rule (codes "buffer") MAX_BUFFER
 
 -- an option that is given or not
 abbrev pub flag_rule : Text → Rule
@@ -62,6 +65,17 @@ flag_rule name = record (new_rule name) {
 abbrev pub strict_rule : Rule
 strict_rule = flag_rule (codes "strict")
 
+-- whether commands are refused, and the file is only read
+abbrev pub read_only_rule : Rule
+read_only_rule = flag_rule (codes "read-only")
+
+-- whether the store may grow, and to how many blocks, 0 where no word says it
+abbrev pub grow_rule : Rule
+grow_rule = flag_rule (codes "grow")
+
+abbrev pub grow_to_rule : Rule
+grow_to_rule = record (amount_rule (codes "grow-to") MAX_BLOCKS) { defaults = codes "0" ∷ [] }
+
 -- whether the file's lock is left alone, and whether it is waited for
 abbrev pub no_lock_rule : Rule
 no_lock_rule = flag_rule (codes "no-lock")
@@ -73,9 +87,10 @@ wait_rule = flag_rule (codes "wait")
 abbrev pub with_lock : App → App
 with_lock app = with_rule (with_rule app no_lock_rule) wait_rule
 
--- a subcommand with the options of a talk: those, and `[--strict] [--cache N] [--buffer N]`
+-- a subcommand with the options of a talk: those, and `[--strict] [--read-only] [--grow] [--grow-to N] [--cache N] [--buffer N]`
 abbrev pub with_options : App → App
-with_options app = with_rule (with_rule (with_rule (with_lock app) strict_rule) cache_rule) buffer_rule
+with_options app =
+    with_rule (with_rule (with_rule (with_rule (with_rule (with_rule (with_lock app) strict_rule) read_only_rule) grow_rule) grow_to_rule) cache_rule) buffer_rule
 
 -- `run [OPTIONS] FILE`
 abbrev pub run_app : App
@@ -114,8 +129,8 @@ altctl =
 -- a job, with the file's name itself in place of a reference to it, and the input of the lines that were given
 pub data Wanted : Type 0 where
   create : Text → ℕ → Wanted
-  run : Text → InMemory → OnRefusal → Wanted
-  do_lines : Text → List ℕ → InMemory → OnRefusal → Wanted
+  run : Text → InMemory → Manner → Wanted
+  do_lines : Text → List ℕ → InMemory → Manner → Wanted
   check : Text → Wanted
   draw : Text → Wanted
 
@@ -144,28 +159,42 @@ refusal_by on rows = if is_set (first_of (codes "strict") rows) then Stop else o
 abbrev pub number_by : ℕ → ℕ → Text → List Row → Option ℕ
 number_by low high name rows = option_and_then (number_in low high) (one_of name rows)
 
+-- what a command means: with `--read-only` it is refused, with a number of blocks the store may grow to that, and with `--grow` to the most
+abbrev pub command_with : Bool → Bool → ℕ → OnCommand
+command_with read_only grow most =
+    if read_only then Refuse else (if nat_lt 0 most then GrowIfFull most else (if grow then GrowIfFull MAX_BLOCKS else CarryOut))
+
+-- how lines are answered
+abbrev pub manner_by : OnRefusal → List Row → Option Manner
+manner_by on rows =
+    option_map
+    (λ most. record { on_command = command_with (is_set (first_of (codes "read-only") rows)) (is_set (first_of (codes "grow") rows)) most; on_refusal = refusal_by on rows })
+    (number_by 0 MAX_BLOCKS (codes "grow-to") rows)
+
 -- how many blocks are kept in memory
 abbrev pub cache_by : List Row → Option ℕ
 cache_by rows = number_by 0 MAX_CACHE (codes "cache") rows
 
--- how many blocks wait in memory to be written
+-- how many written blocks may wait in memory, if a word says it
 abbrev pub buffer_by : List Row → Option ℕ
 buffer_by rows = number_by 0 MAX_BUFFER (codes "buffer") rows
 
 -- both
 abbrev pub memory_by : List Row → Option InMemory
-memory_by rows = option_and_then (λ cache. option_map (λ buffer. record { cache = cache; buffer = buffer }) (buffer_by rows)) (cache_by rows)
+memory_by rows = option_map (λ cache. record { cache = cache; buffer = buffer_by rows }) (cache_by rows)
 
 -- what `do` with these matches wants of this file
 abbrev pub do_by : List Row → Text → Option Wanted
 do_by rows file =
-    option_and_then (λ lines. option_map (λ in_memory. do_lines file (input_of lines) in_memory (refusal_by Tell rows)) (memory_by rows)) (all_of (codes "line") rows)
+    option_and_then
+    (λ lines. option_and_then (λ in_memory. option_map (λ manner. do_lines file (input_of lines) in_memory manner) (manner_by Tell rows)) (memory_by rows))
+    (all_of (codes "line") rows)
 
 -- what a subcommand with these matches wants of this file
 abbrev pub asked_by : Text → List Row → Text → Option Wanted
 asked_by name rows file =
     if bytes_eq name (codes "create") then option_map (create file) (number_by MIN_BLOCKS MAX_BLOCKS (codes "blocks") rows)
-    else (if bytes_eq name (codes "run") then option_map (λ in_memory. run file in_memory (refusal_by Ignore rows)) (memory_by rows)
+    else (if bytes_eq name (codes "run") then option_and_then (λ in_memory. option_map (λ manner. run file in_memory manner) (manner_by Ignore rows)) (memory_by rows)
     else (if bytes_eq name (codes "do") then do_by rows file
     else (if bytes_eq name (codes "check") then Some (check file)
     else (if bytes_eq name (codes "tree") then Some (draw file) else None))))

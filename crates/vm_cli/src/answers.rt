@@ -1,7 +1,7 @@
-//! What lines are answered: the text of an answer, how it is made, and how it is written.
+//! Answers to lines: the text of an answer, how it is made, and how it is written.
 
 pub mod listing;
 pub mod lists;
+pub mod output;
 pub mod reply;
 pub mod text;
-pub mod writing;

@@ -1,4 +1,4 @@
-//! Lines as they are read: their bytes, their words, and what stands in those.
+//! Lines as they are read: their bytes, their words, and what the words say.
 
 pub mod arguments;
 pub mod escape;

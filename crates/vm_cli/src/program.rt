@@ -1,34 +1,35 @@
-//! All that the program does.
+//! Everything that the program does.
 
-pub mod caching;
+pub mod branches;
+pub mod cached_lines;
 pub mod console;
-pub mod counting;
-pub mod delaying;
-pub mod drawing;
+pub mod delayed_lines;
+pub mod file_lock;
 pub mod given;
 pub mod help;
-pub mod locking;
 pub mod mem_files;
 pub mod place;
 pub mod progress;
-pub mod showing;
-pub mod surveying;
+pub mod store_counts;
 pub mod task;
+pub mod tree_lines;
+pub mod tree_view;
+pub mod warm_up;
 pub mod words;
 
+use crate::answers::output::{WriteFault, flush, put_all};
 use crate::answers::reply::push_refusal;
 use crate::answers::text::Text;
-use crate::answers::writing::{WriteFault, flush, put_all};
-use crate::talk::{OnRefusal, ServeFault, serve};
-use caching::answer_lines_in_memory;
+use crate::talk::{Manner, OnCommand, OnRefusal, ServeFault, serve};
+use cached_lines::answer_lines_in_memory;
 use clap::Error;
 use clap::error::ErrorKind;
-use counting::{Counts, count};
 use place::Place;
-use showing::tree;
 use std::alloc::Global;
 use std::io::{Read, Write};
+use store_counts::{Counts, count};
 use task::{InMemory, Job};
+use tree_view::tree;
 use vm_disk::{CachedDisk, DelayedDisk, Disk};
 use vm_store::{format, open};
 use vm_types::Refusal;
@@ -37,15 +38,16 @@ use words::job;
 /// How the program ends.
 #[derive(Clone, Copy, Debug, PartialEq, Eq)]
 pub enum Exit {
-    /// All was done, though the store may have refused single lines.
+    /// Everything was done, though the store may have refused single lines.
     Done,
-    /// The file could not be made or opened, or its disk is refused.
+    /// The file could not be made or opened, or its disk was refused.
     Refused,
     /// The words name no task.
     WrongWords,
-    /// The input or an output failed, the store failed, or memory for the words was refused.
+    /// The input or an output failed, the store failed, or memory for the words could not be
+    /// allocated.
     Stopped,
-    /// A line was refused, which was to be told.
+    /// A line was refused, and the status has to tell it.
     LineRefused,
 }
 
@@ -64,20 +66,21 @@ impl Exit {
     }
 }
 
-ghost use Rattle.std.specs.Prelude.{◌≡◌, ◌≢◌, ◌+◌, ◌≤◌, ◌⊎◌, ◌++◌, ◌∷◌, ℕ, List, [], true, OnErr, OnOk, codes, map};
+ghost use Rattle.std.specs.Prelude.{◌≡◌, ◌≢◌, ◌+◌, ◌≤◌, ◌⊎◌, ◌++◌, ◌∷◌, ℕ, List, [], true, None, IfSome, OnErr, OnOk, codes, map};
 ghost use Rattle.std.specs.Io.KnownBytes.{Appends};
 ghost use Rattle.std.specs.String.{string_bytes};
 ghost use Rattle.vm_cli.specs.Carried.{Begins, Gains};
 ghost use Rattle.vm_types.specs.declared.refusal.Refusal.{Refusal as RefusalValue};
 ghost use Rattle.vm_disk.specs.Between.{IfHonest};
 ghost use Rattle.vm_cli.specs.Told.{AnswersOver, FormatsOnly, MakesStore, TellsCount, TellsRefusal};
-ghost use Rattle.vm_cli.specs.Runs.{AnswersIn, CountsIn, DoesIn, LooksOnly, MakesIn, RunsIn, ServesIn, ServesRun, ServesWords, disks};
+ghost use Rattle.vm_cli.specs.Places.{FindsIn, WasHonest};
+ghost use Rattle.vm_cli.specs.Runs.{AnswersIn, AsksToWrite, CountsIn, DoesIn, LooksOnly, MakesIn, RunsIn, ServesIn, ServesRun, ServesWords, disks};
 ghost use Rattle.vm_cli.specs.Sessions.{end_of as end_of_talk};
 ghost use Rattle.vm_cli.specs.Exits.{Blames, Checks, Ends, Helps, IsDone, IsLineRefused, IsRefused, IsStopped, IsWrong, JobEnds, RefusesInUse, RefusesOn, RefusesWords, StopsUnsaid, TalkEnds, TellsOn, counts_text, created_text, file_text, named_text, refused_text, status_of, stopped_text};
 ghost use Rattle.vm_cli.specs.Words.Wanted.{check as check_wanted, create as create_wanted, run as run_wanted};
 
-/// Does what the words say, of which the first is the program's name, and gives the exit status.
-/// Each disk that the place gave is given back.
+/// Does what the words say, and returns the exit status. The first word is the program's name. Each
+/// disk that the place gave is given back.
 pub fn run_words<P: Place, R: Read, W: Write, F: Write>(
     alloc: Global,
     words: &[String],
@@ -94,13 +97,14 @@ pub fn run_words<P: Place, R: Read, W: Write, F: Write>(
     ensures line_refused { result ≡ 4
         → IsLineRefused W.contents F.contents (map string_bytes words.now) errors.old errors.new }
     ensures looks { LooksOnly P.to_write place.old place.new (map string_bytes words.now) }
-    // As long as the place has kept its rules, and its disks theirs, the files are what the job makes of them. Where the program stopped
-    // the errors are begun to be told so, behind what the job said.
+    // As long as the place and its disks have kept their rules, the files are what the job makes of
+    // them. If the program stopped, the errors say so or begin to, after what the job said.
     ensures files { RunsIn (disks P.D.Disk ⟦<CachedDisk<P::D> as Disk>⟧ ⟦<DelayedDisk<P::D> as Disk>⟧ ⟦<DelayedDisk<CachedDisk<P::D>> as Disk>⟧)
         P.state P.denied place.old place.new P.to_write (map string_bytes words.now) result
         (R.remaining input.old) (W.contents output.old) (W.contents output.new) F.contents errors.old errors.new }
-    // On any place, whether its disks keep their rules or not, lines are answered as `serve` promises of any disk; or it is told, or begun
-    // to be told, why its disk was refused, or that it gave none of that file.
+    // On any place, whether its disks keep their rules or not, lines are answered as `serve`
+    // promises for any disk; or the errors say, or begin to say, why its disk was refused, or that
+    // the place gave none for that file.
     ensures served { ServesRun (disks P.D.Disk ⟦<CachedDisk<P::D> as Disk>⟧ ⟦<DelayedDisk<P::D> as Disk>⟧ ⟦<DelayedDisk<CachedDisk<P::D>> as Disk>⟧)
         P.denied place.old place.new (map string_bytes words.now) result
         (R.remaining input.old) (W.contents output.old) (W.contents output.new) F.contents errors.old errors.new }
@@ -111,8 +115,8 @@ pub fn run_words<P: Place, R: Read, W: Write, F: Write>(
     }
 }
 
-/// Says that one of the words is no text, and gives the exit status: 2, or 3 where that could not be
-/// said.
+/// Says that one of the words is not text, and returns the exit status: 2, or 3 if that could not
+/// be said.
 pub fn refuse_words<F: Write>(errors: &mut F) -> u8
     ensures { RefusesWords F.contents result errors.old errors.new }
 {
@@ -122,8 +126,8 @@ pub fn refuse_words<F: Write>(errors: &mut F) -> u8
     }
 }
 
-/// Says that another process has locked the file, and gives the exit status: 1, or 3 where that could
-/// not be said.
+/// Says that another process has locked the file, and returns the exit status: 1, or 3 if that
+/// could not be said.
 pub fn refuse_in_use<F: Write>(file: &str, errors: &mut F) -> u8
     ensures { RefusesInUse F.contents file.now result errors.old errors.new }
 {
@@ -133,7 +137,7 @@ pub fn refuse_in_use<F: Write>(file: &str, errors: &mut F) -> u8
     }
 }
 
-/// Says that the program stopped, where that can be said, and gives the exit status.
+/// Says that the program stopped, if that can be said, and returns the exit status.
 pub fn stop<F: Write>(errors: &mut F) -> u8
     ensures status { result ≡ 3 }
     ensures said { Begins F.contents stopped_text errors.old errors.new }
@@ -142,7 +146,7 @@ pub fn stop<F: Write>(errors: &mut F) -> u8
     3
 }
 
-/// Does what the words say. That the program stopped is still to be said.
+/// Does what the words say. That the program stopped is left for the caller to say.
 fn do_job<P: Place, R: Read, W: Write, F: Write>(
     alloc: Global,
     words: &[String],
@@ -167,22 +171,20 @@ fn do_job<P: Place, R: Read, W: Write, F: Write>(
             Job::Run {
                 file,
                 in_memory,
-                on_refusal,
+                manner,
             },
-        ) => run(
-            alloc, file, in_memory, on_refusal, place, input, output, errors,
-        ),
+        ) => run(alloc, file, in_memory, manner, place, input, output, errors),
         Ok(
             Job::Do {
                 file,
                 input,
                 in_memory,
-                on_refusal,
+                manner,
             },
         ) => {
             let mut lines = input.as_slice();
             run(
-                alloc, file, in_memory, on_refusal, place, &mut lines, output, errors,
+                alloc, file, in_memory, manner, place, &mut lines, output, errors,
             )
         }
         Ok(Job::Check { file }) => check(alloc, file, place, output, errors),
@@ -220,10 +222,11 @@ fn make_store<D: Disk, W: Write, F: Write>(
     output: &mut W,
     errors: &mut F,
 ) -> (Exit, D)
-    // On an honest disk the new store is shown; a store that was there stands as it was.
+    // On an honest disk, the new store is shown, and an existing store stays as it was.
     ensures made { MakesStore W.contents F.contents blocks (D.state disk) (D.state result.1) result.0
         output.old output.new errors.old errors.new }
-    // At each moment nothing has changed, or all is synced; or there was no store, and a crash shows at most the new one.
+    // At each moment nothing has changed, or everything is synced; or there was no store, and a
+    // crash shows at most the new one.
     ensures moments { IfHonest D.state (FormatsOnly blocks) disk result.1 }
 {
     match format(disk, blocks) {
@@ -237,57 +240,73 @@ fn run<P: Place, R: Read, W: Write, F: Write>(
     alloc: Global,
     file: &str,
     in_memory: InMemory,
-    on_refusal: OnRefusal,
+    manner: Manner,
     place: &mut P,
     input: &mut R,
     output: &mut W,
     errors: &mut F,
 ) -> Exit
-    ensures says { JobEnds W.contents F.contents (run_wanted file.now in_memory on_refusal) result
+    ensures says { JobEnds W.contents F.contents (run_wanted file.now in_memory manner) result
         output.old output.new errors.old errors.new }
-    ensures writes { P.to_write place.new ≡ P.to_write place.old + 1 }
+    ensures writes { AsksToWrite manner.on_command (P.to_write place.old) (P.to_write place.new) }
     ensures files { AnswersIn (disks P.D.Disk ⟦<CachedDisk<P::D> as Disk>⟧ ⟦<DelayedDisk<P::D> as Disk>⟧ ⟦<DelayedDisk<CachedDisk<P::D>> as Disk>⟧)
-        P.state P.denied place.old place.new file.now in_memory on_refusal result
+        P.state P.denied place.old place.new file.now in_memory manner result
         (R.remaining input.old) (W.contents output.old) (W.contents output.new) (F.contents errors.old) (F.contents errors.new) }
     ensures served { ServesIn (disks P.D.Disk ⟦<CachedDisk<P::D> as Disk>⟧ ⟦<DelayedDisk<P::D> as Disk>⟧ ⟦<DelayedDisk<CachedDisk<P::D>> as Disk>⟧)
-        P.denied place.old place.new file.now in_memory on_refusal result
+        P.denied place.old place.new file.now in_memory manner result
         (R.remaining input.old) (W.contents output.old) (W.contents output.new) (F.contents errors.old) (F.contents errors.new) }
 {
-    let Some(disk) = place.find(file) else {
+    let Some(disk) = opened(file, manner.on_command, place) else {
         return no_file(b"altctl: cannot open ", file, errors);
     };
     let (exit, served) = answer_lines_in_memory(
-        alloc, disk, in_memory, on_refusal, input, output, errors,
+        alloc, disk, in_memory, manner, input, output, errors,
     );
     place.give_back(file, served);
     exit
+}
+
+/// Opens a file: read only, if commands are refused.
+fn opened<P: Place>(file: &str, on_command: OnCommand, place: &mut P) -> Option<P::D>
+    ensures none { result ≡ None → P.denied place.new ≡ file.now ∷ P.denied place.old }
+    ensures some { IfSome result (λ disk. P.denied place.new ≡ P.denied place.old) }
+    ensures writes { AsksToWrite on_command (P.to_write place.old) (P.to_write place.new) }
+    ensures earlier { WasHonest (P.state place.old) (P.state place.new) }
+    ensures honest { FindsIn P.state P.D.Disk.state file.now result place.old place.new }
+{
+    match on_command {
+        OnCommand::CarryOut => place.find(file),
+        OnCommand::GrowIfFull(_) => place.find(file),
+        OnCommand::Refuse => place.look(file),
+    }
 }
 
 /// Opens the store on a disk, and answers the lines of the input.
 pub(crate) fn answer_lines<D: Disk, R: Read, W: Write, F: Write>(
     alloc: Global,
     disk: D,
-    on_refusal: OnRefusal,
+    manner: Manner,
     input: &mut R,
     output: &mut W,
     errors: &mut F,
 ) -> (Exit, D)
-    ensures ends { TalkEnds F.contents on_refusal result.0 output.old output.new errors.old errors.new }
-    // As long as the disk is honest the lines are answered as `serve` promises, from what it shows, and a crash at any moment
-    // leaves what the commands so far keep; or it is said why it shows no store, and it is at most synced.
-    ensures served { AnswersOver D.Disk R.remaining W.contents on_refusal disk result input.old output.old output.new
+    ensures ends { TalkEnds F.contents manner.on_refusal result.0 output.old output.new errors.old errors.new }
+    // As long as the disk is honest, the lines are answered as `serve` promises, from what it
+    // shows, and a crash at any moment leaves what the commands so far keep; or it is reported why
+    // it shows no store, and it is at most synced.
+    ensures served { AnswersOver D.Disk R.remaining W.contents manner disk result input.old output.old output.new
         ⊎ TellsRefusal D.Disk F.contents disk result errors.old errors.new }
 {
     match open(alloc, disk) {
         Ok(mut store) => {
-            let served = serve(alloc, input, output, &mut store, on_refusal);
-            (end_of(on_refusal, &served), store.close())
+            let served = serve(alloc, input, output, &mut store, manner);
+            (end_of(manner.on_refusal, &served), store.close())
         }
         Err((disk, refusal)) => (refused(&refusal, errors), disk),
     }
 }
 
-/// How the program ends after a talk.
+/// How the program ends after a session.
 fn end_of(on_refusal: OnRefusal, served: &Result<bool, ServeFault>) -> Exit
     ensures { result ≡ end_of_talk on_refusal served.now }
 {
@@ -303,7 +322,7 @@ fn end_of(on_refusal: OnRefusal, served: &Result<bool, ServeFault>) -> Exit
     }
 }
 
-/// Opens the store in a file for reading alone, and says what it holds.
+/// Opens the store in a file read only, and says what it holds.
 fn check<P: Place, W: Write, F: Write>(
     alloc: Global,
     file: &str,
@@ -333,8 +352,8 @@ fn check_disk<D: Disk, W: Write, F: Write>(
     errors: &mut F,
 ) -> (Exit, D)
     ensures ends { Checks W.contents F.contents result.0 output.old output.new errors.old errors.new }
-    // The numbers are those of the tree that the disk shows, or it is said why the disk was refused. At each moment nothing has changed,
-    // or all is synced.
+    // The numbers are those of the tree that the disk shows, or it is reported why the disk was
+    // refused. At each moment nothing has changed, or everything is synced.
     ensures told { TellsCount D.Disk W.contents disk result output.old output.new
         ⊎ TellsRefusal D.Disk F.contents disk result errors.old errors.new }
 {
@@ -378,7 +397,7 @@ pub(crate) fn no_file<F: Write>(what: &[u8], file: &str, errors: &mut F) -> Exit
     unless_fault(say_with_file(what, file, b"\n", errors), Exit::Refused)
 }
 
-/// Writes a text with the name of a file in it, and hands it on.
+/// Writes a text with the name of a file in it, and flushes it.
 fn say_with_file<W: Write>(
     before: &[u8],
     file: &str,
@@ -395,7 +414,7 @@ fn say_with_file<W: Write>(
     say(writer, behind)
 }
 
-/// Says why a disk is no store, or cannot become one.
+/// Says why a disk is not a store, or cannot become one.
 pub(crate) fn refused<F: Write>(refusal: &Refusal, errors: &mut F) -> Exit
     ensures { RefusesOn F.contents result errors.old errors.new (refused_text refusal.now) }
 {
@@ -424,7 +443,7 @@ fn explain<W: Write, F: Write>(alloc: Global, error: &Error, output: &mut W, err
     unless_fault(say(output, text.as_bytes()), Exit::Done)
 }
 
-/// Writes a text, and hands it on.
+/// Writes a text, and flushes it.
 pub(crate) fn say<W: Write>(writer: &mut W, text: &[u8]) -> Result<(), WriteFault>
     ensures ok { OnOk result (Gains W.contents text.now writer.old writer.new) }
     ensures err { OnErr result (Begins W.contents text.now writer.old writer.new) }
@@ -433,7 +452,7 @@ pub(crate) fn say<W: Write>(writer: &mut W, text: &[u8]) -> Result<(), WriteFaul
     flush(writer)
 }
 
-/// The end that was meant, unless its text could not be written.
+/// The intended exit, unless its text could not be written.
 pub(crate) fn unless_fault(said: Result<(), WriteFault>, exit: Exit) -> Exit
     ensures ok { OnOk said (result ≡ exit) }
     ensures err { OnErr said (result ≡ Exit.Stopped) }

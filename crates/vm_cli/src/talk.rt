@@ -1,22 +1,24 @@
-//! The talk: lines in, answers out.
+//! A session: lines in, answers out.
 
 pub mod commands;
+pub mod growth;
 pub mod puts;
 pub mod queries;
 
-ghost use Rattle.std.specs.Prelude.{◌≡◌, ◌+◌, ◌≤◌, ◌++◌, ◌∷◌, [], length, true, false, IfErr, OnErr, OnOk};
+ghost use Rattle.std.specs.Prelude.{◌≡◌, ◌+◌, ◌≤◌, ◌++◌, ◌∷◌, [], length, true, false, None, IfErr, OnErr, OnOk};
 ghost use Rattle.std.specs.Io.KnownBytes.{IsAtEnd};
 ghost use Rattle.vm_cli.specs.Carried.{Begins, Gains};
-ghost use Rattle.vm_cli.specs.Feeding.{AnswersLine, EndsAmong, EndsIfFailed, FeedsLine, HandlesInto, RepliesToLine, RepliesToWords, ServesEach};
+ghost use Rattle.vm_cli.specs.Feeds.{AnswersLine, EndsAmong, EndsIfFailed, FeedsLine, AsksInto, RepliesToLine, RepliesToRequest, ServesEach};
 ghost use Rattle.vm_cli.specs.Lines.{IsPart};
 ghost use Rattle.vm_cli.specs.Replies.{reply_text};
+ghost use Rattle.vm_cli.specs.Requests.{asked_in, request_of};
 ghost use Rattle.vm_cli.specs.Spaces.{words_of};
-ghost use Rattle.vm_cli.specs.Talk.{EndsBy, FailsByDevice, StoreFails};
+ghost use Rattle.vm_cli.specs.Talk.{EndsBy, FailsByDevice, Passes, StoreFails};
 ghost use Rattle.vm_store.specs.Store.{has_failed, GrowsOn};
 
+use crate::answers::output::{WriteFault, flush, put_all};
 use crate::answers::reply::Reply;
 use crate::answers::text::Text;
-use crate::answers::writing::{WriteFault, flush, put_all};
 use crate::lines::line::{Line, LineKind};
 use crate::lines::pieces::first_word;
 use commands::{
@@ -28,7 +30,7 @@ use memchr::memchr;
 use puts::reply_to_put;
 use queries::{
     reply_to_alts, reply_to_blocks, reply_to_changes, reply_to_checks, reply_to_conflicts,
-    reply_to_diff, reply_to_free, reply_to_get, reply_to_list, reply_to_tally,
+    reply_to_diff, reply_to_free, reply_to_get, reply_to_list, reply_to_next, reply_to_tally,
 };
 use std::alloc::{AllocError, Global};
 use std::io::{Read, Write};
@@ -37,18 +39,37 @@ use vm_disk::Disk;
 use vm_store::Store;
 use vm_types::Refusal;
 
-/// What a line that is refused means, whose answer is an error.
+/// What a refused line means. Its answer is an error.
 #[derive(Clone, Copy, Debug, PartialEq, Eq)]
 pub enum OnRefusal {
-    /// The talk goes on, and the program's status does not go by it.
+    /// The session goes on, and the program's status does not depend on it.
     Ignore,
-    /// The talk goes on, and the program's status tells it.
+    /// The session goes on, and the program's status tells it.
     Tell,
-    /// The talk ends with it.
+    /// The session ends with it.
     Stop,
 }
 
-/// Why a talk ended before the end of its input.
+/// What a line that is a command means.
+#[derive(Clone, Copy, Debug, PartialEq, Eq)]
+pub enum OnCommand {
+    /// It is carried out.
+    CarryOut,
+    /// It is carried out. If it would be answered `Full`, the store grows first, to at most this
+    /// many blocks.
+    GrowIfFull(u32),
+    /// It is answered `error 24 ReadOnly`, and the store is only read.
+    Refuse,
+}
+
+/// How a session is run.
+#[derive(Clone, Copy, Debug, PartialEq, Eq)]
+pub struct Manner {
+    pub on_command: OnCommand,
+    pub on_refusal: OnRefusal,
+}
+
+/// Why a session ended before the end of its input.
 #[derive(Debug, Drop, Error)]
 pub enum ServeFault {
     /// The reader failed.
@@ -57,47 +78,54 @@ pub enum ServeFault {
     /// The writer failed, took no byte of what was left, or could not be flushed.
     #[error("the output could not be written")]
     Write,
-    /// The store carries out nothing more, which the last answer says.
+    /// The store carries out nothing more, as the last answer says.
     #[error("the store has failed")]
     Store,
-    /// A line was refused, which was to end the talk.
+    /// A line was refused, and that ends the session.
     #[error("a line was refused")]
     Refused,
 }
 
-/// Reads lines to the end of the input, and answers each, in their order. An `Ok` says whether one was
-/// refused. A fault ends the talk: no later line is carried out.
+/// Reads lines to the end of the input, and answers each in order. An `Ok` says whether any was
+/// refused. A fault ends the session: no later line is carried out.
 pub fn serve<R: Read, W: Write, D: Disk>(
     alloc: Global,
     reader: &mut R,
     writer: &mut W,
     store: &mut Store<D>,
-    on_refusal: OnRefusal,
+    manner: Manner,
 ) -> Result<bool, ServeFault>
-    // At Ok nothing of the input is left.
+    // With Ok, nothing of the input is left.
     ensures end { OnOk result (IsAtEnd (R.remaining reader.new)) }
 
-    // On any disk the talk ends with Store only where a device call failed in it, or the store had failed before; such a
-    // store is left as it was.
+    // On any disk, the session ends with Store only if a device call failed in it, or the store had
+    // already failed. A store that had already failed is left as it was.
     ensures goes { GrowsOn ⊥ store.old store.new }
     ensures ok { has_failed store.old ≡ false → OnOk result (has_failed store.new ≡ false) }
     ensures err { has_failed store.old ≡ false → IfErr result (StoreFails store.old store.new) }
     ensures left { has_failed store.old ≡ true → store.new ≡ store.old }
 
-    // The lines of the input are answered one after another, each by the store that the line before left, and the store
-    // stands for what their commands leave; where it failed in one, a crash in that leaves what was committed before it, or
-    // what this one commits. A store that had failed answers Failed to the first command or query, and the talk ends.
-    // Where a refused line is to end the talk, none before the last one is refused.
-    // Lists of alternatives and checkpoints, `free`, and a line that is bad or asks for nothing leave the store as it was
-    // on any disk; the lists are as is due where it stands for a state, the others always, unless memory was wanting.
-    // On any disk a query is answered Device only where a device call failed in it, and Failed only by a store that had
-    // failed before.
-    ensures answers { ServesEach W.contents on_refusal result store.old store.new
+    // The lines of the input are answered one after another, each by the store that the line before
+    // left, and the store represents what their commands leave. If the store failed in a line, a
+    // crash in that line leaves what was committed before it, or what this one commits. A store
+    // that had already failed answers Failed to the first command or query, and the session ends.
+    // If a refused line ends the session, none before the last one is refused. Lists of
+    // alternatives and checkpoints, `free`, and a line that is bad or asks for nothing leave the
+    // store as it was on any disk. The lists are the expected ones if the store represents a state,
+    // and the other answers always are, unless memory could not be allocated. On any disk, a query
+    // is answered Device only if a device call failed in it, and Failed only by a store that had
+    // already failed.
+    ensures answers { ServesEach W.contents manner result store.old store.new
         (R.remaining reader.old) writer.old writer.new }
+
+    // If commands are refused, the disk is only read: it is never written or synced, and the store
+    // is left as it was.
+    ensures reads { manner.on_command ≡ OnCommand.Refuse → Passes store.old store.new None }
 {
     let mut line = Line::new(alloc);
     let mut text = Text::new();
-    // Values are found in it, and nothing is kept: one for all lines, so that none has to fill it with zeros.
+    // Values are read into this buffer, and nothing is kept in it. All lines share it, so that none
+    // has to fill it with zeros.
     let mut room = [0; 4096];
     let mut chunk = [0; 8192];
     let mut refused = false;
@@ -107,15 +135,13 @@ pub fn serve<R: Read, W: Write, D: Disk>(
                 if line.is_empty {
                     return Ok(refused);
                 }
-                let last = answer(
-                    alloc, &line, &mut text, &mut room, writer, store, on_refusal,
-                )?;
+                let last = answer(alloc, &line, &mut text, &mut room, writer, store, manner)?;
                 return Ok(refused | last);
             }
             Ok(count) => {
                 let bytes = &chunk[..count];
                 refused |= feed(
-                    alloc, bytes, &mut line, &mut text, &mut room, writer, store, on_refusal,
+                    alloc, bytes, &mut line, &mut text, &mut room, writer, store, manner,
                 )?;
             }
             Err(_) => return Err(ServeFault::Read),
@@ -124,7 +150,7 @@ pub fn serve<R: Read, W: Write, D: Disk>(
     Err(ServeFault::Read)
 }
 
-/// Takes more bytes of the input, and answers each line that ends in them. An `Ok` says whether one
+/// Takes more bytes of the input, and answers each line that ends in them. An `Ok` says whether any
 /// was refused.
 fn feed<W: Write, D: Disk>(
     alloc: Global,
@@ -134,30 +160,21 @@ fn feed<W: Write, D: Disk>(
     room: &mut [u8; 4096],
     writer: &mut W,
     store: &mut Store<D>,
-    on_refusal: OnRefusal,
+    manner: Manner,
 ) -> Result<bool, ServeFault>
     ensures goes { GrowsOn ⊥ store.old store.new }
     ensures ok { has_failed store.old ≡ false → OnOk result (has_failed store.new ≡ false) }
     ensures err { has_failed store.old ≡ false → IfErr result (EndsBy store.old store.new) }
     ensures left { has_failed store.old ≡ true → store.new ≡ store.old }
-    ensures fed { FeedsLine W.contents on_refusal bytes.now line.old line.new result
+    ensures fed { FeedsLine W.contents manner bytes.now line.old line.new result
         store.old store.new writer.old writer.new }
-    ensures ended { EndsAmong W.contents on_refusal bytes.now line.old result
+    ensures ended { EndsAmong W.contents manner bytes.now line.old result
         store.old store.new writer.old writer.new }
 {
     let mut rest = bytes;
     let mut refused = false;
     while let Some(end) = memchr(b'\n', rest) {
-        refused |= feed_line(
-            alloc,
-            &rest[..end],
-            line,
-            text,
-            room,
-            writer,
-            store,
-            on_refusal,
-        )?;
+        refused |= feed_line(alloc, &rest[..end], line, text, room, writer, store, manner)?;
         rest = &rest[end + 1..];
     }
     line.extend(rest);
@@ -174,26 +191,26 @@ fn feed_line<W: Write, D: Disk>(
     room: &mut [u8; 4096],
     writer: &mut W,
     store: &mut Store<D>,
-    on_refusal: OnRefusal,
+    manner: Manner,
 ) -> Result<bool, ServeFault>
     requires { IsPart bytes.now }
     ensures goes { GrowsOn ⊥ store.old store.new }
     ensures ok { has_failed store.old ≡ false → OnOk result (has_failed store.new ≡ false) }
     ensures err { has_failed store.old ≡ false → IfErr result (EndsBy store.old store.new) }
     ensures left { has_failed store.old ≡ true → store.new ≡ store.old }
-    ensures fed { FeedsLine W.contents on_refusal (bytes.now ++ 10 ∷ []) line.old line.new result
+    ensures fed { FeedsLine W.contents manner (bytes.now ++ 10 ∷ []) line.old line.new result
         store.old store.new writer.old writer.new }
-    ensures ended { EndsAmong W.contents on_refusal (bytes.now ++ 10 ∷ []) line.old result
+    ensures ended { EndsAmong W.contents manner (bytes.now ++ 10 ∷ []) line.old result
         store.old store.new writer.old writer.new }
 {
     line.extend(bytes);
-    let refused = answer(alloc, line, text, room, writer, store, on_refusal)?;
+    let refused = answer(alloc, line, text, room, writer, store, manner)?;
     line.clear();
     Ok(refused)
 }
 
-/// Carries out a line and writes its answer, composed in the text, of which nothing is kept. An
-/// `Ok` says whether the line was refused.
+/// Carries out a line and writes its answer. The answer is composed in the text, of which nothing
+/// is kept. An `Ok` says whether the line was refused.
 fn answer<W: Write, D: Disk>(
     alloc: Global,
     line: &Line,
@@ -201,17 +218,17 @@ fn answer<W: Write, D: Disk>(
     room: &mut [u8; 4096],
     writer: &mut W,
     store: &mut Store<D>,
-    on_refusal: OnRefusal,
+    manner: Manner,
 ) -> Result<bool, ServeFault>
     ensures goes { GrowsOn ⊥ store.old store.new }
     ensures ok { has_failed store.old ≡ false → OnOk result (has_failed store.new ≡ false) }
     ensures err { has_failed store.old ≡ false → IfErr result (EndsBy store.old store.new) }
     ensures left { has_failed store.old ≡ true → store.new ≡ store.old }
-    ensures answer { AnswersLine W.contents on_refusal line.now result
+    ensures answer { AnswersLine W.contents manner line.now result
         store.old store.new writer.old writer.new }
 {
     text.clear();
-    let Ok(reply) = reply_to(alloc, line, text, room, writer, store) else {
+    let Ok(reply) = reply_to(alloc, line, text, room, writer, store, manner) else {
         return Err(ServeFault::Write);
     };
     let Ok(()) = send(reply, text, writer) else {
@@ -221,7 +238,7 @@ fn answer<W: Write, D: Disk>(
         return Err(ServeFault::Store);
     }
     if reply.is_refusal() {
-        match on_refusal {
+        match manner.on_refusal {
             OnRefusal::Ignore => return Ok(true),
             OnRefusal::Tell => return Ok(true),
             OnRefusal::Stop => return Err(ServeFault::Refused),
@@ -241,8 +258,8 @@ fn send<W: Write>(reply: Reply, text: &mut Text, writer: &mut W) -> Result<(), W
     flush(writer)
 }
 
-/// Carries out a line. The text takes the lines of a list but for the last, and what doesn't fit
-/// is written; the last line of the answer is given back.
+/// Carries out a line. The text takes the lines of a list except the last one, and what does not
+/// fit is written. The last line of the answer is returned.
 fn reply_to<W: Write, D: Disk>(
     alloc: Global,
     line: &Line,
@@ -250,6 +267,7 @@ fn reply_to<W: Write, D: Disk>(
     room: &mut [u8; 4096],
     writer: &mut W,
     store: &mut Store<D>,
+    manner: Manner,
 ) -> Result<Reply, WriteFault>
     requires { text.old ≡ [] }
     ensures room { OnOk result (length text.new + 1024 ≤ Text.MAX_LEN) }
@@ -257,13 +275,21 @@ fn reply_to<W: Write, D: Disk>(
     ensures last { EndsIfFailed result store.old store.new }
     ensures failing { FailsByDevice store.old store.new }
     ensures left { has_failed store.old ≡ true → store.new ≡ store.old }
-    ensures answer { RepliesToLine W.contents line.now result
+    ensures answer { RepliesToLine W.contents manner line.now result
         store.old store.new writer.old writer.new text.new }
 {
     match line.kind {
         LineKind::Long => Ok(Reply::LongLine),
         LineKind::NoMemory => Ok(Reply::Refused(Refusal::Memory)),
-        LineKind::Kept => reply_to_words(alloc, line.text(), text, room, writer, store),
+        LineKind::Kept => reply_to_words(
+            alloc,
+            line.text(),
+            text,
+            room,
+            writer,
+            store,
+            manner.on_command,
+        ),
     }
 }
 
@@ -275,6 +301,7 @@ fn reply_to_words<W: Write, D: Disk>(
     room: &mut [u8; 4096],
     writer: &mut W,
     store: &mut Store<D>,
+    on_command: OnCommand,
 ) -> Result<Reply, WriteFault>
     requires { text.old ≡ [] }
     ensures room { OnOk result (length text.new + 1024 ≤ Text.MAX_LEN) }
@@ -282,17 +309,17 @@ fn reply_to_words<W: Write, D: Disk>(
     ensures last { EndsIfFailed result store.old store.new }
     ensures failing { FailsByDevice store.old store.new }
     ensures left { has_failed store.old ≡ true → store.new ≡ store.old }
-    ensures answer { RepliesToWords W.contents (words_of line.now) result
+    ensures answer { RepliesToRequest W.contents (asked_in on_command (request_of (words_of line.now))) result
         store.old store.new writer.old writer.new text.new }
 {
     let Some((verb, rest)) = first_word(line) else {
         return Ok(Reply::Nothing);
     };
-    reply_to_verb(alloc, verb, rest, text, room, writer, store)
+    reply_to_verb(alloc, verb, rest, text, room, writer, store, on_command)
 }
 
-/// Carries out a line by its first word, of which those behind it are given. Each kind of line has a
-/// frame of its own, since a command has room for a value: so the talk has a small one.
+/// Carries out a line by its first word, given the words after it. Each kind of line has a stack
+/// frame of its own, since a command has room for a value. So the session's own frame stays small.
 fn reply_to_verb<W: Write, D: Disk>(
     alloc: Global,
     verb: &[u8],
@@ -301,29 +328,30 @@ fn reply_to_verb<W: Write, D: Disk>(
     room: &mut [u8; 4096],
     writer: &mut W,
     store: &mut Store<D>,
+    on_command: OnCommand,
 ) -> Result<Reply, WriteFault>
     requires { text.old ≡ [] }
-    ensures { HandlesInto W.contents (verb.now ∷ words_of rest.now) result
+    ensures { AsksInto W.contents (asked_in on_command (request_of (verb.now ∷ words_of rest.now))) result
         store.old store.new writer.old writer.new text.new }
 {
     match verb {
         _ if verb == b"get".as_slice() => Ok(reply_to_get(rest, text, room, store)),
-        _ if verb == b"put".as_slice() => Ok(reply_to_put(rest, store)),
-        _ if verb == b"remove".as_slice() => Ok(reply_to_remove(rest, store)),
-        _ if verb == b"new".as_slice() => Ok(reply_to_new(rest, store)),
-        _ if verb == b"drop".as_slice() => Ok(reply_to_drop(rest, store)),
-        _ if verb == b"post".as_slice() => Ok(reply_to_post(rest, store)),
-        _ if verb == b"merge".as_slice() => match reply_to_merge(alloc, rest, store) {
+        _ if verb == b"put".as_slice() => Ok(reply_to_put(rest, on_command, store)),
+        _ if verb == b"remove".as_slice() => Ok(reply_to_remove(rest, on_command, store)),
+        _ if verb == b"new".as_slice() => Ok(reply_to_new(rest, on_command, store)),
+        _ if verb == b"drop".as_slice() => Ok(reply_to_drop(rest, on_command, store)),
+        _ if verb == b"post".as_slice() => Ok(reply_to_post(rest, on_command, store)),
+        _ if verb == b"merge".as_slice() => match reply_to_merge(alloc, rest, on_command, store) {
             Ok(reply) => Ok(reply),
             Err(AllocError) => Ok(Reply::Refused(Refusal::Memory)),
         },
-        _ if verb == b"commit".as_slice() => Ok(reply_to_commit(rest, store)),
-        _ if verb == b"rollback".as_slice() => Ok(reply_to_rollback(rest, store)),
-        _ if verb == b"checkpoint".as_slice() => Ok(reply_to_checkpoint(rest, store)),
-        _ if verb == b"uncheck".as_slice() => Ok(reply_to_uncheck(rest, store)),
-        _ if verb == b"back".as_slice() => Ok(reply_to_back(rest, store)),
-        _ if verb == b"reclaim".as_slice() => Ok(reply_to_reclaim(rest, store)),
-        _ if verb == b"grow".as_slice() => Ok(reply_to_grow(rest, store)),
+        _ if verb == b"commit".as_slice() => Ok(reply_to_commit(rest, on_command, store)),
+        _ if verb == b"rollback".as_slice() => Ok(reply_to_rollback(rest, on_command, store)),
+        _ if verb == b"checkpoint".as_slice() => Ok(reply_to_checkpoint(rest, on_command, store)),
+        _ if verb == b"uncheck".as_slice() => Ok(reply_to_uncheck(rest, on_command, store)),
+        _ if verb == b"back".as_slice() => Ok(reply_to_back(rest, on_command, store)),
+        _ if verb == b"reclaim".as_slice() => Ok(reply_to_reclaim(rest, on_command, store)),
+        _ if verb == b"grow".as_slice() => Ok(reply_to_grow(rest, on_command, store)),
         _ if verb == b"list".as_slice() => reply_to_list(alloc, rest, text, writer, store),
         _ if verb == b"alts".as_slice() => reply_to_alts(alloc, rest, text, writer, store),
         _ if verb == b"checks".as_slice() => reply_to_checks(alloc, rest, text, writer, store),
@@ -335,6 +363,7 @@ fn reply_to_verb<W: Write, D: Disk>(
         _ if verb == b"diff".as_slice() => reply_to_diff(alloc, rest, text, writer, store),
         _ if verb == b"tally".as_slice() => Ok(reply_to_tally(alloc, rest, store)),
         _ if verb == b"blocks".as_slice() => Ok(reply_to_blocks(rest, store)),
+        _ if verb == b"next".as_slice() => reply_to_next(alloc, rest, text, writer, store),
         _ if verb.first() == Some(&b'#') => Ok(Reply::Nothing),
         _ => Ok(Reply::BadLine),
     }

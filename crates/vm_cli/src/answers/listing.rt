@@ -19,14 +19,14 @@ pub trait Listing {
     fn count(&self) -> usize
         ensures { result ≡ length (lines self.now) };
 
-    /// Writes the line at i.
+    /// Writes line `i`.
     fn push_line(&self, i: usize, text: &mut Text)
         requires within { i < length (lines self.now) }
         requires room { length text.old + LONGEST_LINE ≤ Text.MAX_LEN }
         ensures { text.new ≡ text.old ++ slice_index_or (lines self.now) i [] };
 }
 
-/// Records, each read from where it lies in the list.
+/// Records, each read from its place in the list.
 impl Listing for Records {
     ghost lines = { λ records. map (λ r. record_text r.0 r.1) records };
 
@@ -39,7 +39,7 @@ impl Listing for Records {
     }
 }
 
-/// Changes, each value read from where it lies in the list.
+/// Changes, each value read from its place in the list.
 impl Listing for Changes {
     ghost lines = { λ changes. map change_text changes };
 
@@ -52,7 +52,7 @@ impl Listing for Changes {
     }
 }
 
-/// Conflicts, each value read so, too.
+/// Conflicts, each value read the same way.
 impl Listing for Conflicts {
     ghost lines = { λ conflicts. map conflict_text conflicts };
 
@@ -83,7 +83,7 @@ impl<L: Listed> Listing for Vec<L> {
     }
 }
 
-/// What stands in a list on a line of its own.
+/// What has a line of its own in a list.
 pub trait Listed {
     ghost use Rattle.std.specs.Prelude.{ℕ, List};
 
@@ -197,7 +197,7 @@ fn push_conflict(
     text.push(b'\n');
 }
 
-/// Writes a key, with a space behind it.
+/// Writes a key and a space after it.
 fn push_key(text: &mut Text, key: Key)
     requires room { length text.old + 42 ≤ Text.MAX_LEN }
     ensures written { text.new ≡ text.old ++ key_words key }

@@ -1,20 +1,21 @@
 //! Answers that are lists.
 ghost use Rattle.std.specs.Prelude.{◌≡◌, ◌+◌, ◌≤◌, [], length, IfOk, OnErr, OnOk};
 ghost use Rattle.vm_cli.specs.Carried.{Begins, GainsBut};
-ghost use Rattle.vm_cli.specs.Feeding.{RepliesWithList, joined};
+ghost use Rattle.vm_cli.specs.Feeds.{RepliesWithList, joined};
 
 use crate::answers::listing::Listing;
+use crate::answers::output::{WriteFault, put_all};
 use crate::answers::reply::Reply;
 use crate::answers::text::Text;
-use crate::answers::writing::{WriteFault, put_all};
 use std::io::Write;
 use vm_types::Refusal;
 
-/// No line of an answer has more bytes.
+/// The maximum length of a line of an answer in bytes.
 pub(crate) const LONGEST_LINE: usize = 36_096;
 
-/// Answers a query for a list with its lines, or with why there is none. The text takes the lines but
-/// for the last, and what doesn't fit is written; the last line of the answer is given back.
+/// Answers a query for a list with its lines, or with the reason why there is none. The text takes
+/// the lines except the last one, and what does not fit is written. The last line of the answer is
+/// returned.
 pub(crate) fn reply_with_list<L: Listing + Drop, W: Write>(
     list: Result<L, Refusal>,
     text: &mut Text,
@@ -30,7 +31,7 @@ pub(crate) fn reply_with_list<L: Listing + Drop, W: Write>(
     }
 }
 
-/// Writes the lines of a list, but for what the text still has room for, and gives its end back.
+/// Writes the lines of a list, except those that the text still has room for, and returns its end.
 fn write_list<L: Listing, W: Write>(
     list: &L,
     text: &mut Text,
@@ -51,7 +52,7 @@ fn write_list<L: Listing, W: Write>(
     Ok(Reply::End(count))
 }
 
-/// Makes room for one more line, and writes what there is where that is too much.
+/// Makes room in the text for one more line. If it has too much, that is written.
 fn make_room<W: Write>(text: &mut Text, writer: &mut W) -> Result<(), WriteFault>
     ensures room { OnOk result (length text.new + LONGEST_LINE ≤ Text.MAX_LEN) }
     ensures ok { OnOk result (GainsBut W.contents text.new text.old writer.old writer.new) }

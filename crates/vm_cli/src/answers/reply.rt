@@ -1,4 +1,4 @@
-//! What a line is answered.
+//! The answer to a line.
 ghost use Rattle.std.specs.Prelude.{◌≡◌, ◌≢◌, ◌+◌, ◌≤◌, ◌++◌, length, true, false};
 
 use crate::answers::text::Text;
@@ -6,10 +6,10 @@ use crate::lines::escape;
 use vm_store::Tally;
 use vm_types::{Key, Refusal};
 
-/// What a line is answered.
+/// The answer to a line.
 #[derive(Clone, Copy)]
 pub enum Reply {
-    /// No line at all, or none behind those that the text has.
+    /// No further line: the answer is empty, or the text already has all of it.
     Nothing,
     Done,
     /// A merge, with the number of its record changes.
@@ -18,22 +18,24 @@ pub enum Reply {
     Free(u32),
     /// The number of blocks.
     Blocks(u32),
-    /// How far an alternative has gone from its base and from its parent.
+    /// How far an alternative is from its base and from its parent.
     Tally(Tally),
     /// The end of a list, with the number of its lines before this one.
     End(usize),
     Refused(Refusal),
-    /// A refusal after which the store carries out nothing more: the talk ends with it.
+    /// A refusal after which the store carries out nothing more. The session ends with it.
     Last(Refusal),
     BadLine,
     LongLine,
+    /// A command, if the store is only read.
+    ReadOnly,
 }
 
 impl Reply {
     ghost use Rattle.vm_cli.specs.Replies.{ends_talk, is_error, reply_text};
     ghost use Rattle.vm_cli.specs.Talk.{error_text};
 
-    /// Writes the answer as one line, or as none.
+    /// Writes the answer as one line, or as no line.
     pub(crate) fn push_onto(&self, text: &mut Text)
         requires { length text.old + 1024 ≤ Text.MAX_LEN }
         ensures { text.new ≡ text.old ++ reply_text self.now }
@@ -66,10 +68,11 @@ impl Reply {
             Reply::Last(refusal) => push_error(text, refusal),
             Reply::BadLine => text.push_bytes(b"error 22 BadLine\n"),
             Reply::LongLine => text.push_bytes(b"error 23 LongLine\n"),
+            Reply::ReadOnly => text.push_bytes(b"error 24 ReadOnly\n"),
         }
     }
 
-    /// What is answered to a line that is refused, where the device didn't fail in a command.
+    /// The answer to a line that is refused, if the device did not fail in a command.
     pub(crate) fn from_refusal(refusal: Refusal) -> Reply
         ensures text { reply_text result ≡ error_text refusal }
         ensures last { refusal ≢ Refusal.Failed → ends_talk result ≡ false }
@@ -81,7 +84,7 @@ impl Reply {
         }
     }
 
-    /// Whether the talk ends with this answer.
+    /// Whether the session ends with this answer.
     pub(crate) fn is_last(&self) -> bool
         ensures { result ≡ ends_talk self.now }
     {
@@ -107,6 +110,7 @@ impl Reply {
             Reply::Last(_) => true,
             Reply::BadLine => true,
             Reply::LongLine => true,
+            Reply::ReadOnly => true,
         }
     }
 }
@@ -162,7 +166,7 @@ fn push_error(text: &mut Text, refusal: &Refusal)
     text.push(b'\n');
 }
 
-/// Writes a refusal: its number, its name, and what it has beside them.
+/// Writes a refusal: its number, its name, and what it carries.
 pub(crate) fn push_refusal(text: &mut Text, refusal: &Refusal)
     requires room { length text.old + 120 ≤ Text.MAX_LEN }
     ensures written { text.new ≡ text.old ++ refusal_text refusal.now }
@@ -174,7 +178,7 @@ pub(crate) fn push_refusal(text: &mut Text, refusal: &Refusal)
     push_detail(text, refusal);
 }
 
-/// Writes what a refusal has beside its number and name.
+/// Writes what a refusal carries beside its number and name.
 fn push_detail(text: &mut Text, refusal: &Refusal)
     requires room { length text.old + 50 ≤ Text.MAX_LEN }
     ensures written { text.new ≡ text.old ++ detail_text refusal.now }

@@ -1,10 +1,10 @@
-//! The text of an answer, composed in place.
+//! The text of an answer, composed inline.
 ghost use Rattle.std.specs.Fmt.{decimal};
 ghost use Rattle.std.specs.Prelude.{◌≡◌, ◌+◌, ◌<◌, ◌≤◌, ◌++◌, ◌∷◌, [], length};
 
 use std::marker::Model;
 
-/// The text of an answer, or a part of it, of at most `MAX_LEN` bytes, which it holds in place.
+/// The text of an answer, or a part of it, of at most `MAX_LEN` bytes, held inline.
 #[derive(Drop)]
 pub struct Text {
     bytes: [u8; Text::MAX_LEN],
@@ -23,10 +23,10 @@ impl Model for Text {
 }
 
 impl Text {
-    /// The most bytes of a text.
+    /// The maximum length of a text in bytes.
     pub const MAX_LEN: usize = 65536;
 
-    /// A text without bytes.
+    /// An empty text.
     pub(crate) fn new() -> Text
         ensures { result ≡ [] }
     {
@@ -36,7 +36,7 @@ impl Text {
         }
     }
 
-    /// Takes one more byte.
+    /// Appends one byte.
     pub(crate) fn push(&mut self, byte: u8)
         requires { length self.old < Text.MAX_LEN }
         ensures { self.new ≡ self.old ++ byte ∷ [] }
@@ -45,7 +45,7 @@ impl Text {
         self.len += 1;
     }
 
-    /// Takes more bytes.
+    /// Appends bytes.
     pub(crate) fn push_bytes(&mut self, bytes: &[u8])
         requires { length self.old + length bytes.now ≤ Text.MAX_LEN }
         ensures { self.new ≡ self.old ++ bytes.now }
@@ -55,7 +55,7 @@ impl Text {
         self.len = end;
     }
 
-    /// Takes a number, in decimal digits.
+    /// Appends a number in decimal digits.
     pub(crate) fn push_number(&mut self, number: u64)
         requires { length self.old + 20 ≤ Text.MAX_LEN }
         ensures written { self.new ≡ self.old ++ decimal number }

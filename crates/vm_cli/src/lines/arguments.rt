@@ -1,4 +1,4 @@
-//! What stands behind the first word of a line.
+//! What follows the first word of a line.
 ghost use Rattle.std.specs.Prelude.{◌≡◌, ◌∷◌, [], None, option_map, MatchOption};
 ghost use Rattle.vm_types.specs.declared.command.Command.TheVariants.{Grow, Put};
 ghost use Rattle.vm_cli.specs.Escapes.{value_of};
@@ -9,8 +9,8 @@ use crate::lines::number::{key, number};
 use crate::lines::pieces::first_word;
 use vm_types::{Key, Name};
 
-/// The record of which a put speaks, and the word that spells its value. No record, where the words
-/// say none, or are too few or too many.
+/// The record that a put names, and the word that spells its value. No record if the words name
+/// none, or are too few or too many.
 pub(crate) fn put_words(rest: &[u8]) -> (Option<(Name, Key)>, &[u8])
     ensures { MatchOption result.0 (put_of (words_of rest.now) ≡ None) (λ p. put_of (words_of rest.now)
         ≡ option_map (λ value. Put p.0 p.1 value) (value_of result.1.now)) }

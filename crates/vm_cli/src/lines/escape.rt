@@ -1,4 +1,4 @@
-//! Values as they are written in lines.
+//! Values as they are spelled in lines.
 ghost use Rattle.std.specs.Prelude.{◌≡◌, ◌+◌, ◌<◌, ◌≤◌, ◌++◌, ◌∷◌, length, IfSome, MatchOption, None, Some, option_map, true};
 ghost use Rattle.vm_types.specs.Bytes.{longest};
 ghost use Rattle.vm_cli.specs.Escapes.{ArePlain, SpellsFirst, byte_text, hex_digit, hex_text, is_plain as is_plain_byte, unescaped, value_of, value_text};
@@ -7,8 +7,8 @@ use crate::answers::text::Text;
 use memchr::memchr;
 use vm_types::Value;
 
-/// The value that a word spells: `-` is the empty one, `%` and two hexadecimal digits are one
-/// byte, and any other byte stands for itself.
+/// The value that a word spells: `-` is the empty value, `%` and two hexadecimal digits are one
+/// byte, and any other byte is itself.
 pub(crate) fn value(word: &[u8]) -> Option<Value>
     ensures { result ≡ value_of word.now }
 {
@@ -33,7 +33,8 @@ pub(crate) fn value(word: &[u8]) -> Option<Value>
     Value::new(&bytes[..len])
 }
 
-/// The bytes of a word that are the value which it spells: None, where others are, or none.
+/// The bytes of a word, if they are the value that it spells. None if the value has other bytes, or
+/// the word spells none.
 pub(crate) fn plain(word: &[u8]) -> Option<&[u8]>
     ensures { IfSome result (λ bytes. (length bytes.now ≤ longest)
         × (value_of word.now ≡ Some bytes.now)) }
@@ -47,7 +48,7 @@ pub(crate) fn plain(word: &[u8]) -> Option<&[u8]>
     Some(word)
 }
 
-/// The first byte that a word spells, and what stands after it.
+/// The first byte that a word spells, and what follows it.
 fn first_byte(word: &[u8]) -> Option<(u8, &[u8])>
     requires { 0 < length word.now }
     ensures { MatchOption result (unescaped word.now ≡ None)
@@ -64,7 +65,7 @@ fn first_byte(word: &[u8]) -> Option<(u8, &[u8])>
     Some((high * 16 + low, &word[3..]))
 }
 
-/// What a hexadecimal digit of either case stands for.
+/// The number that a hexadecimal digit of either case has.
 fn hex(digit: u8) -> Option<u8>
     ensures digit { result ≡ hex_digit digit }
     ensures small { MatchOption result (Unit {0}) (λ n. n < 16) }
@@ -77,8 +78,9 @@ fn hex(digit: u8) -> Option<u8>
     }
 }
 
-/// Writes the bytes of a value: none as `-`, each byte from 0x21 to 0x7D but `%` as itself, each
-/// other byte as `%` and two upper case hexadecimal digits, and so the value `-`.
+/// Writes the bytes of a value: the empty value as `-`, each byte from 0x21 to 0x7D except `%` as
+/// itself, and any other byte as `%` and two upper case hexadecimal digits. The value `-` is
+/// written that way, too.
 pub(crate) fn push_spelled(text: &mut Text, bytes: &[u8])
     requires room { length text.old + 12000 ≤ Text.MAX_LEN }
     requires short { length bytes.now ≤ longest }
@@ -103,7 +105,8 @@ pub(crate) fn push_spelled(text: &mut Text, bytes: &[u8])
     }
 }
 
-/// Whether each byte is written as itself. No byte ends the loop, so many are tested at once.
+/// Whether each byte is written as itself. The loop does not exit early, so many bytes are tested
+/// at once.
 fn are_plain(bytes: &[u8]) -> bool
     ensures { result ≡ true → ArePlain bytes.now }
 {

@@ -1,7 +1,8 @@
 //! One line, as it is read.
 use std::alloc::Global;
 
-/// The most bytes of a line. The line feed at its end does not count, a carriage return does.
+/// The maximum length of a line in bytes. The line feed at its end does not count; a carriage
+/// return does.
 pub const MAX_BYTES: usize = 1_048_576;
 
 /// What became of the bytes of a line.
@@ -11,7 +12,7 @@ pub enum LineKind {
     Kept,
     /// There are more than a line may have.
     Long,
-    /// Memory for them was refused.
+    /// Memory for them could not be allocated.
     NoMemory,
 }
 
@@ -26,9 +27,9 @@ pub struct Line {
 impl Line {
     ghost use Rattle.std.specs.Prelude.{◌≡◌, ℕ, List, ◌++◌, []};
     ghost use Rattle.vm_cli.specs.Lines.{IsPart};
-    ghost use Rattle.vm_cli.specs.Reading.{HoldsLine, without_return};
+    ghost use Rattle.vm_cli.specs.Input.{HoldsLine, without_return};
 
-    /// A line without bytes.
+    /// An empty line.
     pub(crate) fn new(alloc: Global) -> Line
         ensures { HoldsLine result [] }
     {
@@ -39,7 +40,7 @@ impl Line {
         }
     }
 
-    /// Takes more bytes of the line.
+    /// Appends bytes to the line.
     pub(crate) fn extend(&mut self, bytes: &[u8])
         requires { IsPart bytes.now }
         ensures { (part : List ℕ) → HoldsLine self.old part → HoldsLine self.new (part ++ bytes.now) }

@@ -4,7 +4,7 @@ ghost use Rattle.vm_cli.specs.Numbers.{key_of, number_of};
 
 use vm_types::Key;
 
-/// The number that a word of 1 to 20 decimal digits says, where it is at most `most`.
+/// The number that a word of 1 to 20 decimal digits spells, if it is at most `most`.
 pub(crate) fn number(word: &[u8], most: u64) -> Option<u64>
     ensures { result ≡ number_of most word.now }
 {
@@ -24,7 +24,7 @@ pub(crate) fn number(word: &[u8], most: u64) -> Option<u64>
     Some(number as u64)
 }
 
-/// The key that two words say.
+/// The key that two words spell.
 pub(crate) fn key(table: &[u8], number_in_table: &[u8]) -> Option<Key>
     ensures { result ≡ key_of table.now number_in_table.now }
 {

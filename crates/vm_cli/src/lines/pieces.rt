@@ -5,7 +5,7 @@ ghost use Rattle.vm_cli.specs.Spaces.{BeginsWith, words_of};
 
 use memchr::memchr;
 
-/// The first word of a line, and what stands after it.
+/// The first word of a line, and what follows it.
 pub(crate) fn first_word(line: &[u8]) -> Option<(&[u8], &[u8])>
     ensures { MatchOption result (words_of line.now ≡ [])
         (λ p. BeginsWith line.now p.0.now p.1.now) }
@@ -21,7 +21,7 @@ pub(crate) fn first_word(line: &[u8]) -> Option<(&[u8], &[u8])>
     None
 }
 
-/// What stands before the first mark, and what stands behind it.
+/// What comes before the first mark, and what comes after it.
 pub(crate) fn first_piece(bytes: &[u8], mark: u8) -> (&[u8], &[u8])
     ensures piece { result.0.now ≡ before_mark mark bytes.now }
     ensures rest { result.1.now ≡ behind_mark mark bytes.now }

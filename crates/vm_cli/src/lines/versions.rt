@@ -1,10 +1,10 @@
-//! Words that say versions.
-ghost use Rattle.std.specs.Prelude.{◌≡◌};
-ghost use Rattle.vm_cli.specs.Requests.{at_of, meant_behind, one_at_of, record_at_of, two_ats_of};
+//! Words that name versions.
+ghost use Rattle.std.specs.Prelude.{◌≡◌, ◌∷◌, [], Some, option_map};
+ghost use Rattle.vm_cli.specs.Requests.{at_of, at_part_of, ats_part_of, meant_behind, page_of, part_of, record_at_of};
 ghost use Rattle.vm_cli.specs.Spaces.{words_of};
 
 use crate::lines::arguments::{ends, name};
-use crate::lines::number::key;
+use crate::lines::number::{key, number};
 use crate::lines::pieces::{first_piece, first_word};
 use vm_types::{At, Key, Of};
 
@@ -21,28 +21,76 @@ pub(crate) fn record_at(rest: &[u8]) -> Option<(At, Key)>
     Some((version, key))
 }
 
-/// `AT`
-pub(crate) fn one_at(rest: &[u8]) -> Option<At>
-    ensures { result ≡ one_at_of (words_of rest.now) }
+/// `AT`, `AT TABLE` or `AT TABLE FIRST LAST`: the version, and the first and the last key of the
+/// part, if the words give one.
+pub(crate) fn at_and_part(rest: &[u8]) -> Option<(At, Option<(Key, Key)>)>
+    ensures { result ≡ at_part_of (words_of rest.now) }
 {
-    let (word, rest) = first_word(rest)?;
-    ends(rest)?;
-    at(word)
+    let (version, rest) = first_word(rest)?;
+    let version = at(version)?;
+    let part = part(rest)?;
+    Some((version, part))
 }
 
-/// `AT AT`
-pub(crate) fn two_ats(rest: &[u8]) -> Option<(At, At)>
-    ensures { result ≡ two_ats_of (words_of rest.now) }
+/// `AT AT`, `AT AT TABLE` or `AT AT TABLE FIRST LAST`
+pub(crate) fn ats_and_part(rest: &[u8]) -> Option<(At, At, Option<(Key, Key)>)>
+    ensures { result ≡ ats_part_of (words_of rest.now) }
 {
     let (first, rest) = first_word(rest)?;
     let (second, rest) = first_word(rest)?;
-    ends(rest)?;
     let first = at(first)?;
     let second = at(second)?;
-    Some((first, second))
+    let part = part(rest)?;
+    Some((first, second, part))
 }
 
-/// The version that a word says: `ALT`, `ALT@` or `ALT@CHECKPOINT`.
+/// `AT TABLE NUMBER COUNT`
+pub(crate) fn page(rest: &[u8]) -> Option<(At, Key, u32)>
+    ensures { result ≡ page_of (words_of rest.now) }
+{
+    let (version, rest) = first_word(rest)?;
+    let (table, rest) = first_word(rest)?;
+    let (first, rest) = first_word(rest)?;
+    let (count, rest) = first_word(rest)?;
+    ends(rest)?;
+    let version = at(version)?;
+    let first = key(table, first)?;
+    let count = number(count, 4_294_967_295)?;
+    Some((version, first, count as u32))
+}
+
+/// The first and the last key of a part: no word, `TABLE` or `TABLE FIRST LAST`.
+fn part(rest: &[u8]) -> Option<Option<(Key, Key)>>
+    ensures { result ≡ part_of (words_of rest.now) }
+{
+    let Some((table, rest)) = first_word(rest) else {
+        return Some(None);
+    };
+    let Some((first, rest)) = first_word(rest) else {
+        let keys = table_keys(table)?;
+        return Some(Some(keys));
+    };
+    let (last, rest) = first_word(rest)?;
+    ends(rest)?;
+    let low = key(table, first)?;
+    let high = key(table, last)?;
+    Some(Some((low, high)))
+}
+
+/// The first and the last key that a table may have.
+fn table_keys(table: &[u8]) -> Option<(Key, Key)>
+    ensures { option_map Some result ≡ part_of (table.now ∷ []) }
+{
+    let table = number(table, 65_535)? as u16;
+    let low = Key { table, number: 0 };
+    let high = Key {
+        table,
+        number: u64::MAX,
+    };
+    Some((low, high))
+}
+
+/// The version that a word names: `ALT`, `ALT@` or `ALT@CHECKPOINT`.
 fn at(word: &[u8]) -> Option<At>
     ensures { result ≡ at_of word.now }
 {
@@ -58,7 +106,7 @@ fn at(word: &[u8]) -> Option<At>
     Some(At { alt, of })
 }
 
-/// The records that are meant by what stands behind the `@`.
+/// The records that the text after the `@` names.
 fn meant(behind: &[u8]) -> Option<Of>
     ensures { result ≡ meant_behind behind.now }
 {

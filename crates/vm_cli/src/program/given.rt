@@ -1,10 +1,10 @@
-//! Lines that are given as words.
+//! Lines given as words.
 ghost use Rattle.std.specs.Prelude.{◌≡◌, IfOk, map};
 ghost use Rattle.vm_cli.specs.Given.{input_of as input_of_lines};
 
 use std::alloc::{AllocError, Global};
 
-/// The input whose lines they are: a line feed ends each.
+/// The input that consists of these lines. A line feed ends each.
 pub(crate) fn input_of(alloc: Global, lines: &[&str]) -> Result<Vec<u8>, AllocError>
     ensures { IfOk result (λ input. input.items ≡ input_of_lines (map (λ line. line.now) lines.now)) }
 {

@@ -1,8 +1,8 @@
 //! The texts of help. In a session, a line after `> ` is the input's, and those below it are the
 //! answer.
 
-/// The program's version, the format number in the slots of its files, and what `rt version` says of
-/// the toolchain that it is proved and built with.
+/// The program's version, the format number in the slots of its files, and what `rt version` says
+/// of the toolchain that it is proved and built with.
 pub const VERSION: &str = "\
 0.1.0
 file format 2
@@ -17,7 +17,7 @@ under top: each is changed record by record, checkpointed, merged with what its
 parent changed since, and posted to its parent. A commit makes all of it last.
 Versions share every block that they have in common.";
 
-/// How a store is made and used.
+/// How to make and use a store.
 pub const ALTCTL_AFTER: &str = "\
 A session, where each line after > is typed, and its answer stands below it:
 
@@ -71,6 +71,9 @@ larger, and no line makes it smaller. How many blocks a store needs:
     of one path through its tree, from one to eight.
   - Keep a tenth of the blocks spare. Where fewer than 17 are, each change is
     refused: error 13 Full.
+  - A merge wants 17 spare blocks for each record that it changes. 60,000
+    records with 8 designs of 500 changes each, merged and posted one after
+    another, took 79,000 blocks: or let the store grow, by run --grow.
 
 docs/OPERATING.md says more.
 
@@ -113,7 +116,7 @@ pub const TREE: &str = "\
 Opens a store for reading alone, changes nothing, and draws its alternatives as
 a tree, each with its checkpoints and what is to be merged and posted.";
 
-/// How a drawing is read.
+/// How to read a drawing.
 pub const TREE_AFTER: &str = "\
 A line is an alternative, below its parent, or a checkpoint, with * before its
 name. They stand in order of creation, the checkpoints of an alternative before
@@ -156,11 +159,17 @@ Waits while another process uses the file";
 /// How many blocks `run` keeps in memory.
 pub const RUN_CACHE: &str = "How many blocks stay in memory: 0 to 65536";
 
-/// The size of its buffer.
-pub const RUN_BUFFER: &str = "How many written blocks wait: 0 to 65536";
+/// The size of its write-back buffer.
+pub const RUN_BUFFER: &str = "How many written blocks wait: 0 to 65536 [default: by size]";
 
 /// That a refused line ends `run` or `do`.
 pub const STRICT: &str = "Ends with the first line that is refused, with status 4";
+
+pub const READ_ONLY: &str = "Only read FILE, and refuse each command";
+
+pub const GROW: &str = "Grow where a line would be answered 13 Full";
+
+pub const GROW_TO: &str = "Grow so, up to N blocks";
 
 /// What `do` does.
 pub const DO: &str = "\
@@ -212,10 +221,10 @@ Lines, by what they are about, each with what it does and its answer:
     post ALT                    makes its state the parent's: ok
 
   Store
-    commit                      makes all changes last: ok
+    commit                      makes all changes durable: ok
     rollback                    undoes all since the last commit: ok
     reclaim                     frees each block that no version needs: ok
-    grow BLOCKS                 gives the store so many blocks in all: ok
+    grow BLOCKS                 lengthens the store to BLOCKS in all: ok
     free                        the number of free blocks: free N
     blocks                      the number of all blocks: blocks N
 
@@ -226,6 +235,9 @@ Lines, by what they are about, each with what it does and its answer:
                                 where a post would be refused
     list AT                     all records:
                                 record TABLE NUMBER VALUE for each
+    list AT TABLE               the records of a table, in the same way
+    list AT TABLE FIRST LAST    those with a number from FIRST to LAST
+    next AT TABLE NUMBER COUNT  the first COUNT records at or after that key
     alts                        all alternatives:
                                 alternative NAME PARENT for each
     checks ALT                  the checkpoints of an alternative:
@@ -234,11 +246,13 @@ Lines, by what they are about, each with what it does and its answer:
                                 change TABLE NUMBER BEFORE AFTER for each
     diff AT AT                  what differs from the first to the second:
                                 change TABLE NUMBER BEFORE AFTER for each
+    diff AT AT TABLE            what differs in a table
+    diff AT AT TABLE FIRST LAST what differs at its numbers from FIRST to LAST
     conflicts ALT               what is in conflict with the parent:
                                 conflict TABLE NUMBER BASE PARENT MINE for each
 
-The last six end with a line end N, with the number of lines before it. In
-their lines ~ stands for no value or no parent.
+From list on, an answer ends with a line end N, with the number of lines before
+it. In these lines ~ stands for no value or no parent.
 
 AT is ALT for what the alternative shows, ALT@ for its base, and ALT@CHECKPOINT
 for the records of a checkpoint.
@@ -248,7 +262,8 @@ letters, digits, _, - and . in it. TABLE is a number from 0 to 65535, NUMBER one
 from 0 to 18446744073709551615. A VALUE has up to 4,000 bytes; % and two
 hexadecimal digits are one byte, as in cable%20A, and - is the empty value. A
 merge has a SETTLEMENT for each record in conflict, TABLE:NUMBER=mine or
-TABLE:NUMBER=theirs. A line that is empty or begins with # has no answer.
+TABLE:NUMBER=theirs; all=mine or all=theirs before them settles each other one.
+A line that is empty or begins with # has no answer.
 
 BLOCKS is how many blocks the store is to have: more than it has, and 1048576 at
 most. Type grow and then commit: the new blocks can be used at once, and from

@@ -10,7 +10,7 @@ use std::collections::BTreeMap;
 use std::snapshot::Snapshot;
 use vm_disk::{History, MemDisk};
 
-/// A file: its disk, unless that is out, and the disk that it was when it was made or last came back.
+/// A file: its disk, unless that is out, and the disk as it was when it was made or last came back.
 #[derive(Drop)]
 struct Slot {
     disk: Option<MemDisk>,
@@ -18,8 +18,8 @@ struct Slot {
     ghost same: { ForSome disk (λ there. (memory_state there).now.contents ≡ (memory_state held.value).now.contents) },
 }
 
-/// Files in memory, each a `MemDisk` under its name. A file whose disk is out is not found. They are
-/// honest until a disk comes back under a name of which no file was made.
+/// Files in memory, each a `MemDisk` under its name. A file whose disk is out is not found. The
+/// files are honest until a disk comes back under a name that no file was made with.
 #[derive(Drop)]
 pub struct MemFiles {
     alloc: Global,
@@ -34,7 +34,7 @@ impl MemFiles {
     ghost use Rattle.vm_cli.specs.MemFiles.{IsIn, files_state, room_given};
     ghost use Rattle.vm_cli.specs.Places.{CreatesIn, FindsIn, StaysHonest, WasHonest};
 
-    /// No files. Disks that are made can't get longer.
+    /// No files. Disks that are made cannot grow.
     pub fn new(alloc: Global) -> MemFiles
         ensures honest { (files_state result).honest ≡ true }
         ensures empty { (name : List ℕ) → (files_state result).files name ≡ None }
@@ -43,7 +43,7 @@ impl MemFiles {
         MemFiles::with_room(alloc, 0)
     }
 
-    /// No files. Disks that are made have room to get longer, up to so many blocks.
+    /// No files. Disks that are made have room to grow, up to `room` blocks.
     pub fn with_room(alloc: Global, room: u32) -> MemFiles
         ensures honest { (files_state result).honest ≡ true }
         ensures empty { (name : List ℕ) → (files_state result).files name ≡ None }
@@ -66,7 +66,7 @@ impl MemFiles {
         self.honest
     }
 
-    /// Makes a disk under a name that is not there yet.
+    /// Makes a disk under a name that does not exist yet.
     fn made(&mut self, file: &str, blocks: u32) -> Option<MemDisk>
         ensures denied { noted self.new.denied ≡ noted self.old.denied }
         ensures to_write { noted self.new.to_write ≡ noted self.old.to_write }
@@ -100,7 +100,7 @@ impl MemFiles {
     {
         let slot = self.slots.get_mut(file)?;
         let disk = slot.disk.take()?;
-        // It came back whole, so what was not synced is lasting too.
+        // It came back whole, so what was not synced is durable, too.
         Some(disk.crash(&[]))
     }
 }
@@ -141,7 +141,7 @@ impl Place for MemFiles {
         ensures stays { StaysHonest (files_state self.old) (files_state self.new) }
         ensures honest { FindsIn files_state memory_state file.now result self.old self.new }
 
-        // Where the disk is in, it is found.
+        // If the disk is in, it is found.
         ensures there { IsIn file.now self.old → IsSome result }
     {
         self.to_write.note(&());
@@ -156,7 +156,7 @@ impl Place for MemFiles {
         ensures stays { StaysHonest (files_state self.old) (files_state self.new) }
         ensures honest { FindsIn files_state memory_state file.now result self.old self.new }
 
-        // Where the disk is in, it is found.
+        // If the disk is in, it is found.
         ensures there { IsIn file.now self.old → IsSome result }
     {
         let found = self.found(file);
@@ -172,10 +172,10 @@ impl Place for MemFiles {
         ensures earlier { WasHonest (files_state self.old) (files_state self.new) }
         ensures honest { TakesBackIn files_state memory_state file.now disk self.old self.new }
 
-        // It stays honest where a file of this name was made.
+        // It stays honest if a file of this name was made.
         ensures stays { HasFile file.now self.old → StaysHonest (files_state self.old) (files_state self.new) }
 
-        // It is in then.
+        // Afterwards the disk is in.
         ensures back { (files_state self.new).honest ≡ true → IsIn file.now self.new }
     {
         match self.slots.get_mut(file) {

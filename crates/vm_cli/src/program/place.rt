@@ -1,4 +1,4 @@
-//! Where disks are found by name.
+//! Finding disks by name.
 ghost use Rattle.std.specs.Prelude.{◌≡◌, ◌+◌, ◌∷◌, ℕ, List, [], true, None, IfSome, option_map};
 ghost use Rattle.vm_disk.specs.Between.{Between};
 ghost use Rattle.vm_cli.specs.Places.{PlaceState, CreatesIn, FindsIn, TakesBackIn, WasHonest, names_in};
@@ -11,22 +11,22 @@ use std::rt::Files;
 use std::snapshot::Snapshot;
 use vm_disk::{Disk, FileDisk, History, LAST_STANDARD, SystemFile, World, noted_bytes};
 
-/// Where disks are found by name.
+/// A file system, in which disks are found by name.
 ///
-/// Of a place that is not honest the clauses `honest` say nothing: what its files hold is then unknown.
+/// If it is not honest, the clauses `honest` say nothing: the contents of its files are unknown.
 pub trait Place {
     type D: Disk;
 
     /// What is known of it, for contracts alone.
     ghost state: { Self → PlaceState };
 
-    /// The names of which it gave no disk, the newest first, for contracts alone.
+    /// The names that it gave no disk for, the newest first, for contracts alone.
     ghost denied: { Self → List (List ℕ) };
 
-    /// How often it was asked for a disk that may be written, for contracts alone.
+    /// How often it was asked for a writable disk, for contracts alone.
     ghost to_write: { Self → ℕ };
 
-    /// Makes a disk that is not there yet, of this many zero blocks.
+    /// Makes a disk that does not exist yet, of this many zero blocks.
     fn create(&mut self, file: &str, blocks: u32) -> Option<Self::D>
         ensures none { result ≡ None → denied self.new ≡ file.now ∷ denied self.old }
         ensures some { IfSome result (λ disk. denied self.new ≡ denied self.old) }
@@ -34,7 +34,7 @@ pub trait Place {
         ensures earlier { WasHonest (state self.old) (state self.new) }
         ensures honest { CreatesIn state Self.D.state file.now blocks result self.old self.new };
 
-    /// A disk that is there.
+    /// An existing disk.
     fn find(&mut self, file: &str) -> Option<Self::D>
         ensures none { result ≡ None → denied self.new ≡ file.now ∷ denied self.old }
         ensures some { IfSome result (λ disk. denied self.new ≡ denied self.old) }
@@ -42,7 +42,7 @@ pub trait Place {
         ensures earlier { WasHonest (state self.old) (state self.new) }
         ensures honest { FindsIn state Self.D.state file.now result self.old self.new };
 
-    /// A disk that is there, for reading alone: it need not be one that may be written.
+    /// An existing disk, for reading only. It need not be writable.
     fn look(&mut self, file: &str) -> Option<Self::D>
         ensures none { result ≡ None → denied self.new ≡ file.now ∷ denied self.old }
         ensures some { IfSome result (λ disk. denied self.new ≡ denied self.old) }
@@ -50,7 +50,7 @@ pub trait Place {
         ensures earlier { WasHonest (state self.old) (state self.new) }
         ensures honest { FindsIn state Self.D.state file.now result self.old self.new };
 
-    /// Takes a disk back that it gave.
+    /// Takes back a disk that it gave.
     fn give_back(&mut self, file: &str, disk: Self::D)
         ensures denied { denied self.new ≡ denied self.old }
         ensures reads { to_write self.new ≡ to_write self.old }
@@ -66,8 +66,8 @@ pub(crate) fn note_name(names: &mut History<History<u8>>, name: &str)
     names.note(&name);
 }
 
-/// What was done with a file of the system. Missed is that one was to be had which may be written,
-/// and was not.
+/// What was done with a file of the system. `Missed`: a writable file was requested and could not
+/// be opened.
 #[derive(Drop)]
 enum Event<'a, W> {
     Found(Snapshot<SystemFile<W>>),
@@ -76,16 +76,17 @@ enum Event<'a, W> {
     Given(History<u8>, Snapshot<FileDisk<Watched<'a, SystemFile<W>>>>),
 }
 
-/// The files of the system. What they hold when they are opened no program can know: the world W says
-/// it, for contracts alone. They are honest as long as each is found as it was left, none is made that
-/// was there, and each disk that comes back does so under its name and has kept the disk model.
+/// The files of the system. No program can know what they hold when they are opened: the world W
+/// says it, for contracts alone. They are honest as long as each is found as it was left, none is
+/// made that already existed, and each disk that comes back does so under its name and has kept the
+/// disk model.
 ///
-/// Assumed, and in no contract: that between two openings no one else writes a file, and that it keeps
-/// what the disk model says that a crash may leave.
+/// Assumed, and in no contract: that no one else writes a file between two openings, and that a
+/// file keeps what the disk model says that a crash may leave.
 ///
-/// As long as it is there, the standard input, output and error are open, where a folder can be opened:
-/// one that was closed is open on that, and reads fail there, and so do writes. Where none can be
-/// opened it stays closed, and no file is opened in its place.
+/// While this value lives, the standard input, output and error are open, if a folder can be
+/// opened: one that was closed is open on the folder, and both reads and writes fail there. If no
+/// folder can be opened it stays closed, and no file is opened in its place.
 #[derive(Drop)]
 pub struct RealFiles<'a, R, W> {
     rt: &'a R,
@@ -97,12 +98,12 @@ pub struct RealFiles<'a, R, W> {
     world: PhantomData<W>,
 }
 
-/// Folders in the place of what is closed of the standard input, output and error, as far as they
-/// can be opened.
+/// Folders in place of those of the standard input, output and error that are closed, as far as
+/// they can be opened.
 fn take_standard(rt: &impl Files<File = File>) -> [Option<File>; 3] {
     let mut folders = [None, None, None];
     for folder in &mut folders {
-        // An opened file has the lowest number that is free.
+        // An opened file gets the lowest free number.
         match File::open(rt, "/") {
             Ok(opened) if opened.as_raw_fd() <= LAST_STANDARD => *folder = Some(opened),
             _ => break,
@@ -114,8 +115,8 @@ fn take_standard(rt: &impl Files<File = File>) -> [Option<File>; 3] {
 impl<'a, R: Files<File = File>, W: World> RealFiles<'a, R, W> {
     ghost use Rattle.vm_cli.specs.RealFiles.{asked_to_write, real_state, names_denied, untouched};
 
-    /// The files that a runtime reaches, of which none was asked for so far. It opens what is closed of
-    /// the standard input, output and error, where that can be opened.
+    /// The files that a runtime reaches. None has been asked for yet. It opens those of the
+    /// standard input, output and error that are closed, if that is possible.
     pub fn new(rt: &'a R, progress: &'a Progress) -> RealFiles<'a, R, W>
         ensures state { real_state W.held W.torn result ≡ untouched W.held }
         ensures denied { names_denied result ≡ [] }
@@ -136,7 +137,7 @@ impl<'a, R: Files<File = File>, W: World> RealFiles<'a, R, W> {
 impl<'a, R: Files<File = File>, W: World> RealFiles<'a, R, W> {
     ghost use Rattle.vm_cli.specs.RealFiles.{asked_to_write, real_state, names_denied, CreatesReal, FindsReal, NotesFound, NotesLooked, NotesMade};
 
-    /// Makes a file that is not there yet, and a disk of it.
+    /// Makes a file that does not exist yet, and a disk of it.
     fn made(&mut self, file: &str, blocks: u32) -> Option<FileDisk<Watched<'a, SystemFile<W>>>>
         ensures denied { names_denied self.new ≡ names_denied self.old }
         ensures to_write { asked_to_write self.new ≡ asked_to_write self.old + 1 }
@@ -154,7 +155,7 @@ impl<'a, R: Files<File = File>, W: World> RealFiles<'a, R, W> {
         FileDisk::create(Watched::new(made, self.progress), blocks).ok()
     }
 
-    /// Opens a file that is there, as a disk.
+    /// Opens an existing file as a disk.
     fn found(&mut self, file: &str) -> Option<FileDisk<Watched<'a, SystemFile<W>>>>
         ensures denied { names_denied self.new ≡ names_denied self.old }
         ensures to_write { asked_to_write self.new ≡ asked_to_write self.old + 1 }
@@ -171,7 +172,7 @@ impl<'a, R: Files<File = File>, W: World> RealFiles<'a, R, W> {
         FileDisk::open(Watched::new(found, self.progress)).ok()
     }
 
-    /// Opens a file that is there for reading alone, as a disk.
+    /// Opens an existing file read only, as a disk.
     fn looked(&mut self, file: &str) -> Option<FileDisk<Watched<'a, SystemFile<W>>>>
         ensures denied { names_denied self.new ≡ names_denied self.old }
         ensures to_write { asked_to_write self.new ≡ asked_to_write self.old }

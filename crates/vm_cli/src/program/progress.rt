@@ -1,13 +1,14 @@
-//! How far a long job is, told on a terminal.
+//! The progress of a long job, shown on a terminal.
 //!
-//! The line stands on the standard error alone, and is no part of any answer: no contract says what
-//! stands there, and a failure to write it is ignored. A file that is watched and a stream over
-//! which the line is cleared are handed on as they are, but that nothing more is written once a reader
-//! is gone.
+//! The line is written only to the standard error, and is no part of any answer: no contract says
+//! what is written there, and a failure to write it is ignored. A watched file and a stream over
+//! which the line is cleared are passed on as they are, except that nothing more is written once a
+//! reader is gone.
 ghost use Rattle.std.specs.Prelude.{◌≡◌};
 ghost use Rattle.vm_cli.specs.Progress.{file_below, stream_below};
 
 use crate::answers::text::Text;
+use crate::program::warm_up::WarmUp;
 use std::cell::Cell;
 use std::io::{self, ErrorKind, IsTerminal, Read, Write};
 use std::time::{Duration, Instant};
@@ -16,17 +17,18 @@ use vm_disk::{DeviceFault, Positional};
 /// How many blocks are counted between two looks at the clock.
 const BETWEEN_LOOKS: u64 = 64;
 
-/// A job that ends in fewer milliseconds shows nothing.
+/// A job that takes fewer milliseconds shows nothing.
 const UNTIL_FIRST: u64 = 1000;
 
-/// For so many milliseconds a line stays as it is.
+/// A line stays as it is for this many milliseconds.
 const UNTIL_NEXT: u64 = 200;
 
-/// What takes a line away.
+/// Erases a line.
 const BLANK: &[u8] = b"\r                                                            \r";
 
-/// A line on the standard error, where that is a terminal, with the number of blocks that a job has
+/// A line on the standard error, if that is a terminal, with the number of blocks that a job has
 /// read and written so far. A job lasts until a stream is used over which the line is cleared.
+/// Until then a file whose reads are slow, as from a cold disk, is read whole.
 #[derive(Drop)]
 pub struct Progress {
     terminal: Option<HostRuntime>,
@@ -34,12 +36,13 @@ pub struct Progress {
     total: Cell<u64>,
     due: Cell<Option<Instant>>,
     is_shown: Cell<bool>,
-    // A pipe was written to that no one reads any more.
+    // A write went to a pipe that no one reads any more.
     is_unread: Cell<bool>,
+    warm_up: WarmUp,
 }
 
 impl Progress {
-    /// No line so far. Where the standard error is no terminal, none is ever written.
+    /// No line so far. If the standard error is not a terminal, none is ever written.
     pub fn new(rt: &HostRuntime) -> Progress {
         let terminal = if rt.stderr().is_terminal() {
             Some(*rt)
@@ -53,10 +56,11 @@ impl Progress {
             due: Cell::new(None),
             is_shown: Cell::new(false),
             is_unread: Cell::new(false),
+            warm_up: WarmUp::new(rt),
         }
     }
 
-    /// Has the line tell how many blocks there are in all, as long as no more were counted.
+    /// Makes the line show how many blocks there are in all, as long as no more were counted.
     pub(crate) fn set_total(&self, blocks: u64) {
         self.total.set(blocks);
     }
@@ -74,8 +78,28 @@ impl Progress {
         }
     }
 
-    /// Counts new blocks, from this one on. Behind the total they make the file longer, and how
-    /// long it is to be is not known here.
+    /// Counts a block that is read, and reads the file whole when that is due.
+    fn count_read(&self) {
+        if self.warm_up.is_due(self.total.get()) {
+            self.tell_warm_up();
+            self.warm_up.read_whole();
+        }
+        self.count(1);
+    }
+
+    /// Says that the file is being read whole.
+    fn tell_warm_up(&self) {
+        let Some(rt) = &self.terminal else {
+            return;
+        };
+        let _ = rt
+            .stderr()
+            .write(b"\raltctl: reading the whole file into memory");
+        self.is_shown.set(true);
+    }
+
+    /// Counts new blocks, from this one on. Past the total they lengthen the file; its final length
+    /// is not known here.
     fn count_new(&self, first: u64, blocks: u64) {
         if first >= self.total.get() {
             self.total.set(0);
@@ -83,8 +107,8 @@ impl Progress {
         self.count(blocks);
     }
 
-    /// Writes the line anew where it is time to. The frame is large, and not that of each call of a
-    /// file.
+    /// Rewrites the line when it is time to. Kept out of line so that the calls of a file do not
+    /// carry its large frame.
     #[inline(never)]
     fn look(&self, rt: &HostRuntime) {
         let Ok(now) = Instant::now(rt) else {
@@ -116,8 +140,9 @@ impl Progress {
         self.is_shown.set(true);
     }
 
-    /// Ends a job, and takes its line away.
+    /// Ends a job, and erases its line.
     fn clear(&self) {
+        self.warm_up.end();
         self.blocks.set(0);
         self.due.set(None);
         let Some(rt) = &self.terminal else {
@@ -129,12 +154,12 @@ impl Progress {
     }
 }
 
-/// So many milliseconds later, where the clock can tell that.
+/// This many milliseconds later, if the clock can represent that.
 fn later(now: Instant, millis: u64) -> Option<Instant> {
     now.checked_add(Duration::from_millis(millis))
 }
 
-/// A file whose calls are counted. Each is handed on as it came.
+/// A file whose calls are counted. Each call is passed on as it came.
 #[derive(Drop)]
 pub struct Watched<'a, F> {
     file: F,
@@ -162,7 +187,7 @@ impl<F: Positional> Positional for Watched<'_, F> {
     }
 
     fn read_at(&mut self, into: &mut [u8; 4096], offset: u64) -> Result<(), DeviceFault> {
-        self.progress.count(1);
+        self.progress.count_read();
         self.file.read_at(into, offset)
     }
 
@@ -186,9 +211,9 @@ impl<F: Positional> Positional for Watched<'_, F> {
     }
 }
 
-/// A stream of the program. The line on the terminal is cleared before it is read or written. After a
-/// write to a pipe that has no reader any more, nothing is written to any of the program's streams: it
-/// ends without a word, as `altctl .. | head -1` is meant to.
+/// A stream of the program. The line on the terminal is cleared before the stream is read or
+/// written. After a write to a pipe that no longer has a reader, nothing is written to any of the
+/// program's streams: the program ends silently, as `altctl .. | head -1` should.
 #[derive(Drop)]
 pub struct Cleared<'a, S> {
     stream: S,
@@ -203,7 +228,7 @@ impl<'a, S> Cleared<'a, S> {
         Cleared { stream, progress }
     }
 
-    /// Takes the line away.
+    /// Erases the line.
     pub(crate) fn clear(&self) {
         self.progress.clear();
     }

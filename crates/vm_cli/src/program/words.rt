@@ -2,28 +2,26 @@
 ghost use Rattle.clap.specs.Words.{FailsBy, app_of, fault_of, found_of, first_of, new_app, rows_of, rule_of, subcommand_rows_of};
 ghost use Rattle.std.specs.Prelude.{◌≡◌, ◌⊎◌, if◌then◌else◌, IfErr, IfOk, None, Some, false, map, ℕ, List, option_map, option_and_then, codes};
 ghost use Rattle.std.specs.String.{string_bytes};
-ghost use Rattle.vm_cli.specs.Words.{AddsTask, IsAsked, IsAskedOf, IsLocal, WordsAsk, altctl, amount_rule, blocks_rule, check_app, create_app, do_app, file_rule, flag_rule, line_rule, is_set, number_by, memory_by, run_app, top_app, tree_app, wanted_of, with_lock, with_options};
+ghost use Rattle.vm_cli.specs.Words.{AddsTask, IsAsked, IsAskedOf, IsLocal, WordsAsk, altctl, amount_rule, blocks_rule, check_app, command_with, create_app, do_app, file_rule, flag_rule, grow_to_rule, line_rule, is_set, manner_by, number_by, memory_by, run_app, top_app, tree_app, wanted_of, with_lock, with_options};
 
+use crate::program::file_lock::{Access, LockWanted};
 use crate::program::given::input_of;
 use crate::program::help;
-use crate::program::locking::{Access, LockWanted};
-use crate::program::task::{InMemory, Job};
-use crate::talk::OnRefusal;
+use crate::program::task::{InMemory, Job, MAX_BUFFER};
+use crate::talk::{Manner, OnCommand, OnRefusal};
 use clap::{Arg, ArgAction, ArgMatches, Command, Error, value_parser};
 use std::alloc::{AllocError, Global};
 use vm_types::{MAX_BLOCKS, MIN_BLOCKS};
 
-/// The most blocks that are kept in memory.
+/// The maximum number of blocks that are kept in memory.
 pub const MAX_CACHE: u32 = 65_536;
 
-/// The most blocks that wait to be written.
-pub const MAX_BUFFER: u32 = 65_536;
-
-/// Reads the program's words, of which the first is its name. An `Err` has the text to show, help
+/// Reads the program's words, the first of which is its name. An `Err` has the text to show, help
 /// included.
 pub fn job<'a>(alloc: Global, words: &'a [String]) -> Result<Job<'a>, Error>
     ensures ok { IfOk result (λ job. WordsAsk (map string_bytes words.entry.now) job) }
-    // An Ok comes only where the parse has no fault, and an Err has the kind of its fault, or memory was wanting.
+    // An Ok comes only if the parse has no fault. An Err has the kind of its fault, or memory could
+    // not be allocated.
     ensures faults { FailsBy (fault_of altctl (map string_bytes words.entry.now)) result }
 {
     let matches = command(alloc)?.try_get_matches_from(words)?;
@@ -33,13 +31,15 @@ pub fn job<'a>(alloc: Global, words: &'a [String]) -> Result<Job<'a>, Error>
     }
 }
 
-/// The lock that the words ask for, if the program is to take one: not where they name no task or make a
-/// new file, which is nobody else's yet, where they say that it takes none, or where memory is wanting.
+/// The lock that the words ask for, if the program takes one. It takes none if they name no task,
+/// if they make a new file, which is nobody else's yet, if they say that it takes none, or if
+/// memory cannot be allocated.
 pub(crate) fn lock_wanted<'a>(alloc: Global, words: &'a [String]) -> Option<LockWanted<'a>> {
     let matches = command(alloc).ok()?.try_get_matches_from(words).ok()?;
     let (name, matches) = matches.subcommand()?;
     let file = matches.get_str("file")?;
     let access = match name {
+        "run" | "do" if is_given(matches, "read-only") => Access::Read,
         "run" | "do" => Access::Write,
         "check" | "tree" => Access::Read,
         _ => return None,
@@ -88,11 +88,11 @@ fn asked_run<'a>(matches: &ArgMatches<'a>, file: &'a str) -> Option<Job<'a>>
     ensures { IsAsked (codes "run") (rows_of (found_of matches.now)) file.now result }
 {
     let in_memory = in_memory(matches)?;
-    let on_refusal = on_refusal(is_given(matches, "strict"), OnRefusal::Ignore);
+    let manner = manner(matches, OnRefusal::Ignore)?;
     Some(Job::Run {
         file,
         in_memory,
-        on_refusal,
+        manner,
     })
 }
 
@@ -110,23 +110,42 @@ fn asked_do<'a>(
     let Some(in_memory) = in_memory(matches) else {
         return Ok(None);
     };
+    let Some(manner) = manner(matches, OnRefusal::Tell) else {
+        return Ok(None);
+    };
     let input = input_of(alloc, lines)?;
-    let on_refusal = on_refusal(is_given(matches, "strict"), OnRefusal::Tell);
     Ok(Some(Job::Do {
         file,
         input,
         in_memory,
-        on_refusal,
+        manner,
     }))
 }
 
-/// How many blocks are to stay and to wait in memory.
+/// How many blocks stay and wait in memory.
 fn in_memory(matches: &ArgMatches<'_>) -> Option<InMemory>
     ensures { result ≡ memory_by (rows_of (found_of matches.now)) }
 {
     let cache = number_of(matches, "cache", 0, MAX_CACHE)?;
-    let buffer = number_of(matches, "buffer", 0, MAX_BUFFER)?;
+    let buffer = number_of(matches, "buffer", 0, MAX_BUFFER);
     Some(InMemory { cache, buffer })
+}
+
+/// How lines are answered.
+fn manner(matches: &ArgMatches<'_>, otherwise: OnRefusal) -> Option<Manner>
+    ensures { result ≡ manner_by otherwise (rows_of (found_of matches.now)) }
+{
+    let most = number_of(matches, "grow-to", 0, MAX_BLOCKS)?;
+    let on_command = on_command(
+        is_given(matches, "read-only"),
+        is_given(matches, "grow"),
+        most,
+    );
+    let on_refusal = on_refusal(is_given(matches, "strict"), otherwise);
+    Some(Manner {
+        on_command,
+        on_refusal,
+    })
 }
 
 /// Whether the flag of this name was given.
@@ -139,7 +158,7 @@ fn is_given(matches: &ArgMatches<'_>, name: &str) -> bool
     }
 }
 
-/// What a line that is refused means, which with `--strict` ends the talk.
+/// What a refused line means. With `--strict` it ends the session.
 fn on_refusal(strict: bool, otherwise: OnRefusal) -> OnRefusal
     ensures { result ≡ (if strict then OnRefusal.Stop else otherwise) }
 {
@@ -149,7 +168,24 @@ fn on_refusal(strict: bool, otherwise: OnRefusal) -> OnRefusal
     otherwise
 }
 
-/// The number that an argument has, where it lies in the range.
+/// What a line that is a command means: with `--read-only` it is refused, with `--grow-to` the
+/// store may grow for it up to that many blocks, and with `--grow` up to the maximum.
+fn on_command(read_only: bool, grow: bool, most: u32) -> OnCommand
+    ensures { result ≡ command_with read_only grow most }
+{
+    if read_only {
+        return OnCommand::Refuse;
+    }
+    if most > 0 {
+        return OnCommand::GrowIfFull(most);
+    }
+    if grow {
+        return OnCommand::GrowIfFull(MAX_BLOCKS);
+    }
+    OnCommand::CarryOut
+}
+
+/// The number that an argument has, if it lies in the range.
 fn number_of(matches: &ArgMatches<'_>, name: &str, least: u32, most: u32) -> Option<u32>
     ensures { result ≡ number_by least most name.now (rows_of (found_of matches.now)) }
 {
@@ -174,8 +210,8 @@ fn command<'a>(alloc: Global) -> Result<Command<'a>, AllocError>
     with_task(program, tree(alloc))
 }
 
-/// The program with one more task, if both could be made. Each `?` beside a command is a path on which that is dropped, and is
-/// proved: so they stand here, once.
+/// The program with one more task, if both could be made. Each `?` beside a command is a path on
+/// which the command is dropped, and is proved: so they are here, once.
 fn with_task<'a>(
     program: Result<Command<'a>, AllocError>,
     task: Result<Command<'a>, AllocError>,
@@ -250,15 +286,18 @@ fn do_lines<'a>(alloc: Global) -> Result<Command<'a>, AllocError>
     with_options(alloc, command)
 }
 
-/// A command with the options of a talk.
+/// A command with the options of a session.
 fn with_options<'a>(alloc: Global, command: Command<'a>) -> Result<Command<'a>, AllocError>
     ensures app { IfOk result (λ c. app_of c ≡ with_options (app_of command.entry)) }
     ensures local { IsLocal command.entry → IfOk result (λ c. IsLocal c) }
 {
     with_lock(alloc, command)?
         .arg(flag(alloc, "strict", help::STRICT))?
-        .arg(amount(alloc, "cache", help::RUN_CACHE, "256"))?
-        .arg(amount(alloc, "buffer", help::RUN_BUFFER, "16384"))
+        .arg(flag(alloc, "read-only", help::READ_ONLY))?
+        .arg(flag(alloc, "grow", help::GROW))?
+        .arg(grow_to(alloc))?
+        .arg(amount(alloc, "cache", help::RUN_CACHE).default_value("256"))?
+        .arg(amount(alloc, "buffer", help::RUN_BUFFER))
 }
 
 /// A command with the options of the file's lock.
@@ -327,17 +366,29 @@ fn blocks<'a>(alloc: Global) -> Arg<'a>
         .value_parser(value_parser!(u32).range(64..=1_048_576))
 }
 
-/// The option that says how many blocks are in memory.
-fn amount<'a>(alloc: Global, name: &'a str, about: &'a str, default: &'a str) -> Arg<'a>
-    ensures rule { rule_of result ≡ amount_rule name.entry.now default.entry.now 65536 }
+/// The option for a number of blocks in memory.
+fn amount<'a>(alloc: Global, name: &'a str, about: &'a str) -> Arg<'a>
+    ensures rule { rule_of result ≡ amount_rule name.entry.now 65536 }
     ensures local { result.global ≡ false }
 {
     Arg::new(alloc, name)
         .long(name)
         .value_name("N")
         .help(about)
-        .default_value(default)
         .value_parser(value_parser!(u32).range(0..=65_536))
+}
+
+/// The option for the number of blocks that a store may grow to.
+fn grow_to<'a>(alloc: Global) -> Arg<'a>
+    ensures rule { rule_of result ≡ grow_to_rule }
+    ensures local { result.global ≡ false }
+{
+    Arg::new(alloc, "grow-to")
+        .long("grow-to")
+        .value_name("N")
+        .help(help::GROW_TO)
+        .default_value("0")
+        .value_parser(value_parser!(u32).range(0..=1_048_576))
 }
 
 fn flag<'a>(alloc: Global, name: &'a str, about: &'a str) -> Arg<'a>

@@ -2,9 +2,9 @@
 ghost use Rattle.std.specs.Prelude.{◌≡◌, ◌≤◌, ◌∷◌, codes, length, true, false};
 ghost use Rattle.vm_cli.specs.Asking.{Request};
 ghost use Rattle.vm_cli.specs.Escapes.{value_of};
-ghost use Rattle.vm_cli.specs.Feeding.{AnswersBy, HandlesBy};
+ghost use Rattle.vm_cli.specs.Feeds.{AnswersBy, HandlesIn};
 ghost use Rattle.vm_cli.specs.Replies.{ends_talk};
-ghost use Rattle.vm_cli.specs.Requests.{put_asked};
+ghost use Rattle.vm_cli.specs.Requests.{asked_in, put_asked};
 ghost use Rattle.vm_cli.specs.Spaces.{words_of};
 ghost use Rattle.vm_cli.specs.Talk.{FailsByDevice};
 ghost use Rattle.vm_store.specs.Store.{has_failed, GrowsOn};
@@ -14,64 +14,120 @@ ghost use Rattle.vm_types.specs.declared.command.Command.TheVariants.{Put};
 use crate::answers::reply::Reply;
 use crate::lines::arguments::put_words;
 use crate::lines::escape::{plain, value};
+use crate::talk::OnCommand;
 use crate::talk::commands::answered;
+use crate::talk::growth::reply_growing;
 use vm_disk::Disk;
 use vm_store::Store;
-use vm_types::{Key, Name};
+use vm_types::{Command, Key, Name, Value};
 
-/// Carries out a put, of which the words behind the first are given.
+/// Carries out a put, given the words after the first.
 #[inline(never)]
-pub(crate) fn reply_to_put<D: Disk>(rest: &[u8], store: &mut Store<D>) -> Reply
-    ensures { HandlesBy (codes "put" ∷ words_of rest.now) result store.old store.new }
+pub(crate) fn reply_to_put<D: Disk>(
+    rest: &[u8],
+    on_command: OnCommand,
+    store: &mut Store<D>,
+) -> Reply
+    ensures { HandlesIn on_command (codes "put" ∷ words_of rest.now) result store.old store.new }
 {
     let (record, word) = put_words(rest);
     match record {
-        Some(asked) => reply_to_spelled(asked, word, store),
+        Some(asked) => reply_to_spelled(asked, word, on_command, store),
         None => Reply::BadLine,
     }
 }
 
-/// Puts the value that a word spells. Most words are their values, and none of those is copied.
-fn reply_to_spelled<D: Disk>(asked: (Name, Key), word: &[u8], store: &mut Store<D>) -> Reply
+/// Puts the value that a word spells. Most words are their values, and those are not copied.
+fn reply_to_spelled<D: Disk>(
+    asked: (Name, Key),
+    word: &[u8],
+    on_command: OnCommand,
+    store: &mut Store<D>,
+) -> Reply
     ensures goes { GrowsOn ⊥ store.old store.new }
     ensures last { has_failed store.old ≡ false → ends_talk result ≡ has_failed store.new }
     ensures failing { FailsByDevice store.old store.new }
     ensures left { has_failed store.old ≡ true → store.new ≡ store.old }
-    ensures answer { AnswersBy (put_asked asked.0 asked.1 (value_of word.now)) result
+    ensures answer { AnswersBy (asked_in on_command (put_asked asked.0 asked.1 (value_of word.now))) result
         store.old store.new }
 {
     let (alt, key) = asked;
     match plain(word) {
-        Some(value) => reply_to_value(&alt, key, value, store),
-        None => reply_to_escaped(&alt, key, word, store),
+        Some(value) => reply_to_value(&alt, key, value, on_command, store),
+        None => reply_to_escaped(&alt, key, word, on_command, store),
     }
 }
 
-/// Puts the value that a word spells by other bytes than its own.
+/// Puts the value of a word that spells it with other bytes than its own.
 #[inline(never)]
-fn reply_to_escaped<D: Disk>(alt: &Name, key: Key, word: &[u8], store: &mut Store<D>) -> Reply
+fn reply_to_escaped<D: Disk>(
+    alt: &Name,
+    key: Key,
+    word: &[u8],
+    on_command: OnCommand,
+    store: &mut Store<D>,
+) -> Reply
     ensures goes { GrowsOn ⊥ store.old store.new }
     ensures last { has_failed store.old ≡ false → ends_talk result ≡ has_failed store.new }
     ensures failing { FailsByDevice store.old store.new }
     ensures left { has_failed store.old ≡ true → store.new ≡ store.old }
-    ensures answer { AnswersBy (put_asked alt.now key (value_of word.now)) result
+    ensures answer { AnswersBy (asked_in on_command (put_asked alt.now key (value_of word.now))) result
         store.old store.new }
 {
     match value(word) {
-        Some(value) => reply_to_value(alt, key, value.as_bytes(), store),
+        Some(value) => reply_to_value(alt, key, value.as_bytes(), on_command, store),
         None => Reply::BadLine,
     }
 }
 
-/// Puts a value. Where the device failed in it, the store carries out nothing more.
-fn reply_to_value<D: Disk>(alt: &Name, key: Key, value: &[u8], store: &mut Store<D>) -> Reply
+/// Does with a put of a value what the session does with commands. If the device fails in it, the
+/// store carries out nothing more.
+fn reply_to_value<D: Disk>(
+    alt: &Name,
+    key: Key,
+    value: &[u8],
+    on_command: OnCommand,
+    store: &mut Store<D>,
+) -> Reply
     requires short { length value.now ≤ longest }
     ensures goes { GrowsOn ⊥ store.old store.new }
     ensures last { has_failed store.old ≡ false → ends_talk result ≡ has_failed store.new }
     ensures failing { FailsByDevice store.old store.new }
     ensures left { has_failed store.old ≡ true → store.new ≡ store.old }
-    ensures answer { AnswersBy (Request.Command (Put alt.now key value.now)) result
+    ensures answer { AnswersBy (asked_in on_command (Request.Command (Put alt.now key value.now))) result
         store.old store.new }
 {
-    answered(store.put(alt, key, value))
+    match on_command {
+        OnCommand::Refuse => Reply::ReadOnly,
+        OnCommand::CarryOut => answered(store.put(alt, key, value)),
+        OnCommand::GrowIfFull(most) => reply_growing_with(alt, key, value, most, store),
+    }
+}
+
+/// Puts a value into a store that may grow, to at most `most` blocks.
+#[inline(never)]
+fn reply_growing_with<D: Disk>(
+    alt: &Name,
+    key: Key,
+    value: &[u8],
+    most: u32,
+    store: &mut Store<D>,
+) -> Reply
+    requires short { length value.now ≤ longest }
+    ensures goes { GrowsOn ⊥ store.old store.new }
+    ensures last { has_failed store.old ≡ false → ends_talk result ≡ has_failed store.new }
+    ensures failing { FailsByDevice store.old store.new }
+    ensures left { has_failed store.old ≡ true → store.new ≡ store.old }
+    ensures answer { AnswersBy (Request.Growing most (Put alt.now key value.now)) result
+        store.old store.new }
+{
+    let Some(value) = Value::new(value) else {
+        unreachable!();
+    };
+    let command = Command::Put {
+        alt: *alt,
+        key,
+        value,
+    };
+    reply_growing(&command, most, store)
 }

@@ -1,27 +1,27 @@
-//! Lines that are queries. The text takes an answer, or the lines of a list but for the last; what
-//! doesn't fit is written, and the last line of the answer is given back.
+//! Lines that are queries. The text takes an answer, or the lines of a list except the last one.
+//! What does not fit is written, and the last line of the answer is returned.
 ghost use Rattle.std.specs.Prelude.{◌≡◌, ◌+◌, ◌≤◌, ◌∷◌, [], codes, length, true, false};
 ghost use Rattle.vm_cli.specs.Asking.{Request};
-ghost use Rattle.vm_cli.specs.Feeding.{AnswersBy, AnswersWith, HandlesBy, HandlesInto};
+ghost use Rattle.vm_cli.specs.Feeds.{AnswersBy, AnswersWith, HandlesBy, HandlesInto};
 ghost use Rattle.vm_cli.specs.Replies.{ends_talk};
 ghost use Rattle.vm_cli.specs.Requests.{request_of};
 ghost use Rattle.vm_cli.specs.Spaces.{words_of};
 ghost use Rattle.vm_store.specs.Store.{has_failed, GoesOn};
 
 use crate::answers::lists::reply_with_list;
+use crate::answers::output::WriteFault;
 use crate::answers::reply::{Reply, push_found};
 use crate::answers::text::Text;
-use crate::answers::writing::WriteFault;
 use crate::lines::arguments::{ends, one_name};
-use crate::lines::versions::{one_at, record_at, two_ats};
+use crate::lines::versions::{at_and_part, ats_and_part, page, record_at};
 use std::alloc::Global;
 use std::io::Write;
 use vm_disk::Disk;
 use vm_store::Store;
 use vm_types::{At, Key, Name};
 
-/// Answers a query for the value of a record, of which the words behind the first are given. The
-/// text takes the answer, unless it is a refusal.
+/// Answers a query for the value of a record, given the words after the first. The text takes the
+/// answer, unless it is a refusal.
 #[inline(never)]
 pub(crate) fn reply_to_get<D: Disk>(
     rest: &[u8],
@@ -69,7 +69,7 @@ fn get<D: Disk>(
     }
 }
 
-/// `list AT`
+/// `list AT`, `list AT TABLE` or `list AT TABLE FIRST LAST`
 #[inline(never)]
 pub(crate) fn reply_to_list<W: Write, D: Disk>(
     alloc: Global,
@@ -82,8 +82,34 @@ pub(crate) fn reply_to_list<W: Write, D: Disk>(
     ensures { HandlesInto W.contents (codes "list" ∷ words_of rest.now) result
         store.old store.new writer.old writer.new text.new }
 {
-    match one_at(rest) {
-        Some(at) => reply_with_list(store.list_at(alloc, &at), text, writer),
+    let Some((at, part)) = at_and_part(rest) else {
+        return Ok(Reply::BadLine);
+    };
+    match part {
+        None => reply_with_list(store.list_at(alloc, &at), text, writer),
+        Some((low, high)) => {
+            reply_with_list(store.list_part(alloc, &at, low, high), text, writer)
+        }
+    }
+}
+
+/// `next AT TABLE NUMBER COUNT`
+#[inline(never)]
+pub(crate) fn reply_to_next<W: Write, D: Disk>(
+    alloc: Global,
+    rest: &[u8],
+    text: &mut Text,
+    writer: &mut W,
+    store: &mut Store<D>,
+) -> Result<Reply, WriteFault>
+    requires { text.old ≡ [] }
+    ensures { HandlesInto W.contents (codes "next" ∷ words_of rest.now) result
+        store.old store.new writer.old writer.new text.new }
+{
+    match page(rest) {
+        Some((at, low, count)) => {
+            reply_with_list(store.list_from(alloc, &at, low, count), text, writer)
+        }
         None => Ok(Reply::BadLine),
     }
 }
@@ -145,7 +171,7 @@ pub(crate) fn reply_to_changes<W: Write, D: Disk>(
     }
 }
 
-/// `diff AT AT`
+/// `diff AT AT`, `diff AT AT TABLE` or `diff AT AT TABLE FIRST LAST`
 #[inline(never)]
 pub(crate) fn reply_to_diff<W: Write, D: Disk>(
     alloc: Global,
@@ -158,9 +184,18 @@ pub(crate) fn reply_to_diff<W: Write, D: Disk>(
     ensures { HandlesInto W.contents (codes "diff" ∷ words_of rest.now) result
         store.old store.new writer.old writer.new text.new }
 {
-    match two_ats(rest) {
-        Some((first, second)) => reply_with_list(store.diff(alloc, &first, &second), text, writer),
-        None => Ok(Reply::BadLine),
+    let Some((first, second, part)) = ats_and_part(rest) else {
+        return Ok(Reply::BadLine);
+    };
+    match part {
+        None => reply_with_list(store.diff(alloc, &first, &second), text, writer),
+        Some((low, high)) => {
+            reply_with_list(
+                store.diff_part(alloc, &first, &second, low, high),
+                text,
+                writer,
+            )
+        }
     }
 }
 

@@ -1,6 +1,6 @@
 use Rattle.std.proofs.Common.{inl, refl, subst, sym}
 use Rattle.vm_types.specs.State.{opened}
-use Rattle.vm_store.specs.Growing.{Grows}
+use Rattle.vm_store.specs.Growth.{Grows}
 use Rattle.vm_store.specs.Shown.{new_store}
 use Rattle.vm_store.specs.Store.{disk_of}
 use Rattle.vm_cli.proofs.PassLemmas.{goes_any}
@@ -23,16 +23,17 @@ returns-in-Ok-clause-served g c =
       well = c.in-Ok.ensures.well;
       opens = λ honest. c.in-Ok.ensures.opened honest;
       serves = c.serve-served.ensures.answers;
+      reads = c.serve-served.ensures.reads;
       ends = c.end_of.ensures;
       given_back = given;
       shown = c.close.ensures.shown;
       left = c.close.ensures.crash;
       kept = session_kept old first last (λ honest. c.in-Ok.ensures.opened honest) (λ honest. c.in-Ok.ensures.moments honest) c.in-Ok.ensures.well goes
-          c.args.on_refusal c.serve-served.result _ _ _ c.serve-served.ensures.answers c.close.result given;
+          c.args.manner c.serve-served.result _ _ _ c.serve-served.ensures.answers c.close.result given;
     })
 
 pub returns-in-Ok-clause-ends : goal.returns-in-Ok-clause-ends
 returns-in-Ok-clause-ends g c =
     let first = c.in-Ok.store in
     let last = c.serve-served.new.store in
-    inl (refl, rw c.end_of.ensures (may_end first last (opened (new_store 64)) c.args.on_refusal c.serve-served.result _ _ _ (c.serve-served.ensures.answers (opened (new_store 64)))))
+    inl (refl, rw c.end_of.ensures (may_end first last (opened (new_store 64)) c.args.manner c.serve-served.result _ _ _ (c.serve-served.ensures.answers (opened (new_store 64)))))

@@ -18,7 +18,7 @@ returns-clause-files g c honest =
     let others : KeepsOthers c.args.file.now before after = λ other apart. back.others other apart ∙ found.same other in
     elim c.answer_lines_in_memory-exit.ensures.served [
       | inl served ↦
-          let held = found.held (was_honest g.P.D.Disk _ _ _ (λ disk. refl) (λ disk. refl) (λ disk. refl) _ _ _ _ _ _ _ _ served back.honest) in
+          let held = found.held (was_honest g.P.D.Disk _ _ _ (λ disk. refl) (λ disk. refl) (λ disk. refl) c.args.in_memory _ _ _ _ _ _ _ served back.honest) in
           inl (record {
             found = c.in-Some.disk;
             back = c.answer_lines_in_memory-exit.result.1;
@@ -27,13 +27,13 @@ returns-clause-files g c honest =
             clean = held.1;
             lent = lent;
             others = others;
-            kept = kept_told g.P.D.Disk _ _ _ (λ disk. refl) (λ disk. refl) (λ disk. refl) _ _ _ _ _ _ _ _ served back.honest found.fresh held.1;
+            kept = kept_told g.P.D.Disk _ _ _ (λ disk. refl) (λ disk. refl) (λ disk. refl) c.args.in_memory _ _ _ _ _ _ _ served back.honest found.fresh held.1;
           })
       | inr refused ↦
           let cached : Ghosts (CachedDisk g.row.P-D.Denot g.P.D.Disk) = record { state = λ x. cached_state g.P.D.Disk.state x; hand = λ x. cached_hand x } in
           let late : Ghosts (DelayedDisk g.row.P-D.Denot g.P.D.Disk) = record { state = λ x. delayed_state g.P.D.Disk.state x; hand = λ x. delayed_hand g.P.D.Disk.hand x } in
           let late_cached : Ghosts (DelayedDisk (CachedDisk g.row.P-D.Denot g.P.D.Disk) cached) = record { state = λ x. delayed_state cached.state x; hand = λ x. delayed_hand cached.hand x } in
-          let itself = refused_told g.P.D.Disk cached late late_cached (λ disk. refl) (λ disk. refl) (λ disk. refl) _ _ _ refused.0 found.fresh (λ there. (found.held there).1) refused.1 in
+          let itself = refused_told g.P.D.Disk cached late late_cached (λ disk. refl) (λ disk. refl) (λ disk. refl) c.args.in_memory _ _ refused.0 found.fresh (λ there. (found.held there).1) refused.1 in
           let held = found.held (itself.goes.earlier back.honest) in
           let same = back.holds ∙ ap Some (synced_alone _ _ (itself.moments back.honest)) ∙ sym held.0 in
           inr (record {
@@ -51,7 +51,7 @@ returns-clause-files g c honest =
     ]
 
 pub returns-in_default-clause-files : goal.returns-in_default-clause-files
-returns-in_default-clause-files g c honest = inr (record { same = (c.find.ensures.honest honest).same; told = inl (c.find.ensures.none c.in_default.is, (c.find.ensures.honest honest).same_came, c.no_file.ensures) })
+returns-in_default-clause-files g c honest = inr (record { same = (c.opened.ensures.honest honest).same; told = inl (c.opened.ensures.none c.in_default.is, (c.opened.ensures.honest honest).same_came, c.no_file.ensures) })
 
 pub returns-clause-served : goal.returns-clause-served
 returns-clause-served g c = elim c.answer_lines_in_memory-exit.ensures.served [
@@ -60,4 +60,4 @@ returns-clause-served g c = elim c.answer_lines_in_memory-exit.ensures.served [
 ]
 
 pub returns-in_default-clause-served : goal.returns-in_default-clause-served
-returns-in_default-clause-served g c = inr (inr (c.find.ensures.none c.in_default.is, c.no_file.ensures))
+returns-in_default-clause-served g c = inr (inr (c.opened.ensures.none c.in_default.is, c.no_file.ensures))

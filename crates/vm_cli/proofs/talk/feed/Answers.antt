@@ -1,5 +1,5 @@
 use Rattle.std.proofs.Common.{◌||◌, ◌++◌, [], false, Err, arith, refl, rules, subst, sym, take, drop, ◌+◌}
-use Rattle.vm_cli.specs.Feeding.{Fed}
+use Rattle.vm_cli.specs.Feeds.{Fed}
 use Rattle.vm_cli.specs.Lines.{lines_of}
 use Rattle.vm_cli.specs.Talk.{ServesLines}
 use Rattle.vm_cli.proofs.CarriedLemmas.{passed_on}
@@ -15,7 +15,7 @@ loop-end-init g c = record {
   goes = grows_none _;
   sound = λ sound. sound;
   left = λ failed. refl;
-  fed = λ s from h. (from, h, fed-nothing c.args.store.now s c.args.on_refusal from _);
+  fed = λ s from h. (from, h, fed-nothing c.args.store.now s c.args.manner from _);
 }
 
 pub feed_line-requires : goal.feed_line-requires
@@ -40,8 +40,8 @@ returns-in_err-refused-clause-ended g c s from h more =
     let q = c.in_err-refused.ensures.ended _ p.0 p.1 rest in
     let bytes = sym (line_split c.args.bytes.now so_far.done c.loop-end.rest.now more c.in-Some.end so_far.split first.0.high first.1) in
     rw (passed_on _ c.from_residual.ensures.1)
-    (subst (λ bs. ServesLines old new s c.args.on_refusal (Err c.in_err-refused.field-0.0) before now (lines_of (from ++ bs))) bytes
-    (ended-join old mid new s c.args.on_refusal _ _ _ from p.0 before _ now p.2 c.in_err-refused.field-0.0 rest q))
+    (subst (λ bs. ServesLines old new s c.args.manner (Err c.in_err-refused.field-0.0) before now (lines_of (from ++ bs))) bytes
+    (ended-join old mid new s c.args.manner _ _ _ from p.0 before _ now p.2 c.in_err-refused.field-0.0 rest q))
 
 pub loop-end-preserved : goal.loop-end-preserved
 loop-end-preserved g c =
@@ -64,8 +64,8 @@ loop-end-preserved g c =
           let q = c.in_ok-refused.ensures.fed _ p.0 p.1 in (
             q.0,
             q.1,
-            subst (λ bs. Fed old new s c.args.on_refusal (c.loop-end.refused || c.in_ok-refused.field-0) (so_far.done ++ bs) from q.0 before now) (sym line)
-                (fed-join old mid new s c.args.on_refusal _ _ _ from p.0 before _ now p.2 _ q.0 q.2),
+            subst (λ bs. Fed old new s c.args.manner (c.loop-end.refused || c.in_ok-refused.field-0) (so_far.done ++ bs) from q.0 before now) (sym line)
+                (fed-join old mid new s c.args.manner _ _ _ from p.0 before _ now p.2 _ q.0 q.2),
           );
     }
 
@@ -78,7 +78,7 @@ returns-clause-fed g c s from h =
     let p = so_far.fed s from h in (
       p.0 ++ rest,
       c.extend.ensures p.0 p.1,
-      subst (λ b. Fed c.args.store.now c.loop-end.store s c.args.on_refusal b c.args.bytes.now from (p.0 ++ rest) before now) (or-false c.loop-end.refused)
-          (subst (λ bs. Fed c.args.store.now c.loop-end.store s c.args.on_refusal (c.loop-end.refused || false) bs from (p.0 ++ rest) before now) (sym so_far.split)
-          (fed-join c.args.store.now c.loop-end.store c.loop-end.store s c.args.on_refusal _ _ _ from p.0 before _ now p.2 false (p.0 ++ rest) (fed-part c.loop-end.store _ c.args.on_refusal p.0 rest now))),
+      subst (λ b. Fed c.args.store.now c.loop-end.store s c.args.manner b c.args.bytes.now from (p.0 ++ rest) before now) (or-false c.loop-end.refused)
+          (subst (λ bs. Fed c.args.store.now c.loop-end.store s c.args.manner (c.loop-end.refused || false) bs from (p.0 ++ rest) before now) (sym so_far.split)
+          (fed-join c.args.store.now c.loop-end.store c.loop-end.store s c.args.manner _ _ _ from p.0 before _ now p.2 false (p.0 ++ rest) (fed-part c.loop-end.store _ c.args.manner p.0 rest now))),
     )

@@ -1,8 +1,8 @@
 use Rattle.std.proofs.Common.{◌≡◌, ◌++◌, ℕ, List, true, false, length}
 use Rattle.vm_types.specs.State.{State}
 use Rattle.vm_store.specs.Store.{GrowsOn, has_failed}
-use Rattle.vm_cli.specs.Feeding.{Fed}
-use Rattle.vm_cli.specs.Reading.{HoldsLine}
+use Rattle.vm_cli.specs.Feeds.{Fed}
+use Rattle.vm_cli.specs.Input.{HoldsLine}
 use Rattle.vm_cli.proofs.talk.feed.Given as goal
 
 -- the bytes so far were fed
@@ -14,7 +14,7 @@ invariant-loop-end g l = record {
   sound : has_failed l.fn.store ≡ false → has_failed l.store ≡ false;
   left : has_failed l.fn.store ≡ true → l.store ≡ l.fn.store;
   fed : (s : State) → (from : List ℕ) → HoldsLine l.fn.line from
-      → (to : List ℕ) × HoldsLine l.line to × Fed l.fn.store l.store s l.fn.on_refusal l.refused done from to (g.W.Write.contents l.fn.writer) (g.W.Write.contents l.writer);
+      → (to : List ℕ) × HoldsLine l.line to × Fed l.fn.store l.store s l.fn.manner l.refused done from to (g.W.Write.contents l.fn.writer) (g.W.Write.contents l.writer);
 }
 
 abbrev pub decreases-loop-end : goal.decreases-loop-end

@@ -1,8 +1,6 @@
 use Rattle.std.proofs.Common.{◌≡◌, ◌∙◌, Some, None, codes, map, rules, sym}
 use Rattle.clap.specs.Words.{all_of, found_of, rows_of}
 use Rattle.clap.proofs.WalkLemmas.{raw_values-rows}
-use Rattle.vm_cli.specs.Words.{refusal_by}
-use Rattle.vm_cli.specs.declared.talk.OnRefusal.TheVariants.{Tell}
 use Rattle.vm_cli.proofs.Matches.{do_by-lines, do_by-none}
 use Rattle.vm_cli.proofs.program.words.asked_do.Goals as goal
 
@@ -18,5 +16,4 @@ returns c =
     let found = found_of c.args.matches.now in
     let given = rw c.in-Some.is at c.get_strs.ensures in
     let lines : all_of (codes "line") (rows_of found) ≡ Some (map (λ line. line.now) c.in-Some.lines.now) = sym (raw_values-rows found (codes "line")) ∙ sym given in
-    let on : c.on_refusal-on_refusal.result ≡ refusal_by Tell (rows_of found) = search rules in
-    rw (c.in_ok-input.ensures, on) (sym (do_by-lines (rows_of found) c.args.file.now _ _ lines (sym c.in-Some-in_memory.ensures)))
+    rw c.in_ok-input.ensures (sym (do_by-lines (rows_of found) c.args.file.now _ _ _ lines (sym c.in-Some-in_memory.ensures) (sym c.in-Some-manner.ensures)))

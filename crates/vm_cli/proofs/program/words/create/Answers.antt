@@ -1,4 +1,3 @@
-use Rattle.std.proofs.Common.{ap}
 use Rattle.std.proofs.lemmas.Result.{IfOk-weaker}
 use Rattle.vm_cli.proofs.Commands.{local_arg, with_arg}
 use Rattle.vm_cli.proofs.program.words.create.Goals as goal

@@ -1,12 +1,19 @@
-use Rattle.std.proofs.Common.{◌≡◌, false}
+use Rattle.std.proofs.Common.{◌≡◌, false, ap}
 use Rattle.vm_store.specs.Store.{has_failed}
+use Rattle.vm_cli.specs.Asking.{Request}
 use Rattle.vm_cli.specs.Replies.{ends_talk, reply_text}
-use Rattle.vm_cli.proofs.HandledLemmas.{Applied, applied_fails, applied_goes, carried}
+use Rattle.vm_cli.specs.Requests.{asked_in}
+use Rattle.vm_cli.proofs.HandledLemmas.{Applied, applied_fails, applied_goes, carried, forbidden_handled, request_as}
 use Rattle.vm_cli.proofs.TalkLemmas.{last-is}
 use Rattle.vm_cli.proofs.talk.commands.reply_to_command.Goals as goal
 
-pub returns : goal.returns
-returns g c =
+pub returns-in-Refuse-clause-answer : goal.returns-in-Refuse-clause-answer
+returns-in-Refuse-clause-answer g c s =
+    let store = c.args.store.now in
+    request_as store store s _ Request.Forbidden (ap (λ on. asked_in on (Request.Command c.args.command.now)) c.in-Refuse.is) _ _ (forbidden_handled store s)
+
+pub returns-in-CarryOut : goal.returns-in-CarryOut
+returns-in-CarryOut g c =
     let old = c.args.store.now in
     let new = c.apply.new.self in
     let command = c.args.command.now in
@@ -19,5 +26,11 @@ returns g c =
       last = last;
       failing = applied_fails old new command c.apply.result applied;
       left = λ failed. (said.refused failed).1;
-      answer = λ s. carried old new s command c.apply.result applied (reply_text c.answered.result) ends c.answered.ensures.text last c.answered.ensures.failed;
+      answer = λ s.
+          request_as old new s _ (Request.Command command) (ap (λ on. asked_in on (Request.Command command)) c.in-CarryOut.is) _ _
+          (carried old new s command c.apply.result applied (reply_text c.answered.result) ends c.answered.ensures.text last c.answered.ensures.failed);
     }
+
+pub returns-in-GrowIfFull-clause-answer : goal.returns-in-GrowIfFull-clause-answer
+returns-in-GrowIfFull-clause-answer g c s =
+    request_as c.args.store.now c.reply_growing.new.store s _ (Request.Growing c.in-GrowIfFull.most c.args.command.now) (ap (λ on. asked_in on (Request.Command c.args.command.now)) c.in-GrowIfFull.is) _ _ (c.reply_growing.ensures.answer s)

@@ -1,5 +1,5 @@
 use Rattle.std.proofs.Common.{◌≡◌, ◌≤◌, ap, refl, subst}
-use Rattle.vm_store.specs.Resting.{spare_of}
+use Rattle.vm_store.specs.Rest.{spare_of}
 use Rattle.vm_store.specs.Store.{free_of, has_failed}
 use Rattle.vm_cli.specs.Asking.{Request}
 use Rattle.vm_cli.specs.Replies.{reply_text}

@@ -1,7 +1,7 @@
 use Rattle.std.proofs.Common.{◌≡◌, ◌++◌, [], Ok, Err, length, option_copied, ap, arith, refl, ◌∙◌}
 use Rattle.vm_types.specs.declared.refusal.Refusal.TheVariants.{Device, Failed}
 use Rattle.vm_store.specs.Store.{has_failed}
-use Rattle.vm_cli.specs.Feeding.{HandlesRequest}
+use Rattle.vm_cli.specs.Feeds.{HandlesRequest}
 use Rattle.vm_cli.specs.Asking.{Request}
 use Rattle.vm_cli.proofs.HandledLemmas.{refusal_handled, told, with_nothing}
 use Rattle.vm_cli.proofs.PassLemmas.{goes_any, passes_reads}

@@ -1,5 +1,5 @@
 use Rattle.std.proofs.Common.{subst, sym}
-use Rattle.vm_cli.specs.Feeding.{AnswersWith, HandlesRequest}
+use Rattle.vm_cli.specs.Feeds.{AnswersWith, HandlesRequest}
 use Rattle.vm_cli.specs.Spaces.{words_of}
 use Rattle.vm_cli.specs.declared.answers.reply.Reply.TheVariants as reply
 use Rattle.vm_cli.specs.Asking.{Request}

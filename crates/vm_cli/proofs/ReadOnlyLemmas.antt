@@ -1,0 +1,117 @@
+-- A talk in which commands are refused only reads.
+use Rattle.std.proofs.Common.{◌≡◌, ◌⊎◌, inl, inr, ℕ, Bool, true, false, List, [], ◌∷◌, Option, None, Result, Ok, Err, refl, ◌∙◌, subst}
+use Rattle.vm_types.specs.declared.answer.Answer.{Answer}
+use Rattle.vm_types.specs.declared.command.Command.{Command}
+use Rattle.vm_types.specs.declared.refusal.Refusal.{Refusal}
+use Rattle.vm_types.specs.State.{State}
+use Rattle.vm_disk.proofs.MomentLemmas.{reads_then}
+use Rattle.vm_store.specs.Store.{IsSameButDisk, disk_of}
+use Rattle.vm_store.specs.declared.store.Store.{Store}
+use Rattle.vm_cli.specs.Asking.{Request}
+use Rattle.vm_cli.specs.Input.{without_return}
+use Rattle.vm_cli.specs.Requests.{asked_in, request_of}
+use Rattle.vm_cli.specs.Spaces.{words_of}
+use Rattle.vm_cli.specs.Talk.{Answered, AnsweredRequest, Done, EndsTalk, HandlesLine, Meets, Passes, Serves, Talks, after_line}
+use Rattle.vm_cli.specs.declared.talk.Manner.{Manner}
+use Rattle.vm_cli.specs.declared.talk.OnCommand.{OnCommand}
+use Rattle.vm_cli.specs.declared.talk.OnCommand.TheVariants.{Refuse}
+use Rattle.vm_cli.specs.declared.talk.ServeFault.{ServeFault}
+use Rattle.vm_cli.specs.declared.talk.ServeFault.TheVariants as fault
+use Rattle.vm_cli.proofs.PassLemmas.{grows_both, passes_left}
+use Rattle.vm_cli.proofs.VerbLemmas.{is_reading}
+
+-- what is asked for there is no command
+refused_reads : (on : OnCommand) (request : Request) → on ≡ Refuse → is_reading (asked_in on request) ≡ true
+refused_reads on (Request.Command command) is = rw is refl
+refused_reads on (Request.Growing most command) is = rw is refl
+refused_reads on (Request.MergeAll limit alt side settled) is = rw is refl
+refused_reads on request is = rw is refl
+
+module _ {D : Type 0} {members : _} where
+  -- a store that is as before but for its disk, and again
+  same_again : (old mid new : Store D members) → IsSameButDisk old mid → IsSameButDisk mid new → IsSameButDisk old new
+  same_again old mid new first second = record {
+    alloc = second.alloc ∙ first.alloc;
+    blocks = second.blocks ∙ first.blocks;
+    kept = second.kept ∙ first.kept;
+    slot_name = second.slot_name ∙ first.slot_name;
+    entries = second.entries ∙ first.entries;
+    committed = second.committed ∙ first.committed;
+    working = second.working ∙ first.working;
+    held = second.held ∙ first.held;
+    marks = second.marks ∙ first.marks;
+    before = second.before ∙ first.before;
+    series = second.series ∙ first.series;
+    changes = second.changes ∙ first.changes;
+    failed = second.failed ∙ first.failed;
+  }
+
+  passes_both : (old mid new : Store D members) → Passes old mid None → Passes mid new None → Passes old new None
+  passes_both old mid new first second = record {
+    goes = grows_both _ _ _ first.goes second.goes;
+    as_long = λ none. second.as_long refl ∙ first.as_long refl;
+    reads = λ honest none. reads_then _ _ _ (first.reads (second.goes.earlier honest) refl) (second.reads honest refl);
+    unchanged = λ none. same_again old mid new (first.unchanged refl) (second.unchanged refl);
+  }
+
+  module _ (old new : Store D members) (s : State) where
+    -- a line that is no command
+    meets_none : (request : Request) (text : List ℕ) (was : Done) → is_reading request ≡ true → Meets old new s request text was → was ≡ None
+    meets_none (Request.Command command) text was reads meets = cc
+    meets_none (Request.Growing most command) text was reads meets = cc
+    meets_none (Request.MergeAll limit alt side settled) text was reads meets = cc
+    meets_none (Request.Get at key) text was reads meets = meets.0
+    meets_none (Request.List at) text was reads meets = meets.0
+    meets_none (Request.Part at low high) text was reads meets = meets.0
+    meets_none (Request.Page at low count) text was reads meets = meets.0
+    meets_none Request.Alternatives text was reads meets = meets.0
+    meets_none (Request.Checkpoints alt) text was reads meets = meets.0
+    meets_none (Request.Changes alt) text was reads meets = meets.0
+    meets_none (Request.Diff first second) text was reads meets = meets.0
+    meets_none (Request.DiffPart first second low high) text was reads meets = meets.0
+    meets_none (Request.Conflicts alt) text was reads meets = meets.0
+    meets_none (Request.Tally alt) text was reads meets = meets.0
+    meets_none Request.Free text was reads meets = meets.0
+    meets_none Request.Blocks text was reads meets = meets.0
+    meets_none Request.Nothing text was reads meets = meets.0
+    meets_none Request.Bad text was reads meets = meets.0
+    meets_none Request.Forbidden text was reads meets = meets.0
+
+    request_none : (request : Request) (text : List ℕ) (ends : Bool) (was : Done) → is_reading request ≡ true → AnsweredRequest old new s request text ends was → was ≡ None
+    request_none request text ends was reads (inl (sound, last, meets)) = meets_none request text was reads meets
+    request_none request text ends was reads (inr (failed, same, none, says)) = none
+
+    module _ (on : Manner) (refuses : on.on_command ≡ Refuse) where
+      line_none : (line text : List ℕ) (ends : Bool) (was : Done) → Answered old new s on line text ends was → was ≡ None
+      line_none line text ends was (inl (same, none, goes_on, says)) = none
+      line_none line text ends was (inr (inl (long, same, none, goes_on, says))) = none
+      line_none line text ends was (inr (inr (short, answered))) =
+          let asked = request_of (words_of (without_return line)) in
+          request_none (asked_in on.on_command asked) text ends was (refused_reads on.on_command asked refuses) answered
+
+      line_passes : (line text : List ℕ) (ends : Bool) → HandlesLine old new s on line text ends → Passes old new None
+      line_passes line text ends handled = subst (λ (was : Done). Passes old new was) (line_none line text ends handled.done handled.answers) handled.passes
+
+  module _ (on : Manner) (refuses : on.on_command ≡ Refuse) where
+    -- lines one after another
+    talks_pass : (lines : List (List ℕ)) (old new : Store D members) (s : State) (text : List ℕ) (commands : List Command) (answers : List (Result Answer Refusal)) (refused : Bool)
+        → Talks old new s on lines text commands answers refused → Passes old new None
+    talks_pass [] old new s text commands answers refused talks = passes_left old new talks.0
+    talks_pass (line ∷ lines) old new s text commands answers refused (mid, first, rest, later, others, step, e, f, g, again, h, talks) =
+        passes_both old mid new (line_passes old mid s on refuses line first false step)
+        (talks_pass lines mid new (after_line s step.done) rest later others again talks)
+
+    ended_passes : (old new : Store D members) (s : State) (ends : Bool) (all : List (List ℕ)) (text : List ℕ) → EndsTalk old new s on ends all text → Passes old new None
+    ended_passes old new s ends all text ended =
+        passes_both old ended.mid new
+        (talks_pass ended.lines old ended.mid s ended.earlier ended.talked.commands ended.talked.answers ended.talked.refused ended.talked.talks)
+        (line_passes ended.mid new _ on refuses ended.line ended.last ends ended.handled)
+
+    pub serves_pass : (old new : Store D members) (s : State) (result : Result Bool ServeFault) (before then known : Option (List ℕ)) → Serves old new s on result before then known → Passes old new None
+    serves_pass old new s (Ok refused) before then known serves =
+        let talked = serves.served.1 in talks_pass _ old new s serves.served.0 talked.commands talked.answers talked.refused talked.talks
+    serves_pass old new s (Err fault.Read) before then known serves =
+        let talked = serves.served.4 in talks_pass serves.served.1 old new s serves.served.0 talked.commands talked.answers talked.refused talked.talks
+    serves_pass old new s (Err fault.Store) before then known serves = ended_passes old new s true _ serves.served.0 serves.served.1
+    serves_pass old new s (Err fault.Refused) before then known serves = ended_passes old new s false _ serves.served.0 serves.served.1
+    serves_pass old new s (Err fault.Write) before then known serves = ended_passes old new s serves.served.1 _ serves.served.0 serves.served.2

@@ -1,0 +1,45 @@
+use Rattle.std.proofs.Common.{inl, inr}
+use Rattle.vm_cli.proofs.DelayingLemmas.{some}
+use Rattle.vm_cli.proofs.program.cached_lines.answer_lines_in_memory.Goals as goal
+
+pub returns-in-Ok-clause-served : goal.returns-in-Ok-clause-served
+returns-in-Ok-clause-served g c =
+    let all = rw (c.buffer_for-buffer.ensures, c.blocks-2.ensures) at c.answer_lines_late-exit.ensures.served in
+    elim all [
+      | inl served ↦ inl (inr (record {
+        first = c.in-Ok.cached;
+        last = c.answer_lines_late-exit.result.1;
+        some = some c.args.in_memory.cache c.if-cache-eq0.false;
+        empty = c.in-Ok.ensures.ok;
+        done = served;
+        given_back = c.into_inner.ensures;
+      }))
+      | inr refused ↦ inr (
+        refused.0,
+        inr (record {
+          first = c.in-Ok.cached;
+          last = c.answer_lines_late-exit.result.1;
+          some = some c.args.in_memory.cache c.if-cache-eq0.false;
+          empty = c.in-Ok.ensures.ok;
+          done = refused.1;
+          given_back = c.into_inner.ensures;
+        }),
+        refused.2,
+      )
+    ]
+
+pub returns-then-cache-eq0-clause-served : goal.returns-then-cache-eq0-clause-served
+returns-then-cache-eq0-clause-served g c =
+    let all = rw (c.buffer_for-buffer.ensures, c.blocks-2.ensures) at c.answer_lines_late.ensures.served in
+    elim all [
+      | inl served ↦ inl (inl served)
+      | inr refused ↦ inr (refused.0, inl refused.1, refused.2)
+    ]
+
+pub returns-in-Err-clause-served : goal.returns-in-Err-clause-served
+returns-in-Err-clause-served g c =
+    let all = rw (c.in-Err.ensures.refused, c.buffer_for-buffer.ensures, c.blocks-2.ensures) at c.answer_lines_late-in-Err.ensures.served in
+    elim all [
+      | inl served ↦ inl (inl served)
+      | inr refused ↦ inr (refused.0, inl refused.1, refused.2)
+    ]

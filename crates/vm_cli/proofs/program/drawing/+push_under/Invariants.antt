@@ -1,5 +1,0 @@
-use Rattle.std.proofs.Common.{length}
-use Rattle.vm_cli.proofs.program.drawing.+push_under.Given as goal
-
-abbrev pub decreases-push_under : goal.decreases-push_under
-decreases-push_under l = length l.branches.now

@@ -1,0 +1,46 @@
+use Rattle.std.proofs.Common.{◌∙◌, ap, inl, inr, sym, Some}
+use Rattle.vm_cli.specs.Places.{KeepsOthers, WasLent}
+use Rattle.vm_cli.proofs.FilesLemmas.{keeps_all, synced_alone}
+use Rattle.vm_cli.proofs.program.tree_view.tree.Goals as goal
+
+pub returns-clause-files : goal.returns-clause-files
+returns-clause-files g c honest =
+    let before = g.P.Place.state c.args.place.now in
+    let after = g.P.Place.state c.give_back.new.self in
+    let back = c.give_back.ensures.honest honest in
+    let found = c.in-Some.ensures.honest (c.give_back.ensures.earlier honest) in
+    let lent : WasLent c.args.file.now (g.P.D.Disk.state c.in-Some.disk) (g.P.D.Disk.state c.show_disk-exit.result.1) after = record { fresh = found.fresh; honest = back.honest; holds = back.holds; came = back.came } in
+    let others : KeepsOthers c.args.file.now before after = λ other apart. back.others other apart ∙ found.same other in
+    elim (c.show_disk-exit.ensures.told back.honest) [
+      | inl drawn ↦
+          let held = found.held (drawn.1.goes.earlier back.honest) in
+          let same = back.holds ∙ ap Some (synced_alone _ _ drawn.1.moments) ∙ sym held.0 in
+          inl (record {
+            same = keeps_all c.args.file.now before after others same;
+            found = c.in-Some.disk;
+            back = c.show_disk-exit.result.1;
+            held = held.0;
+            lent = lent;
+            seen = drawn.0;
+            shown = drawn.1;
+            told = drawn.2;
+          })
+      | inr refused ↦
+          let held = found.held (refused.1.goes.earlier back.honest) in
+          let same = back.holds ∙ ap Some (synced_alone _ _ (refused.1.moments back.honest)) ∙ sym held.0 in
+          inr (record {
+            same = keeps_all c.args.file.now before after others same;
+            told = inr (record {
+              found = c.in-Some.disk;
+              back = c.show_disk-exit.result.1;
+              held = held.0;
+              lent = lent;
+              refusal = refused.0;
+              refused = refused.1;
+              told = refused.2;
+            });
+          })
+    ]
+
+pub returns-in_default-clause-files : goal.returns-in_default-clause-files
+returns-in_default-clause-files g c honest = inr (record { same = (c.look.ensures.honest honest).same; told = inl (c.look.ensures.none c.in_default.is, (c.look.ensures.honest honest).same_came, c.no_file.ensures) })

@@ -1,0 +1,51 @@
+-- What becomes of a disk while written blocks of it wait in memory.
+use Rattle.std.specs.Prelude.{◌≡◌, ◌⊎◌, ◌<◌, ℕ, true, List, Option, Result}
+use Rattle.std.proofs.Common.{inl, inr}
+use Rattle.vm_types.specs.declared.answer.Answer.{Answer}
+use Rattle.vm_types.specs.declared.command.Command.{Command}
+use Rattle.vm_types.specs.declared.refusal.Refusal.{Refusal}
+use Rattle.vm_types.specs.State.{State}
+use Rattle.vm_disk.specs.Delayed.{FollowsBelow, IsIdleOver, delayed_state, inner_of}
+use Rattle.vm_disk.specs.declared.delayed.DelayedDisk.{DelayedDisk}
+use Rattle.vm_disk.specs.declared.disk.Disk.{Ghosts}
+use Rattle.vm_cli.specs.Keeps.{answers_of, commands_of}
+use Rattle.vm_cli.specs.Sessions.{HasRefused, HasServed}
+use Rattle.vm_cli.specs.declared.program.Exit.{Exit}
+use Rattle.vm_cli.specs.declared.talk.Manner.{Manner}
+
+module _ {D : Type 0} (members : Ghosts D) where
+  -- a late disk on which so many blocks may wait was made over the old disk, this was done with it, and the new disk is the one below it, which followed
+  pub record IsDoneLate (buffer : ℕ) (IsDone : DelayedDisk D members → DelayedDisk D members → Type 0) (old new : D) : Type 0 where
+    pub first : DelayedDisk D members
+    pub last : DelayedDisk D members
+    pub some : 0 < buffer
+    pub idle : IsIdleOver members.state old buffer first
+    pub done : IsDone first last
+    pub given_back : new ≡ inner_of last
+    pub follows : (delayed_state members.state last).honest ≡ true → FollowsBelow members.state last
+
+module _ {D : Type 0} (members : Ghosts D) (late : Ghosts (DelayedDisk D members)) where
+  -- a disk was refused, itself or with a late disk over it
+  abbrev pub IsRefusedLate : ℕ → D → D → Refusal → Type 0
+  IsRefusedLate buffer old new refusal =
+      HasRefused (members.state old) (members.state new) refusal
+      ⊎ IsDoneLate members buffer (λ first last. HasRefused (late.state first) (late.state last) refusal) old new
+
+module _ {D : Type 0} (members : Ghosts D) (late : Ghosts (DelayedDisk D members)) where
+  -- lines were answered over a disk itself, or over a late disk over it
+  abbrev pub IsServedLate : ℕ → Manner → D → D → Exit → Option (List ℕ) → Option (List ℕ) → Option (List ℕ) → Type 0
+  IsServedLate buffer on old new exit input before after =
+      HasServed members on old new exit input before after
+      ⊎ IsDoneLate members buffer (λ first last. HasServed late on first last exit input before after) old new
+
+  -- the commands among these lines, where the store stood for this state at first
+  abbrev pub commands_late : {buffer : ℕ} {on : Manner} {old new : D} {exit : Exit} {input before after : Option (List ℕ)}
+      → IsServedLate buffer on old new exit input before after → State → List Command
+  commands_late (inl served) s = commands_of (served.serves s)
+  commands_late (inr over) s = commands_of (over.done.serves s)
+
+  -- the answers to them
+  abbrev pub answers_late : {buffer : ℕ} {on : Manner} {old new : D} {exit : Exit} {input before after : Option (List ℕ)}
+      → IsServedLate buffer on old new exit input before after → State → List (Result Answer Refusal)
+  answers_late (inl served) s = answers_of (served.serves s)
+  answers_late (inr over) s = answers_of (over.done.serves s)

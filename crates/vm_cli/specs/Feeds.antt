@@ -1,0 +1,188 @@
+-- How a talk goes on inside: answers that are written in part, and bytes that are fed to it.
+use Rattle.std.specs.Prelude.{◌≡◌, ◌≢◌, ◌⊎◌, ◌+◌, ◌≤◌, ℕ, Bool, true, false, List, [], ◌++◌, Option, None, Result, Ok, Err, IfOk, OnErr, OnOk, flat_map, length}
+use Rattle.std.specs.Io.KnownBytes.{Appends}
+use Rattle.vm_types.specs.State.{State}
+use Rattle.vm_types.specs.declared.answer.Answer.{Answer}
+use Rattle.vm_types.specs.declared.command.Command.{Command}
+use Rattle.vm_types.specs.declared.refusal.Refusal.{Refusal}
+use Rattle.vm_types.specs.declared.refusal.Refusal.TheVariants.{Device, Failed, Memory}
+use Rattle.vm_store.specs.declared.store.Store.{Store}
+use Rattle.vm_cli.specs.declared.answers.text.TheConstants.Text.{MAX_LEN}
+use Rattle.vm_cli.specs.Carried.{WritesStart, Carries}
+use Rattle.vm_cli.specs.Lines.{lines_of}
+use Rattle.vm_cli.specs.Replies.{ends_talk, is_error, reply_text}
+use Rattle.vm_store.specs.Store.{GrowsOn, has_failed}
+use Rattle.vm_cli.specs.Input.{HoldsLine}
+use Rattle.vm_cli.specs.Requests.{asked_in, request_of}
+use Rattle.vm_cli.specs.Talk.{AnsweredRequest, Done, FailsByDevice, Handled, HandlesLine, HasTalked, Serves, ServesLines, Tries, error_text}
+use Rattle.vm_cli.specs.declared.lines.line.Line.{Line}
+use Rattle.vm_cli.specs.declared.answers.reply.Reply.{Reply}
+use Rattle.vm_cli.specs.declared.answers.reply.Reply.TheVariants.{End}
+use Rattle.vm_cli.specs.Asking.{Request}
+use Rattle.vm_cli.specs.declared.talk.Manner.{Manner}
+use Rattle.vm_cli.specs.declared.talk.OnCommand.{OnCommand}
+use Rattle.vm_cli.specs.declared.talk.OnRefusal.TheVariants.{Stop}
+use Rattle.vm_cli.specs.declared.talk.ServeFault.{ServeFault}
+use Rattle.vm_cli.specs.declared.talk.ServeFault.TheVariants as fault
+use Rattle.vm_cli.specs.declared.answers.output.WriteFault.{WriteFault}
+
+-- a reply ends an answer, and of what stands before it the rest is still to be written; `IsAnswer` tells of a text, and of whether
+-- the talk ends with it, if it is the answer. The answer is that the line was refused where the reply is
+pub record Replied (IsAnswer : List ℕ → Bool → Type 0) (reply : Reply) (before after : Option (List ℕ)) (rest : List ℕ) : Type 0 where
+  pub whole : List ℕ
+  pub says : IsAnswer (whole ++ reply_text reply) (ends_talk reply)
+  pub tells : is_error (whole ++ reply_text reply) ≡ is_error (reply_text reply)
+  pub carries : Carries before after rest whole
+
+-- the writer failed, after a beginning of an answer
+pub record Halted (IsAnswer : List ℕ → Bool → Type 0) (before after : Option (List ℕ)) : Type 0 where
+  pub whole : List ℕ
+  pub ends : Bool
+  pub says : IsAnswer whole ends
+  pub begins : WritesStart before after whole
+
+-- what a call that gives a reply did to the writer, which it may have failed
+abbrev pub Replies : (List ℕ → Bool → Type 0) → Result Reply WriteFault → Option (List ℕ) → Option (List ℕ) → List ℕ → Type 0
+Replies IsAnswer (Ok reply) before after rest = Replied IsAnswer reply before after rest
+Replies IsAnswer (Err fault) before after rest = Halted IsAnswer before after
+
+-- the reply says why there is no answer, and ends the talk just where the store had failed before
+pub record Refuses (refusal : Refusal) (reply : Reply) : Type 0 where
+  pub text : reply_text reply ≡ error_text refusal
+  pub last : refusal ≢ Failed → ends_talk reply ≡ false
+  pub failed : refusal ≡ Failed → ends_talk reply ≡ true
+
+-- lines, one after another
+abbrev pub joined : List (List ℕ) → List ℕ
+joined lines = flat_map (λ line. line) lines
+
+-- a list is answered by its lines and its end, of which the rest is still to be written, or by why there is none; what the writer
+-- has where it failed is a beginning of the lines
+abbrev pub ListReplied : {T : Type 0} → (T → List (List ℕ)) → Result T Refusal → Result Reply WriteFault → Option (List ℕ) → Option (List ℕ) → List ℕ → Type 0
+ListReplied lines (Ok list) (Ok reply) before after rest = (reply ≡ End (length (lines list))) × Carries before after rest (joined (lines list))
+ListReplied lines (Ok list) (Err fault) before after rest = WritesStart before after (joined (lines list))
+ListReplied lines (Err refusal) (Ok reply) before after rest = Refuses refusal reply × (after ≡ before) × (rest ≡ [])
+ListReplied lines (Err refusal) (Err fault) before after rest = ⊥
+
+-- an answer was written whole, and the talk goes on or ends with it; or a beginning of it, where the writer failed
+abbrev pub Writes : Manner → (List ℕ → Bool → Type 0) → Result Bool ServeFault → Option (List ℕ) → Option (List ℕ) → Type 0
+Writes on IsAnswer (Ok refused) before after =
+    (text : List ℕ) × IsAnswer text false × (refused ≡ is_error text) × (on.on_refusal ≡ Stop → refused ≡ false) × Appends before after text
+Writes on IsAnswer (Err fault.Read) before after = ⊥
+Writes on IsAnswer (Err fault.Store) before after = (text : List ℕ) × IsAnswer text true × Appends before after text
+Writes on IsAnswer (Err fault.Refused) before after =
+    (text : List ℕ) × IsAnswer text false × (is_error text ≡ true) × (on.on_refusal ≡ Stop) × Appends before after text
+Writes on IsAnswer (Err fault.Write) before after = (text : List ℕ) × (ends : Bool) × IsAnswer text ends × WritesStart before after text
+
+module _ {D : Type 0} {members : _} where
+  -- a request was answered so
+  abbrev pub HandlesRequest : Store D members → Store D members → State → Request → List ℕ → Bool → Type 0
+  HandlesRequest old new s request text ends = Handled old new s ends (AnsweredRequest old new s request text ends)
+
+  -- a request is answered, or that memory was wanting, which leaves the store as it was and ends no talk
+  abbrev pub AnsweredOrWanting : Store D members → Store D members → State → Request → List ℕ → Bool → Done → Type 0
+  AnsweredOrWanting old new s request text ends done =
+      ((new ≡ old) × (done ≡ None) × (ends ≡ false) × (text ≡ error_text Memory))
+      ⊎ AnsweredRequest old new s request text ends done
+
+  -- a request was answered so
+  abbrev pub HandlesOrWants : Store D members → Store D members → State → Request → List ℕ → Bool → Type 0
+  HandlesOrWants old new s request text ends = Handled old new s ends (AnsweredOrWanting old new s request text ends)
+
+  -- these bytes, after `from` of a line, were answered up to `to` of a line, and a line was refused or none
+  pub record Fed (old new : Store D members) (s : State) (on : Manner) (refused : Bool) (bytes from to : List ℕ) (before after : Option (List ℕ)) : Type 0 where
+    pub lines : List (List ℕ)
+    pub text : List ℕ
+    pub cut : (more : List ℕ) → lines_of (from ++ (bytes ++ more)) ≡ lines ++ lines_of (to ++ more)
+    pub talked : HasTalked old new s on lines text
+    pub told : refused ≡ talked.refused
+    pub written : Appends before after text
+
+  -- a command was carried out, and the store grew where that was needed, as some list of commands tells
+  abbrev pub TriesSome : ℕ → ℕ → Command → Store D members → Store D members → List ℕ → Type 0
+  TriesSome left most command old new text = (each : List (Command × Result Answer Refusal)) × Tries left most command old new text each
+
+  -- for each state, the request is answered by this reply
+  abbrev pub AnswersBy : Request → Reply → Store D members → Store D members → Type 0
+  AnswersBy request reply old new = (s : State) → HandlesRequest old new s request (reply_text reply) (ends_talk reply)
+
+  -- for each state, the request is answered by what the text has and this reply, and is refused where the reply says so
+  abbrev pub AnswersWith : Request → Reply → List ℕ → Store D members → Store D members → Type 0
+  AnswersWith request reply text old new =
+      (s : State) → HandlesRequest old new s request (text ++ reply_text reply) (ends_talk reply) × (is_error (text ++ reply_text reply) ≡ is_error (reply_text reply))
+
+  -- a request is handled, and this reply is the answer. On any disk it ends the talk just where the store fails in it, as a
+  -- device call did; a store that had failed is left as it was
+  pub record AsksBy (request : Request) (reply : Reply) (old new : Store D members) : Type 0 where
+    pub goes : GrowsOn ⊥ old new
+    pub last : has_failed old ≡ false → ends_talk reply ≡ has_failed new
+    pub failing : FailsByDevice old new
+    pub left : has_failed old ≡ true → new ≡ old
+    pub answers : AnswersBy request reply old new
+
+  -- so is what the words of a line ask for
+  abbrev pub HandlesBy : List (List ℕ) → Reply → Store D members → Store D members → Type 0
+  HandlesBy words reply old new = AsksBy (request_of words) reply old new
+
+  -- so is what they ask for in a talk where this is done with commands
+  abbrev pub HandlesIn : OnCommand → List (List ℕ) → Reply → Store D members → Store D members → Type 0
+  HandlesIn on words reply old new = AsksBy (asked_in on (request_of words)) reply old new
+
+  -- a reply ends the talk just where the store, which had not failed, failed in it
+  abbrev pub EndsIfFailed : Result Reply WriteFault → Store D members → Store D members → Type 0
+  EndsIfFailed result old new = has_failed old ≡ false → IfOk result (λ reply. ends_talk reply ≡ has_failed new)
+
+-- a reply ends no talk where a command was answered neither that the device failed nor that the store had
+abbrev pub TalkGoesOn : Result Answer Refusal → Reply → Type 0
+TalkGoesOn answer reply = answer ≢ Err Device → answer ≢ Err Failed → ends_talk reply ≡ false
+
+-- for each state, and the bytes of a line so far
+module _ {D W : Type 0} {members : _} (contents : W → Option (List ℕ)) where
+  -- the line is handled, and its answer written
+  abbrev pub AnswersLine : Manner → Line → Result Bool ServeFault → Store D members → Store D members → W → W → Type 0
+  AnswersLine on line result old new writer writer' =
+      (s : State) → (part : List ℕ) → HoldsLine line part → Writes on (HandlesLine old new s on part) result (contents writer) (contents writer')
+
+  -- the line is handled, and of its answer the rest is still to be written
+  abbrev pub RepliesToLine : Manner → Line → Result Reply WriteFault → Store D members → Store D members → W → W → List ℕ → Type 0
+  RepliesToLine on line result old new writer writer' rest =
+      (s : State) → (part : List ℕ) → HoldsLine line part → Replies (HandlesLine old new s on part) result (contents writer) (contents writer') rest
+
+  -- so is a request
+  abbrev pub RepliesToRequest : Request → Result Reply WriteFault → Store D members → Store D members → W → W → List ℕ → Type 0
+  RepliesToRequest request result old new writer writer' rest =
+      (s : State) → Replies (HandlesOrWants old new s request) result (contents writer) (contents writer') rest
+
+  -- a request is handled, and of its answer the rest, behind which there is room for a last line, is still to be written.
+  -- On any disk the talk ends with it just where the store fails in it, as a device call did; a store that had failed is left as it was
+  pub record AsksInto (request : Request) (result : Result Reply WriteFault) (old new : Store D members) (writer writer' : W) (rest : List ℕ) : Type 0 where
+    pub room : OnOk result (length rest + 1024 ≤ MAX_LEN)
+    pub goes : GrowsOn ⊥ old new
+    pub last : EndsIfFailed result old new
+    pub failing : FailsByDevice old new
+    pub left : has_failed old ≡ true → new ≡ old
+    pub answers : RepliesToRequest request result old new writer writer' rest
+
+  -- so is what the words of a line ask for
+  abbrev pub HandlesInto : List (List ℕ) → Result Reply WriteFault → Store D members → Store D members → W → W → List ℕ → Type 0
+  HandlesInto words result old new writer writer' rest = AsksInto (request_of words) result old new writer writer' rest
+
+  -- these bytes are answered, up to those of another line
+  abbrev pub FeedsLine : Manner → List ℕ → Line → Line → Result Bool ServeFault → Store D members → Store D members → W → W → Type 0
+  FeedsLine on bytes line line' result old new writer writer' =
+      (s : State) → (from : List ℕ) → HoldsLine line from
+      → IfOk result (λ refused. (to : List ℕ) × HoldsLine line' to × Fed old new s on refused bytes from to (contents writer) (contents writer'))
+
+  -- a talk over these bytes and any more ends among these
+  abbrev pub EndsAmong : Manner → List ℕ → Line → Result Bool ServeFault → Store D members → Store D members → W → W → Type 0
+  EndsAmong on bytes line result old new writer writer' =
+      (s : State) → (from : List ℕ) → HoldsLine line from → (more : List ℕ)
+      → OnErr result (ServesLines old new s on result (contents writer) (contents writer') (lines_of (from ++ (bytes ++ more))))
+
+  -- a talk over what the reader has to give
+  abbrev pub ServesEach : Manner → Result Bool ServeFault → Store D members → Store D members → Option (List ℕ) → W → W → Type 0
+  ServesEach on result old new known writer writer' = (s : State) → Serves old new s on result (contents writer) (contents writer') known
+
+-- a list is answered so, to a writer
+abbrev pub RepliesWithList : {T W : Type 0} → (T → List (List ℕ)) → (W → Option (List ℕ)) → Result T Refusal → Result Reply WriteFault → W → W → List ℕ → Type 0
+RepliesWithList lines contents list result writer writer' rest = ListReplied lines list result (contents writer) (contents writer') rest

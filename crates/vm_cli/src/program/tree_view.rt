@@ -1,0 +1,92 @@
+//! Showing a store's tree of alternatives.
+ghost use Rattle.std.specs.Prelude.{◌≡◌, ◌⊎◌, List, None, true, IfErr, IfOk};
+ghost use Rattle.vm_store.specs.Store.{FromState, GoesOn};
+ghost use Rattle.vm_cli.specs.Branches.{Branch, drawing};
+ghost use Rattle.vm_cli.specs.Exits.{DrawEnds, JobEnds, TellsOn};
+ghost use Rattle.vm_cli.specs.Runs.{DrawsIn};
+ghost use Rattle.vm_cli.specs.Told.{TellsRefusal, TellsTree};
+ghost use Rattle.vm_cli.specs.Standing.{GivesTree, IsDeviceOrMemory};
+ghost use Rattle.vm_cli.specs.Talk.{Passes};
+ghost use Rattle.vm_cli.specs.Words.Wanted.{draw as draw_wanted};
+
+use crate::program::branches::draw;
+use crate::program::place::Place;
+use crate::program::tree_lines::survey;
+use crate::program::{Exit, no_file, refused, say, unless_fault};
+use std::alloc::Global;
+use std::io::Write;
+use vm_disk::Disk;
+use vm_store::{Store, open};
+use vm_types::Refusal;
+
+/// Opens the store in a file read only, and draws the tree of its alternatives.
+pub(crate) fn tree<P: Place, W: Write, F: Write>(
+    alloc: Global,
+    file: &str,
+    place: &mut P,
+    output: &mut W,
+    errors: &mut F,
+) -> Exit
+    ensures says { JobEnds W.contents F.contents (draw_wanted file.now) result
+        output.old output.new errors.old errors.new }
+    ensures reads { P.to_write place.new ≡ P.to_write place.old }
+    ensures files { DrawsIn P.D.Disk P.state P.denied place.old place.new file.now result
+        (W.contents output.old) (W.contents output.new) (F.contents errors.old) (F.contents errors.new) }
+{
+    let Some(disk) = place.look(file) else {
+        return no_file(b"altctl: cannot open ", file, errors);
+    };
+    let (exit, shown) = show_disk(alloc, disk, output, errors);
+    place.give_back(file, shown);
+    exit
+}
+
+/// Opens the store on a disk, and draws the tree of its alternatives.
+fn show_disk<D: Disk, W: Write, F: Write>(
+    alloc: Global,
+    disk: D,
+    output: &mut W,
+    errors: &mut F,
+) -> (Exit, D)
+    ensures ends { DrawEnds W.contents F.contents result.0 output.old output.new errors.old errors.new }
+    // The tree is the one that the disk shows, or it is reported why the disk was refused. At each
+    // moment nothing has changed, or everything is synced.
+    ensures told { (D.state result.1).honest ≡ true
+        → TellsTree D.Disk W.contents disk result output.old output.new
+        ⊎ TellsRefusal D.Disk F.contents disk result errors.old errors.new }
+{
+    match open(alloc, disk) {
+        Ok(mut store) => {
+            let drawn = draw_store(alloc, &mut store);
+            let disk = store.close();
+            match drawn {
+                Ok(text) => (show(&text, output), disk),
+                Err(refusal) => (refused(&refusal, errors), disk),
+            }
+        }
+        Err((disk, refusal)) => (refused(&refusal, errors), disk),
+    }
+}
+
+/// The text of a store's tree.
+fn draw_store<D: Disk>(alloc: Global, store: &mut Store<D>) -> Result<Vec<u8>, Refusal>
+    ensures any { GoesOn (result ≡ Err Refusal.Device) store.old store.new }
+    ensures passes { Passes store.old store.new None }
+    ensures text { IfOk result (λ text. (branches : List Branch)
+        × (text.items ≡ drawing branches)) }
+    ensures drawn { FromState store.old store.new (GivesTree result) }
+    ensures refused { FromState store.old store.new (λ s. IfErr result IsDeviceOrMemory) }
+{
+    let branches = survey(alloc, store)?;
+    let Ok(text) = draw(alloc, &branches) else {
+        return Err(Refusal::Memory);
+    };
+    Ok(text)
+}
+
+/// Writes a text to the output.
+fn show<W: Write>(text: &[u8], output: &mut W) -> Exit
+    ensures { TellsOn W.contents Exit.Done result output.old output.new text.now }
+{
+    unless_fault(say(output, text), Exit::Done)
+}
