@@ -1,0 +1,5 @@
+use Rattle.std.proofs.Common.{refl}
+use Rattle.altstore.proofs.image.open_session.Goals as goal
+
+pub returns : goal.returns
+returns c = (rw c.in-Err.is at (c.open.ensures.refused refl), rw c.in-Err.is at (c.open.ensures.none refl))
