@@ -45,6 +45,26 @@ struct alt_rows {
     int error; /* of the rows that are whole */
 };
 
+/* How many records a cursor asks for at once. */
+#ifndef PAGE
+#define PAGE 1000
+#endif
+
+/* The head of a record in a page, whose value comes after it. */
+struct held {
+    alt_key key;
+    size_t length;
+};
+
+struct alt_cursor {
+    alt_store *store;
+    char *at;
+    alt_key next;        /* where the next page begins */
+    uint16_t last_table; /* records of tables above it are none of the cursor's */
+    int is_last;         /* no page comes after the one that is held */
+    struct buffer page;
+};
+
 struct alt_store {
     pthread_t owner;
     pid_t process; /* the owner's: a child has threads of the same names */
@@ -532,12 +552,13 @@ static int command(alt_store *store, uint64_t *number, const char *form, ...)
 static const alt_options none;
 
 /* Locks a file. The lock is held as long as a process has this descriptor. */
-static int lock_file(const char *file, int waits, int *lock)
+static int lock_file(const char *file, const alt_options *options, int *lock)
 {
+    int how = (options->read_only ? LOCK_SH : LOCK_EX) | (options->wait ? 0 : LOCK_NB);
     *lock = apart(open(file, O_RDONLY | O_NONBLOCK | O_CLOEXEC));
     if (*lock < 0)
         return ALT_SYSTEM;
-    while (flock(*lock, waits ? LOCK_EX : LOCK_EX | LOCK_NB) != 0)
+    while (flock(*lock, how) != 0)
         if (errno != EINTR) {
             int error = errno == EWOULDBLOCK ? ALT_IN_USE : ALT_SYSTEM;
             close_all(lock, 1);
@@ -561,10 +582,16 @@ static int add_option(const char **words, int count, const char *name, int block
 /* Starts the program over a file whose lock is held. */
 static int start_store(alt_store *store, const char *file, const alt_options *options)
 {
-    char cache[16], buffer[16];
+    char cache[16], buffer[16], most[16];
     const char *words[16] = {options->program != NULL ? options->program : "altctl", "run"};
     int count = add_option(words, 2, "--cache", options->cache, cache);
     count = add_option(words, count, "--buffer", options->buffer, buffer);
+    if (options->read_only)
+        words[count++] = "--read-only";
+    if (options->grow != 0)
+        words[count++] = "--grow";
+    if (options->grow != ALT_NO_LIMIT)
+        count = add_option(words, count, "--grow-to", options->grow, most);
     words[count++] = "--";
     words[count] = file;
     int ends[2] = {-1, -1};
@@ -659,7 +686,7 @@ int alt_open(alt_store **result, const char *file, const alt_options *options)
     if (strncmp(file, "unix:", 5) == 0) {
         error = connect_store(store, file + 5);
     } else {
-        error = lock_file(file, options->wait, &store->lock);
+        error = lock_file(file, options, &store->lock);
         if (error == ALT_OK)
             error = start_store(store, file, options);
         /* The program has it now. */
@@ -728,7 +755,8 @@ static const char *const own_errors[][2] = {
 static const char *const refusals[] = {
     "ok", "NoSuchAlternative", "AlternativeExists", "NoSuchCheckpoint", "CheckpointExists", "NoSuchRecord", "IsTop",
     "HasChildren", "NotMerged", "Unsettled", "NotInConflict", "SettledTwice", "TooMany", "Full", "Deep", "Device",
-    "Memory", "Failed", "Damaged", "NotAStore", "AlreadyAStore", "BadSize", "BadLine", "LongLine"};
+    "Memory", "Failed", "Damaged", "NotAStore", "AlreadyAStore", "BadSize", "BadLine", "LongLine",
+    "ReadOnly"};
 static const char *const service_refusals[] = {
     "Denied", "NotDone", "Aborted", "NotInBatch", "TooLarge", "HeldTooLong", "HalfLine", "NotJournaled", "NoBackup",
     "Stopped", "TooManyPlanners"};
@@ -870,10 +898,12 @@ static int add_settlements(struct buffer *form, const alt_settlement *settlement
     return error;
 }
 
-int alt_merge(alt_store *store, const char *alt, const alt_settlement *settlements, size_t count, uint64_t *changed)
+/* Merges by a form of a line, to which the words of settlements are added. */
+static int merge(alt_store *store, const char *alt, const char *start, const alt_settlement *settlements, size_t count,
+                 uint64_t *changed)
 {
     struct buffer form = {0};
-    int error = append(&form, "merge %w", 8);
+    int error = append(&form, start, strlen(start));
     if (error == ALT_OK)
         error = add_settlements(&form, settlements, count);
     if (error == ALT_OK)
@@ -882,6 +912,17 @@ int alt_merge(alt_store *store, const char *alt, const alt_settlement *settlemen
         error = command(store, changed, form.bytes, alt);
     free(form.bytes);
     return error;
+}
+
+int alt_merge(alt_store *store, const char *alt, const alt_settlement *settlements, size_t count, uint64_t *changed)
+{
+    return merge(store, alt, "merge %w", settlements, count, changed);
+}
+
+int alt_merge_all(alt_store *store, const char *alt, alt_side side, const alt_settlement *settlements, size_t count,
+                  uint64_t *changed)
+{
+    return merge(store, alt, side == ALT_MINE ? "merge %w all=mine" : "merge %w all=theirs", settlements, count, changed);
 }
 
 /* --- batches of a service -------------------------------------------------------------------------- */
@@ -975,10 +1016,31 @@ static int begin_rows(alt_store *store, int error, alt_ticket ticket, enum kind 
     return ALT_OK;
 }
 
-int alt_list(alt_store *store, const char *alt, alt_rows **rows)
+int alt_list(alt_store *store, const char *at, alt_rows **rows)
 {
     alt_ticket ticket = 0;
-    int error = send_line(store, &ticket, "list %w", alt);
+    int error = send_line(store, &ticket, "list %w", at);
+    return begin_rows(store, error, ticket, RECORDS, rows);
+}
+
+int alt_list_table(alt_store *store, const char *at, uint16_t table, alt_rows **rows)
+{
+    alt_ticket ticket = 0;
+    int error = send_line(store, &ticket, "list %w %n", at, (uint64_t)table);
+    return begin_rows(store, error, ticket, RECORDS, rows);
+}
+
+int alt_list_range(alt_store *store, const char *at, uint16_t table, uint64_t first, uint64_t last, alt_rows **rows)
+{
+    alt_ticket ticket = 0;
+    int error = send_line(store, &ticket, "list %w %n %n %n", at, (uint64_t)table, first, last);
+    return begin_rows(store, error, ticket, RECORDS, rows);
+}
+
+int alt_page(alt_store *store, const char *at, alt_key from, uint32_t count, alt_rows **rows)
+{
+    alt_ticket ticket = 0;
+    int error = send_line(store, &ticket, "next %w %k %n", at, from, (uint64_t)count);
     return begin_rows(store, error, ticket, RECORDS, rows);
 }
 
@@ -989,10 +1051,25 @@ int alt_changes(alt_store *store, const char *alt, alt_rows **rows)
     return begin_rows(store, error, ticket, CHANGES, rows);
 }
 
-int alt_diff(alt_store *store, const char *first, const char *second, alt_rows **rows)
+int alt_diff(alt_store *store, const char *before, const char *after, alt_rows **rows)
 {
     alt_ticket ticket = 0;
-    int error = send_line(store, &ticket, "diff %w %w", first, second);
+    int error = send_line(store, &ticket, "diff %w %w", before, after);
+    return begin_rows(store, error, ticket, CHANGES, rows);
+}
+
+int alt_diff_table(alt_store *store, const char *before, const char *after, uint16_t table, alt_rows **rows)
+{
+    alt_ticket ticket = 0;
+    int error = send_line(store, &ticket, "diff %w %w %n", before, after, (uint64_t)table);
+    return begin_rows(store, error, ticket, CHANGES, rows);
+}
+
+int alt_diff_range(alt_store *store, const char *before, const char *after, uint16_t table, uint64_t first, uint64_t last,
+                   alt_rows **rows)
+{
+    alt_ticket ticket = 0;
+    int error = send_line(store, &ticket, "diff %w %w %n %n %n", before, after, (uint64_t)table, first, last);
     return begin_rows(store, error, ticket, CHANGES, rows);
 }
 
@@ -1116,6 +1193,123 @@ int alt_close_rows(alt_rows *rows)
     }
     rows->is_open = 0;
     return error != ALT_OK ? error : rows->error;
+}
+
+/* --- cursors --------------------------------------------------------------------------------------- */
+
+static int add_to_page(struct buffer *page, const alt_record *record)
+{
+    struct held head = {record->key, record->value.length};
+    int error = append(page, &head, sizeof head);
+    return error == ALT_OK && head.length > 0 ? append(page, record->value.bytes, head.length) : error;
+}
+
+/* The key after another one. After the last key of all nothing is asked for. */
+static alt_key after(alt_key key)
+{
+    if (key.number < UINT64_MAX)
+        return (alt_key){key.table, key.number + 1};
+    return (alt_key){(uint16_t)(key.table + 1), 0};
+}
+
+/* Adds the rows of a page to it; *last becomes the key of the last one. ALT_DONE if no page comes after it. */
+static int add_rows(alt_cursor *cursor, alt_rows *rows, alt_key *last)
+{
+    alt_record record;
+    for (int count = 0; count < PAGE; count++) {
+        int error = alt_next_record(rows, &record);
+        if (error == ALT_OK && record.key.table > cursor->last_table)
+            error = ALT_DONE;
+        if (error == ALT_OK)
+            error = add_to_page(&cursor->page, &record);
+        if (error != ALT_OK)
+            return error;
+        *last = record.key;
+    }
+    return last->table == cursor->last_table && last->number == UINT64_MAX ? ALT_DONE : ALT_OK;
+}
+
+/* Reads the next page in the place of one that was given. If that fails there is no page, and the cursor goes on where it
+   would have begun. */
+static int read_page(alt_cursor *cursor)
+{
+    alt_rows *rows;
+    alt_key last = cursor->next;
+    cursor->page.begin = cursor->page.end = 0;
+    int error = alt_page(cursor->store, cursor->at, cursor->next, PAGE, &rows);
+    if (error != ALT_OK)
+        return error;
+    int added = add_rows(cursor, rows, &last);
+    error = alt_close_rows(rows);
+    if (added != ALT_OK && added != ALT_DONE)
+        error = added;
+    if (error != ALT_OK) {
+        cursor->page.end = 0;
+        return error;
+    }
+    cursor->next = after(last);
+    cursor->is_last = added == ALT_DONE;
+    return ALT_OK;
+}
+
+/* Opens a cursor over the tables from one to another, with its first page. */
+static int open_cursor(alt_store *store, const char *at, uint16_t first, uint16_t last, alt_cursor **result)
+{
+    *result = NULL;
+    if (at == NULL)
+        return ALT_BAD_WORD;
+    alt_cursor *cursor = calloc(1, sizeof *cursor);
+    if (cursor == NULL)
+        return ALT_SYSTEM;
+    cursor->store = store;
+    cursor->next = (alt_key){first, 0};
+    cursor->last_table = last;
+    cursor->at = strdup(at);
+    int error = cursor->at == NULL ? ALT_SYSTEM : read_page(cursor);
+    if (error == ALT_OK)
+        *result = cursor;
+    else
+        alt_close_cursor(cursor);
+    return error;
+}
+
+int alt_scan(alt_store *store, const char *at, alt_cursor **cursor)
+{
+    return open_cursor(store, at, 0, UINT16_MAX, cursor);
+}
+
+int alt_scan_table(alt_store *store, const char *at, uint16_t table, alt_cursor **cursor)
+{
+    return open_cursor(store, at, table, table, cursor);
+}
+
+int alt_step(alt_cursor *cursor, alt_record *record)
+{
+    struct buffer *page = &cursor->page;
+    struct held head;
+    if (!is_owner(cursor->store))
+        return ALT_WRONG_THREAD;
+    if (page->begin == page->end && !cursor->is_last) {
+        int error = read_page(cursor);
+        if (error != ALT_OK)
+            return error;
+    }
+    if (page->begin == page->end)
+        return ALT_DONE;
+    memcpy(&head, page->bytes + page->begin, sizeof head);
+    page->begin += sizeof head;
+    *record = (alt_record){head.key, {(unsigned char *)page->bytes + page->begin, head.length}};
+    page->begin += head.length;
+    return ALT_OK;
+}
+
+void alt_close_cursor(alt_cursor *cursor)
+{
+    if (cursor == NULL)
+        return;
+    free(cursor->at);
+    free(cursor->page.bytes);
+    free(cursor);
 }
 
 /* --- writing ahead --------------------------------------------------------------------------------- */

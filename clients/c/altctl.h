@@ -16,8 +16,14 @@
    advice on each refusal, and docs/EMBEDDING.md how to build with this client.
 
    Calls return ALT_OK or an error. A store belongs to the thread that opened it: a call from any other thread returns
-   ALT_WRONG_THREAD and does nothing, until that thread becomes the owner by `alt_adopt`. C99, for Linux; it needs the C
-   library alone. */
+   ALT_WRONG_THREAD and does nothing, until that thread becomes the owner by `alt_adopt`; hold a lock of your own from there
+   to the last call. C99, for Linux; it needs the C library alone.
+
+   `altctl` runs in a process group of its own: Ctrl-C interrupts your program alone, and `altctl` ends when that does. A
+   child of `fork` is not the owner, and while it lives `altctl` may run on; programs that it executes do not inherit the
+   connection. If your program ignores SIGCHLD, or waits for any child by `wait`, the status of a killed `altctl` may be
+   lost. A limit on the size of files (`ulimit -f`) kills `altctl` by SIGXFSZ, unless your program ignores that signal: then
+   the line is answered ALT_DEVICE. */
 #ifndef ALTCTL_H
 #define ALTCTL_H
 
@@ -59,6 +65,7 @@ enum {
     ALT_BAD_SIZE = 21,
     ALT_BAD_LINE = 22,
     ALT_LONG_LINE = 23,
+    ALT_READ_ONLY = 24,
 
     ALT_DENIED = 90,
     ALT_NOT_DONE = 91,
@@ -109,9 +116,12 @@ typedef struct {
     int cache;           /* `--cache`: blocks of the file kept in memory; 0: the program's default; ALT_NO_BLOCKS: none */
     int buffer;          /* `--buffer`: written blocks that wait in memory; 0 and ALT_NO_BLOCKS as above */
     int wait;            /* not 0: while another process has locked the file, wait for it */
+    int read_only;       /* not 0: the file is only read, beside other readers; each command is refused (ALT_READ_ONLY) */
+    int grow;            /* up to how many blocks the store grows where a command would be refused for want of them (ALT_FULL);
+                            0: it does not; ALT_NO_LIMIT: as far as it can */
 } alt_options;
 
-enum { ALT_NO_BLOCKS = -1 };
+enum { ALT_NO_BLOCKS = -1, ALT_NO_LIMIT = -1 };
 
 typedef struct {
     uint16_t table;
@@ -186,6 +196,9 @@ typedef struct {
 /* Brings in what changed in the parent. *changed becomes the number of records that this changed, 0 in a batch; it may be
    NULL, and so may the settlements if there are none. */
 int alt_merge(alt_store *store, const char *alt, const alt_settlement *settlements, size_t count, uint64_t *changed);
+/* The same, and this side settles each conflict that has no settlement of its own. */
+int alt_merge_all(alt_store *store, const char *alt, alt_side side, const alt_settlement *settlements, size_t count,
+                  uint64_t *changed);
 
 /* --- batches of a service -------------------------------------------------------------------------- */
 
@@ -244,9 +257,20 @@ typedef struct {
     const char *parent; /* NULL for top */
 } alt_alternative;
 
-int alt_list(alt_store *store, const char *alt, alt_rows **rows);
+/* All records of a version; or those of a table, or of its numbers from `first` to `last`, both included, which are none if
+   `first` is above `last`. */
+int alt_list(alt_store *store, const char *at, alt_rows **rows);
+int alt_list_table(alt_store *store, const char *at, uint16_t table, alt_rows **rows);
+int alt_list_range(alt_store *store, const char *at, uint16_t table, uint64_t first, uint64_t last, alt_rows **rows);
+/* The first `count` records at or after a key, over tables. If they are fewer, there are no more. */
+int alt_page(alt_store *store, const char *at, alt_key from, uint32_t count, alt_rows **rows);
+/* What an alternative has changed since its base; what differs from one version to another, everywhere, in a table, or at its
+   numbers from `first` to `last`. */
 int alt_changes(alt_store *store, const char *alt, alt_rows **rows);
-int alt_diff(alt_store *store, const char *first, const char *second, alt_rows **rows); /* as changes */
+int alt_diff(alt_store *store, const char *before, const char *after, alt_rows **rows);
+int alt_diff_table(alt_store *store, const char *before, const char *after, uint16_t table, alt_rows **rows);
+int alt_diff_range(alt_store *store, const char *before, const char *after, uint16_t table, uint64_t first, uint64_t last,
+                   alt_rows **rows);
 int alt_conflicts(alt_store *store, const char *alt, alt_rows **rows);
 int alt_alternatives(alt_store *store, alt_rows **rows);
 int alt_checkpoints(alt_store *store, const char *alt, alt_rows **rows);
@@ -259,6 +283,21 @@ int alt_next_checkpoint(alt_rows *rows, const char **name);
 
 /* Skips the rows that are left, and ends them; does nothing with NULL. */
 int alt_close_rows(alt_rows *rows);
+
+/* A cursor goes through all records of a version, or through those of a table. It asks for a thousand at a time, and holds
+   these alone, so anything else may be asked between its steps; a page shows the version as it is when the page is asked for.
+   If it cannot be opened, *cursor becomes NULL. */
+typedef struct alt_cursor alt_cursor;
+
+int alt_scan(alt_store *store, const char *at, alt_cursor **cursor);
+int alt_scan_table(alt_store *store, const char *at, uint16_t table, alt_cursor **cursor);
+
+/* Returns ALT_OK and the next record, whose value stays in place until the next step, or ALT_DONE. After any other error the
+   cursor stands where it stood, and the step may be tried again. */
+int alt_step(alt_cursor *cursor, alt_record *record);
+
+/* Frees a cursor, also after its store was closed; does nothing with NULL. */
+void alt_close_cursor(alt_cursor *cursor);
 
 /* --- writing ahead --------------------------------------------------------------------------------- */
 

@@ -48,6 +48,19 @@ tests() {
     try "$name" "$@" "$folder/tests" "$program" "$folder/stores" $service || :
 }
 
+# Builds the tests of the store in memory by a compiler, and runs them by the words after its options.
+in_memory() {
+    compiler=$1
+    name=$2
+    options=$3
+    shift 3
+    rm -rf "$folder/images"
+    mkdir "$folder/images"
+    # shellcheck disable=SC2086
+    ! try "$name, build" $compiler $warnings $options -o "$folder/in_memory" "$here/test_altstore.c" "$folder/altstore/libaltstore.a" ||
+        try "$name" "$@" "$folder/in_memory" "$(realpath "$program")" "$folder/images" || :
+}
+
 has() {
     command -v "$1" >/dev/null || {
         echo "skipped: $1 is not there"
@@ -97,6 +110,25 @@ if has g++; then
         '7 1 duct 160 PVC' '7 2 duct 110 PVC' '7 3 duct 50 HDPE' >"$folder/due"
     try 'example in C++' sh -c "'$folder/example' '$folder/example.alt' '$program' >'$folder/came' &&
         diff '$folder/due' '$folder/came'" || :
+fi
+# The store in memory, if its archive is built.
+if "$top/tools/altstore.sh" "$folder/altstore" >"$folder/output"; then
+    for compiler in gcc clang; do
+        if [ -n "$quick" ] && [ "$compiler" = clang ]; then
+            break
+        fi
+        if has "$compiler" && can_check "$compiler"; then
+            in_memory "$compiler" "$compiler, in memory" '-O1 -g -fsanitize=address,undefined -fno-sanitize-recover=all' env
+        fi
+    done
+    if [ -z "$quick" ] && has gcc && has valgrind; then
+        in_memory gcc 'valgrind, in memory' '-O1 -g' valgrind -q --error-exitcode=9 --leak-check=full
+    fi
+    if command -v python3 >/dev/null; then
+        try 'in memory, from Python' python3 "$here/../python/test_altstore.py" "$folder/altstore/libaltstore.so.0" "$program" || :
+    fi
+else
+    echo "skipped: $(cat "$folder/output")"
 fi
 echo "client in C: $((count - failed)) of $count steps passed"
 [ "$failed" -eq 0 ]

@@ -253,6 +253,291 @@ static void versions_are_read_and_compared(void)
     SAME(ALT_OK, alt_close(store));
 }
 
+/* --- parts, pages and cursors --- */
+
+enum { TABLES = 5, NUMBERS = 6, KEYS = TABLES * NUMBERS };
+static const unsigned some_tables[TABLES] = {0, 1, 7, 8, 65535};
+static const uint64_t some_numbers[NUMBERS] = {0, 1, 2, 50, UINT64_MAX - 1, UINT64_MAX};
+
+/* Of each key, in order, how its value begins in a version, or 0 if it has none there. */
+typedef char version[KEYS];
+
+static alt_key key_at(int at)
+{
+    return key(some_tables[at / NUMBERS], some_numbers[at % NUMBERS]);
+}
+
+/* Puts or removes about each third key, and notes it. */
+static void edit(alt_store *store, const char *alt, char letter, char *records, unsigned *seed)
+{
+    for (int at = 0; at < KEYS; at++) {
+        *seed = *seed * 1103515245 + 12345;
+        unsigned draw = *seed >> 16 & 7;
+        if (draw < 2 || (draw == 2 && records[at] == 0)) {
+            SAME(ALT_OK, alt_put(store, alt, key_at(at), &letter, 1));
+            records[at] = letter;
+        } else if (draw == 2) {
+            SAME(ALT_OK, alt_remove(store, alt, key_at(at)));
+            records[at] = 0;
+        }
+    }
+}
+
+static int is_in(int at, unsigned table, uint64_t first, uint64_t last)
+{
+    alt_key it = key_at(at);
+    return it.table == table && it.number >= first && it.number <= last;
+}
+
+static void same_key(int line, alt_key due, alt_key came)
+{
+    if (due.table != came.table || due.number != came.number) {
+        printf("%s:%d: the key is another one: %u:%llu\n", __FILE__, line, came.table, (unsigned long long)came.number);
+        failures++;
+    }
+}
+
+/* Reads rows, which have to be those of the keys that are chosen. */
+static void same_records(int line, alt_rows *rows, const char *records, const char *chosen)
+{
+    alt_record record;
+    for (int at = 0; at < KEYS; at++)
+        if (chosen[at] && records[at]) {
+            SAME(ALT_OK, alt_next_record(rows, &record));
+            same_key(line, key_at(at), record.key);
+            same_value(line, &records[at], 1, record.value);
+        }
+    SAME(ALT_DONE, alt_next_record(rows, &record));
+    SAME(ALT_OK, alt_close_rows(rows));
+}
+
+static void same_changes(int line, alt_rows *rows, const char *before, const char *after, const char *chosen)
+{
+    alt_change change;
+    for (int at = 0; at < KEYS; at++)
+        if (chosen[at] && before[at] != after[at]) {
+            SAME(ALT_OK, alt_next_change(rows, &change));
+            same_key(line, key_at(at), change.key);
+            same_value(line, before[at] ? &before[at] : NULL, 1, change.before);
+            same_value(line, after[at] ? &after[at] : NULL, 1, change.after);
+        }
+    SAME(ALT_DONE, alt_next_change(rows, &change));
+    SAME(ALT_OK, alt_close_rows(rows));
+}
+
+/* Compares parts of a version, and of what differs to another one. */
+static void same_parts(alt_store *store, const char *at, const char *own, const char *other_at, const char *other)
+{
+    alt_rows *rows;
+    version chosen;
+    for (int table = 0; table < TABLES; table++)
+        for (int low = 0; low < NUMBERS; low++)
+            for (int high = 0; high < NUMBERS; high++) {
+                unsigned of = some_tables[table];
+                uint64_t first = some_numbers[low], last = some_numbers[high];
+                for (int it = 0; it < KEYS; it++)
+                    chosen[it] = (char)is_in(it, of, first, last);
+                SAME(ALT_OK, alt_list_range(store, at, (uint16_t)of, first, last, &rows));
+                same_records(__LINE__, rows, own, chosen);
+                SAME(ALT_OK, alt_diff_range(store, at, other_at, (uint16_t)of, first, last, &rows));
+                same_changes(__LINE__, rows, own, other, chosen);
+                if (low == 0 && high == NUMBERS - 1) {
+                    SAME(ALT_OK, alt_list_table(store, at, (uint16_t)of, &rows));
+                    same_records(__LINE__, rows, own, chosen);
+                    SAME(ALT_OK, alt_diff_table(store, at, other_at, (uint16_t)of, &rows));
+                    same_changes(__LINE__, rows, own, other, chosen);
+                }
+            }
+}
+
+/* Compares pages of each size from each key. */
+static void same_pages(alt_store *store, const char *at, const char *own)
+{
+    alt_rows *rows;
+    for (int from = 0; from < KEYS; from++)
+        for (uint32_t size = 0; size <= 5; size++) {
+            version chosen = {0};
+            uint32_t count = size < 5 ? size : UINT32_MAX, left = count;
+            for (int it = from; it < KEYS; it++)
+                if (own[it] && left > 0) {
+                    chosen[it] = 1;
+                    left--;
+                }
+            SAME(ALT_OK, alt_page(store, at, key_at(from), count, &rows));
+            same_records(__LINE__, rows, own, chosen);
+        }
+}
+
+static void parts_and_pages_are_those_of_a_model(void)
+{
+    version base = {0}, before, north, top;
+    unsigned seed = 7;
+    alt_store *store = opened();
+    SAME(ALT_OK, alt_grow(store, 4096));
+    edit(store, "top", 'a', base, &seed);
+    SAME(ALT_OK, alt_new(store, "north", "top"));
+    memcpy(before, base, sizeof base);
+    edit(store, "north", 'b', before, &seed);
+    SAME(ALT_OK, alt_checkpoint(store, "north", "before"));
+    memcpy(north, before, sizeof before);
+    edit(store, "north", 'c', north, &seed);
+    memcpy(top, base, sizeof base);
+    edit(store, "top", 'd', top, &seed);
+    same_parts(store, "north", north, "top", top);
+    same_parts(store, "top", top, "north", north);
+    same_parts(store, "north@", base, "north@before", before);
+    same_pages(store, "north@before", before);
+    same_pages(store, "north", north);
+    SAME(ALT_OK, alt_close(store));
+}
+
+static void parts_of_unknown_versions_are_refused(void)
+{
+    alt_store *store = opened();
+    alt_rows *rows;
+    alt_cursor *cursor;
+    SAME(ALT_NO_SUCH_ALTERNATIVE, alt_list_table(store, "south", 7, &rows));
+    SAME(ALT_NO_SUCH_CHECKPOINT, alt_list_range(store, "top@nope", 7, 1, 2, &rows));
+    SAME(ALT_NO_SUCH_CHECKPOINT, alt_page(store, "top@nope", key(7, 1), 0, &rows));
+    SAME(ALT_NO_SUCH_ALTERNATIVE, alt_diff_table(store, "south", "top@nope", 7, &rows));
+    SAME(ALT_NO_SUCH_CHECKPOINT, alt_diff_range(store, "top@nope", "south", 7, 2, 1, &rows));
+    SAME(1, rows == NULL);
+    SAME(ALT_NO_SUCH_ALTERNATIVE, alt_scan(store, "south", &cursor));
+    SAME(1, cursor == NULL);
+    SAME(ALT_NO_SUCH_CHECKPOINT, alt_scan_table(store, "top@nope", 7, &cursor));
+    SAME(ALT_BAD_WORD, alt_scan(store, NULL, &cursor));
+    SAME(ALT_BAD_WORD, alt_scan(store, "top 7", &cursor));
+    SAME(ALT_BAD_LINE, alt_scan(store, "top@@", &cursor));
+    alt_close_cursor(NULL);
+    SAME(ALT_OK, alt_close(store));
+}
+
+/* So many records of table 7, whose value is their number. */
+static alt_store *with_records(uint64_t count)
+{
+    alt_store *store = opened();
+    alt_ticket ticket;
+    SAME(ALT_OK, alt_grow(store, 4096));
+    for (uint64_t number = 0; number < count; number++) {
+        char value[24];
+        int length = snprintf(value, sizeof value, "%llu", (unsigned long long)number);
+        SAME(ALT_OK, alt_send_put(store, "top", key(7, number), value, (size_t)length, &ticket));
+    }
+    SAME(ALT_OK, alt_take_all(store, NULL));
+    return store;
+}
+
+/* Steps through records of table 7 whose value is their number, and then through one of each other key. */
+static void same_scan(int line, alt_cursor *cursor, uint64_t count, const alt_key *others, int many)
+{
+    alt_record record;
+    for (uint64_t number = 0; number < count; number++) {
+        char value[24];
+        int length = snprintf(value, sizeof value, "%llu", (unsigned long long)number);
+        SAME(ALT_OK, alt_step(cursor, &record));
+        same_key(line, key(7, number), record.key);
+        same_value(line, value, (size_t)length, record.value);
+    }
+    for (int at = 0; at < many; at++) {
+        SAME(ALT_OK, alt_step(cursor, &record));
+        same_key(line, others[at], record.key);
+        same_value(line, "", 0, record.value);
+    }
+    SAME(ALT_DONE, alt_step(cursor, &record));
+    SAME(ALT_DONE, alt_step(cursor, &record));
+    alt_close_cursor(cursor);
+}
+
+static void a_cursor_pages_to_the_end(void)
+{
+    const uint64_t counts[] = {0, 1, 999, 1000, 1001, 2000};
+    const alt_key others[] = {key(7, UINT64_MAX), key(8, 0), key(65535, UINT64_MAX)};
+    alt_cursor *cursor;
+    for (size_t at = 0; at < sizeof counts / sizeof *counts; at++) {
+        alt_store *store = with_records(counts[at]);
+        SAME(ALT_OK, alt_scan(store, "top", &cursor));
+        same_scan(__LINE__, cursor, counts[at], NULL, 0);
+        for (int it = 0; it < 3; it++)
+            SAME(ALT_OK, alt_put(store, "top", others[it], "", 0));
+        SAME(ALT_OK, alt_scan(store, "top", &cursor));
+        same_scan(__LINE__, cursor, counts[at], others, 3);
+        SAME(ALT_OK, alt_scan_table(store, "top", 7, &cursor));
+        same_scan(__LINE__, cursor, counts[at], others, 1);
+        SAME(ALT_OK, alt_scan_table(store, "top", 65535, &cursor));
+        same_scan(__LINE__, cursor, 0, others + 2, 1);
+        SAME(ALT_OK, alt_scan_table(store, "top", 9, &cursor));
+        same_scan(__LINE__, cursor, 0, NULL, 0);
+        SAME(ALT_OK, alt_close(store));
+    }
+}
+
+static void a_cursor_lets_others_ask(void)
+{
+    alt_store *store = with_records(2500);
+    alt_cursor *cursor, *second;
+    alt_record record, other;
+    alt_rows *rows;
+    SAME(ALT_OK, alt_scan(store, "top", &cursor));
+    SAME(ALT_OK, alt_scan(store, "top", &second));
+    for (uint64_t number = 0; number < 2500; number++) {
+        SAME(ALT_OK, alt_step(cursor, &record));
+        SAME(ALT_OK, alt_step(second, &other));
+        SAME(ALT_OK, alt_remove(store, "top", key(7, number)));
+        SAME(ALT_OK, alt_put(store, "top", key(8, number % 3), "b", 1));
+        SAME(number, record.key.number);
+        SAME(number, other.key.number);
+        SAME(1, record.value.length == other.value.length && memcmp(record.value.bytes, other.value.bytes, other.value.length) == 0);
+    }
+    /* The last page was asked for before record 2 of table 8 was put a last time. */
+    for (uint64_t number = 0; number < 3; number++) {
+        SAME(ALT_OK, alt_step(cursor, &record));
+        SAME(8, record.key.table);
+        SAME(number, record.key.number);
+    }
+    SAME(ALT_DONE, alt_step(cursor, &record));
+    alt_close_cursor(second);
+    alt_close_cursor(cursor);
+    SAME(ALT_OK, alt_rollback(store));
+    SAME(ALT_OK, alt_close(store));
+    store = with_records(1001);
+    /* While rows are open no page can be asked for; the cursor goes on after it. */
+    SAME(ALT_OK, alt_scan(store, "top", &cursor));
+    SAME(ALT_OK, alt_list(store, "top", &rows));
+    for (uint64_t number = 0; number < 1000; number++)
+        SAME(ALT_OK, alt_step(cursor, &record));
+    SAME(ALT_ROWS_OPEN, alt_step(cursor, &record));
+    SAME(ALT_OK, alt_close_rows(rows));
+    SAME(ALT_OK, alt_step(cursor, &record));
+    SAME(1000, record.key.number);
+    SAME(ALT_DONE, alt_step(cursor, &record));
+    SAME(ALT_OK, alt_close(store));
+    alt_close_cursor(cursor);
+}
+
+static void *steps_elsewhere(void *cursor)
+{
+    static int error;
+    alt_record record;
+    error = alt_step(cursor, &record);
+    return &error;
+}
+
+static void a_cursor_is_of_the_owner(void)
+{
+    alt_store *store = with_records(1);
+    alt_cursor *cursor;
+    alt_record record;
+    pthread_t thread;
+    void *came;
+    SAME(ALT_OK, alt_scan(store, "top", &cursor));
+    SAME(0, pthread_create(&thread, NULL, steps_elsewhere, cursor));
+    SAME(0, pthread_join(thread, &came));
+    SAME(ALT_WRONG_THREAD, *(int *)came);
+    SAME(ALT_OK, alt_step(cursor, &record));
+    alt_close_cursor(cursor);
+    SAME(ALT_OK, alt_close(store));
+}
+
 static void a_design_is_settled_and_posted(void)
 {
     alt_store *store = with_a_conflict();
@@ -278,6 +563,29 @@ static void a_design_is_settled_and_posted(void)
     SAME(ALT_BAD_ANSWER, alt_next_change(rows, &change));
     SAME(ALT_OK, alt_close_rows(rows));
     SAME(ALT_OK, alt_commit(store));
+    SAME(ALT_OK, alt_close(store));
+}
+
+static void a_side_settles_all_conflicts(void)
+{
+    alt_store *store = opened();
+    alt_settlement second = {key(7, 2), ALT_MINE}, other = {key(7, 9), ALT_MINE};
+    uint64_t changed = 9;
+    SAME(ALT_OK, alt_grow(store, 128));
+    SAME(ALT_OK, alt_commit(store));
+    SAME(ALT_OK, alt_new(store, "a", "top"));
+    for (uint64_t number = 1; number <= 3; number++) {
+        SAME(ALT_OK, put(store, "top", number, "pipe"));
+        SAME(ALT_OK, put(store, "a", number, "hose"));
+    }
+    SAME(ALT_NOT_IN_CONFLICT, alt_merge_all(store, "a", ALT_THEIRS, &other, 1, &changed));
+    SAME(ALT_OK, alt_merge_all(store, "a", ALT_THEIRS, &second, 1, &changed));
+    SAME(2, changed);
+    HAS(store, "a", 1, "pipe");
+    HAS(store, "a", 2, "hose");
+    HAS(store, "a", 3, "pipe");
+    SAME(ALT_OK, alt_merge_all(store, "a", ALT_MINE, NULL, 0, &changed));
+    SAME(0, changed);
     SAME(ALT_OK, alt_close(store));
 }
 
@@ -330,6 +638,54 @@ static void a_store_grows(void)
     struct stat told;
     SAME(0, stat(file, &told));
     SAME(128 * 4096, told.st_size);
+}
+
+static void a_store_grows_by_itself(void)
+{
+    alt_options growing = options;
+    char value[ALT_LONGEST_VALUE] = "";
+    uint64_t blocks;
+    int error = ALT_OK;
+    alt_store *store;
+    SAME(ALT_OK, alt_close(opened()));
+    growing.grow = 128;
+    SAME(ALT_OK, alt_open(&store, file, &growing));
+    for (uint64_t number = 1; error == ALT_OK && number < 128; number++)
+        error = alt_put(store, "top", key(8, number), value, sizeof value);
+    SAME(ALT_FULL, error);
+    SAME(ALT_OK, alt_blocks(store, &blocks));
+    SAME(128, blocks);
+    SAME(ALT_OK, alt_commit(store));
+    SAME(ALT_OK, alt_close(store));
+    growing.grow = ALT_NO_LIMIT;
+    SAME(ALT_OK, alt_open(&store, file, &growing));
+    for (uint64_t number = 1; number < 128; number++)
+        SAME(ALT_OK, alt_put(store, "top", key(8, number), value, sizeof value));
+    SAME(ALT_OK, alt_blocks(store, &blocks));
+    SAME(1, blocks > 128);
+    SAME(ALT_OK, alt_close(store));
+}
+
+static void a_store_may_be_read_alone(void)
+{
+    alt_options reading = options;
+    alt_store *store = opened(), *one, *other;
+    char value[16];
+    size_t length;
+    reading.read_only = 1;
+    SAME(ALT_IN_USE, alt_open(&one, file, &reading));
+    SAME(ALT_OK, put(store, "top", 1, "duct"));
+    SAME(ALT_OK, alt_commit(store));
+    SAME(ALT_OK, alt_close(store));
+    SAME(ALT_OK, alt_open(&one, file, &reading));
+    SAME(ALT_OK, alt_open(&other, file, &reading));
+    SAME(ALT_IN_USE, alt_open(&store, file, &options));
+    SAME(ALT_READ_ONLY, put(one, "top", 1, "pipe"));
+    SAME(ALT_READ_ONLY, alt_commit(one));
+    SAME(ALT_OK, alt_get(other, "top", key(7, 1), value, sizeof value, &length));
+    SAME(4, length);
+    SAME(ALT_OK, alt_close(one));
+    SAME(ALT_OK, alt_close(other));
 }
 
 static void what_is_no_word_is_not_sent(void)
@@ -389,7 +745,8 @@ static void errors_have_names(void)
     SAME_TEXT("TooManyPlanners", alt_error_name(ALT_TOO_MANY_PLANNERS));
     SAME_TEXT("ALT_DONE", alt_error_name(ALT_DONE));
     SAME_TEXT("ALT_IN_BATCH", alt_error_name(ALT_IN_BATCH));
-    SAME_TEXT("unknown", alt_error_name(24));
+    SAME_TEXT("ReadOnly", alt_error_name(ALT_READ_ONLY));
+    SAME_TEXT("unknown", alt_error_name(25));
     SAME_TEXT("unknown", alt_error_name(101));
     SAME_TEXT("unknown", alt_error_name(-14));
     SAME_TEXT("another process has locked the file", alt_error_text(NULL, ALT_IN_USE));
@@ -828,6 +1185,7 @@ static void other_answers_are_told(void)
     size_t length;
     alt_rows *rows;
     alt_record record;
+    alt_cursor *cursor;
     for (size_t at = 0; at < sizeof to_gets / sizeof *to_gets; at++) {
         alt_store *store = answered(to_gets[at]);
         int error = alt_get(store, "top", key(7, 1), value, sizeof value, &length);
@@ -854,6 +1212,19 @@ static void other_answers_are_told(void)
     SAME(ALT_DAMAGED, alt_next_record(rows, &record));
     SAME(34, alt_detail(store)->count);
     SAME(ALT_DAMAGED, alt_close_rows(rows));
+    SAME(ALT_OK, alt_close(store));
+    /* Of a page that ends so nothing is given. */
+    store = answered("record 7 1 duct\\nerror 18 Damaged 34\\n");
+    SAME(ALT_DAMAGED, alt_scan(store, "top", &cursor));
+    SAME(34, alt_detail(store)->count);
+    SAME(1, cursor == NULL);
+    SAME(ALT_OK, alt_close(store));
+    store = answered("record 7 1 ~\\nend 1\\n");
+    SAME(ALT_OK, alt_scan(store, "top", &cursor));
+    SAME(ALT_OK, alt_step(cursor, &record));
+    SAME(0, record.value.length);
+    SAME(ALT_DONE, alt_step(cursor, &record));
+    alt_close_cursor(cursor);
     SAME(ALT_OK, alt_close(store));
 }
 
@@ -932,6 +1303,7 @@ static void a_service_commits_each_change(void)
     pid_t started;
     alt_store *store = served(&started);
     alt_rows *rows;
+    alt_cursor *cursor, *second;
     alt_record record;
     alt_ticket tickets[2];
     char value[8];
@@ -947,10 +1319,17 @@ static void a_service_commits_each_change(void)
     HAS(store, "north", 1, "duct");
     SAME(ALT_DENIED, alt_put(store, ".service", key(7, 1), "duct", 4));
     SAME_TEXT("90 Denied change .service", alt_error_text(store, ALT_DENIED));
-    SAME(ALT_OK, alt_list(store, "north", &rows));
+    SAME(ALT_OK, alt_list_range(store, "north", 7, 1, 1, &rows));
     SAME(ALT_OK, alt_next_record(rows, &record));
     SAME_VALUE("duct", record.value);
     SAME(ALT_OK, alt_close_rows(rows));
+    SAME(ALT_OK, alt_scan(store, "north", &cursor));
+    SAME(ALT_OK, alt_begin(store));
+    SAME(ALT_IN_BATCH, alt_scan(store, "north", &second));
+    SAME(ALT_OK, alt_step(cursor, &record));
+    SAME_VALUE("duct", record.value);
+    SAME(ALT_DONE, alt_step(cursor, &record));
+    alt_close_cursor(cursor);
     SAME(ALT_OK, alt_close(store));
     end_service(started);
     store = opened();
@@ -1042,9 +1421,17 @@ static const struct {
     TEST(percent_signs_come_back),
     TEST(changes_and_conflicts_are_listed),
     TEST(versions_are_read_and_compared),
+    TEST(parts_and_pages_are_those_of_a_model),
+    TEST(parts_of_unknown_versions_are_refused),
+    TEST(a_cursor_pages_to_the_end),
+    TEST(a_cursor_lets_others_ask),
+    TEST(a_cursor_is_of_the_owner),
     TEST(a_design_is_settled_and_posted),
+    TEST(a_side_settles_all_conflicts),
     TEST(names_are_listed),
     TEST(a_store_grows),
+    TEST(a_store_grows_by_itself),
+    TEST(a_store_may_be_read_alone),
     TEST(what_is_no_word_is_not_sent),
     TEST(refusals_have_their_numbers),
     TEST(errors_have_names),

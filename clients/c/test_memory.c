@@ -28,6 +28,8 @@ static char *refusing_strdup(const char *text)
 #define realloc refusing_realloc
 #undef strdup
 #define strdup refusing_strdup
+/* A cursor has several pages here. */
+#define PAGE 30
 #include "altctl.c"
 
 enum { ONE_BY_ONE = 40, AHEAD = 40, MANY = ONE_BY_ONE + AHEAD };
@@ -49,8 +51,28 @@ static int checked(int error, const char *what)
     return error;
 }
 
-/* Rows and a merge, as far as they come. */
-static void ask_others(alt_store *store)
+/* Steps through all records by a cursor. A step whose page was refused memory is tried again, and then goes on where it should.
+   A record whose put was not known to be answered may be there, too. */
+static void scan(alt_store *store, uint64_t due)
+{
+    alt_cursor *cursor;
+    alt_record record;
+    uint64_t count = 0, next = 0;
+    int error = checked(alt_scan(store, "top", &cursor), "scan");
+    while (error == ALT_OK || (error == ALT_SYSTEM && cursor != NULL)) {
+        error = alt_step(cursor, &record);
+        if (error == ALT_OK) {
+            need(record.key.number >= next && record.value.length == 1200, "the next record of a scan");
+            next = record.key.number + 1;
+            count++;
+        }
+    }
+    need(cursor == NULL || (error == ALT_DONE && count >= due), "all records of a scan");
+    alt_close_cursor(cursor);
+}
+
+/* Rows, a scan and a merge, as far as they come. */
+static void ask_others(alt_store *store, uint64_t due)
 {
     alt_rows *rows;
     alt_record record;
@@ -60,6 +82,7 @@ static void ask_others(alt_store *store)
         error = alt_next_record(rows, &record);
     need(error == ALT_DONE || error == ALT_SYSTEM, "rows");
     checked(alt_close_rows(rows), "the end of the rows");
+    scan(store, due);
     error = alt_merge(store, "top", &settlement, 1, NULL);
     need(error == ALT_IS_TOP || error == ALT_SYSTEM, "merge");
 }
@@ -83,7 +106,10 @@ static int work(alt_store *store, int *is_put)
             need(error == ALT_OK || error == ALT_SYSTEM || error == ALT_NO_SUCH_TICKET, "take");
             is_put[ONE_BY_ONE + at] = error == ALT_OK;
         }
-    ask_others(store);
+    uint64_t due = 0;
+    for (int at = 0; at < MANY; at++)
+        due += (uint64_t)is_put[at];
+    ask_others(store, due);
     return checked(alt_commit(store), "commit") == ALT_OK;
 }
 

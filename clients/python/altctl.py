@@ -18,11 +18,14 @@ import subprocess
 import tempfile
 import threading
 from collections import deque
+from operator import index
 from typing import NamedTuple, Optional
 
 
 # How many lines are written ahead of their answers at most, and how many bytes a pipe holds at least.
 AHEAD, PIPE = 60, 4096
+# How many records a scan asks for at once. A number has 64 bits, and a table 16.
+PAGE, NUMBER_BITS, LAST_NUMBER, LAST_TABLE = 1000, 64, 2**64 - 1, 2**16 - 1
 
 
 class Refusal(Exception):
@@ -133,6 +136,33 @@ def portions(lines, most):
         yield portion
 
 
+def part_words(table, first, last):
+    """The words of a line for a table, or for its numbers from a first to a last one. None stands for no limit."""
+    if table is None:
+        if first is not None or last is not None:
+            raise ValueError("numbers without a table")
+        return []
+    if first is None and last is None:
+        return [whole(table)]
+    return [whole(table), whole(0 if first is None else first), whole(LAST_NUMBER if last is None else last)]
+
+
+def whole(number):
+    """A number that is one: neither a text nor a float."""
+    try:
+        return index(number)
+    except TypeError:
+        raise TypeError(f"a table, a number and a count are int, and not {type(number).__name__}") from None
+
+
+def record_of(words):
+    return Record(int(words[0]), int(words[1]), decode(words[2]))
+
+
+def change_of(words):
+    return Change(int(words[0]), int(words[1]), decode(words[2]), decode(words[3]))
+
+
 class Rows:
     """The rows of one answer. They are read as they are asked for; before the next line is written, the rest is."""
 
@@ -166,9 +196,11 @@ class Process:
     """A process of `altctl run`, which locks the file as long as it runs. It is in a session of its own: a Ctrl-C that ends a
     call here does not end it, and what was not committed is there still."""
 
-    def __init__(self, file, program, cache, wait):
+    def __init__(self, file, program, cache, wait, read_only, grow):
         os.stat(file)
         options = [*([] if cache is None else ["--cache", str(cache)]), *(["--wait"] if wait else [])]
+        options += ["--read-only"] if read_only else []
+        options += [] if grow is False else ["--grow"] if grow is True else ["--grow", "--grow-to", str(grow)]
         self._faults = tempfile.TemporaryFile("w+", errors="replace")
         how = {"stderr": self._faults, "encoding": "ascii", "start_new_session": True}
         words = [program, "run", *options, "--", os.fsdecode(file)]
@@ -209,15 +241,16 @@ class Service:
 
 class Store:
     """An open store. The program locks its file (`flock`) as long as it runs: a second one raises BlockingIOError, or with
-    `wait` it waits.
+    `wait` it waits. With `read_only` the file is only read, beside other readers, and each command is refused (24 ReadOnly). With
+    `grow` the store grows where a command would be refused for want of blocks (13 Full): as far as it can, or up to that many blocks.
 
     "unix:PATH" stands for a store that a service works on, for many planners at once. There each change is committed before its
     method returns, except in a `with store.batch()`."""
 
-    def __init__(self, file, program="altctl", cache=None, wait=False):
+    def __init__(self, file, program="altctl", cache=None, wait=False, read_only=False, grow=False):
         self._rows, self._batch, self._is_open, self._turn = None, None, False, threading.RLock()
         is_service = isinstance(file, str) and file.startswith("unix:")
-        self._other = Service(file[5:]) if is_service else Process(file, program, cache, wait)
+        self._other = Service(file[5:]) if is_service else Process(file, program, cache, wait, read_only, grow)
         self._is_open = True
         try:
             self.free()
@@ -367,10 +400,37 @@ class Store:
         for _ in self._ask_many((f"{words} {table:d} {number:d}" for table, number in keys), float("inf")):
             pass
 
-    def list(self, alt, *part):
-        """All records of an alternative or of a version of it, by table and then by number. Where the program knows parts:
-        those of a table, or of a table with numbers from a first to a last one."""
-        return self._list(lambda words: Record(*map(int, words[:2]), decode(words[2])), "list", alt, *part)
+    def list(self, at, table=None, first=None, last=None):
+        """All records of an alternative or of a version of it, by table and then by number; or those of a table, or of its
+        numbers from `first` to `last`, both included, where None is no limit."""
+        return self._list(record_of, "list", at, *part_words(table, first, last))
+
+    def next(self, at, table, number, count):
+        """The first `count` records at or after a key, over tables. If they are fewer, there are no more."""
+        return self._list(record_of, "next", at, whole(table), whole(number), whole(count))
+
+    def scan(self, at, table=None):
+        """All records, or those of a table, as `list` gives them, but a thousand at a time: other lines may come in between, and
+        at no time are more than these in memory. A page shows the version as it is when the page is asked for."""
+        first, last = (0, LAST_TABLE) if table is None else (whole(table), whole(table))
+        place, end = first << NUMBER_BITS, (last + 1) << NUMBER_BITS
+        return self._pages(at, place, end, self._page(at, place))
+
+    def _page(self, at, place):
+        return self.next(at, place >> NUMBER_BITS, place & LAST_NUMBER, PAGE)
+
+    def _pages(self, at, place, end, rows):
+        """The records before the place `end`, of which `rows` are the first ones. A place is a key as one number."""
+        while True:
+            count = 0
+            for count, record in enumerate(rows, 1):
+                place = (record.table << NUMBER_BITS | record.number) + 1
+                if place > end:
+                    return
+                yield record
+            if count < PAGE or place == end:
+                return
+            rows = self._page(at, place)
 
     def new(self, name, parent, checkpoint=None):
         """A new alternative, which shows what its parent shows, or what a checkpoint of the parent does."""
@@ -390,11 +450,12 @@ class Store:
 
     def changes(self, alt):
         """What the alternative has changed since its base, as Change rows."""
-        return self._list(lambda words: Change(*map(int, words[:2]), *map(decode, words[2:])), "changes", alt)
+        return self._list(change_of, "changes", alt)
 
-    def diff(self, first, second):
-        """What differs from one version to another, as Change rows."""
-        return self._list(lambda words: Change(*map(int, words[:2]), *map(decode, words[2:])), "diff", first, second)
+    def diff(self, first, second, table=None, first_number=None, last_number=None):
+        """What differs from one version to another, as Change rows: everywhere, in a table, or at its numbers from `first_number`
+        to `last_number`, both included."""
+        return self._list(change_of, "diff", first, second, *part_words(table, first_number, last_number))
 
     def tally(self, alt):
         """How far the alternative has gone from its base and from its parent, as a Tally."""
@@ -405,10 +466,11 @@ class Store:
         """What a merge of the alternative has to settle, as Conflict rows."""
         return self._list(lambda words: Conflict(*map(int, words[:2]), *map(decode, words[2:])), "conflicts", alt)
 
-    def merge(self, alt, settlements=None):
+    def merge(self, alt, settlements=None, all=None):
         """Brings in what changed in the parent, and gives how many records that changed, but in a batch. Settlements are a dict
-        from (table, number) to "mine" or "theirs", one for each conflict."""
-        words = [f"{table}:{number}={side}" for (table, number), side in (settlements or {}).items()]
+        from (table, number) to "mine" or "theirs", one for each conflict; `all`, "mine" or "theirs", settles each other one."""
+        words = [] if all is None else [f"all={all}"]
+        words += [f"{table}:{number}={side}" for (table, number), side in (settlements or {}).items()]
         answer = self._ask("merge", alt, *words)
         return answer and int(answer[1])
 

@@ -5,12 +5,14 @@ import contextlib
 import fcntl
 import io
 import os
+import random
 import subprocess
 import sys
 import tempfile
 import threading
 import time
 import unittest
+import unittest.mock
 from contextlib import redirect_stdout
 from pathlib import Path
 
@@ -123,6 +125,21 @@ class StoreTests(unittest.TestCase):
             self.assertEqual([Record(7, 1, b"cable A"), Record(7, 2, b"hose")], list(store.list("top")))
             self.assertEqual([], list(store.changes("a")))
 
+    def test_a_side_settles_all_conflicts(self):
+        self.grown(128)
+        with self.open() as store:
+            store.put("top", 7, 9, b"duct")
+            store.new("a", "top")
+            for number in (1, 2, 3):
+                store.put("top", 7, number, b"pipe")
+                store.put("a", 7, number, b"hose")
+            self.refused(9, "Unsettled", "3", store.merge, "a")
+            self.refused(10, "NotInConflict", "7:9", store.merge, "a", {(7, 9): "mine"}, "mine")
+            self.refused(22, "BadLine", "", store.merge, "a", None, "ours")
+            self.assertEqual(2, store.merge("a", {(7, 2): "mine"}, all="theirs"))
+            self.assertEqual([b"pipe", b"hose", b"pipe"], [record.value for record in store.list("a", 7, last=3)])
+            self.assertEqual(0, store.merge("a", all="mine"))
+
     def test_versions_are_read_and_compared(self):
         with self.open() as store:
             store.put("top", 7, 1, b"duct")
@@ -146,6 +163,127 @@ class StoreTests(unittest.TestCase):
             self.refused(3, "NoSuchCheckpoint", "", store.get, "top@before", 7, 1)
             self.refused(1, "NoSuchAlternative", "", store.diff, "south@before", "north@nope")
             self.refused(22, "BadLine", "", store.put, "north@", 7, 1, b"x")
+
+    def test_parts_and_pages_are_those_of_a_dict(self):
+        rng = random.Random(7)
+        numbers = [0, 1, 2, 3, 50, 2**63, 2**64 - 2, 2**64 - 1]
+        keys = [(table, number) for table in (0, 1, 7, 8, 65535) for number in numbers]
+        with Store(self.grown(4096), ALTCTL) as store:
+            base = {key: b"%d" % at for at, key in enumerate(rng.sample(keys, 25))}
+            store.put_many("top", ((*key, value) for key, value in base.items()))
+            store.new("north", "top")
+            before = self.edited(store, "north", base, rng.sample(keys, 12), b"before")
+            store.checkpoint("north", "before")
+            versions = {"north@": base, "north@before": before, "top@": {}}
+            versions["north"] = self.edited(store, "north", before, rng.sample(keys, 12), b"now")
+            versions["top"] = self.edited(store, "top", base, rng.sample(keys, 12), b"top")
+            for at, other in [(a, b) for a in versions for b in versions]:
+                self.same_parts(store, rng, versions, numbers, at, other)
+
+    def edited(self, store, alt, records, keys, value):
+        """Removes each second key where it is there, and puts the others. Gives the records that are then."""
+        left = dict(records)
+        for at, key in enumerate(keys):
+            if at % 2 and key in left:
+                store.remove(alt, *key)
+                del left[key]
+            else:
+                store.put(alt, *key, value)
+                left[key] = value
+        return left
+
+    def same_parts(self, store, rng, versions, numbers, at, other):
+        """Compares parts and pages of a version, and parts of what differs from it to another one, with those of dicts."""
+        own, its = versions[at], versions[other]
+        rows = [Record(*key, own[key]) for key in sorted(own)]
+        changes = [Change(*it, own.get(it), its.get(it)) for it in sorted({*own, *its}) if own.get(it) != its.get(it)]
+        self.assertEqual(rows, list(store.list(at)))
+        self.assertEqual(rows, list(store.scan(at)))
+        self.assertEqual(changes, list(store.diff(at, other)))
+        for table in (0, 1, 7, 9, 65535):
+            self.assertEqual([it for it in rows if it.table == table], list(store.list(at, table)))
+            self.assertEqual([it for it in rows if it.table == table], list(store.scan(at, table)))
+            self.assertEqual([it for it in changes if it.table == table], list(store.diff(at, other, table)))
+            low, high = (rng.choice([None, *numbers, 40]) for _ in range(2))
+            is_in = lambda it: it.table == table and (low or 0) <= it.number <= (2**64 if high is None else high)
+            self.assertEqual([it for it in rows if is_in(it)], list(store.list(at, table, low, high)))
+            self.assertEqual([it for it in changes if is_in(it)], list(store.diff(at, other, table, low, high)))
+            number, count = rng.choice(numbers), rng.choice([0, 1, 3, 2**32 - 1])
+            page = [it for it in rows if it[:2] >= (table, number)][:count]
+            self.assertEqual(page, list(store.next(at, table, number, count)))
+
+    def test_a_range_that_is_turned_round_is_empty(self):
+        with self.open() as store:
+            store.put_many("top", [(7, 1, b"a"), (7, 2, b"b")])
+            self.assertEqual([], list(store.list("top", 7, 2, 1)))
+            self.assertEqual([], list(store.diff("top@", "top", 7, 2, 1)))
+            self.assertEqual([Record(7, 2, b"b")], list(store.list("top", 7, first=2)))
+            self.assertEqual([Record(7, 1, b"a")], list(store.list("top", table=7, last=1)))
+            self.assertEqual([Change(7, 2, None, b"b")], list(store.diff("top@", "top", 7, first_number=2)))
+
+    def test_a_scan_pages_to_the_end(self):
+        last = (65535, 2**64 - 1)
+        for ends in ([], [(7, 2**64 - 1)], [(7, 2**64 - 1), (8, 0)], [last], [(65535, 0), last]):
+            for count in (0, 1, 3, 4, 5, 8):
+                with self.open() as store, unittest.mock.patch("altctl.PAGE", 4):
+                    due = sorted([*((7, number) for number in range(10, 10 + count)), *ends])
+                    store.put_many("top", ((*it, b"") for it in due))
+                    self.assertEqual(due, [it[:2] for it in store.scan("top")])
+                    for table in (6, 7, 8, 65535):
+                        self.assertEqual([it for it in due if it[0] == table], [it[:2] for it in store.scan("top", table)])
+
+    def test_a_scan_asks_for_no_more_than_a_page(self):
+        with Store(self.grown(4096), ALTCTL) as store:
+            store.put_many("top", ((7, number, b"") for number in range(2500)))
+            store.put("top", 8, 1, b"")
+            asked, ask = [], store._ask
+            with unittest.mock.patch.object(store, "_ask", lambda *words: asked.append(words) or ask(*words)):
+                rows = store.scan("top")
+                first = next(rows)
+                self.assertEqual([("next", "top", 0, 0, 1000)], asked)
+                self.assertEqual(2501, len([first, *rows]))
+                self.assertEqual([("next", "top", 7, number, 1000) for number in (1000, 2000)], asked[1:])
+                del asked[:]
+                self.assertEqual(2500, sum(1 for _ in store.scan("top", 7)))
+                self.assertEqual([("next", "top", 7, number, 1000) for number in (0, 1000, 2000)], asked)
+
+    def test_a_scan_goes_on_where_records_change(self):
+        with Store(self.grown(4096), ALTCTL) as store:
+            store.put_many("top", ((7, number, b"old") for number in range(2500)))
+            seen = []
+            for record in store.scan("top"):
+                store.remove("top", record.table, record.number)
+                store.put("top", 8, record.number % 10, b"new")
+                seen.append(record)
+            self.assertEqual([Record(7, number, b"old") for number in range(2500)], seen[:2500])
+            self.assertEqual([Record(8, number, b"new") for number in range(10)], seen[2500:])
+            self.assertEqual(seen[2500:], list(store.list("top")))
+
+    def test_what_is_no_part_is_not_asked_for(self):
+        with self.open() as store:
+            store.put("top", 7, 1, b"a")
+            calls = [store.list, store.scan, lambda *it: store.diff("top@", *it), lambda *it: store.next(*it, 1, 1)]
+            for call in calls:
+                for table in ("7", 7.0, b"7", [7]):
+                    self.assertRaises(TypeError, call, "top", table)
+                for table in (-1, 65536, 2**70):
+                    self.refused(22, "BadLine", "", call, "top", table)
+                self.assertRaises(ValueError, call, "top 7", 7)
+                self.refused(1, "NoSuchAlternative", "", call, "south", 7)
+                self.refused(3, "NoSuchCheckpoint", "", call, "top@nope", 7)
+            for words in ([7, "1", 2], [7, 1, 2.0], [7, b"1"]):
+                self.assertRaises(TypeError, store.list, "top", *words)
+                self.assertRaises(TypeError, store.diff, "top@", "top", *words)
+            for call in (store.list, lambda *it: store.diff("top@", *it)):
+                self.assertRaises(ValueError, call, "top", None, 1)
+                self.assertRaises(ValueError, call, "top", None, None, 1)
+                self.refused(22, "BadLine", "", call, "top", 7, 0, 2**64)
+            self.assertRaises(TypeError, store.next, "top", 7, 1, "1")
+            self.assertRaises(TypeError, store.next, "top", 7, 1, None)
+            for words in ([7, 2**64, 1], [7, 1, 2**32], [7, 1, -1]):
+                self.refused(22, "BadLine", "", store.next, "top", *words)
+            self.refused(1, "NoSuchAlternative", "", store.diff, "south", "top@nope", 7)
+            self.assertEqual([Record(7, 1, b"a")], list(store.next("top", 0, 0, 2**32 - 1)))
 
     def test_blocks_are_counted(self):
         with self.open() as store:
@@ -214,6 +352,29 @@ class StoreTests(unittest.TestCase):
             store.grow(65)
             store.put("top", 1, 14, b"")
             self.assertEqual(16, store.free())
+
+    def test_a_store_grows_by_itself(self):
+        with self.open(grow=128) as store:
+            with self.assertRaises(Refusal) as came:
+                for number in range(128):
+                    store.put("top", 1, number, bytes(4000))
+            self.assertEqual((13, 128), (came.exception.number, store.blocks()))
+            store.commit()
+        with self.open(grow=True) as store:
+            for number in range(128):
+                store.put("top", 1, number, bytes(4000))
+            self.assertGreater(store.blocks(), 128)
+
+    def test_a_store_that_is_only_read_refuses_each_command(self):
+        with self.open() as store:
+            store.put("top", 1, 1, b"one")
+            store.commit()
+            self.assertRaises(BlockingIOError, self.open, read_only=True)
+        with self.open(read_only=True) as store, self.open(read_only=True) as other:
+            self.assertRaises(BlockingIOError, self.open)
+            self.refused(24, "ReadOnly", "", store.put, "top", 1, 1, b"two")
+            self.refused(24, "ReadOnly", "", store.commit)
+            self.assertEqual(b"one", other.get("top", 1, 1))
 
     def test_many_lines_go_ahead_of_their_answers(self):
         due = {(number % 3, number): b"%d" % number for number in range(1000)}
@@ -497,6 +658,19 @@ class ServiceTests(unittest.TestCase):
                 self.assertRaises(ValueError, list, one.get_many("top", due))
                 self.assertEqual(100, len(list(other.list("top"))))
             self.assertEqual([Record(7, 0, b"0"), Record(7, 200, b"a")], list(other.list("top")))
+
+    def test_parts_and_pages_are_read(self):
+        with self.open() as one, self.open() as other:
+            one.new("north", "top")
+            one.put_many("north", ((7, number, b"%d" % number) for number in range(1, 1003)))
+            self.assertEqual([b"2", b"3"], [it.value for it in other.list("north", 7, 2, 3)])
+            self.assertEqual([b"1002"], [it.value for it in other.next("north", 7, 1002, 5)])
+            self.assertEqual([Change(7, 5, None, b"5")], list(other.diff("top", "north", 7, 5, 5)))
+            self.assertEqual(list(one.list("north")), list(other.scan("north")))
+            self.assertEqual([], list(other.scan("north", 8)))
+            with one.batch():
+                self.assertRaises(ValueError, one.next, "north", 7, 1, 1)
+                self.assertRaises(ValueError, one.scan, "north")
 
     def test_a_batch_is_made_as_a_whole(self):
         with self.open() as one, self.open() as other:
