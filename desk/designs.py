@@ -1,17 +1,21 @@
 """What the desk shows of a store's designs: the tree of them, what each has changed, what is in conflict, and the features in a
-window of the map. `altdesk` stands on this module; maps.py says how a layer lies in the store.
+window of the map. `altdesk` stands on this module; maps.py says how a layer lies in the store, and places.py its index.
 
-The records of a design are read once. After a batch only those are read again that its lines in the journal name; a merge, a
-post or `back` names none, so the design is read anew, as it is where more lines came than are followed."""
+Of a design is read what it has changed, and then what a window or a question needs. After a batch only the keys are looked at that
+its lines in the journal name; a merge, a post or `back` names none, so the design is looked at anew, as it is where more lines came
+than are followed. Where a store has no index, the bounds of all features are read once, page by page."""
+import contextlib
 import json
 import math
-from collections import ChainMap
 
 import numpy
 from osgeo import gdal, ogr, osr
 
 import maps
+import places
+from altctl import Conflict, Refusal
 from maps import GEOMETRY, PARTS
+from places import box_of, parsed
 
 gdal.UseExceptions()
 ogr.UseExceptions()
@@ -19,30 +23,13 @@ osr.UseExceptions()
 
 OWN = ".service"
 MOST_LINES = 1000
+MOST_MOVED = 1000  # features that lie elsewhere than the index says, before it is renewed
+MOST_COURSES = 20000  # geometries of a design that stay in memory
 MOST_DESIGNS = 4  # that stay in memory
 MOST_FEATURES = 3000  # in a window
 MOST_CONFLICTS = 100  # shown with their sides
 PIXELS = 2000  # that a window has across, at most
 LITERALS = {"Integer": int, "Integer64": int, "Real": (int, float), "value": (type(None), bool, int, float, str, list, dict)}
-
-
-def parsed(value):
-    """A geometry from WKB, or None where there is none that can be drawn."""
-    try:
-        geometry = ogr.CreateGeometryFromWkb(value)
-    except RuntimeError:
-        return None
-    is_empty = geometry is None or geometry.IsEmpty() or not all(map(math.isfinite, geometry.GetEnvelope()))
-    return None if is_empty else geometry
-
-
-def box_of(value):
-    """The bounds of a geometry: west, south, east, north."""
-    geometry = parsed(value) if value else None
-    if geometry is None:
-        return None
-    west, east, south, north = geometry.GetEnvelope()
-    return west, south, east, north
 
 
 def geojson(value, tolerance=0):
@@ -83,11 +70,6 @@ def typed(text, field, old):
     return value
 
 
-def differences(old, new):
-    """The keys whose values differ."""
-    return {key for key in old.keys() | new.keys() if old.get(key) != new.get(key)}
-
-
 def aspect_of(crs, bounds):
     """How wide a unit is beside its height: with degrees, as it is in the middle of the map."""
     system = osr.SpatialReference()
@@ -98,77 +80,73 @@ def aspect_of(crs, bounds):
     return math.cos(math.radians((bounds[1] + bounds[3]) / 2)) if is_round else 1
 
 
-class Design:
-    """The records of a design, what of them is changed and in conflict, and where its features lie."""
+class Changes:
+    """What differs from one version to another: records, and features with whether they are added, changed or removed."""
 
-    def __init__(self, records):
-        self.records, self.stale, self.seen = records, set(), -1
-        self._survey()
-        self.look([], [])
+    def __init__(self, store, old, new):
+        self.store, self.old, self.new = store, old, new
+        self.layers = {**self._layers(old), **self._layers(new)}
+        self.rows = {(it.table, it.number): it for table in self._tables() for it in store.diff(old, new, table)}
+        self._note(self.rows)
 
-    def tables(self, *tables):
-        """Records of these tables, as `maps.Version` gives them."""
-        return {key: value for key, value in self.records.items() if key[0] in tables}
-
-    def _survey(self):
-        """Finds the layers, and the bounds of all features. Of several coordinate systems the map shows the first layer's."""
+    def _layers(self, at):
         try:
-            self.layers = maps.layers(self)
+            return maps.layers(self.store, at)
         except maps.Fault:
-            self.layers = {}
-        systems = {table: it["crs"] for table, it in sorted(self.layers.items())}
-        self.crs = next(iter(systems.values()), None)
-        self.on_map = {table for table, crs in systems.items() if crs == self.crs}
-        shown = ((table - GEOMETRY, number) for table, number in self.records if table - GEOMETRY in self.on_map)
-        boxes = ((key, box_of(self.geometry(self.records, key))) for key in shown)
-        self.boxes = {key: box for key, box in boxes if box}
+            return {}
 
-    def take(self, fresh):
-        """Takes records as they are now, None for none."""
-        self.stale = set()
-        for key, value in fresh.items():
-            self.records[key] = value
-            if value is None:
-                del self.records[key]
-        if any(table == 0 for table, _ in fresh):
-            return self._survey()
-        for table, number in fresh:
-            key = (table - GEOMETRY, number)
-            if key[0] in self.on_map:
-                box = box_of(self.geometry(self.records, key))
-                if box:
-                    self.boxes[key] = box
-                else:
-                    self.boxes.pop(key, None)
+    def _tables(self):
+        """The tables that have records in one of the versions, but those of parts."""
+        found = set()
+        for at in {self.old, self.new}:
+            table = 0
+            while table is not None and table < 2**16:
+                table = next((it.table for it in self.store.next(at, table, 0, 1)), None)
+                if table is not None:
+                    found.add(table)
+                    table += 1
+        return [it for it in sorted(found) if not self.is_part(it)]
 
-    def look(self, changes, conflicts):
-        """Takes what the design has changed since its base, and what is in conflict."""
-        self.changed = {(it.table, it.number) for it in changes}
-        self.before = ChainMap({(it.table, it.number): it.before for it in changes}, self.records)
-        self.conflicts = {(it.table, it.number): it for it in conflicts}
-        self.status = {}
-        for key in self.changed:
-            feature = self.feature_of(key)
-            if feature:
-                self.status[feature] = self.kind(feature, self.before, self.records)
-        for feature in filter(None, map(self.feature_of, self.conflicts)):
-            self.status[feature] = "conflict"
-        gone = [key for key in self.status if key[0] in self.on_map and key not in self.boxes]
-        boxes = ((key, box_of(self.geometry(self.before, key))) for key in gone)
-        boxes = {**self.boxes, **{key: box for key, box in boxes if box}}
-        self.keys = list(boxes)
-        self.frames = numpy.array(list(boxes.values()), dtype=float).reshape(-1, 4)
-        self.is_changed = numpy.fromiter((key in self.status for key in boxes), bool, len(boxes))
+    def look_again(self, keys):
+        """Looks at these keys, which may differ otherwise now."""
+        keys = [it for it in keys if not self.is_part(it[0])]
+        for key in keys:
+            self.rows.pop(key, None)
+            self.rows.update({key: it for it in self.store.diff(self.old, self.new, key[0], key[1], key[1])})
+        self._note(keys)
 
-    # --- features -------------------------------------------------------------------------------
+    def _note(self, keys):
+        """Notes of which kind the change of each key's feature is. What a feature has beside its changes is looked up."""
+        features = {self.feature_of(it) for it in keys} - {None}
+        due = {it: [key for key in self.keys_of(it) if key in self.rows] for it in features}
+        self.kinds = getattr(self, "kinds", {})
+        beside = [key for it, keys in due.items() for key in self.keys_of(it) if keys and key not in keys and self.one_sided(keys)]
+        is_there = {key for key, value in zip(beside, self.store.get_many(self.new, beside)) if value is not None}
+        for feature, keys in due.items():
+            self.kinds.pop(feature, None)
+            if keys:
+                is_whole = any(it in is_there for it in self.keys_of(feature))
+                self.kinds[feature] = "changed" if is_whole else self.one_sided(keys) or "changed"
+
+    def one_sided(self, keys):
+        """Whether all of these rows are added, or all removed."""
+        rows = [self.rows[it] for it in keys]
+        added, removed = all(it.before is None for it in rows), all(it.after is None for it in rows)
+        return "added" if added else "removed" if removed else None
+
+    def is_part(self, table):
+        return table - PARTS in self.layers or (table == PARTS and bool(self.layers))
 
     def feature_of(self, key):
         """The feature that a record belongs to. A part of a long value belongs to none; other records are by themselves."""
         table, number = key
         if table - GEOMETRY in self.layers:
             return table - GEOMETRY, number
-        is_part = table - PARTS in self.layers or (table == PARTS and self.layers)
-        return None if is_part else key
+        return None if self.is_part(table) else key
+
+    def keys_of(self, feature):
+        table, number = feature
+        return [feature, (table + GEOMETRY, number)] if table in self.layers else [feature]
 
     def what(self, key):
         return "course" if key[0] - GEOMETRY in self.layers else "attributes" if key[0] in self.layers else "record"
@@ -176,70 +154,133 @@ class Design:
     def name(self, table):
         return self.layers[table]["name"] if table in self.layers else "layer" if table == 0 else f"table {table}"
 
-    def kind(self, feature, old, new):
-        """Whether a feature is added, removed or changed."""
-        was, is_there = (any(it.get(key) is not None for key in self.keys_of(feature)) for it in (old, new))
-        return "changed" if was and is_there else "added" if is_there else "removed"
-
-    def keys_of(self, feature):
-        table, number = feature
-        return [feature, (table + GEOMETRY, number)] if table in self.layers else [feature]
-
-    def value(self, records, key):
-        try:
-            return maps.value_at(records, *key)
-        except (maps.Fault, TypeError, ValueError):
-            return None  # It lacks parts, or has come in half: then they are read with the next batch.
-
-    def geometry(self, records, feature):
-        return self.value(records, (feature[0] + GEOMETRY, feature[1]))
-
-    def side(self, records, feature):
-        """A feature as these records have it, None where they have none."""
-        if all(records.get(key) is None for key in self.keys_of(feature)):
-            return None
-        attributes = attributes_of(self.value(records, feature) or b"{}")
-        course = geojson(self.geometry(records, feature)) if feature[0] in self.layers else None
-        return {"attributes": attributes, "course": course}
-
-    def rows(self, keys, old, new):
-        """Features with records of these keys, and what of them differs between two versions."""
-        found = {}
-        for key in sorted(keys):
-            feature = self.feature_of(key)
-            if feature:
-                row = found.setdefault(feature, {**self.row(feature), "status": self.kind(feature, old, new), "what": []})
-                row["what"].append(self.what(key))
-        return [found[feature] for feature in sorted(found)]
-
     def row(self, feature):
         # A number may have more digits than JavaScript has.
         return {"table": feature[0], "number": str(feature[1]), "layer": self.name(feature[0])}
 
+    def listed(self, status):
+        """The features, each with its status and what of it differs."""
+        found = {}
+        for key in sorted(self.rows):
+            feature = self.feature_of(key)
+            row = found.setdefault(feature, {**self.row(feature), "status": status.get(feature, self.kinds[feature]), "what": []})
+            row["what"].append(self.what(key))
+        return [found[feature] for feature in sorted(found)]
+
+
+class Design:
+    """What a design has changed, what is in conflict, and where its features lie. `top` has no base: it is compared to itself."""
+
+    def __init__(self, store, alt, parent, index):
+        self.store, self.alt, self.parent, self.base = store, alt, parent, f"{alt}@" if parent else alt
+        self.stale, self.courses = set(), {}
+        self.mine = Changes(store, self.base, alt)
+        self.conflicts = {(it.table, it.number): it for it in store.conflicts(alt)} if parent else {}
+        self.layers = {it: layer for it, layer in self.mine.layers.items() if store.get(alt, 0, it) is not None}
+        # Of several coordinate systems the map shows the first layer's.
+        systems = {table: it["crs"] for table, it in sorted(self.layers.items())}
+        self.crs = next(iter(systems.values()), None)
+        self.on_map = {table for table, crs in systems.items() if crs == self.crs}
+        self.places = {it: index(it) or places.scanned(store, alt, it) for it in self.on_map}
+        # Where features lie that have moved since the index was made, None for nowhere, and those that have changed otherwise.
+        self.moved, self.beside = {}, {it: {} for it in self.on_map}
+        for table, its in self.places.items():
+            is_stored = isinstance(its, places.Index)
+            self.moved[table] = places.moved(store, places.OWN, alt, table) if is_stored else {}
+        self._survey()
+
+    def take(self):
+        """Looks at the keys that have changed here or in the parent."""
+        keys, self.stale = sorted(self.stale), set()
+        self.mine.look_again(keys)
+        for key in keys:
+            self.conflicts.pop(key, None)
+            mine = self.mine.rows.get(key)
+            theirs = mine and self.parent and next(self.store.diff(self.base, self.parent, key[0], key[1], key[1]), None)
+            if theirs and theirs.after != mine.after:
+                self.conflicts[key] = Conflict(*key, mine.before, theirs.after, mine.after)
+        moved = [it for it in keys if it[0] - GEOMETRY in self.on_map]
+        records = maps.read(self.store, self.alt, moved)
+        for table, number in moved:
+            self.moved[table - GEOMETRY][number] = box_of(places.safe_value(records, (table, number)))
+            self.courses.pop((table - GEOMETRY, number), None)
+        self._survey()
+
+    def _survey(self):
+        """Finds the status of features, and where those lie that the index does not know so."""
+        self.status = {**self.mine.kinds, **{self.mine.feature_of(it) or it: "conflict" for it in self.conflicts}}
+        shown = [(it[0] - GEOMETRY, it[1]) for it in self.mine.rows if it[0] - GEOMETRY in self.on_map]
+        gone = [(it[0] + GEOMETRY, it[1]) for it in shown if self.mine.rows[it[0] + GEOMETRY, it[1]].after is None]
+        self.gone = maps.with_parts(self.store, self.base, {it: self.mine.rows[it].before for it in gone})
+        boxes = {it: box_of(places.safe_value(self.gone, it)) for it in gone}
+        self.others = {}
+        for table, moved in self.moved.items():
+            beside = self.beside[table]
+            known = {**moved, **beside}
+            due = [number for its_table, number in self.status if its_table == table and number not in known]
+            records = maps.read(self.store, self.alt, [(table + GEOMETRY, it) for it in due])
+            beside.update({it: box_of(places.safe_value(records, (table + GEOMETRY, it))) for it in due})
+            lost = {number: box for (its_table, number), box in boxes.items() if its_table == table + GEOMETRY}
+            self.others[table] = places.Places.of({**beside, **moved, **lost})
+        arrays = {table: [number for its_table, number in self.status if its_table == table] for table in self.on_map}
+        self.changed = {table: numpy.array(numbers, "<u8") for table, numbers in arrays.items()}
+
+    # --- features -------------------------------------------------------------------------------
+
+    def sides(self, feature, at):
+        """A feature as a version has it, None where it has none."""
+        records = maps.read(self.store, at, self.mine.keys_of(feature))
+        if not any(it in records for it in self.mine.keys_of(feature)):
+            return None
+        attributes = attributes_of(places.safe_value(records, feature) or b"{}")
+        geometry = places.safe_value(records, (feature[0] + GEOMETRY, feature[1]))
+        return {"attributes": attributes, "course": geojson(geometry) if feature[0] in self.mine.layers else None}
+
+    def box(self, feature):
+        key = feature[0] + GEOMETRY, feature[1]
+        for at in (self.alt, self.base):
+            box = box_of(places.safe_value(maps.read(self.store, at, [key]), key))
+            if box:
+                return box
+
     # --- the map ----------------------------------------------------------------------------------
 
     def bounds(self):
-        if not len(self.frames):
-            return None
-        return [*self.frames[:, :2].min(axis=0).tolist(), *self.frames[:, 2:].max(axis=0).tolist()]
+        found = [it.bounds() for group in (self.places, self.others) for it in group.values()]
+        return places.union(numpy.array([it for it in found if it]).reshape(-1, 4))
 
-    def window(self, west, south, east, north):
+    def window(self, *window):
         """The features in a window: those that are changed go first, and then the largest."""
-        it = self.frames
-        inside = numpy.nonzero((it[:, 0] <= east) & (it[:, 2] >= west) & (it[:, 1] <= north) & (it[:, 3] >= south))[0]
-        shown = inside
-        if len(inside) > MOST_FEATURES:
-            size = (it[inside, 2:] - it[inside, :2]).max(axis=1)
-            size[self.is_changed[inside]] += size.max() + 1
-            shown = inside[numpy.argpartition(-size, MOST_FEATURES)[:MOST_FEATURES]]
-        tolerance = (east - west) / PIXELS
-        features = [self.on_window(self.keys[at], tolerance) for at in shown]
-        return {"type": "FeatureCollection", "features": features, "found": len(inside)}
+        found, keys, sizes, is_about = 0, [], [], False
+        for table in self.on_map:
+            numbers, boxes, about = self.places[table].window(*window)
+            stays = ~numpy.isin(numbers, numpy.array([*self.moved[table], *self.beside[table]], "<u8"))
+            others, more, count = self.others[table].window(*window)
+            numbers, boxes = numpy.concatenate([numbers[stays], others]), numpy.concatenate([boxes[stays], more])
+            size = (boxes[:, 2:] - boxes[:, :2]).max(axis=1, initial=0)
+            size[numpy.isin(numbers, self.changed[table])] += 1e300
+            keys += [(table, it) for it in numbers.tolist()]
+            sizes.append(size)
+            is_about |= about > len(stays)
+            found += max(about - int((~stays).sum()) + count, len(numbers))
+        if len(keys) > MOST_FEATURES:
+            largest = numpy.argpartition(-numpy.concatenate(sizes), MOST_FEATURES)[:MOST_FEATURES]
+            keys = [keys[it] for it in largest.tolist()]
+        self._read_courses(keys)
+        tolerance = (window[2] - window[0]) / PIXELS
+        features = [self.on_window(it, tolerance) for it in keys]
+        return {"type": "FeatureCollection", "features": features, "found": found, "is_about": is_about}
+
+    def _read_courses(self, keys):
+        if len(self.courses) > MOST_COURSES:
+            self.courses = {}
+        due = [(table + GEOMETRY, number) for table, number in keys if (table, number) not in self.courses]
+        records = {**self.gone, **maps.read(self.store, self.alt, due)}
+        self.courses.update({(table - GEOMETRY, number): places.safe_value(records, (table, number)) for table, number in due})
 
     def on_window(self, key, tolerance):
-        value = self.geometry(self.records, key) or self.geometry(self.before, key)
-        properties = {**self.row(key), "status": self.status.get(key, "same")}
-        return {"type": "Feature", "properties": properties, "geometry": geojson(value, tolerance)}
+        properties = {**self.mine.row(key), "status": self.status.get(key, "same")}
+        return {"type": "Feature", "properties": properties, "geometry": geojson(self.courses[key], tolerance)}
 
 
 class Designs:
@@ -252,7 +293,7 @@ class Designs:
 
     def _forget(self, batch):
         """Lets everything be read anew."""
-        self.designs, self.counts, self.touched, self.floor = {}, {}, {}, batch
+        self.designs, self.counts, self.touched, self.floor, self.indexes = {}, {}, {}, batch, {}
 
     def refresh(self):
         """Looks whether batches came, and what they have changed."""
@@ -261,7 +302,9 @@ class Designs:
             return
         news = [] if self.batch is None else list(self.store.log(after=self.batch, last=MOST_LINES))
         self.rows = None
-        self.parents = {it.name: it.parent for it in self.store.alternatives() if it.name != OWN}
+        self.parents = {it.name: it.parent for it in self.store.alternatives()}
+        self.has_index = self.parents.pop(places.OWN, None) is not None
+        self.parents.pop(OWN, None)
         is_told = self.batch is not None and news and news[-1].batch >= last and len(news) < MOST_LINES
         self.batch = max([last, *(it.batch for it in news)])
         if not is_told or not all(map(self._follow, news)):
@@ -274,17 +317,35 @@ class Designs:
         if verb in ("grow", "reclaim"):
             return True
         alt = words[0]
+        if places.OWN in words[:2]:
+            if verb == "new":  # The index is made anew: where features lie is read again.
+                self.designs, self.indexes = {}, {}
+            return True
         if verb == "drop" or alt not in self.parents:
             return False
-        if verb in ("put", "remove") and alt in self.designs:
-            self.designs[alt].stale.add((int(words[1]), int(words[2])))
+        below = [it for it, parent in self.parents.items() if parent == alt]
+        if verb in ("put", "remove"):
+            self._mark(int(words[1]), int(words[2]), alt, *below)
         elif verb in ("merge", "back", "new"):
-            self.designs.pop(alt, None)
+            self._drop(alt, *below)
         elif verb == "post":
-            self.designs.pop(self.parents[alt], None)
-            self.touched[self.parents[alt]] = entry.batch
+            parent = self.parents[alt]
+            self._drop(alt, parent, *below, *(it for it, its in self.parents.items() if its == parent))
+            self.touched[parent] = entry.batch
         self.touched[alt] = entry.batch
         return True
+
+    def _mark(self, table, number, *alts):
+        """Marks a record that has changed in one of these designs. A layer, and many records, let the design be read anew."""
+        for it in alts:
+            if it in self.designs:
+                self.designs[it].stale.add((table, number))
+                if table == 0 or len(self.designs[it].stale) > MOST_LINES:
+                    del self.designs[it]
+
+    def _drop(self, *alts):
+        for it in alts:
+            self.designs.pop(it, None)
 
     def stamp(self, alt):
         """The last batch that has changed what this design shows, its parent's included."""
@@ -297,24 +358,29 @@ class Designs:
 
     def design(self, alt):
         """A design as it is now."""
-        found = self.designs.pop(self.known(alt), None) or Design(maps.by_key(self.store.list(alt)))
-        if found.stale:
-            found.take(dict(self.read(alt, found.stale)))
+        found = self.designs.pop(self.known(alt), None) or self._read(alt)
         for name in list(self.designs)[: -MOST_DESIGNS + 1]:
             del self.designs[name]
         self.designs[alt] = found
-        if found.seen < self.stamp(alt):
-            is_top = self.parents[alt] is None
-            found.look(*([], []) if is_top else (list(self.store.changes(alt)), list(self.store.conflicts(alt))))
-            found.seen = self.batch
+        if found.stale:
+            found.take()
         return found
 
-    def read(self, alt, keys):
-        """Records with these keys, and the parts that their heads tell of."""
-        keys = sorted(keys)
-        found = dict(zip(keys, self.store.get_many(alt, keys)))
-        parts = [part for key, value in found.items() if value for part in maps.part_keys(key[0], value)]
-        return {**found, **dict(zip(parts, self.store.get_many(alt, parts)))}
+    def _read(self, alt):
+        found = Design(self.store, alt, self.parents[alt], self._index)
+        if alt == "top" and self.has_index and sum(map(len, found.moved.values())) > MOST_MOVED:
+            with contextlib.suppress(Refusal):  # Who may not do that has the map, too.
+                places.renew(self.store, True)
+                self.refresh()
+                found = Design(self.store, alt, self.parents[alt], self._index)
+        return found
+
+    def _index(self, table):
+        """The index of a table, None where there is none."""
+        if self.has_index and table not in self.indexes:
+            self.indexes[table] = places.Index(self.store, table)
+        found = self.indexes.get(table)
+        return found if found is not None and len(found.pages) else None
 
     def tree(self):
         """Each design with how many records it has changed and how many are in conflict, as `altctl tree` counts them."""
@@ -342,7 +408,8 @@ class Designs:
             return None, None
         stamp, counts = self.counts.get(alt, (-1, None))
         if stamp < self.stamp(alt):
-            counts = len(list(self.store.changes(alt))), len(list(self.store.conflicts(alt)))
+            tally = self.store.tally(alt)
+            counts = tally.changed, tally.conflicts
             self.counts[alt] = self.batch, counts
         return counts
 
@@ -354,39 +421,32 @@ class Designs:
         layers = [{"table": table, "name": it["name"], "is_on_map": table in shown} for table, it in design.layers.items()]
         keys = sorted(design.conflicts)
         conflicts = [self.conflict(alt, design, key) for key in keys[:MOST_CONFLICTS]]
-        told = {"conflicts": conflicts, "conflicts_in_all": len(keys), "records": len(design.changed)}
+        told = {"conflicts": conflicts, "conflicts_in_all": len(keys), "records": len(design.mine.rows)}
         told.update({"name": alt, "parent": self.parents[alt], "batch": self.batch, "stamp": self.stamp(alt), "layers": layers})
-        changes = design.rows(design.changed, design.before, design.records)
-        changes = [{**it, "status": design.status[it["table"], int(it["number"])]} for it in changes]
+        changes = design.mine.listed(design.status)
         return {**told, "bounds": bounds, "aspect": aspect_of(design.crs, bounds), "changes": changes}
 
     def conflict(self, alt, design, key):
         """A record in conflict, with its feature as base, parent and design have it."""
-        feature = design.feature_of(key) or key
-        parent = self.read(self.parents[alt], design.keys_of(feature))
-        sides = {"base": design.before, "parent": parent, "mine": design.records}
-        sides = {name: design.side(records, feature) for name, records in sides.items()}
-        return {**design.row(feature), "key": f"{key[0]}:{key[1]}", "what": design.what(key), "sides": sides}
+        feature = design.mine.feature_of(key) or key
+        versions = {"base": design.base, "parent": design.parent, "mine": alt}
+        sides = {name: design.sides(feature, at) for name, at in versions.items()}
+        return {**design.mine.row(feature), "key": f"{key[0]}:{key[1]}", "what": design.mine.what(key), "sides": sides}
 
     def parent_changes(self, alt):
         """What a merge would bring in: how the parent differs from the design's base."""
-        design, parent = self.design(alt), self.parents[alt]
-        if parent is None:
-            return []
-        base = {key: value for key, value in {**design.records, **design.before.maps[0]}.items() if value is not None}
-        records = self.design(parent).records
-        return design.rows(differences(base, records), base, records)
+        parent = self.parents[self.known(alt)]
+        return Changes(self.store, f"{alt}@", parent).listed({}) if parent else []
 
     def feature(self, alt, feature):
         """A feature: before, now, and with what types its fields are edited."""
         design = self.design(alt)
-        before, now = design.side(design.before, feature), design.side(design.records, feature)
+        before, now = (design.sides(feature, at) for at in (design.base, alt))
         if before is None and now is None:
-            raise maps.Fault(f"{alt} has no {design.name(feature[0])} {feature[1]}")
+            raise maps.Fault(f"{alt} has no {design.mine.name(feature[0])} {feature[1]}")
         names = [it["name"] for it in design.layers[feature[0]]["fields"]] if feature[0] in design.layers else []
-        box = box_of(design.geometry(design.records, feature) or design.geometry(design.before, feature)) if names else None
-        status = design.status.get(feature, "same")
-        return {**design.row(feature), "status": status, "before": before, "now": now, "fields": names, "bounds": box}
+        told = {"before": before, "now": now, "fields": names, "bounds": design.box(feature) if names else None}
+        return {**design.mine.row(feature), "status": design.status.get(feature, "same"), **told}
 
     def history(self, feature):
         """Who may have changed a feature, and when."""

@@ -13,21 +13,20 @@ and so on. FIRST is computed from the key and from all bytes of the value, so a 
 alone tells which: two designs that change it are in conflict at the head, and what a merge leaves is the one or the other.
 """
 import hashlib
+import heapq
+import itertools
 import json
+import operator
 import sys
 from pathlib import Path
 
 TOP = Path(__file__).resolve().parent.parent
 sys.path.insert(0, str(TOP / "clients" / "python"))
-from altctl import Refusal
-
 GEOMETRY, PARTS = 100, 200
 LONGEST, MOST_PARTS = 4000, 1000
 TABLES = range(1, 100)
 UNKNOWN_GEOMETRY = "Unknown (any)"
 NO_LAYER = {"name": "", "crs": None, "geometry": UNKNOWN_GEOMETRY, "fields": [], "id": None}
-BAD_LINE, IS_TOP = 22, 6
-SESSION_ONLY = ".altgis"
 
 to_text = json.JSONEncoder(sort_keys=True, separators=(",", ":"), ensure_ascii=False, allow_nan=False).encode
 
@@ -82,10 +81,53 @@ def value_at(records, table, number):
 
 
 def features(records, table):
-    """The features of a table, as a dict from id to attributes and geometry. A feature of which a merge has left the geometry
-    alone has no attributes."""
+    """The features of a table among records, as a dict from id to attributes and geometry. A feature of which a merge has left
+    the geometry alone has no attributes."""
     numbers = sorted({number for its_table, number in records if its_table in (table, table + GEOMETRY)})
     return {it: (value_at(records, table, it) or b"{}", value_at(records, table + GEOMETRY, it)) for it in numbers}
+
+
+# Reading a version of a store: an alternative (`north`), its base (`north@`) or a checkpoint (`north@before`).
+
+
+def read(store, at, keys):
+    """The records that are there under these keys, and the parts that their heads tell of."""
+    keys = list(keys)
+    return with_parts(store, at, {key: value for key, value in zip(keys, store.get_many(at, keys)) if value is not None})
+
+
+def with_parts(store, at, records):
+    parts = [part for key, value in records.items() for part in part_keys(key[0], value)]
+    return {**records, **{key: value for key, value in zip(parts, store.get_many(at, parts)) if value is not None}}
+
+
+def read_features(store, at, table, numbers):
+    """The records of these features, parts included. Numbers close together are read as a range."""
+    if not numbers:
+        return {}
+    tables, wanted, first, last = (table, table + GEOMETRY), set(numbers), min(numbers), max(numbers)
+    if last - first > 4 * len(wanted):
+        return read(store, at, ((it, number) for it in tables for number in sorted(wanted)))
+    found = {(it, row.number): row.value for it in tables for row in store.list(at, it, first, last) if row.number in wanted}
+    return with_parts(store, at, found)
+
+
+def scan_values(store, at, table):
+    """The values of a table with their numbers, a page at a time."""
+    for row in store.scan(at, table):
+        key = table, row.number
+        is_long = row.value.startswith(b"long ")
+        yield row.number, value_at(with_parts(store, at, {key: row.value}), *key) if is_long else row.value
+
+
+def scan_features(store, at, table):
+    """The features of a table, a page at a time: id, attributes and geometry."""
+    def side(of):
+        return ((number, of, value) for number, value in scan_values(store, at, of))
+
+    for number, group in itertools.groupby(heapq.merge(side(table), side(table + GEOMETRY)), operator.itemgetter(0)):
+        values = {of: value for _, of, value in group}
+        yield number, values.get(table, b"{}"), values.get(table + GEOMETRY)
 
 
 def free_name(name, fields):
@@ -95,11 +137,11 @@ def free_name(name, fields):
     return name
 
 
-def layers(version):
+def layers(store, at):
     """The layers of a version, as a dict from table to layer."""
-    records = version.tables(0, PARTS)
+    values = dict(scan_values(store, at, 0))
     try:
-        return {number: {**NO_LAYER, **json.loads(value_at(records, 0, number))} for table, number in records if table == 0}
+        return {number: {**NO_LAYER, **json.loads(value)} for number, value in values.items()}
     except (TypeError, ValueError):
         raise Fault("table 0 has a record that is no layer")
 
@@ -122,16 +164,18 @@ def joined(old, new):
 
 class Update:
     """What makes of the records that are there, `old`, those that are to be: records to put, and keys to remove. A record
-    that is to stay or to change is taken out of `old`."""
+    that is to stay or to change is taken out of `old`. `firsts` has the FIRST / 1,000 of each longer value that is to be."""
 
-    def __init__(self, old):
-        self.old, self.put = old, {}
+    def __init__(self, old, firsts=()):
+        self.old, self.put, self.firsts = old, {}, set() if firsts == () else firsts
 
     def set(self, table, number, value):
         """Gives a key a value, and tells whether it had another one."""
         records = records_of(table, number, value)
         different = {key: it for key, it in records.items() if self.old.pop(key, None) != it}
         self.put.update(different)
+        if len(records) > 1:
+            self.firsts.add(first_part(table, number, value) // MOST_PARTS)
         return bool(different)
 
     def set_feature(self, table, number, attributes, geometry):
@@ -142,62 +186,10 @@ class Update:
             differs |= self.set(table + GEOMETRY, number, geometry)
         return "same" if not differs else "changed" if is_there else "added"
 
-    def gone(self, is_gone):
-        """The keys to remove: of those left the ones that are said to be gone, and parts of which no head is left."""
-        heads = {key for key in self.old if key[0] < PARTS}
-        gone = {key for key in heads if is_gone(key)}
-        parts = {part for key in heads - gone for part in part_keys(key[0], self.old[key])}
-        return sorted(gone | (set(self.old) - heads - parts))
+    def gone(self):
+        """The keys of what is left, to remove: parts among them only where they are nobody's."""
+        return sorted(key for key in self.old if key[0] < PARTS or key[1] // MOST_PARTS not in self.firsts)
 
 
 def by_key(rows):
     return {(it.table, it.number): it.value for it in rows}
-
-
-class Version:
-    """The records of an alternative (`north`), of its base (`north@`) or of a checkpoint (`north@before`). A program that
-    does not know these words, nor a `list` of one table, is asked in the words that it knows, for all records at once."""
-
-    def __init__(self, store, at):
-        self._store, self._at, self._all = store, at, None
-
-    def tables(self, *tables):
-        """The records of these tables, as a dict from table and number to value."""
-        if self._all is None:
-            try:
-                return {key: value for it in tables for key, value in by_key(self._store.list(self._at, it)).items()}
-            except Refusal as refusal:
-                if refusal.number != BAD_LINE:
-                    raise
-            self._all = self._list_all()
-        return {key: value for key, value in self._all.items() if key[0] in tables}
-
-    def _list_all(self):
-        alt, mark, checkpoint = self._at.partition("@")
-        if checkpoint:
-            return self._list_checkpoint(alt, checkpoint)
-        records = by_key(self._store.list(alt))
-        return self._undone(alt, records) if mark else records
-
-    def _list_checkpoint(self, alt, checkpoint):
-        """By an alternative that begins there, and is dropped before anything is committed."""
-        self._store.new(SESSION_ONLY, alt, checkpoint)
-        try:
-            return by_key(self._store.list(SESSION_ONLY))
-        finally:
-            self._store.drop(SESSION_ONLY)
-
-    def _undone(self, alt, records):
-        """The base of an alternative: its records with each change since then taken back. The base of `top` is empty."""
-        try:
-            changes = self._store.changes(alt)
-        except Refusal as refusal:
-            if refusal.number != IS_TOP:
-                raise
-            return {}
-        for it in changes:
-            if it.before is None:
-                del records[it.table, it.number]
-            else:
-                records[it.table, it.number] = it.before
-        return records

@@ -9,10 +9,12 @@ import os
 import re
 import shutil
 import signal
+import socket
 import struct
 import subprocess
 import sys
 import tempfile
+import threading
 import time
 import unittest
 from pathlib import Path
@@ -41,6 +43,7 @@ if not CHROMIUM or not DRIVER or not os.path.exists("/usr/share/javascript/leafl
     sys.exit(0)
 sys.path.insert(0, str(HERE))
 import maps
+import places
 from altctl import Refusal, Store
 from designs import Designs, typed
 
@@ -498,6 +501,19 @@ class PageTests(DeskTest):
         legend = [it.get_attribute("stroke") for it in browser.all("#legend line")]
         self.assertEqual({it[1] for it in found}, set(legend))
 
+    def test_a_change_of_a_feature_is_undone(self):
+        browser, store = self.opened(), self.store()
+        numbers = {it.number for it in store.changes("north")}
+        self.assertGreater(len(numbers), 3)
+        for number in sorted(numbers):  # Some are added, some changed, some removed, and one is in conflict.
+            browser.find(number)
+            browser.click("#take-back")
+            browser.confirm()
+            browser.says(f"ducts {number} is as in the base.")
+        self.assertEqual([], list(store.changes("north")))
+        browser.until(lambda: not browser.all("path.is-added, path.is-changed, path.is-removed, path.is-conflict"))
+        self.assertEqual(maps.by_key(store.list("north@")), maps.by_key(store.list("north")))
+
     def test_a_click_on_the_map_shows_a_feature(self):
         browser = self.opened()
         script = """const path = document.querySelector('path.is-changed'), box = path.getBoundingClientRect();
@@ -661,14 +677,14 @@ class PageTests(DeskTest):
         self.assertEqual(b"pipe", self.store().get("south", 9, 18446744073709551615))
 
 
-class CountingStore(Store):
-    """Counts how often all records of a design are read."""
+class NotingStore(Store):
+    """Notes the words of the lines that are asked."""
 
-    lists = 0
+    asked = []
 
-    def list(self, *words):
-        self.lists += 1
-        return super().list(*words)
+    def _write(self, lines):
+        self.asked += [it.split() for it in lines]
+        super()._write(lines)
 
 
 class DesignsTests(DeskTest):
@@ -677,9 +693,9 @@ class DesignsTests(DeskTest):
     def setUp(self):
         super().setUp()
         self.serve()
-        self.counting = CountingStore(f"unix:{self.socket}")
-        self.addCleanup(self.counting.close, quietly=True)
-        self.designs, self.other = Designs(self.counting), self.store()
+        self.noting = NotingStore(f"unix:{self.socket}")
+        self.addCleanup(self.noting.close, quietly=True)
+        self.designs, self.other = Designs(self.noting), self.store()
         self.designs.refresh()
 
     def same_as_read_anew(self, *alts):
@@ -693,7 +709,6 @@ class DesignsTests(DeskTest):
             window = anew.design(alt).bounds()
             known, new = (sorted(map(repr, it.design(alt).window(*window)["features"])) for it in (self.designs, anew))
             self.assertEqual(new, known)
-            self.assertEqual(anew.design(alt).records, self.designs.design(alt).records)
         self.assertEqual([{**it, "stamp": 0} for it in anew.tree()], [{**it, "stamp": 0} for it in self.designs.tree()])
 
     def test_after_a_batch_only_what_it_names_is_read(self):
@@ -712,8 +727,14 @@ class DesignsTests(DeskTest):
         records = maps.records_of(7, 5, long)
         with self.other.batch():
             self.other.put_many("south", ((*key, value) for key, value in records.items()))
+        self.designs.refresh()
+        self.noting.asked.clear()
+        for alt in alts:
+            self.designs.design(alt)
+        # Of differences only those of one number are asked for.
+        self.assertEqual({"get", "diff"}, {it[0] for it in self.noting.asked})
+        self.assertEqual({6}, {len(it) for it in self.noting.asked if it[0] == "diff"})
         self.same_as_read_anew(*alts)
-        self.assertEqual(3, self.counting.lists)
         side = self.designs.feature("south", (7, 5))["now"]
         self.assertEqual({"mat": "x" * 9000}, side["attributes"])
 
@@ -770,25 +791,102 @@ class DesignsTests(DeskTest):
         self.assertEqual(["7", 7], [typed("7", None, "6"), typed("7", None, 6)])
 
 
+class Counter(threading.Thread):
+    """A socket that passes lines on to a service and its answers back, and counts both."""
+
+    def __init__(self, path, service):
+        super().__init__(daemon=True)
+        self.lines, self.service, self.listener = 0, service, socket.socket(socket.AF_UNIX)
+        self.listener.bind(path)
+        self.listener.listen()
+        self.start()
+
+    def run(self):
+        with contextlib.suppress(OSError):  # It is closed at the end.
+            while True:
+                ends = self.listener.accept()[0], socket.socket(socket.AF_UNIX)
+                ends[1].connect(self.service)
+                for one, other in (ends, ends[::-1]):
+                    threading.Thread(target=self.pass_on, args=(one, other), daemon=True).start()
+
+    def pass_on(self, one, other):
+        with one, contextlib.suppress(OSError):
+            while came := one.recv(1 << 16):
+                self.lines += came.count(b"\n")
+                other.sendall(came)
+            other.shutdown(socket.SHUT_RDWR)
+
+    def stop(self):
+        with contextlib.suppress(OSError):
+            self.listener.shutdown(socket.SHUT_RDWR)
+        self.listener.close()
+
+
 class ManyFeaturesTests(DeskTest):
-    COUNT = 20_000
+    """A hundred thousand ducts, and one that is as long as the whole map."""
+
+    COUNT = 100_000
 
     def fill(self):
-        super().fill(self.COUNT, 16384)
+        super().fill(self.COUNT, 32768)
         with Store(self.file, ALTCTL) as store:
+            store.put("top", 7, self.COUNT + 1, attributes(dn=800))
+            store.put("top", 107, self.COUNT + 1, course((2599990, 1199990), (2620000, 1214000)))
+            places.renew(store, False)
+            store.drop("north")
+            store.new("north", "top")
             store.put("north", 7, 777, attributes(dn=50))
+            # A duct that comes after the index, beside the first one, and one of the first ones that goes.
+            store.put("north", 7, 200_000, attributes(dn=50))
+            store.put("north", 107, 200_000, course((2600060, 1200010), (2600085, 1200020)))
+            store.remove_many("north", [(7, 302), (107, 302)])
             store.commit()
 
-    def test_the_window_alone_is_sent(self):
+    def counted(self):
+        """How many lines went to the service and back since the last time. The desk asks for its state now and then, too."""
+        found, self.counter.lines = self.counter.lines, 0
+        return found
+
+    def test_what_the_window_shows_is_asked_for(self):
+        self.serve()
+        self.counter = Counter(f"{self.socket}.counted", self.socket)
+        self.addCleanup(self.counter.stop)
         browser = self.browser()
-        browser.open(self.desk()[1])
+        browser.open(self.desk(f"{self.socket}.counted")[1])
+        # Of 200,000 records 3,000 geometries that are drawn are asked for and answered, and 120 pages of the index; others once
+        # more where the map finds another size as the page fills.
+        self.assertLess(self.counted(), 10_000)
         browser.choose_design("north")
-        browser.until(lambda: browser.text("#note") == f"3000 of {self.COUNT} features are drawn: zoom in for the others.")
-        browser.until(lambda: browser.all("path.is-changed"))
+        due = r"3000 of about (\d+) features are drawn: zoom in for the others\."
+        count = int(browser.until(lambda: re.fullmatch(due, browser.text("#note")))[1])
+        self.assertLess(abs(count - self.COUNT), self.COUNT // 5)
+        browser.until(lambda: browser.all("path.is-changed") and browser.all("path.is-added") and browser.all("path.is-removed"))
         self.assertEqual(3000, len(browser.all("path.leaflet-interactive")))
-        browser.click("#view ul button")
+        self.assertLess(self.counted(), 10_000)
+        browser.click("#view ul li:nth-child(2) button")
         browser.until(lambda: browser.text("#view h3") == "ducts 777: changed")
-        browser.until(lambda: len(browser.all("path.leaflet-interactive")) < 300 and not browser.all("#note")[0].text)
+        browser.until(lambda: 1 < len(browser.all("path.leaflet-interactive")) < 300 and not browser.all("#note")[0].text)
+        # Now a few pages, and the ducts about this one, among them the long one.
+        self.assertLess(self.counted(), 800)
+        box = [2600000, 1200000, 2600160, 1200060]
+        window = "return fetch('/api/window?at=north&box=' + arguments[0]).then((it) => it.json())"
+        found = browser.run(window, ",".join(map(str, box)))
+        status = {it["properties"]["number"]: it["properties"]["status"] for it in found["features"]}
+        due = {**{str(it): "same" for it in (1, 2, 301)}, "200000": "added", "302": "removed"}
+        self.assertEqual(due, {it: status.get(it) for it in due})
+        self.assertLess(self.counted(), 800)
+
+    def test_many_that_lie_elsewhere_let_the_index_be_renewed(self):
+        self.serve()
+        other = self.store()
+        with other.batch():
+            for number in range(1, 1202):
+                other.put("top", 107, number, course((2600000 + number, 1199000), (2600005 + number, 1199000)))
+        designs = Designs(other)
+        designs.refresh()
+        self.assertEqual(0, len(designs.design("top").moved[7]))
+        self.assertEqual({}, places.moved(other, places.OWN, "top", 7))
+        self.assertEqual(1201, designs.design("top").window(2600000, 1198999, 2601300, 1199001)["found"])
 
 
 class DemoTests(DeskTest):

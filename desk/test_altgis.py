@@ -2,6 +2,7 @@
 """Tests of `altgis` and `demo` over real stores, with the program's path in the variable ALTCTL, or else with the one that
 `./altctl` at the top builds. They run in a Python that has GDAL; where none is there, a line says that they are skipped.
 That two layers are equal is told by GDAL: it copies both into one GeoPackage, and SQL there compares all columns."""
+import argparse
 import importlib.util
 import json
 import os
@@ -13,6 +14,7 @@ import sys
 import tempfile
 import time
 import unittest
+import unittest.mock
 from importlib.machinery import SourceFileLoader
 from pathlib import Path
 
@@ -28,6 +30,7 @@ except ImportError:
     sys.exit(0)
 sys.path.insert(0, str(HERE))
 import maps
+import places
 from altctl import Change, Record, Store
 
 ALTCTL = os.path.abspath(os.environ.get("ALTCTL", HERE.parent / "altctl"))
@@ -533,7 +536,21 @@ class AltgisTests(unittest.TestCase):
         self.altgis("export", f"unix:{socket}", "top", self.file("out.gpkg"))
         self.equal(2, (self.file("b.gpkg"), "b"), (self.file("out.gpkg"), "b"))
         entries = [it.split() for it in self.start([*words, "log", self.store]).stdout.splitlines()]
-        self.assertEqual(2, len({it[1] for it in entries if it[0] == "entry"}))  # The numbers of the batches.
+        self.assertEqual(2, len({it[1] for it in entries if it[4:7] == ["put", "top", "7"]}))  # The numbers of the batches.
+
+        module, there = program("altgis"), Store(f"unix:{socket}")
+        self.addCleanup(there.close, quietly=True)
+        pages = maps.scan_features
+
+        def with_others(store, at, table):
+            yield from pages(store, at, table)
+            store.put(at, table, 1, b"{}")
+
+        words = argparse.Namespace(store=f"unix:{socket}", version="top", table=7, layer=None, out=self.file("half.gpkg"))
+        with unittest.mock.patch("maps.scan_features", with_others):
+            with self.assertRaisesRegex(maps.Fault, "top has changed meanwhile"):
+                module.export(there, words)
+        self.assertFalse(os.path.exists(self.file("half.gpkg")))
 
     def test_each_version_goes_out(self):
         """Four states of the map, each written down when it was: top, and north at its base, at a checkpoint, and now."""
@@ -556,6 +573,35 @@ class AltgisTests(unittest.TestCase):
             count = self.count("SELECT count(*) FROM a", (self.file(f"{due}.gpkg"), "ducts"))
             self.equal(count, (self.file(f"{due}.gpkg"), "ducts"), (self.file(f"{at}_out.gpkg"), "ducts"))
         self.assertTrue(Path(self.store).read_bytes() == before)
+
+    def test_the_index_has_each_feature_where_it_is(self):
+        """After an import, a second one and an edit by hand, a window finds what reading all of the geometry finds."""
+        boxes = {it: (it % 50 * 100.1, it // 50 * 70.3, 5.0 * (it % 7 + 1)) for it in range(1, 701)}
+        line = "LINESTRING ({0} {1},{2} {3})"
+        features = {it: (it, {"dn": 1}, line.format(x, y, x + size, y + size)) for it, (x, y, size) in boxes.items()}
+        features[701] = (701, {"dn": 1}, "LINESTRING (-50 -50,9000 9000)")  # A big one, which each window is to have.
+        write(self.file("a.gpkg"), "ducts", DUCTS, features.values())
+        self.bring(self.file("a.gpkg"), "ducts")
+
+        def look(store):
+            moved = places.moved(store, places.OWN, "top", 7)
+            index, whole = places.Index(store, 7), places.scanned(store, "top", 7)
+            for window in ((0, 0, 300, 300), (4000, 500, 4100, 600), (-99, -99, 9999, 9999), (-9, -9, -5, -5), (8e4, 0, 9e4, 1)):
+                found = {it for it in index.window(*window)[0].tolist() if it not in moved}
+                found |= set(places.Places.of(moved).window(*window)[0].tolist())
+                self.assertEqual(set(whole.window(*window)[0].tolist()), found)
+            return len(moved), len(whole.numbers), len(index.pages)
+
+        self.assertEqual((0, 701, 5), self.ask(look))
+        change(self.file("a.gpkg"), "DELETE FROM ducts WHERE fid < 100", "UPDATE ducts SET geom = NULL WHERE fid = 300")
+        self.bring(self.file("a.gpkg"), "ducts", "--sync")
+        self.assertEqual((0, 601, 4), self.ask(look))
+        self.ask(lambda store: store.put("top", 107, 5, struct.pack("<BIIdddd", 1, 2, 2, 4050, 550, 4051, 551)))
+        self.ask(lambda store: store.remove("top", 107, 400))
+        self.assertEqual((2, 601, 4), self.ask(look))
+        self.altgis("index", self.store)
+        self.assertEqual((0, 601, 4), self.ask(look))
+        self.assertEqual([], self.ask(lambda store: list(store.checkpoints("top"))))
 
     def rows(self, file, layer, columns):
         with sqlite3.connect(file) as it:

@@ -223,7 +223,8 @@ async function showWindow() {
   chosen.eachLayer((layer) => layer.bringToFront?.());
   const { length } = told.features;
   const hidden = (desk.design?.layers || []).filter((layer) => !layer.is_on_map).map((layer) => layer.name);
-  const capped = told.found > length ? `${length} of ${told.found} features are drawn: zoom in for the others. ` : "";
+  const count = `${told.is_about ? "about " : ""}${told.found}`;
+  const capped = told.found > length ? `${length} of ${count} features are drawn: zoom in for the others. ` : "";
   $("note").textContent = capped + (hidden.length ? `Not on the map, for another coordinate system: ${hidden.join(", ")}.` : "");
 }
 
@@ -333,7 +334,14 @@ function featureButtons(isToEdit) {
   };
   if (desk.edits) return [button("save", "Save…"), button("stop", "Don't save", edit(false))];
   const who = button("who", "Who changed this, when", () => trying(showHistory));
-  return isToEdit ? [button("edit", "Edit", edit(true)), who] : [who];
+  const undo = desk.feature.status === "same" ? [] : [button("take-back", "Undo its change…", undoChange)];
+  return [...(isToEdit ? [button("edit", "Edit", edit(true))] : []), ...undo, who];
+}
+
+async function undoChange() {
+  const { table, number, layer } = desk.feature;
+  if (!await question(`Undo what ${desk.at} has changed of ${layer} ${number}? It is then as in the base.`, "Undo")) return;
+  await carryOut({ do: "undo", table, number }, `${layer} ${number} is as in the base.`);
 }
 
 // A course in words: for instance `line, 9 points`.
@@ -352,13 +360,14 @@ async function showHistory() {
 }
 
 async function save(form) {
-  const { table, number, now, layer } = desk.feature;
+  const edited = desk.feature;
+  const { table, number, now, layer } = edited;
   const values = Object.fromEntries([...new FormData(form)].filter(([name, text]) => text !== (now.attributes[name] ?? "")));
   const what = Object.entries(values).map(([name, text]) => `${name} = ${text || "nothing"}`).join(", ");
   if (!what) return say("Nothing has changed.");
   if (!await question(`Change ${layer} ${number} in ${desk.at}: ${what}?`, "Change it")) return;
   const told = await carryOut({ do: "edit", table, number, before: now.attributes, values }, `Changed ${layer} ${number}.`);
-  if (told) await trying(() => show(desk.feature, false));
+  if (told && desk.feature === edited) await trying(() => show(edited, false));
 }
 
 // --- conflicts ---------------------------------------------------------------------------------------------

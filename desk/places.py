@@ -1,0 +1,213 @@
+"""An index of places: where the features of a map lie, so that a window of it is found by a few pages.
+
+The index is kept in an alternative of its own, `.places` under `top`: it describes the geometry that this alternative shows.
+So no design shows the index, merges it or is in conflict at it, and the index is never wrong: where a design has another geometry
+than `.places`, whoever has put it, `diff .places DESIGN` tells so. The fewer that are, the quicker the desk is, so an import into
+`top` renews the index, and the desk does once there are many.
+
+| Record of `.places` | Its value |
+|---|---|
+| (65000 + T, n) | page n of table T: 166 features at most, each its number (u64) and its west, south, east and north (f32) |
+| (65100 + T, n) | the bounds of 250 pages, the first one of which is 250 n |
+
+Bounds are rounded outwards. Large features come first, and among those of like size the near ones are together, by the Morton code
+of their middles. All numbers are little-endian."""
+import contextlib
+import math
+from array import array
+
+import numpy
+from osgeo import ogr
+
+import maps
+from altctl import Refusal
+from maps import GEOMETRY
+
+OWN = ".places"
+PAGES, HEADS = 65000, 65100
+PAGE = numpy.dtype([("number", "<u8"), ("box", "<f4", 4)])
+HEAD = numpy.dtype(("<f4", 4))
+PER_PAGE, PER_HEAD = maps.LONGEST // PAGE.itemsize, maps.LONGEST // HEAD.itemsize
+MOST_PAGES = 120  # that one window reads
+IS_THERE = 4
+
+
+def parsed(value):
+    """A geometry from WKB, or None where there is none that can be drawn."""
+    try:
+        geometry = ogr.CreateGeometryFromWkb(value)
+    except RuntimeError:
+        return None
+    is_empty = geometry is None or geometry.IsEmpty() or not all(map(math.isfinite, geometry.GetEnvelope()))
+    return None if is_empty else geometry
+
+
+def box_of(value):
+    """The bounds of a geometry: west, south, east, north. None where it has none."""
+    geometry = parsed(value) if value else None
+    if geometry is None:
+        return None
+    west, east, south, north = geometry.GetEnvelope()
+    return west, south, east, north
+
+
+def union(boxes):
+    """The bounds of boxes, or None."""
+    return [*boxes[:, :2].min(axis=0).tolist(), *boxes[:, 2:].max(axis=0).tolist()] if len(boxes) else None
+
+
+def touching(boxes, west, south, east, north):
+    """Which boxes are in a window, a part of them at least."""
+    return (boxes[:, 0] <= east) & (boxes[:, 2] >= west) & (boxes[:, 1] <= north) & (boxes[:, 3] >= south)
+
+
+class Places:
+    """The bounds of features, in memory."""
+
+    def __init__(self, numbers, boxes):
+        self.numbers, self.boxes = numpy.array(numbers, "<u8"), numpy.array(boxes, float).reshape(-1, 4)
+
+    @classmethod
+    def of(cls, boxes):
+        """From a dict of number to bounds, those without any left out."""
+        there = {number: box for number, box in boxes.items() if box}
+        return cls(list(there), list(there.values()))
+
+    def bounds(self):
+        return union(self.boxes)
+
+    def window(self, *window):
+        """The features in a window, their bounds, and about how many there are."""
+        inside = touching(self.boxes, *window)
+        return self.numbers[inside], self.boxes[inside], int(inside.sum())
+
+
+class Index:
+    """The stored index of a table. What a window needs of it is read from the store."""
+
+    def __init__(self, store, table):
+        self._store, self._table = store, PAGES + table
+        heads = [numpy.frombuffer(it.value, HEAD) for it in store.list(OWN, HEADS + table)]
+        self.pages = numpy.concatenate([numpy.empty((0, 4), "<f4"), *heads]).astype(float)
+
+    def bounds(self):
+        return union(self.pages)
+
+    def window(self, *window):
+        """As `Places` has it. Where the window has too many pages, the first ones, of the largest features, are read, and of the
+        others some that are spread evenly."""
+        due = numpy.nonzero(touching(self.pages, *window))[0]
+        some = due
+        if len(due) > MOST_PAGES:
+            half = MOST_PAGES // 2
+            turn = due[half:] * 2654435761 % 2**32  # The same pages come first in each window, spread over all of them.
+            some = numpy.sort(numpy.concatenate([due[:half], due[half:][numpy.argsort(turn)[:half]]]))
+        entries = self.read(some)
+        boxes = entries["box"].astype(float)
+        inside = touching(boxes, *window)
+        about = int(inside.sum()) * len(due) // max(len(some), 1)
+        return entries["number"][inside], boxes[inside], about
+
+    def read(self, pages):
+        """The entries of pages: neighbours are read as a range."""
+        runs = numpy.split(pages, numpy.nonzero(numpy.diff(pages) > 1)[0] + 1) if len(pages) else []
+        rows = (it for run in runs for it in self._store.list(OWN, self._table, int(run[0]), int(run[-1])))
+        return numpy.concatenate([numpy.empty(0, PAGE), *(numpy.frombuffer(it.value, PAGE) for it in rows)])
+
+
+def scanned(store, at, table):
+    """The bounds of all features of a version's table, read a page at a time."""
+    numbers, boxes = array("Q"), array("d")
+    for number, value in maps.scan_values(store, at, table + GEOMETRY):
+        box = box_of(value)
+        if box:
+            numbers.append(number)
+            boxes.extend(box)
+    return Places(numbers, boxes)
+
+
+def moved(store, old, new, table):
+    """The features with another geometry in a version than in an older one, and their bounds there, None where they have none."""
+    rows = {(it.table, it.number): it.after for it in store.diff(old, new, table + GEOMETRY)}
+    records = maps.with_parts(store, new, {key: value for key, value in rows.items() if value is not None})
+    return {key[1]: box_of(safe_value(records, key)) for key in rows}
+
+
+def safe_value(records, key):
+    """A value among records, None where it lacks parts: it has come in half then, and is read with the next batch."""
+    try:
+        return maps.value_at(records, *key)
+    except (maps.Fault, TypeError, ValueError):
+        return None
+
+
+def packed(numbers, boxes):
+    """The values of pages and of heads for these features."""
+    west, south, east, north = union(boxes)
+    across = max(east - west, north - south) or 1.0
+    size = (boxes[:, 2:] - boxes[:, :2]).max(axis=1)
+    smallness = numpy.log2(across / numpy.maximum(size, across / 2**16)).astype(int)
+    middle = ((boxes[:, :2] + boxes[:, 2:]) / 2 - (west, south)) * (65535 / across)
+    order = numpy.lexsort((spread(middle[:, 0]) | spread(middle[:, 1]) << 1, smallness))
+    entries = numpy.empty(len(numbers), PAGE)
+    entries["number"], rounded = numbers[order], boxes[order].astype("<f4")
+    for at, away in ((slice(0, 2), -numpy.inf), (slice(2, 4), numpy.inf)):
+        is_inwards = (rounded[:, at] - boxes[order][:, at]) * (1 if away < 0 else -1) > 0
+        rounded[:, at] = numpy.where(is_inwards, numpy.nextafter(rounded[:, at], numpy.float32(away)), rounded[:, at])
+    entries["box"] = rounded
+    pages = [entries[at : at + PER_PAGE] for at in range(0, len(entries), PER_PAGE)]
+    heads = numpy.array([union(it["box"]) for it in pages], "<f4")
+    return [it.tobytes() for it in pages], [heads[at : at + PER_HEAD].tobytes() for at in range(0, len(heads), PER_HEAD)]
+
+
+def spread(numbers):
+    """Numbers of 16 bits with a zero before each bit."""
+    spread = numbers.astype("u4")
+    for by, mask in ((8, 0x00FF00FF), (4, 0x0F0F0F0F), (2, 0x33333333), (1, 0x55555555)):
+        spread = (spread | spread << by) & mask
+    return spread
+
+
+def renew(store, is_service):
+    """Makes the index anew for what `top` shows, with the bounds that the old one knows. A checkpoint holds that state meanwhile,
+    as others may change it."""
+    try:
+        store.checkpoint("top", OWN)
+    except Refusal as refusal:
+        if refusal.number != IS_THERE:
+            raise
+        store.uncheck("top", OWN)  # Of one that was stopped. If it's still at work, its own batch is refused.
+        store.checkpoint("top", OWN)
+    is_there = OWN in {it.name for it in store.alternatives()}
+    try:
+        tables = maps.layers(store, f"top@{OWN}")
+        records = [it for table in tables for it in records_of(store, table, f"top@{OWN}", is_there)]
+        with store.batch() if is_service else contextlib.nullcontext():
+            if is_there:
+                store.drop(OWN)
+            store.new(OWN, "top", OWN)
+            store.uncheck("top", OWN)
+            store.put_many(OWN, records)
+    except Refusal:
+        with contextlib.suppress(Refusal):
+            store.uncheck("top", OWN)
+        raise
+    store.commit()
+
+
+def records_of(store, table, mark, is_there):
+    """The records of a table's index for a checkpoint of `top`."""
+    known = Index(store, table) if is_there else None
+    if known is None or not len(known.pages):
+        fresh = scanned(store, mark, table)
+        numbers, boxes = fresh.numbers, fresh.boxes
+    else:
+        entries, others = known.read(numpy.arange(len(known.pages))), moved(store, OWN, mark, table)
+        stay = ~numpy.isin(entries["number"], numpy.fromiter(others, "<u8", len(others)))
+        fresh = Places.of(others)
+        numbers = numpy.concatenate([entries["number"][stay], fresh.numbers])
+        boxes = numpy.concatenate([entries["box"][stay].astype(float), fresh.boxes])
+    if not len(numbers):
+        return
+    for its_table, values in zip((PAGES + table, HEADS + table), packed(numbers, boxes)):
+        yield from ((its_table, at, value) for at, value in enumerate(values))
