@@ -49,6 +49,8 @@ if [ -n "$quick" ]; then
     try 60 kill.py "$tools/../altctl" 8
     try 60 crashes.py -n 1
 else
+    # Over the libraries that are proved for the program. Without it the tests of the store in memory are skipped.
+    (cd "$tools/../crates/altstore" && timeout 1800 rt lib >/dev/null) || echo 'all: libaltstore could not be built'
     try 600 ../clients/c/test.sh
     try 600 compare.py -n 60
     try 300 kill.py "$tools/../altctl" 60
@@ -58,8 +60,8 @@ else
     try 1800 refuse_allocations.sh
     try 600 ../desk/test_altserve.py
     try 600 ../desk/test_altgis.py
-    try 300 ../desk/test_altdesk.py
-    try 300 test_package.py
+    try 600 ../desk/test_altdesk.py
+    try 1800 test_package.py
     try 300 kill_service.py "$tools/../altctl" 20
     try 300 replicated.sh
     # The first time takes the longest by far: later it tries only what has changed.

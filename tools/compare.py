@@ -282,7 +282,8 @@ class Store:
         values = [(key, base.get(key), parent.get(key), own.get(key)) for key in keys]
         return [it for it in values if it[1] != it[2] and it[1] != it[3] and it[2] != it[3]]
 
-    def merge(self, alt, settled):
+    def merge(self, alt, settled, side=None):
+        """A merge with these settlements, and with this side, if one is given, for each conflict that has none of them."""
         it, parent, base, theirs, own = self.sides(alt)
         conflicts = {key for key, *_ in self.in_conflict(base, theirs, own)}
         keys = [key for key, _ in settled]
@@ -292,9 +293,9 @@ class Store:
         for key in keys:
             if key not in conflicts:
                 raise Refused(10, f" {key[0]}:{key[1]}")
-        if conflicts - {*keys}:
+        if conflicts - {*keys} and not side:
             raise Refused(9, f" {len(conflicts - {*keys})}")
-        sides, changes = dict(settled), []
+        sides, changes = {**dict.fromkeys(conflicts, side), **dict(settled)}, []
         for key in sorted({*base, *theirs}):
             now = theirs.get(key)
             if now != base.get(key) and now != own.get(key) and sides.get(key) != "mine":
@@ -349,7 +350,7 @@ class Store:
             else:
                 it.current, it.base = found.current, found.base
         elif verb == "merge":
-            return self.merge(rest[0], rest[1])
+            return self.merge(*rest)
         elif verb == "post":
             it, parent, base, theirs, _ = self.sides(rest[0])
             if base != theirs:
@@ -387,8 +388,9 @@ class Store:
         """The keys at which maps differ, in order."""
         return sorted(key for key in {*old, *new} if old.get(key) != new.get(key))
 
-    def differing(self, old, new):
-        return listed(f"change {k[0]} {k[1]} {spelled(old.get(k))} {spelled(new.get(k))}" for k in self.changed(old, new))
+    def differing(self, old, new, part=()):
+        keys = within(part, self.changed(old, new))
+        return listed(f"change {k[0]} {k[1]} {spelled(old.get(k))} {spelled(new.get(k))}" for k in keys)
 
     def asked(self, verb, rest):
         if verb == "free":
@@ -400,10 +402,12 @@ class Store:
         if verb == "get":
             found = self.version(rest[0]).get(rest[1])
             return "none" if found is None else f"value {spelled(found)}"
-        if verb == "list":
-            return listed(f"record {k[0]} {k[1]} {spelled(v)}" for k, v in sorted(self.version(rest[0]).items()))
+        if verb in ("list", "next"):
+            found = self.version(rest[0])
+            keys = within(rest[1:], sorted(found)) if verb == "list" else first_of(*rest[1:], sorted(found))
+            return listed(f"record {k[0]} {k[1]} {spelled(found[k])}" for k in keys)
         if verb == "diff":
-            return self.differing(self.version(rest[0]), self.version(rest[1]))
+            return self.differing(self.version(rest[0]), self.version(rest[1]), rest[2:])
         it = self.find(rest[0])
         if verb == "checks":
             return listed(f"checkpoint {c.name}" for c in self.working if c.tag == b"C" and c.owner == rest[0])
@@ -416,6 +420,17 @@ class Store:
         assert verb == "conflicts"
         found = self.in_conflict(*self.sides(rest[0])[2:])
         return listed(f"conflict {k[0]} {k[1]} {spelled(b)} {spelled(p)} {spelled(o)}" for k, b, p, o in found)
+
+
+def within(part, keys):
+    """Those of the keys that are in a part: a table, a table with its first number and its last one, or all without words."""
+    table, low, high = (*part, 0, 2**64 - 1)[:3] if part else (None, 0, 0)
+    return [it for it in keys if table is None or it[0] == table and low <= it[1] <= high]
+
+
+def first_of(table, number, count, keys):
+    """The first ones of the keys, which rise, from a table and a number on."""
+    return [it for it in keys if it >= (table, number)][:count]
 
 
 def listed(lines):
@@ -643,14 +658,46 @@ class Editor:
 
     def __init__(self, rng, most=LONGEST):
         self.rng = rng
-        self.long = rng.choice([0, 0.02, 0.1, 0.4]) if most > SHORT else 0
+        self.is_plain = most == SHORT
+        self.long = 0 if self.is_plain else rng.choice([0, 0.02, 0.1, 0.4])
         self.names = ["top", "top", "a", "b", "c", "d-1", "e.f_G"]
         self.marks = ["k", "l", "m" * 32]
         self.width = rng.choice([3, 20, 60, 400, 3000])
         self.growth = rng.choice([0, 0.01, 0.04])
+        self.queries = rng.choice([0.04, 0.04, 0.3])
 
-    def version(self):
-        return self.rng.choice(self.names) + self.rng.choice(["", "", "@", *("@" + it for it in self.marks)])
+    def version(self, store):
+        """The word of a version: mostly of one that is there."""
+        if self.rng.random() < 0.2:
+            return self.rng.choice(self.names) + self.rng.choice(["", "", "@", *("@" + it for it in self.marks)])
+        it = self.rng.choice(store.working)
+        return it.name + self.rng.choice(["", "", "@"]) if it.tag == b"A" else f"{it.owner}@{it.name}"
+
+    def part(self):
+        """The words of a part: none, a table, or one with two numbers, of which the first may be above the second."""
+        table, number = self.key()
+        ends = [number, number + self.rng.choice([0, 1, 2, 15, 16, 17, 100]), 0, 2**64 - 1, self.key()[1]]
+        first, last = (min(self.rng.choice(ends), 2**64 - 1) for _ in range(2))
+        return self.rng.choice([[], [table], [self.rng.choice([0, 2, 6, 8, 65535])], *[[table, first, last]] * 4])
+
+    def page(self):
+        """The words of a page: mostly from a key that may be there."""
+        table, number = self.key()
+        table = self.rng.choice([table] * 5 + [0, 2, 6, 8, 65535])
+        return [table, self.rng.choice([number, number, 0, 2**64 - 1]), self.rng.choice([0, 1, 2, 16, 17, 100, 2**32 - 1])]
+
+    def query(self, store, name):
+        """A query of rows, or of numbers. `plain.c` has no versions and no parts."""
+        if self.is_plain:
+            return [self.rng.choice(["list", "changes", "conflicts", "checks"]), name]
+        verb = self.rng.choice(["list", "list", "next", "next", "diff", "diff", "changes", "conflicts", "tally", "checks"])
+        if verb == "list":
+            return [verb, self.version(store), *self.part()]
+        if verb == "next":
+            return [verb, self.version(store), *self.page()]
+        if verb == "diff":
+            return [verb, self.version(store), self.version(store), *self.part()]
+        return [verb, name]
 
     def key(self):
         if self.rng.random() < 0.02:
@@ -686,9 +733,13 @@ class Editor:
 
     def odd(self):
         bad = ["PUT top 1 1 a", "get top x 1", "get top 65536 1", "get top 1 18446744073709551616", "commit now", "rollback now", "put top 1 1", "put top 1 1 %z1"]
-        bad += ["put top 1 1 " + self.rng.choice(["x", "%61"]) * 4001, "new a", "new a~ top", "new a top c!", "new a top c d", "new " + "n" * 33 + " top", "merge", "merge top 1:1=ours", "get\ttop 1 1", "free\r\r"]
+        bad += ["put top 1 1 " + self.rng.choice(["x", "%61"]) * 4001, "new a", "new a~ top", "new a top c!", "new a top c d", "new " + "n" * 33 + " top", "merge", "merge top 1:1=ours", "merge top all=ours", "merge top 1:1=mine all=mine", "merge top all=mine all=mine", "get\ttop 1 1", "free\r\r"]
         bad += ["grow", "grow 4294967296", "grow 18446744073709551616", "grow " + "0" * 20 + "1", "grow -1", "grow +70", "grow 70 80", "grow many"]
         bad += ["get @ 1 1", "get top@~ 1 1", "get top @ 1 1", "list top@@", "list @k", "diff", "diff top@", "diff top @k", "diff top top@ x"]
+        bad += ["list top 1 2", "list top 1 2 3 4", "list top 65536", "list top x", "list top 1 -1 2", "list top 1 0 18446744073709551616", "list"]
+        bad += ["next", "next top", "next top 1", "next top 1 2", "next top 1 2 3 4", "next top 65536 0 1", "next top 1 0 4294967296"]
+        bad += ["next top 1 0 -1", "next top 1 0 x", "next top@@ 1 0 1", "next @k 1 0 1", "next top 1 18446744073709551616 1", "NEXT top 1 0 1"]
+        bad += ["diff top top 1 2", "diff top top 1 2 3 4", "diff top top 65536", "diff top 1 2 3 x", "diff top top 1 18446744073709551616 0"]
         bad += ["put top@ 1 1 a", "remove top@k 1 1", "changes top@", "merge top@", "tally", "tally top@", "blocks 1", "checks top@k"]
         if self.rng.random() < 0.3:
             return self.rng.choice(["", "# note", "   ", "  #x"]) + "\n", None
@@ -707,6 +758,9 @@ class Editor:
             return self.odd()
         if draw < 0.02 + self.growth:
             return self.grown(store)
+        if self.rng.random() < self.queries:
+            words = self.query(store, name)
+            return self.spaced([str(it) for it in words]), words
         if draw < 0.45:
             key, value = self.key(), self.value()
             table = self.rng.choice([str(key[0]), str(key[0]).rjust(5, "0")])
@@ -714,7 +768,7 @@ class Editor:
         if draw < 0.62:
             key = self.key()
             verb = self.rng.choice(["remove", "remove", "get"])
-            name = self.version() if verb == "get" else name
+            name = self.version(store) if verb == "get" and not self.is_plain else name
             return self.spaced([verb, name, str(key[0]), str(key[1])]), [verb, name, key]
         if draw < 0.70:
             words = ["new", self.rng.choice(self.names), name, *self.rng.sample(self.marks, self.rng.randrange(2))]
@@ -726,15 +780,12 @@ class Editor:
             return self.merged(store, name)
         elif draw < 0.91:
             words = ["post", name]
-        elif draw < 0.97:
-            words = [self.rng.choice(["commit", "commit", "rollback", "reclaim", "free", "free", "alts", "blocks"])]
         else:
-            verb = self.rng.choice(["list", "diff", "changes", "conflicts", "tally", "checks"])
-            words = [verb, *{"list": [self.version()], "diff": [self.version(), self.version()]}.get(verb, [name])]
+            words = [self.rng.choice(["commit", "commit", "rollback", "reclaim", "free", "free", "alts", "free" if self.is_plain else "blocks"])]
         return self.spaced(words), words
 
     def merged(self, store, name):
-        """A merge that mostly settles what is in conflict."""
+        """A merge that mostly settles what is in conflict, now and then by a side for all conflicts. `plain.c` has no such side."""
         try:
             found = [key for key, *_ in store.in_conflict(*store.sides(name)[2:])]
         except Refused:
@@ -745,8 +796,14 @@ class Editor:
             found.append(self.rng.choice([*found, self.key()]))
         if self.rng.random() < 0.3:
             self.rng.shuffle(found)
+        side = None
+        if not self.is_plain and self.rng.random() < 0.3:
+            side = self.rng.choice(["mine", "theirs"])
+            found = found[:self.rng.randrange(len(found) + 1)]
         settled = [(key, self.rng.choice(["mine", "theirs"])) for key in found]
-        return self.spaced(["merge", name, *[f"{k[0]}:{k[1]}={side}" for k, side in settled]]), ["merge", name, settled]
+        words = [f"all={side}"] if side else []
+        words += [f"{key[0]}:{key[1]}={side_of_key}" for key, side_of_key in settled]
+        return self.spaced(["merge", name, *words]), ["merge", name, settled, side]
 
 
 def lower(rng, file, store):
@@ -816,7 +873,7 @@ def main():
     words = argparse.ArgumentParser(description=__doc__)
     words.add_argument("-n", type=int, default=200, help="so many files")
     words.add_argument("-s", type=int, default=1, help="the first seed")
-    words.add_argument("--short", action="store_true", help="only values of up to 240 bytes, as plain.c has them")
+    words.add_argument("--short", action="store_true", help="only what plain.c knows: values of up to 240 bytes, and neither versions nor parts")
     words.add_argument("altctl", nargs="?", default=os.path.join(os.path.dirname(os.path.abspath(__file__)), "..", "altctl"))
     said = words.parse_args()
     lines = 0

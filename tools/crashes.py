@@ -232,6 +232,8 @@ class Crashes:
     def __init__(self, chance, commits, image, most, count):
         self.chance, self.commits, self.image, self.most, self.count = chance, commits, image, most, count
         self.seen, self.kept, self.number = set(), None, 0
+        # Where the parts begin and end that are asked for, and how many records of a page.
+        self.ends = [chance.randrange(40) for _ in range(3)]
 
     def try_calls(self, disk, calls):
         """Looks at the moments in each call and after it. In a sync a crash may leave what it may leave before it."""
@@ -271,7 +273,8 @@ class Crashes:
             it.write(text)
         names = sorted({name for it in allowed for name in it.names})
         queries = [("alts",), ("free",), *((verb, name) for name in names for verb in ("list", "checks", "changes"))]
-        lines = "".join(" ".join(words) + "\n" for words in queries)
+        queries += [it for name in names for it in self.parts(name)]
+        lines = "".join(" ".join(map(str, words)) + "\n" for words in queries)
         ran = subprocess.run([PROGRAM, "run", self.image], input=lines, capture_output=True, text=True, timeout=60)
         if ran.returncode or ran.stderr:
             raise Failure(f"{how}: status {ran.returncode}, {ran.stderr!r}")
@@ -280,6 +283,12 @@ class Crashes:
             if commit.shown(queries) == came:
                 return at
         raise Failure("\n".join(unlike(how, commit.shown(queries), came) for commit in allowed))
+
+    def parts(self, name):
+        """Queries of parts of an alternative, of its base, and of what differs between them."""
+        first, last, count = self.ends
+        diffs = ("diff", f"{name}@", name, 7), ("diff", name, "top", 1, 0, last)
+        return ("list", f"{name}@", 1, first, last), ("next", name, 1, first, count), *diffs
 
 
 def make_store(chance, file):

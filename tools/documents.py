@@ -11,8 +11,8 @@ blocks of one document run in one folder, one after another, with the program as
 A document whose programs need what is not installed is left out, and the last line says so.
 
 It also looks whether README and `altctl --version` name the toolchain that is there, whether links lead to files, also
-those of the crates' READMEs, whether each refusal has a row of advice, and whether the README shows the library's
-function as it is tested.
+those of the READMEs of the crates and the desk, whether each refusal has a row of advice, and whether a block `rust` is
+what a test has.
 """
 import contextlib
 import difflib
@@ -163,7 +163,7 @@ def wrong_versions(altctl):
 def main():
     altctl = os.path.abspath((sys.argv[1:] or [TOP / "altctl"])[0])
     faults = [*missing_refusals(), *wrong_versions(altctl)]
-    for document in [*DOCUMENTS, *sorted(TOP.glob("crates/*/README.md"))]:
+    for document in [*DOCUMENTS, TOP / "desk" / "README.md", *sorted(TOP.glob("crates/*/README.md"))]:
         faults += dead_links(document)
     for it in faults:
         print(it)

@@ -185,14 +185,34 @@ def edit(alternative, verb, words):
             return alternative._replace(current=current, base=base)
 
 
+def version(tree, word):
+    """The records that a word means: an alternative's, those of its base, or of a checkpoint."""
+    name, mark, checkpoint = word.partition("@")
+    alternative = find(tree, name)
+    if checkpoint:
+        return find_checkpoint(alternative, checkpoint)[0]
+    return alternative.base if mark else alternative.current
+
+
+def in_part(key, part):
+    """Whether a key is in a table, or between two numbers of it. Without words each key is."""
+    table, *ends = map(int, part or [key[0]])
+    return key[0] == table and (not ends or ends[0] <= key[1] <= ends[1])
+
+
 def query(tree, verb, words):
     """The lines of a list, but for the last."""
     match verb, words:
         case "alts", []:
             return [f"alternative {name} {alternative.parent}" for name, alternative in tree.items()]
-        case "list", [name]:
-            records = sorted(find(tree, name).current.items())
-            return [f"record {table} {number} {value}" for (table, number), value in records]
+        case "list", [at, *part]:
+            return [record(*it) for it in sorted(version(tree, at).items()) if in_part(it[0], part)]
+        case "next", [at, table, number, count]:
+            found = [record(*it) for it in sorted(version(tree, at).items()) if it[0] >= key_of(table, number)]
+            return found[: int(count)]
+        case "diff", [first, second, *part]:
+            found = differences(version(tree, first), version(tree, second))
+            return [row("change", *it) for it in found if in_part(it[0], part)]
         case "checks", [name]:
             return [f"checkpoint {checkpoint}" for checkpoint in find(tree, name).checkpoints]
         case "changes", [name]:
@@ -202,11 +222,15 @@ def query(tree, verb, words):
             return [row("conflict", *each) for each in conflicts(tree, name)]
 
 
+def record(key, value):
+    return row("record", key, [value])
+
+
 def row(word, key, values):
     return " ".join([word, *map(str, key), *("~" if value is None else value for value in values)])
 
 
-QUERIES = {"alts", "list", "checks", "changes", "conflicts", "diff"}
+QUERIES = {"alts", "list", "next", "checks", "changes", "conflicts", "diff"}
 
 
 def grown(state, blocks):
@@ -325,6 +349,14 @@ def changes(chance, state, merges, most):
     return [change(chance, state, merges) for _ in range(chance.randrange(most))]
 
 
+def part_query(chance, tree):
+    """A random query of a part or of a page, mostly of versions that are there."""
+    at, other = (pick(chance, tree, NAMES) + chance.choice(["", "@", f"@{chance.choice(CHECKPOINTS)}"]) for _ in range(2))
+    table, first, last = chance.choice(TABLES), chance.choice(NUMBERS), chance.choice(NUMBERS)
+    part = chance.choice([f"{table}", f"{table} {first} {last}"])
+    return chance.choice([f"list {at} {part}", f"next {at} {table} {first} {last}", f"diff {at} {other} {part}"])
+
+
 def commit(tree, stamp):
     """A commit that can be seen: `top` has one checkpoint of its own for it."""
     earlier = [name for name in tree["top"].checkpoints if name not in CHECKPOINTS]
@@ -357,6 +389,9 @@ class Life:
             name = alternative.split(" ")[1]
             for verb in ["list", "checks", *(["changes"] if self.merges else [])]:
                 seen[f"{verb} {name}"] = self.shown(f"{verb} {name}")
+            if self.merges:
+                for line in f"list {name} 1 8 40", f"next {name} 1 8 20", f"diff {name}@ {name} 1":
+                    seen[line] = self.shown(line)
         for state in allowed:
             if all(answered(state, line)[0] == came for line, came in seen.items()):
                 self.count["commits under way"] += len(allowed) > 1
@@ -409,6 +444,8 @@ class Life:
         """The next lines, or None where the program was killed."""
         self.count["batches"] += 1
         tree = state.tree
+        if self.merges and not self.ask_part(state):
+            return None
         lines = changes(self.chance, state, self.merges, 12)
         if self.merges and len(tree) > 1 and self.chance.random() < 0.4:
             name = self.chance.choice([name for name in tree if name != "top"])
@@ -421,6 +458,14 @@ class Life:
             lines += commit(tree, f"commit-{self.count['batches']}")
             lines += changes(self.chance, state, self.merges, 4)
         return lines
+
+    def ask_part(self, state):
+        """Asks for a part of a version. False where the program was killed."""
+        line = part_query(self.chance, state.tree)
+        came = self.program.ask(line)
+        if came is not None:
+            self.after(state, line, came)
+        return came is not None
 
     def after(self, state, line, came):
         """The state after a line with its answer. A change may always be refused for want of blocks."""

@@ -1,16 +1,18 @@
 #!/bin/sh
 # Measures the program over real files beside a store in the same format that is written by hand in C, without proofs
-# (`plain.c`), and prints tables in Markdown: `tools/measure.sh [-c] [-d DIVISOR] [--peers] [--long] [ALTCTL]`. Both get
-# the same lines, and all answers of both are compared with what is expected. A time is the middle one of three. With -c
-# it is the least one, and only that in which the process had a processor, which other work on the machine disturbs
-# less; a DIVISOR of 1 to 16 makes all of it so many times smaller. With --peers loads and gets are measured over LMDB
+# (`plain.c`), and prints tables in Markdown: `tools/measure.sh [-c] [-d DIVISOR] [--peers] [--long] [--pages] [ALTCTL]`.
+# Both get the same lines, and all answers of both are compared with what is expected. A time is the middle one of three.
+# With -c it is the least one, and only that in which the process had a processor, which other work on the machine
+# disturbs less; a DIVISOR of 1 to 16 makes all of it so many times smaller. With --peers loads and gets are measured over LMDB
 # and SQLite, too (`peers.c`), where Debian's packages liblmdb-dev and libsqlite3-dev are installed. With --long values
 # of 2,000 bytes are measured instead, in one record each and split over several, by the program alone: plain.c has
-# none; that needs about 3 GB for temporary files. It stands beside the gate: times are looked at, never tested.
+# none; that needs about 3 GB for temporary files. With --pages parts of versions are measured instead: pages, ranges and
+# differences, by the program alone, with --peers pages of LMDB and SQLite, too. It stands beside the gate: times are
+# looked at, never tested.
 set -eu
 
 usage() {
-    echo 'usage: tools/measure.sh [-c] [-d DIVISOR] [--peers] [--long] [ALTCTL]' >&2
+    echo 'usage: tools/measure.sh [-c] [-d DIVISOR] [--peers] [--long] [--pages] [ALTCTL]' >&2
     exit 2
 }
 
@@ -23,6 +25,7 @@ clock=1
 divisor=1
 peers=
 long=
+pages=
 while [ $# -gt 0 ]; do
     case $1 in
     -c) clock=2 ;;
@@ -33,6 +36,7 @@ while [ $# -gt 0 ]; do
         ;;
     --peers) peers=1 ;;
     --long) long=1 ;;
+    --pages) pages=1 ;;
     -*) usage ;;
     *) break ;;
     esac
@@ -54,11 +58,16 @@ puts=$((20000 / divisor))
 long_blocks=$((196608 / divisor))
 long_records=$((100000 / divisor))
 long_markings=100
+many_pages=1000
+page=100
+design_changes=1000
+many_diffs=100
 
 tools=$(cd "$(dirname "$0")" && pwd)
 altctl=${1:-$tools/../altctl}
 work=$(mktemp -d)
 pid=
+options=
 
 finish() {
     exec 3>&-
@@ -77,8 +86,9 @@ begin() {
     start
 }
 
+# Starts the program with its options, if it has some.
 start() {
-    "$program" run "$work/store" <"$work/input" >>"$work/answers" 2>>"$work/faults" &
+    "$program" run $options "$work/store" <"$work/input" >>"$work/answers" 2>>"$work/faults" &
     pid=$!
     exec 3>"$work/input"
     ask ready
@@ -230,6 +240,28 @@ print_peers() {
         }'
 }
 
+# The rows of parts: for each line the time and the blocks that were read, or the memory of all of them.
+print_parts() {
+    echo
+    echo "| $1 | altctl, each | Blocks read, each | LMDB, each | SQLite, each |"
+    echo '|---|---|---|---|---|'
+    chosen | awk -F '|' "$functions"'
+        function few(it) { return it >= 100 ? grouped(sprintf("%.0f", it)) : it > 0 ? sprintf("%.1f", it) : 0 }
+        function each(name, what) { return (name, what) in took ? short("time", took[name, what] / many[what]) : "-" }
+        { took[$2, $1] = $5 }
+        $2 == "altctl" { order[++count] = $1; kind[$1] = $3; many[$1] = $4; read[$1] = $6 }
+        END {
+            for (i = 1; i <= count; i++) {
+                it = order[i]
+                if (kind[it] == "memory")
+                    printf "| %s | %s | | | |\n", it, short("memory", took["altctl", it])
+                else
+                    printf "| %s | %s | %s | %s | %s |\n", it, each("altctl", it), few(read[it] / many[it]),
+                        each("lmdb", it), each("sqlite", it)
+            }
+        }'
+}
+
 # The blocks that the loads of the table wrote, beside those of the trees at their ends.
 print_loads() {
     echo
@@ -357,6 +389,72 @@ prepare_long() {
     yes reclaim | head -n $long_markings | all_ok long_markings
 }
 
+# The lines on pages of a map of so many records of 16 bytes, which have the numbers from 1 on, and on all of them.
+prepare_pages() {
+    numbers "$1" random >"$work/numbers_$1"
+    { put_lines top 16 0 <"$work/numbers_$1" && echo commit; } | all_ok "load_$1"
+    awk -v last=$(($1 - page + 1)) -v many=$many_pages '
+        $1 <= last { first[count++] = $1 }
+        END { for (i = 0; i < many; i++) print first[i % count] }' "$work/numbers_$1" >"$work/firsts"
+    awk -v page=$page '{ printf "next top 1 %d %d\n", $1, page }' "$work/firsts" >"$work/next_$1.lines"
+    awk -v page=$page '{ printf "list top 1 %d %d\n", $1, $1 + page - 1 }' "$work/firsts" >"$work/range_$1.lines"
+    awk -v page=$page '
+        { for (i = $1; i < $1 + page; i++) printf "record 1 %d %016d\n", i, i; print "end " page }' "$work/firsts" |
+        tee "$work/next_$1.answers" >"$work/range_$1.answers"
+    echo list top >"$work/list_$1.lines"
+    echo "next top 0 0 $1" >"$work/all_$1.lines"
+    awk -v count="$1" '
+        BEGIN { for (i = 1; i <= count; i++) printf "record 1 %d %016d\n", i, i; print "end " count }' |
+        tee "$work/list_$1.answers" >"$work/all_$1.answers"
+}
+
+# The lines that go through all of them by a thousand.
+prepare_walk() {
+    awk -v count="$1" 'BEGIN { for (i = 1; i <= count; i += 1000) printf "next top 1 %d 1000\n", i }' >"$work/walk.lines"
+    awk -v count="$1" '
+        BEGIN {
+            for (i = 1; i <= count; i++) {
+                printf "record 1 %d %016d\n", i, i
+                if (i % 1000 == 0 || i == count) print "end " (i % 1000 == 0 ? 1000 : i % 1000)
+            }
+        }' >"$work/walk.answers"
+}
+
+# Answers of a difference: of each number its row, of two columns of values, where they differ.
+differing() {
+    sort -n | awk '{ print "change 1", $1, $2, $3 } END { print "end " NR }' >"$work/one"
+    for _ in $(seq $many_diffs); do cat "$work/one"; done
+}
+
+# Two designs with changes of their own, half of them of the same records. The file `differ` has of each record its number
+# and its values in top, and in both.
+prepare_designs() {
+    head -n $design_changes "$work/numbers_$1" | awk '{ print $1, 1 }' >"$work/designs"
+    tail -n +$((design_changes / 2 + 1)) "$work/numbers_$1" | head -n $design_changes | awk '{ print $1, 2 }' >>"$work/designs"
+    {
+        printf 'new d1 top\nnew d2 top\n'
+        awk '{ printf "put d%d 1 %d %016d\n", $2, $1, $1 + $2 }' "$work/designs"
+        echo commit
+    } | all_ok designs
+    awk '
+        { found[$1, $2]; is_there[$1] }
+        END {
+            for (it in is_there)
+                printf "%d %016d %016d %016d\n", it, it, it + ((it, 1) in found), it + 2 * ((it, 2) in found)
+        }' "$work/designs" >"$work/differ"
+    same_line changes 'changes d1'
+    awk '$2 != $3 { print $1, $2, $3 }' "$work/differ" | differing >"$work/changes.answers"
+    same_line diff 'diff d1 d2'
+    awk '$3 != $4 { print $1, $3, $4 }' "$work/differ" | differing >"$work/diff.answers"
+    tenth=$(($1 / 10))
+    same_line diff_part "diff d1 d2 1 1 $tenth"
+    awk -v last=$tenth '$1 <= last && $3 != $4 { print $1, $3, $4 }' "$work/differ" | differing >"$work/diff_part.answers"
+}
+
+same_line() {
+    yes "$2" | head -n $many_diffs >"$work/$1.lines"
+}
+
 # --- what is measured ----------------------------------------------------------------------------
 
 # All rows of records of 200 bytes, of one program.
@@ -463,6 +561,65 @@ measure_long() {
     add "$2: the greatest memory of that" memory 1 "$(echo "$times" | cut -d ' ' -f 3)" 0 0
 }
 
+# Pages, ranges and the list of a map of so many records. What a load leaves in memory is in none of them.
+measure_pages() {
+    of=$(grouped "$1")
+    [ "$name" = altctl ] || rm -f "$work/store"*
+    if [ "$name" = altctl ]; then begin "$2"; else start; fi
+    ask "load_$1"
+    end
+    for round in $(seq $rounds); do
+        start
+        measure "next_$1" "a page of $page of $of records" $many_pages
+        [ "$name" != altctl ] || measure "range_$1" "a range of $page of $of records" $many_pages
+        if [ "$name" = altctl ]; then all=list; else all=all; fi
+        measure "${all}_$1" "all $of records" 1
+        end
+    done
+    [ "$name" != altctl ] || measure_uncached "$1"
+}
+
+# Pages by the program without a cache.
+measure_uncached() {
+    options='--cache 0'
+    for round in $(seq $rounds); do
+        start
+        measure "next_$1" "a page of $page of $of records, without a cache" $many_pages
+        end
+    done
+    options=
+}
+
+# All records by the lines of a name, and the greatest memory that the program has meanwhile.
+measure_memory() {
+    for round in $(seq $rounds); do
+        start
+        echo 5 >"/proc/$pid/clear_refs"
+        measure "$1" "$2" 1
+        add "$2: the greatest memory" memory 1 "$(sed -n 's/^VmHWM:[^0-9]*\([0-9]*\) kB/\1/p' "/proc/$pid/status")" 0 0
+        end
+    done
+}
+
+# How many rows each answer of a name has.
+rows_of() {
+    grouped "$(tail -n 1 "$work/$1.answers" | cut -d ' ' -f 2)"
+}
+
+# Differences of two designs over the map that was loaded last.
+measure_designs() {
+    start
+    ask designs
+    end
+    for round in $(seq $rounds); do
+        start
+        measure changes "what a design changed, $(grouped $design_changes) records" $many_diffs
+        measure diff "what differs between two designs, $(rows_of diff) records" $many_diffs
+        measure diff_part "the same in a tenth of the numbers, $(rows_of diff_part) records" $many_diffs
+        end
+    done
+}
+
 # Loads and gets of records of 200 bytes over another store.
 measure_peer() {
     of=$(grouped "$records")
@@ -479,16 +636,27 @@ measure_peer() {
     rm -f "$work/store"*
 }
 
-# Compiles it over a store, with the words after the first, and measures it, where the store is installed.
+# Compiles it over a store, with the words after the second, and has it measured by the function of the second, where the
+# store is installed.
 try_peer() {
     name=$1
     program=$work/$1
-    shift
+    measuring=$2
+    shift 2
     if ! "${CC:-cc}" -O3 -o "$program" "$tools/peers.c" "$@" 2>"$work/faults"; then
         echo "measure: $name is left out: it is not installed" >&2
         return
     fi
+    $measuring
+}
+
+measure_peer_often() {
     for round in $(seq $rounds); do measure_peer; done
+}
+
+measure_both_pages() {
+    measure_pages $few_records $few_blocks
+    measure_pages "$large_records" "$large_blocks"
 }
 
 # Lets both programs do the same, one after the other, so many times.
@@ -523,11 +691,27 @@ if [ -n "$long" ]; then
     cat "$work/long_blocks_whole" "$work/long_blocks_split"
     exit 0
 fi
+if [ -n "$pages" ]; then
+    table=pages name=altctl program=$altctl
+    few_records=1000 few_blocks=1024
+    prepare_pages $few_records
+    prepare_pages "$large_records"
+    prepare_walk "$large_records"
+    prepare_designs "$large_records"
+    measure_both_pages
+    measure_memory walk "all $(grouped "$large_records") records, by pages of 1,000"
+    measure_memory "list_$large_records" "all $(grouped "$large_records") records"
+    measure_designs
+    [ -z "$peers" ] || try_peer lmdb measure_both_pages -DLMDB -llmdb
+    [ -z "$peers" ] || try_peer sqlite measure_both_pages -lsqlite3
+    print_parts 'Parts of versions'
+    exit 0
+fi
 table=small
 prepare
 both measure_records $rounds
-[ -z "$peers" ] || try_peer lmdb -DLMDB -llmdb
-[ -z "$peers" ] || try_peer sqlite -lsqlite3
+[ -z "$peers" ] || try_peer lmdb measure_peer_often -DLMDB -llmdb
+[ -z "$peers" ] || try_peer sqlite measure_peer_often -lsqlite3
 print_rows "$(grouped "$records") records of 200 bytes"
 print_loads
 [ -z "$peers" ] || print_peers "$(grouped "$records") records of 200 bytes"

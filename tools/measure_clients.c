@@ -1,5 +1,5 @@
 /* Loads and reads one store from C, for `tools/measure_clients.py`: `measure_clients FILE RECORDS COMMITS [PROGRAM]`. It stands
-   on LMDB if it is compiled with -DLMDB, on SQLite with -DSQLITE, and else on altctl, by the C client. It prints how many calls
+   on LMDB if it is compiled with -DLMDB, on SQLite with -DSQLITE, on libaltstore with -DMEMORY, and else on altctl, by the C client. It prints how many calls
    a second each part had, and compares each value that it gets. SQLite has a WAL and synchronous=FULL, so that a commit is
    durable there, too. */
 #define _GNU_SOURCE
@@ -140,6 +140,47 @@ static void get(uint64_t number)
     must(sqlite3_step(getting) == SQLITE_ROW);
     compare(sqlite3_column_blob(getting, 0), (size_t)sqlite3_column_bytes(getting, 0), number);
     sqlite3_reset(getting);
+}
+
+#elif defined(MEMORY)
+#include "altstore.h"
+
+static altstore store = ALTSTORE_CLOSED_HANDLE;
+static char line[300], answer[300];
+
+/* Asks one line, and gives the length of its answer. */
+static size_t ask(size_t length)
+{
+    if (altstore_ask(&store, (const uint8_t *)line, length, false) != ALTSTORE_OK)
+        fail("a line was refused");
+    return altstore_answers(&store, 0, (uint8_t *)answer, sizeof answer);
+}
+
+static void open_store(const char *file, const char *program)
+{
+    (void)file, (void)program;
+    if (altstore_new(&store, 32768, 0) != ALTSTORE_OK)
+        fail("no store is opened");
+}
+
+static void put(uint64_t number)
+{
+    size_t length = (size_t)sprintf(line, "put top 7 %llu ", (unsigned long long)number);
+    memcpy(line + length, value_of(number), VALUE);
+    line[length + VALUE] = '\n';
+    ask(length + VALUE + 1);
+}
+
+static void commit(void)
+{
+    memcpy(line, "commit\n", 7);
+    ask(7);
+}
+
+static void get(uint64_t number)
+{
+    size_t length = ask((size_t)sprintf(line, "get top 7 %llu\n", (unsigned long long)number));
+    compare(answer + 6, length - 7, number);
 }
 
 #else

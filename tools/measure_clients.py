@@ -1,6 +1,6 @@
 #!/usr/bin/env python3
 """Measures calls a second from C and from Python: `tools/measure_clients.py [--divisor N] [ALTCTL]`. Beside altctl by its clients,
-one call after another and written ahead, are SQLite, by its C API and by Python's module, and LMDB by its C API, if
+one call after another and written ahead, are libaltstore, in memory, if its archive is built, SQLite, by its C API and by Python's module, and LMDB by its C API, if
 Debian's packages libsqlite3-dev and liblmdb-dev are installed. Each figure is the middle one of three runs, which take
 turns. A DIVISOR makes all of it so many times smaller. Times are looked at, never tested."""
 import argparse
@@ -18,6 +18,7 @@ from pathlib import Path
 sys.dont_write_bytecode = True
 TOP = Path(__file__).resolve().parent.parent
 sys.path.insert(0, str(TOP / "clients/python"))
+import altstore
 from altctl import Store
 
 RECORDS, COMMITS, ROUNDS, BLOCKS = 100_000, 1_000, 3, 32_768
@@ -37,7 +38,10 @@ def value_of(number):
 def compile_all(folder):
     """The programs in C that can be compiled here."""
     made = {}
-    for name, words in COMPILED.items():
+    compiled = dict(COMPILED)
+    if subprocess.run([TOP / "tools/altstore.sh", folder], stdout=subprocess.PIPE).returncode == 0:
+        compiled["memory"] = ["-DMEMORY", "-I", str(TOP / "clients/c"), f"{folder}/libaltstore.a"]
+    for name, words in compiled.items():
         program = f"{folder}/{name}"
         command = ["cc", "-std=c99", "-O2", "-Wall", "-o", program, str(TOP / "tools/measure_clients.c"), *words]
         if subprocess.run(command, stderr=subprocess.PIPE).returncode == 0:
@@ -95,6 +99,29 @@ def measure_python(folder, altctl, numbers, commits):
     return found
 
 
+def measure_python_memory(numbers, commits):
+    """Calls a second by the module altstore, which needs no file."""
+    with altstore.Memory(BLOCKS) as store:
+        rows = [(7, it, value_of(it)) for it in numbers]
+
+        def puts():
+            for row in rows:
+                store.put("top", *row)
+            store.commit()
+
+        def gets():
+            for table, number, due in rows:
+                if store.get("top", table, number) != due:
+                    raise RuntimeError("a value is another one")
+
+        def put_and_commit():
+            for row in rows[:commits]:
+                store.put("top", *row)
+                store.commit()
+
+        return {"puts": timed(len(rows), puts), "gets": timed(len(rows), gets), "commits": timed(commits, put_and_commit)}
+
+
 def measure_python_sqlite(folder, numbers, commits):
     """Calls a second by Python's module sqlite3, row by row."""
     store = sqlite3.connect(f"{folder}/store", isolation_level=None)
@@ -134,7 +161,7 @@ def show(language, runs):
         return f"{statistics.median(found):,.0f}" if found else ""
 
     for part, what in ROWS.items():
-        cells = [cell("altctl", part), cell("altctl", f"{part}_ahead"), cell("SQLite", part), cell("LMDB", part)]
+        cells = [cell("altctl", part), cell("altctl", f"{part}_ahead"), cell("memory", part), cell("SQLite", part), cell("LMDB", part)]
         print(f"| {language}: {what} | {' | '.join(cells)} |")
 
 
@@ -157,10 +184,13 @@ def main():
                     in_c.setdefault(name, []).append(measure_c(program, place, altctl, records, commits))
             with tempfile.TemporaryDirectory() as place:
                 in_python.setdefault("altctl", []).append(measure_python(place, altctl, numbers, commits))
+            if "memory" in programs:
+                os.environ["ALTSTORE_LIBRARY"] = f"{folder}/libaltstore.so.0"
+                in_python.setdefault("memory", []).append(measure_python_memory(numbers, commits))
             with tempfile.TemporaryDirectory() as place:
                 in_python.setdefault("SQLite", []).append(measure_python_sqlite(place, numbers, commits))
     print(f"load at the end {os.getloadavg()[0]:.1f}\n")
-    print("| Calls a second | altctl, one by one | altctl, written ahead | SQLite | LMDB |\n|---|---|---|---|---|")
+    print("| Calls a second | altctl, one by one | altctl, written ahead | libaltstore | SQLite | LMDB |\n|---|---|---|---|---|---|")
     show("C", in_c)
     show("Python", in_python)
 

@@ -3,9 +3,9 @@
 
    peers run FILE
 
-   It knows `put top TABLE NUMBER VALUE`, `get top TABLE NUMBER`, `commit` and `checks top`, tests nothing of their
-   form, and answers each with one call, as altctl does. A value has no escapes. What was not committed is lost at the
-   end. */
+   It knows `put top TABLE NUMBER VALUE`, `get top TABLE NUMBER`, `next top TABLE NUMBER COUNT`, `commit` and `checks
+   top`, tests nothing of their form, and answers each line at once, as altctl does. A value has no escapes. What was not
+   committed is lost at the end. */
 #define _GNU_SOURCE
 #include <stdbool.h>
 #include <stdint.h>
@@ -20,6 +20,31 @@ static void fail(const char *what)
 {
     fprintf(stderr, "peers: %s\n", what);
     exit(1);
+}
+
+/* Rows of an answer that are not written yet. */
+static char rows[CHUNK + 2 * LONGEST];
+static size_t rows_length;
+
+static void write_rows(void)
+{
+    if (write(1, rows, rows_length) != (ssize_t)rows_length)
+        fail("no answer could be written");
+    rows_length = 0;
+}
+
+/* Adds the row of a record. */
+static void add_row(const unsigned char *key, const char *value, size_t length)
+{
+    uint64_t place = 0;
+    for (int i = 2; i < KEY; i++)
+        place = place << 8 | key[i];
+    rows_length += (size_t)sprintf(rows + rows_length, "record %d %llu ", key[0] << 8 | key[1], (unsigned long long)place);
+    memcpy(rows + rows_length, value, length);
+    rows_length += length;
+    rows[rows_length++] = '\n';
+    if (rows_length > CHUNK)
+        write_rows();
 }
 
 #ifdef LMDB
@@ -71,6 +96,26 @@ static const char *get(unsigned char *key, size_t *length)
     return found.mv_data;
 }
 
+/* Adds the rows of the first records at or after a key, and gives how many they are. */
+static uint64_t page(unsigned char *key, uint64_t count)
+{
+    MDB_val row = {KEY, key}, found;
+    MDB_cursor *cursor;
+    uint64_t number = 0;
+    if (!writing && !reading)
+        must(mdb_txn_begin(environment, NULL, MDB_RDONLY, &reading));
+    must(mdb_cursor_open(writing ? writing : reading, table, &cursor));
+    int status = mdb_cursor_get(cursor, &row, &found, MDB_SET_RANGE);
+    for (; status == MDB_SUCCESS && number < count; number++) {
+        add_row(row.mv_data, found.mv_data, found.mv_size);
+        status = number + 1 < count ? mdb_cursor_get(cursor, &row, &found, MDB_NEXT) : MDB_SUCCESS;
+    }
+    mdb_cursor_close(cursor);
+    if (status != MDB_NOTFOUND)
+        must(status);
+    return number;
+}
+
 static void commit(void)
 {
     if (writing)
@@ -82,7 +127,7 @@ static void commit(void)
 #include <sqlite3.h>
 
 static sqlite3 *store;
-static sqlite3_stmt *putting, *getting;
+static sqlite3_stmt *putting, *getting, *paging;
 static bool is_writing;
 
 static void must(int status)
@@ -95,10 +140,12 @@ static void begin_store(const char *name)
 {
     must(sqlite3_open(name, &store));
     must(sqlite3_exec(store, "PRAGMA journal_mode = WAL; PRAGMA synchronous = FULL", NULL, NULL, NULL));
-    const char *table = "CREATE TABLE records (key BLOB PRIMARY KEY, value BLOB) WITHOUT ROWID";
+    const char *table = "CREATE TABLE IF NOT EXISTS records (key BLOB PRIMARY KEY, value BLOB) WITHOUT ROWID";
     must(sqlite3_exec(store, table, NULL, NULL, NULL));
     must(sqlite3_prepare_v2(store, "INSERT OR REPLACE INTO records VALUES (?, ?)", -1, &putting, NULL));
     must(sqlite3_prepare_v2(store, "SELECT value FROM records WHERE key = ?", -1, &getting, NULL));
+    const char *pages = "SELECT key, value FROM records WHERE key >= ? ORDER BY key LIMIT ?";
+    must(sqlite3_prepare_v2(store, pages, -1, &paging, NULL));
 }
 
 static void put(unsigned char *key, const char *value, size_t length)
@@ -123,6 +170,18 @@ static const char *get(unsigned char *key, size_t *length)
         return NULL;
     *length = (size_t)sqlite3_column_bytes(getting, 0);
     return sqlite3_column_blob(getting, 0);
+}
+
+/* Adds the rows of the first records at or after a key, and gives how many they are. */
+static uint64_t page(unsigned char *key, uint64_t count)
+{
+    uint64_t number = 0;
+    must(sqlite3_bind_blob(paging, 1, key, KEY, SQLITE_STATIC));
+    must(sqlite3_bind_int64(paging, 2, (sqlite3_int64)count));
+    for (; sqlite3_step(paging) == SQLITE_ROW; number++)
+        add_row(sqlite3_column_blob(paging, 0), sqlite3_column_blob(paging, 1), (size_t)sqlite3_column_bytes(paging, 1));
+    must(sqlite3_reset(paging));
+    return number;
 }
 
 static void commit(void)
@@ -178,6 +237,12 @@ static void answer_line(const char *line, const char *end)
         read_key(&at, key);
         const char *value = get(key, &length);
         answer(value ? "value " : "none", value ? value : "", length);
+    } else if (memcmp(line, "next", 4) == 0) {
+        at = line + strlen("next top ");
+        read_key(&at, key);
+        uint64_t many = page(key, number(&at));
+        rows_length += (size_t)sprintf(rows + rows_length, "end %llu\n", (unsigned long long)many);
+        write_rows();
     } else if (memcmp(line, "commit", 6) == 0) {
         commit();
         answer("ok", "", 0);

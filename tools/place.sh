@@ -1,7 +1,8 @@
 #!/bin/sh
-# Puts all that an installation has below a folder, and names each file: `tools/place.sh PREFIX [AS]`. AS is the folder where
-# PREFIX will be once it is installed, if that is another one. `tools/install.sh` and `tools/package.sh` use this script, so
-# both put the same files. Without a C compiler the libraries are left out, with a line that says so.
+# Puts all that an installation has below a folder, and names each file: `tools/place.sh PREFIX [AS [aarch64]]`. AS is the folder
+# where PREFIX will be once it is installed, if that is another one. `tools/install.sh` and `tools/package.sh` use this script, so
+# both put the same files. Without a C compiler the libraries are left out, with a line that says so; and libaltstore is not
+# there if its archive is not built, nor for aarch64, whose program and libraries `tools/aarch64.sh` builds.
 set -eu
 
 # Mode, source and target of each file. Sources in `made/` are made below. The mode `link` makes a link to the source.
@@ -16,6 +17,7 @@ link ../../../share/zonegrater/clients/python/altctl.py lib/python3/dist-package
 755 desk/altserve share/zonegrater/desk/altserve
 755 desk/altgis share/zonegrater/desk/altgis
 644 desk/maps.py share/zonegrater/desk/maps.py
+644 desk/places.py share/zonegrater/desk/places.py
 link ../share/zonegrater/desk/altserve bin/altserve
 link ../share/zonegrater/desk/altgis bin/altgis
 644 README.md share/doc/zonegrater/README.md
@@ -25,6 +27,15 @@ END
 644 made/$shared lib/$shared
 link $shared lib/libaltctl.so
 644 made/altctl.pc lib/pkgconfig/altctl.pc
+END
+    [ -z "$has_altstore" ] || cat <<END
+644 clients/c/altstore.h include/altstore.h
+644 made/libaltstore.a lib/libaltstore.a
+644 made/libaltstore.so.0 lib/libaltstore.so.0
+link libaltstore.so.0 lib/libaltstore.so
+644 made/altstore.pc lib/pkgconfig/altstore.pc
+644 clients/python/altstore.py share/zonegrater/clients/python/altstore.py
+link ../../../share/zonegrater/clients/python/altstore.py lib/python3/dist-packages/altstore.py
 END
     for it in desk/service/*.py; do
         echo "644 $it share/zonegrater/$it"
@@ -41,21 +52,30 @@ find_program() {
     program=crates/altctl/out/altctl
     [ -x "$program" ] || program=dist/altctl-x86_64-linux
     version=$(sed -n '1s/^altctl //p' "$scratch/version")
+    [ -z "$arch" ] || {
+        tools/aarch64.sh program
+        program=crates/altctl/out/altctl-$arch
+    }
 }
 
 # The libraries of the C client, whose bytes do not depend on where this folder lies.
 make_libraries() {
     has_libraries=
-    command -v cc >/dev/null || {
+    has_altstore=
+    [ -n "$arch" ] || command -v cc >/dev/null || {
         echo 'lib/libaltctl.* is left out: there is no C compiler (cc)'
         return
     }
     has_libraries=yes
     made=$scratch/made
     mkdir "$made"
-    cc -std=c99 -O2 -g0 -fPIC -Wall -Wextra -c -o "$made/altctl.o" clients/c/altctl.c
-    ar rcsD "$made/libaltctl.a" "$made/altctl.o"
-    cc -shared -pthread -Wl,-soname,"$shared" -Wl,--build-id=none -Wl,-s -o "$made/$shared" "$made/altctl.o"
+    if [ -n "$arch" ]; then
+        tools/aarch64.sh client "$made"
+    else
+        cc -std=c99 -O2 -g0 -fPIC -Wall -Wextra -c -o "$made/altctl.o" clients/c/altctl.c
+        ar rcsD "$made/libaltctl.a" "$made/altctl.o"
+        cc -shared -pthread -Wl,-soname,"$shared" -Wl,--build-id=none -Wl,-s -o "$made/$shared" "$made/altctl.o"
+    fi
     cat >"$made/altctl.pc" <<END
 prefix=$as
 Name: altctl
@@ -64,6 +84,20 @@ Version: $version
 Cflags: -I\${prefix}/include
 Libs: -L\${prefix}/lib -laltctl
 Libs.private: -pthread
+END
+    [ -z "$arch" ] || return 0
+    tools/altstore.sh "$made" >"$scratch/altstore" || {
+        echo "lib/libaltstore.* is not there: $(cat "$scratch/altstore")"
+        return
+    }
+    has_altstore=yes
+    cat >"$made/altstore.pc" <<END
+prefix=$as
+Name: altstore
+Description: a version managed map store in memory, from C and C++
+Version: $version
+Cflags: -I\${prefix}/include
+Libs: -L\${prefix}/lib -laltstore
 END
 }
 
@@ -87,14 +121,18 @@ put() {
     echo "$3"
 }
 
-[ $# -eq 1 ] || [ $# -eq 2 ] || {
-    echo 'usage: tools/place.sh PREFIX [AS]' >&2
+case $#:${3-aarch64} in
+[123]:aarch64) ;;
+*)
+    echo 'usage: tools/place.sh PREFIX [AS [aarch64]]' >&2
     exit 2
-}
+    ;;
+esac
 umask 022
 mkdir -p -- "$1"
 prefix=$(CDPATH='' cd -- "$1" && pwd)
 as=${2-$prefix}
+arch=${3-}
 shared=libaltctl.so.0
 cd "$(dirname -- "$0")/.."
 scratch=$(mktemp -d)

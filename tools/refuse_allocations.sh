@@ -44,6 +44,18 @@ merge a 1:1=mine 1:1=theirs => error 11 SettledTwice 1:1
 merge a 1:1=mine 1:2=mine => error 10 NotInConflict 1:2
 merge a 1:1=theirs => ok 6
 list a => end 7
+list a@before 1 => end 2
+list a 1 2 6 => end 5
+list a 1 6 2 => end 0
+list a@nope 1 => error 3 NoSuchCheckpoint
+list a 1 2 => error 22 BadLine
+next a 1 5 2 => end 2
+next a 1 7 4294967295 => end 1
+next a@ 0 0 0 => end 0
+diff a@before a => end 6
+diff a@before a 1 => end 6
+diff a a@before 1 2 5 => end 4
+diff a@ a 1 9 2 => end 0
 changes a => end 1
 conflicts a => end 0
 grow 300 => ok
@@ -81,6 +93,9 @@ put top 1 3 e => ok
 remove top 1 1 => ok
 commit => ok
 list x => end 2
+list x 1 1 1 => end 1
+next x 1 2 1 => end 1
+diff x top 1 => end 2
 changes x => end 0
 conflicts x => end 0
 alts => end 2

@@ -1,7 +1,8 @@
 #!/usr/bin/env python3
 """Tests what `tools/package.sh` makes: `tools/test_package.py [ROOT]`. It builds the packages twice, in two folders and
 under other settings, and compares their bytes; it unpacks them, has the sessions of the README run with the program that was
-unpacked, and builds and runs a program in C by `pkg-config`, one in Python, the service, the completion and the wheel. With a
+unpacked, and builds and runs a program in C by `pkg-config`, one in Python, the service, the completion and the wheel. Those for
+aarch64 it tries under qemu: the sessions of the README, and that the programs of both processors read each other's file. With a
 ROOT, a whole small Debian as debootstrap makes one, it installs the package in a copy of that and has the sessions run there,
 which takes the rights of root.
 
@@ -37,6 +38,20 @@ int main(void)
     return error != ALT_OK || alt_close(store) != ALT_OK;
 }
 """
+IN_MEMORY_IN_C = """#include <altstore.h>
+#include <stdio.h>
+int main(void)
+{
+    altstore store = ALTSTORE_CLOSED_HANDLE;
+    uint32_t code = altstore_new(&store, 64, 0);
+    if (code == ALTSTORE_OK)
+        code = altstore_ask(&store, (const uint8_t *)"commit", 6, true);
+    altstore_close(&store);
+    printf("%u\\n", (unsigned)code);
+    return code != ALTSTORE_OK;
+}
+"""
+IN_MEMORY_IN_PYTHON = 'import altstore\nwith altstore.Memory(64) as store:\n    print(store.ask("blocks"), end="")'
 PROGRAM_IN_PYTHON = 'import altctl\nwith altctl.Store("c.alt") as store:\n    print(store.get("top", 7, 1))'
 # What bash offers behind the words of a line.
 COMPLETED = """. "$1"; shift
@@ -52,6 +67,17 @@ def is_there(*words):
     return not any(subprocess.run(["sh", "-c", f"command -v {it}"], stdout=subprocess.DEVNULL).returncode for it in words)
 
 
+def assert_same_bytes(test, made, *words):
+    """Makes the packages again in another place and under other settings, and compares their bytes with those made."""
+    settings = {**os.environ, "TZ": "Asia/Tokyo", "LC_ALL": "C.UTF-8"}
+    copy = copied(test.folder / "another place")
+    line = 'umask 077; exec tools/package.sh "$@"'
+    again = run("sh", "-c", line, "sh", *words, test.folder / "second", cwd=copy, env=settings).split("\n")
+    for first, second in zip(made, map(Path, again)):
+        test.assertEqual(first.name, second.name)
+        test.assertEqual(first.read_bytes(), second.read_bytes(), first.name)
+
+
 def copied(folder):
     """A copy of this repository as it lies here, changes that are not committed among it."""
     run("git", "clone", "--quiet", "--shared", "--no-checkout", TOP, folder)
@@ -63,8 +89,13 @@ def copied(folder):
     run("git", "reset", "--quiet", cwd=folder)
     out = "crates/altctl/out"
     (folder / out).mkdir(parents=True, exist_ok=True)
-    for it in ("altctl", "altctl.stamp"):
-        shutil.copy2(TOP / out / it, folder / out / it)
+    for it in ("altctl", "altctl.stamp", "altctl-aarch64", "altctl-aarch64.stamp"):
+        if (TOP / out / it).is_file():
+            shutil.copy2(TOP / out / it, folder / out / it)
+    archive = "crates/altstore/out/libaltstore.a"
+    if (TOP / archive).is_file():
+        (folder / archive).parent.mkdir(parents=True, exist_ok=True)
+        shutil.copy2(TOP / archive, folder / archive)
     return folder
 
 
@@ -105,12 +136,7 @@ class PackageTests(unittest.TestCase):
         cls.temporary.cleanup()
 
     def test_the_same_commit_gives_the_same_bytes(self):
-        settings = {**os.environ, "TZ": "Asia/Tokyo", "LC_ALL": "C.UTF-8"}
-        copy = copied(self.folder / "another place")
-        made = run("sh", "-c", 'umask 077; exec tools/package.sh "$1"', "sh", self.folder / "second", cwd=copy, env=settings).split("\n")
-        for first, second in zip((self.deb, self.archive), map(Path, made)):
-            self.assertEqual(first.name, second.name)
-            self.assertEqual(first.read_bytes(), second.read_bytes(), first.name)
+        assert_same_bytes(self, (self.deb, self.archive))
 
     def test_files_have_fixed_owners_and_modes(self):
         for it in self.entries:
@@ -149,6 +175,17 @@ class PackageTests(unittest.TestCase):
             self.assertEqual("b'duct'\n", told)
             (self.folder / "c.alt").unlink()
 
+    @unittest.skipUnless(is_there("pkg-config"), "pkg-config is not installed")
+    def test_the_store_in_memory(self):
+        if not (self.prefix / "lib/libaltstore.a").exists():
+            self.skipTest("the archive of libaltstore is not built")
+        (self.folder / "memory.c").write_text(IN_MEMORY_IN_C)
+        found = {**self.variables, "PKG_CONFIG_PATH": f"{self.prefix}/lib/pkgconfig", "LD_LIBRARY_PATH": f"{self.prefix}/lib"}
+        run("sh", "-c", "cc -o memory memory.c $(pkg-config --cflags --libs altstore)", cwd=self.folder, env=found)
+        self.assertEqual("0\n", run(self.folder / "memory", env=found))
+        found["PYTHONPATH"] = f"{self.prefix}/lib/python3/dist-packages"
+        self.assertEqual("blocks 64\n", run(sys.executable, "-c", IN_MEMORY_IN_PYTHON, env=found))
+
     def test_the_service_is_there(self):
         self.assertIn("usage: altserve", run("altserve", "--help", env=self.variables))
         if not subprocess.run([sys.executable, "-c", "from osgeo import gdal"], stderr=subprocess.DEVNULL).returncode:
@@ -160,9 +197,12 @@ class PackageTests(unittest.TestCase):
         cases = (
             (["altctl", "c"], ["create", "check"]),
             (["altctl", "run", "--c"], ["--cache"]),
-            (["altctl", "check", "--"], ["--help"]),
+            (["altctl", "check", "--"], ["--no-lock", "--wait", "--help"]),
             (["altctl", "tree", str(self.prefix / "incl")], [str(self.prefix / "include")]),
             (["altctl", "run", "--cache", "2"], [""]),
+            (["altctl", "do", "--cache", "9", "map.alt", "ne"], ["new", "next"]),
+            (["altctl", "do", "map.alt", "free", "'di"], ["diff"]),
+            (["altctl", "do", "--strict", str(self.prefix / "incl")], [str(self.prefix / "include")]),
         )
         for words, due in cases:
             self.assertEqual(due, run("bash", "-c", COMPLETED, "bash", file, *words).split("\n")[:-1], words)
@@ -191,6 +231,90 @@ class PackageTests(unittest.TestCase):
         self.assertEqual((True, 0), (len(blocks) > 0, sessions.differences))
         run("chroot", root, "dpkg", "--purge", "zonegrater", env={"PATH": "/usr/sbin:/usr/bin:/sbin:/bin"})
         self.assertFalse((root / "usr/bin/altctl").exists())
+
+
+QEMU = ("qemu-aarch64", "-L", "/usr/aarch64-linux-gnu")
+# What one processor's program writes, and what the other's then answers.
+WRITTEN = ["new north top", "put top 7 1 duct", "put north 7 1 pipe", "put north 7 2 " + 300 * "long", "commit"]
+ASKED = ["list top", "list north", "changes top north", "conflicts north", "blocks"]
+
+
+@unittest.skipUnless(is_there("dpkg-deb", "git", "rt"), "dpkg-deb, git or rt is not installed")
+@unittest.skipUnless(is_there("qemu-aarch64"), "qemu-aarch64 (Debian's qemu-user) is not installed")
+class Aarch64Tests(unittest.TestCase):
+    """The packages for aarch64, whose program runs under qemu."""
+
+    @classmethod
+    def setUpClass(cls):
+        if not all(any(TOP.glob(f"crates/{it}/out/rlib/stamp")) for it in run(TOP / "tools/sources.sh", "crates").split()[:-1]):
+            raise unittest.SkipTest("the libraries for aarch64 are not built: tools/build.sh does it")
+        cls.temporary = tempfile.TemporaryDirectory()
+        cls.addClassCleanup(cls.temporary.cleanup)
+        cls.folder = Path(cls.temporary.name)
+        words = [str(TOP / "tools/package.sh"), "--arch", "aarch64", str(cls.folder / "first")]
+        ran = subprocess.run(words, stdout=subprocess.PIPE, stderr=subprocess.PIPE, text=True, timeout=1500)
+        if ran.returncode and "is skipped" in ran.stderr:
+            raise unittest.SkipTest(ran.stderr.strip())
+        if ran.returncode:
+            raise AssertionError(ran.stderr)
+        cls.deb, cls.archive = map(Path, ran.stdout.split())
+        with tarfile.open(cls.archive) as archive:
+            archive.extractall(cls.folder / "unpacked")
+        (cls.prefix,) = (cls.folder / "unpacked").iterdir()
+        (cls.folder / "bin").mkdir()
+        cls.program = cls.folder / "bin/altctl"
+        cls.program.write_text(f"#!/bin/sh\nexec {' '.join(QEMU)} '{cls.prefix}/bin/altctl' \"$@\"\n")
+        cls.program.chmod(0o755)
+
+    def test_the_same_commit_gives_the_same_bytes(self):
+        assert_same_bytes(self, (self.deb, self.archive), "--arch", "aarch64")
+
+    def test_both_packages_have_the_files(self):
+        def files(folder):
+            return {str(it.relative_to(folder)).removesuffix(".gz") for it in folder.rglob("*") if not it.is_dir()}
+
+        run("dpkg-deb", "-x", self.deb, self.folder / "deb")
+        self.assertEqual(files(self.prefix), files(self.folder / "deb/usr"))
+        self.assertEqual("arm64\n", run("dpkg-deb", "-f", self.deb, "Architecture"))
+        python = "lib/python3/dist-packages/altctl.py"
+        completion = "share/bash-completion/completions/altctl"
+        due = {"bin/altctl", "share/man/man1/altctl.1", completion, "include/altctl.h", "lib/libaltctl.a", python}
+        self.assertEqual(set(), due - files(self.prefix))
+        for it in ("bin/altctl", "lib/libaltctl.so.0"):
+            # The number of the processor in the head of a program: 183 is aarch64.
+            self.assertEqual(183, int.from_bytes((self.prefix / it).read_bytes()[18:20], "little"), it)
+
+    def test_the_sessions_of_the_readme_run(self):
+        count, differences = documents.run_blocks(TOP / "README.md", str(self.program))
+        self.assertEqual((True, 0), (count > 0, differences))
+
+    def test_both_processors_read_and_write_one_file(self):
+        programs = {"here": TOP / "altctl", "aarch64": self.program}
+        answers, images = [], []
+        for first, second in (("here", "aarch64"), ("aarch64", "here")):
+            file = self.folder / f"{first}.alt"
+            run(programs[first], "create", file, 256)
+            lines = "".join(f"{it}\n" for it in WRITTEN)
+            self.assertEqual("ok\n" * len(WRITTEN), run(programs[first], "run", file, input=lines))
+            lines = "".join(f"{it}\n" for it in ASKED)
+            told = [run(programs[it], "run", file, input=lines) for it in (first, second)]
+            self.assertEqual(told[0], told[1])
+            self.assertIn("7 1 duct", told[0])
+            self.assertEqual(*(run(programs[it], "check", file) for it in (first, second)))
+            self.assertEqual("ok\nok\n", run(programs[second], "run", file, input="put top 9 9 more\ncommit\n"))
+            self.assertEqual("value more\n", run(programs[first], "run", file, input="get top 9 9\n"))
+            answers.append(told[0])
+            images.append(file.read_bytes())
+        self.assertEqual(answers[0], answers[1])
+        self.assertEqual(images[0], images[1])
+
+    @unittest.skipUnless(is_there("clang", "ld.lld"), "clang or lld is not installed")
+    def test_a_program_in_c_runs(self):
+        (self.folder / "c.c").write_text(PROGRAM_IN_C)
+        words = ["--target=aarch64-linux-gnu", "-fuse-ld=lld", "-I", self.prefix / "include", "-o", "c", "c.c"]
+        run("clang", *words, self.prefix / "lib/libaltctl.a", "-pthread", cwd=self.folder)
+        found = {**os.environ, "PATH": f"{self.program.parent}{os.pathsep}{os.environ['PATH']}"}
+        self.assertEqual("ok\n", run(*QEMU, self.folder / "c", cwd=self.folder, env=found))
 
 
 if __name__ == "__main__":
