@@ -164,7 +164,7 @@ def joined(old, new):
 
 class Update:
     """What makes of the records that are there, `old`, those that are to be: records to put, and keys to remove. A record
-    that is to stay or to change is taken out of `old`. `firsts` has the FIRST / 1,000 of each longer value that is to be."""
+    that stays or changes is taken out of `old`. `firsts` has the FIRST / 1,000 of each longer value of the new map."""
 
     def __init__(self, old, firsts=()):
         self.old, self.put, self.firsts = old, {}, set() if firsts == () else firsts

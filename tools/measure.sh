@@ -3,7 +3,7 @@
 # (`plain.c`), and prints tables in Markdown: `tools/measure.sh [-c] [-d DIVISOR] [--peers] [--long] [--pages] [ALTCTL]`.
 # Both get the same lines, and all answers of both are compared with what is expected. A time is the middle one of three.
 # With -c it is the least one, and only that in which the process had a processor, which other work on the machine
-# disturbs less; a DIVISOR of 1 to 16 makes all of it so many times smaller. With --peers loads and gets are measured over LMDB
+# disturbs less; a DIVISOR of 1 to 16 makes all of it that many times smaller. With --peers loads and gets are measured over LMDB
 # and SQLite, too (`peers.c`), where Debian's packages liblmdb-dev and libsqlite3-dev are installed. With --long values
 # of 2,000 bytes are measured instead, in one record each and split over several, by the program alone: plain.c has
 # none; that needs about 3 GB for temporary files. With --pages parts of versions are measured instead: pages, ranges and
@@ -389,7 +389,7 @@ prepare_long() {
     yes reclaim | head -n $long_markings | all_ok long_markings
 }
 
-# The lines on pages of a map of so many records of 16 bytes, which have the numbers from 1 on, and on all of them.
+# The lines on pages of a map of n records of 16 bytes, numbered from 1 on, and on all of them.
 prepare_pages() {
     numbers "$1" random >"$work/numbers_$1"
     { put_lines top 16 0 <"$work/numbers_$1" && echo commit; } | all_ok "load_$1"
@@ -561,7 +561,7 @@ measure_long() {
     add "$2: the greatest memory of that" memory 1 "$(echo "$times" | cut -d ' ' -f 3)" 0 0
 }
 
-# Pages, ranges and the list of a map of so many records. What a load leaves in memory is in none of them.
+# Pages, ranges and the list of a map of n records. None of them profits from what a load leaves in memory.
 measure_pages() {
     of=$(grouped "$1")
     [ "$name" = altctl ] || rm -f "$work/store"*

@@ -53,7 +53,7 @@ enum {
     ALTSTORE_LINE_REFUSED = 105  /* a line was refused: its answer says why */
 };
 
-/* Opens a new store of so many blocks of 4,096 bytes, 64 to 1,048,576, which `grow` may lengthen up to `room` blocks. Memory
+/* Opens a new store of `blocks` blocks of 4,096 bytes, 64 to 1,048,576, which `grow` may lengthen up to `room` blocks. Memory
    of the system is taken as blocks are written. */
 uint32_t altstore_new(altstore *store, uint32_t blocks, uint32_t room);
 

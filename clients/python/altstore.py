@@ -95,7 +95,7 @@ def _decode(word):
 
 
 class Memory:
-    """A store in memory: a new one of so many blocks of 4,096 bytes, that may grow to `room` of them."""
+    """A store in memory: a new one of `blocks` blocks of 4,096 bytes, that may grow to `room` of them."""
 
     def __init__(self, blocks, room=0):
         self._handle = _Handle()
