@@ -118,6 +118,7 @@ module _ (above below : DiskState) (follows : Follows above below) where
               (left_above above below follows 0 0 x (omega arith) at_first (subst (λ (t : ℕ). LeftAt below t x) none' at)));
           calls = subst (λ (t : ℕ). KeptBetween Shows (LeftAt below) s [] [] t commands answers (follows.time kept.time)) start
               (kept_below s [] [] (moment old) commands answers kept.time kept.within kept.calls.calls);
+          last = λ x at. left_between (Kept Shows s commands answers) kept.time (moment above) kept.within (omega arith) kept.rest (follows.time kept.time) x (omega arith) end at;
         };
         rest = λ t x from until at.
             left_between (Kept Shows s commands answers) kept.time (moment above) kept.within (omega arith) kept.rest t x from (omega (arith, until, last)) at;

@@ -1,21 +1,21 @@
 -- What a crash leaves at each moment so far, where between two commands the disk was only read or synced.
-use Rattle.std.proofs.Common.{◌≡◌, inl, ℕ, zero, suc, ◌<◌, ◌≤◌, List, [], ◌∷◌, ◌++◌, length, take, slice_get, Some, Result, Ok, Err, refl, sym, ap, subst, arith, ⊎_elim, le_trans}
+use Rattle.std.proofs.Common.{◌≡◌, ◌⊎◌, inl, inr, ℕ, ◌<◌, ◌≤◌, List, [], ◌∷◌, ◌++◌, Result, Err, refl, sym, subst, arith, ⊎_elim, le_trans}
 use Rattle.std.proofs.lemmas.Bool.{cases_lt}
-use Rattle.std.proofs.lemmas.List.{length-append, length-take-le}
 use Rattle.vm_types.specs.declared.answer.Answer.{Answer}
 use Rattle.vm_types.specs.declared.command.Command.{Command}
 use Rattle.vm_types.specs.declared.refusal.Refusal.{Refusal}
 use Rattle.vm_types.specs.declared.refusal.Refusal.TheVariants.{Device}
-use Rattle.vm_types.specs.Kept.{EndsInCommit, Kept, LeftBy, MayHaveHappened, committed_by}
+use Rattle.vm_types.specs.Kept.{Kept, LeftBy}
 use Rattle.vm_types.specs.Moments.{KeptBetween}
-use Rattle.vm_types.specs.State.{Seen, State, after, committed_of, next, working_of}
-use Rattle.vm_types.proofs.KeptLemmas.{kept_call, kept_rest}
+use Rattle.vm_types.specs.State.{Seen, State, after, committed_of, next}
+use Rattle.vm_types.proofs.KeptLemmas.{kept_rest}
 use Rattle.vm_types.proofs.MomentsLemmas.{HasRun, HasRun-more, HasRun-none, KeptBetween-onward}
-use Rattle.vm_types.proofs.Runs.{after_fewer, after_more}
-use Rattle.vm_disk.specs.Disk.{Contents, DiskState, LeftAt, Medium, moment}
+use Rattle.vm_types.proofs.Runs.{after_more}
+use Rattle.vm_disk.specs.Disk.{Contents, DiskState, LeftAt, moment}
 use Rattle.vm_disk.specs.Moments.{Leaves, Throughout}
 use Rattle.vm_disk.proofs.MomentLemmas.{leaves_only, moment_rises, past_stays, started}
 use Rattle.vm_store.specs.Shown.{Shows}
+use Rattle.vm_store.proofs.RunLemmas.{ShowsCommitted, ends_shown}
 use Rattle.vm_cli.specs.Keeps.{Keeps}
 
 module _ {X : Type 0} (shows : X → Seen → Type 0) (s : State) where
@@ -47,56 +47,13 @@ module _ {X : Type 0} (shows : X → Seen → Type 0) (s : State) where
         moments = record {
           first = λ x was. run.moments.first x (past start x onward was);
           calls = KeptBetween-past left left' [] [] start commands answers end run.moments.calls past;
+          last = λ x was. run.moments.last x (past end x (omega arith) was);
         };
       }
-
--- a call in which the device failed may have happened as it may without an answer
-may_told : (answers : List (Result Answer Refusal)) (n : ℕ) → n ≤ length answers → MayHaveHappened (slice_get answers n)
-    → MayHaveHappened (slice_get (answers ++ Err Device ∷ []) n)
-may_told [] zero few may = refl
-may_told [] (suc n) few may = absurd (omega (arith, few))
-may_told (b ∷ answers) zero few may = may
-may_told (b ∷ answers) (suc n) few may = may_told answers n (omega (arith, few)) may
-
--- and acknowledges nothing
-ok_told : (answers : List (Result Answer Refusal)) (n : ℕ) (answer : Answer)
-    → slice_get (answers ++ Err Device ∷ []) n ≡ Some (Ok answer) → slice_get answers n ≡ Some (Ok answer)
-ok_told [] zero answer e = cc
-ok_told [] (suc n) answer e = cc
-ok_told (b ∷ answers) zero answer e = e
-ok_told (b ∷ answers) (suc n) answer e = ok_told answers n answer e
-
-module _ {X : Type 0} (shows : X → Seen → Type 0) (s : State) (commands : List Command) (answers : List (Result Answer Refusal)) (each : length commands ≡ suc (length answers)) where
-  few_told : (n : ℕ) → suc n ≤ length commands → length (take n commands) ≤ length answers
-  few_told n within = let few : n ≤ length commands = omega (arith, within) in omega (arith, within, each, length-take-le n commands few)
-
-  ends_told : (n : ℕ) → n ≤ length commands → EndsInCommit commands answers n
-      → EndsInCommit commands (answers ++ Err Device ∷ []) n
-  ends_told zero within ends = tt
-  ends_told (suc n) within ends = (ends.0, may_told answers n (omega (arith, within, each)) ends.1)
-
-  committed_told : (n : ℕ) → n ≤ length commands
-      → committed_by s commands (answers ++ Err Device ∷ []) n ≡ committed_by s commands answers n
-  committed_told zero within = refl
-  committed_told (suc n) within = ap working_of (after_fewer s (take n commands) answers (Err Device ∷ []) (few_told n within))
-
-  -- what was kept of a call without an answer is kept where the device failed in it
-  pub kept_failed : (x : X) → Kept shows s commands answers x → Kept shows s commands (answers ++ Err Device ∷ []) x
-  kept_failed x kept = record {
-    beginning = kept.beginning;
-    within = kept.within;
-    ends = ends_told kept.beginning kept.within kept.ends;
-    acknowledged = λ i answer is ok. kept.acknowledged i answer is (ok_told answers i answer ok);
-    shown = subst (shows x) (sym (committed_told kept.beginning kept.within)) kept.shown;
-  }
 
 -- what a disk holds is among what a crash may leave of it
 pub left_held : (now : DiskState) → LeftAt now (moment now) now.now.contents
 left_held now = inl (refl, record { least = now.now.within; most = omega arith; clean = λ n clean. refl })
-
--- what a crash shows once a state is committed
-abbrev pub ShowsCommitted : State → Medium → Type 0
-ShowsCommitted s = Leaves (λ x. Shows x (committed_of s))
 
 -- the device failed in no command, and since the last of them a crash shows what is committed
 pub record Keeping (old now : DiskState) (s : State) (commands : List Command) (answers : List (Result Answer Refusal)) : Type 0 where
@@ -156,11 +113,13 @@ module _ (old mid : DiskState) (s : State) (commands : List Command) (answers : 
         (λ (ge : moment mid ≤ t). leaves_only mid new _ crash t x ge was)
         (cases_lt t (moment mid))
 
-    has_run : HasRun Shows (LeftAt new) s (moment old) (commands ++ c ∷ []) (answers ++ a ∷ []) (after s (commands ++ c ∷ []) (answers ++ a ∷ [])) (moment new)
-    has_run =
+    has_run : (a ≡ Err Device) ⊎ ShowsCommitted (after s (commands ++ c ∷ []) (answers ++ a ∷ [])) new.now
+        → HasRun Shows (LeftAt new) s (moment old) (commands ++ c ∷ []) (answers ++ a ∷ []) (after s (commands ++ c ∷ []) (answers ++ a ∷ [])) (moment new)
+    has_run ends =
         HasRun-more keeping.run (LeftAt new) c a _ (moment new) (after_more s commands answers c a keeping.run.last.same) (le_trans keeping.within (moment_rises mid new _ crash))
         (λ t x to was. past_stays mid new _ crash t x (le_trans to keeping.within) was)
         (λ t x from to was. call_since t x from was)
+        (ends_shown new (after s (commands ++ c ∷ []) (answers ++ a ∷ [])) a ends)
 
     -- after it a crash shows what is committed then
     pub keeping_more : ShowsCommitted (next reached c a) new.now → Keeping old new s (commands ++ c ∷ []) (answers ++ a ∷ [])
@@ -169,23 +128,18 @@ module _ (old mid : DiskState) (s : State) (commands : List Command) (answers : 
         record {
           time = moment new;
           within = omega arith;
-          run = has_run;
+          run = has_run (inr then);
           rest = λ t x from to was. leaves_only new new _ (started new _ then) t x from was;
         }
 
     -- the device failed in it
     pub keeps_failed : a ≡ Err Device → Keeps old new s (commands ++ c ∷ []) (answers ++ a ∷ [])
     keeps_failed failed =
-        let onward = le_trans keeping.within (moment_rises mid new _ crash) in
-        let told : (t : ℕ) (x : Contents) → moment new ≤ t → t ≤ moment new → LeftAt new t x → Kept Shows s (commands ++ c ∷ []) (answers ++ a ∷ []) x =
-        λ t x from to was.
-        subst (λ r. Kept Shows s (commands ++ c ∷ []) (answers ++ r ∷ []) x) (sym failed)
-        (kept_failed Shows s (commands ++ c ∷ []) answers (omega (arith, length-append commands (c ∷ []), keeping.run.last.same)) x
-        (kept_call Shows s commands answers c x keeping.run.last (call_since t x (le_trans onward from) was))) in
+        let run = has_run (inl failed) in
         record {
           time = moment new;
           within = omega arith;
-          calls = has_run.moments;
-          rest = told;
-          held = told (moment new) new.now.contents (omega arith) (omega arith) (left_held new);
+          calls = run.moments;
+          rest = λ t x from to was. run.moments.last x (subst (λ (u : ℕ). LeftAt new u x) (omega (arith, from, to)) was);
+          held = run.moments.last new.now.contents (left_held new);
         }

@@ -11,7 +11,7 @@ use Rattle.vm_disk.proofs.MomentLemmas.{weaken}
 use Rattle.vm_store.specs.Commands.{CarriesOut}
 use Rattle.vm_store.specs.Store.{Holds, has_failed, disk_of}
 use Rattle.vm_store.specs.declared.store.Store.{Store}
-use Rattle.vm_store.proofs.RunLemmas.{rests_show}
+use Rattle.vm_store.proofs.RunLemmas.{ShowsCommitted, rests_show}
 use Rattle.vm_cli.specs.Keeps.{Keeps, answers_of, commands_of}
 use Rattle.vm_cli.specs.Input.{without_return}
 use Rattle.vm_cli.specs.Requests.{asked_in, request_of}
@@ -23,7 +23,7 @@ use Rattle.vm_cli.specs.declared.talk.ServeFault.{ServeFault}
 use Rattle.vm_cli.specs.declared.talk.ServeFault.TheVariants as fault
 use Rattle.vm_cli.proofs.ChainLemmas.{Chain, Led, chain_earlier, chain_sound, led_earlier, led_stands}
 use Rattle.vm_cli.proofs.HandledLemmas.{meets_led}
-use Rattle.vm_cli.proofs.KeepLemmas.{Keeping, ShowsCommitted, keeping_more, keeping_quiet, keeps, keeps_failed}
+use Rattle.vm_cli.proofs.KeepLemmas.{Keeping, keeping_more, keeping_quiet, keeps, keeps_failed}
 use Rattle.vm_cli.proofs.PassLemmas.{failed_or, never_both}
 
 -- the commands of a line are in front of the later ones

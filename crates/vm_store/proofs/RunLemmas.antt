@@ -1,5 +1,5 @@
 -- A run so far: what it answered, and what a crash leaves at each moment of it.
-use Rattle.std.proofs.Common.{◌≡◌, ℕ, ◌+◌, ◌<◌, ◌≤◌, Bool, true, false, List, [], ◌∷◌, ◌++◌, drop, length, take, get_or, Result, Err, refl, sym, ap, ◌∙◌, subst, arith}
+use Rattle.std.proofs.Common.{◌≡◌, ◌⊎◌, inl, inr, ℕ, ◌+◌, ◌<◌, ◌≤◌, Bool, true, false, List, [], ◌∷◌, ◌++◌, drop, length, take, get_or, Result, Err, refl, sym, ap, ◌∙◌, subst, arith}
 use Rattle.std.proofs.lemmas.List.{drop-append-le, drop_all, length-append, take-append-le, take_all, take_more}
 use Rattle.vm_types.specs.declared.answer.Answer.{Answer}
 use Rattle.vm_types.specs.declared.command.Command.{Command}
@@ -32,18 +32,34 @@ use Rattle.vm_store.proofs.RestingLemmas.{shows_old}
 abbrev pub Ran : DiskState → DiskState → State → List Command → List (Result Answer Refusal) → Type 0
 Ran old now s commands answers = HasRun Shows (disk.LeftAt now) s (disk.moment old) commands answers (after s commands answers) (disk.moment now)
 
+-- what a crash shows once a state is committed
+abbrev pub ShowsCommitted : State → Medium → Type 0
+ShowsCommitted s = Leaves (λ x. Shows x (committed_of s))
+
+-- so of one at the last moment
+shown_last : (now : DiskState) (s : State) → ShowsCommitted s now.now → (x : Contents) → disk.LeftAt now (disk.moment now) x → Shows x (committed_of s)
+shown_last now s shows x was = leaves_only now now (λ y. Shows y (committed_of s)) (started now (ShowsCommitted s) shows) (disk.moment now) x (omega arith) was
+
+-- at the last moment of a call: the device failed in it, or a crash shows what is committed after it
+pub ends_shown : (now : DiskState) (s : State) (a : Result Answer Refusal) → (a ≡ Err Device) ⊎ ShowsCommitted s now.now
+    → (a ≡ Err Device) ⊎ ((x : Contents) → disk.LeftAt now (disk.moment now) x → Shows x (committed_of s))
+ends_shown now s a (inl failed) = inl failed
+ends_shown now s a (inr shows) = inr (shown_last now s shows)
+
 -- before the first command, where a crash shows what is committed
-pub ran_none : (old : DiskState) (s : State) → Leaves (λ x. Shows x (committed_of s)) old.now → Ran old old s [] []
-ran_none old s shows =
-    HasRun-none Shows (disk.LeftAt old) s (disk.moment old) (λ x was. leaves_only old old (λ x. Shows x (committed_of s)) (started old (Leaves (λ x. Shows x (committed_of s))) shows) (disk.moment old) x (omega arith) was)
+pub ran_none : (old : DiskState) (s : State) → ShowsCommitted s old.now → Ran old old s [] []
+ran_none old s shows = HasRun-none Shows (disk.LeftAt old) s (disk.moment old) (shown_last old s shows)
 
 -- one command more
 pub ran_more : (old mid new : DiskState) (s : State) (commands : List Command) (answers : List (Result Answer Refusal)) (c : Command) (a : Result Answer Refusal) → Ran old mid s commands answers
-    → Throughout mid new (Leaves (LeftBy Shows (after s commands answers) c)) → Ran old new s (commands ++ c ∷ []) (answers ++ a ∷ [])
-ran_more old mid new s commands answers c a ran crash =
+    → Throughout mid new (Leaves (LeftBy Shows (after s commands answers) c))
+    → (a ≡ Err Device) ⊎ ShowsCommitted (after s (commands ++ c ∷ []) (answers ++ a ∷ [])) new.now
+    → Ran old new s (commands ++ c ∷ []) (answers ++ a ∷ [])
+ran_more old mid new s commands answers c a ran crash ends =
     HasRun-more ran (disk.LeftAt new) c a _ _ (after_more s commands answers c a ran.last.same) (moment_rises mid new _ crash)
     (λ t x le was. past_stays mid new _ crash t x le was)
     (λ t x from to was. leaves_only mid new _ crash t x from was)
+    (ends_shown new (after s (commands ++ c ∷ []) (answers ++ a ∷ [])) a ends)
 
 -- a crash before the first command shows what is committed
 pub rests_show : (m : Medium) (limit : ℕ) (slot_name : SlotName) (bits : List Bool) (committed working : List Version) (s : State) → Rests m limit slot_name bits committed working s → Leaves (λ x. Shows x (committed_of s)) m

@@ -7,6 +7,7 @@ use Rattle.vm_types.specs.declared.answer.Answer.{Answer}
 use Rattle.vm_types.specs.declared.command.Command.{Command}
 use Rattle.vm_types.specs.declared.command.Command.TheVariants.{Commit}
 use Rattle.vm_types.specs.declared.refusal.Refusal.{Refusal}
+use Rattle.vm_types.specs.declared.refusal.Refusal.TheVariants.{Device}
 use Rattle.vm_types.specs.State.{Seen, State, committed_of, working_of, next, after, is_commit}
 use Rattle.vm_types.specs.Kept.{MayHaveHappened, committed_by, EndsInCommit, Kept, LeftBy}
 use Rattle.vm_types.proofs.Runs.{after_more, after_fewer}
@@ -29,6 +30,9 @@ same_Some x y h = cc
 
 not_none : (a : Result Answer Refusal) → None ≡ Some a → ⊥
 not_none a h = cc
+
+not_device : (answer : Answer) → Some (Err Device) ≡ Some (Ok answer) → ⊥
+not_device answer h = cc
 
 -- a command is a Commit, or its test says no
 commit_cases : (c : Command) → (c ≡ Commit) ⊎ (is_commit c ≡ false)
@@ -190,4 +194,13 @@ module _ {X : Type 0} (shows : X → Seen → Type 0) (s : State) (commands : Li
       left_in_call c answers x last (Continues-same s commands answers last.same)
       (subst MayHaveHappened (sym none) tt)
       (λ answer _ ok. not_none (Ok answer) (sym none ∙ ok))
+      left
+
+  -- in a call in which the device failed
+  pub kept_device : (c : Command) (x : X) → LastCommit s commands answers → LeftBy shows (after s commands answers) c x → Kept shows s (commands ++ c ∷ []) (answers ++ Err Device ∷ []) x
+  kept_device c x last left =
+      let device : slice_get (answers ++ Err Device ∷ []) (length commands) ≡ Some (Err Device) = at_last answers (Err Device) (length commands) (sym last.same) in
+      left_in_call c (answers ++ Err Device ∷ []) x last (Continues-more s commands answers (Err Device) last.same)
+      (subst MayHaveHappened (sym device) refl)
+      (λ answer _ ok. not_device answer (sym device ∙ ok))
       left

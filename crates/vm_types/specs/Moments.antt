@@ -18,7 +18,9 @@ KeptBetween {X} shows left s before told start (command ∷ commands) (answer �
 KeptBetween shows left s before told start [] (answer ∷ answers) end = ⊥
 KeptBetween shows left s before told start (command ∷ commands) [] end = ⊥
 
--- what a crash leaves is kept at the first moment, also where no command comes, and then at each moment of each call
+-- What a crash leaves is kept at each moment of a run: at the first one, before any command; within each call, whose own command has no
+-- answer yet; and at the end, of all commands with all their answers, so that it holds the last commit, too, if that was acknowledged.
 pub record KeptThroughout {X : Type 0} (shows : X → Seen → Type 0) (left : ℕ → X → Type 0) (s : State) (start : ℕ) (commands : List Command) (answers : List (Result Answer Refusal)) (end : ℕ) : Type 0 where
   pub first : (x : X) → left start x → Kept shows s [] [] x
   pub calls : KeptBetween shows left s [] [] start commands answers end
+  pub last : (x : X) → left end x → Kept shows s commands answers x

@@ -1,15 +1,15 @@
-use Rattle.std.proofs.Common.{◌≡◌, ◌≢◌, ◌+◌, [], ◌∷◌, ◌++◌, length, Result, Err, ap, refl, sym, ◌∙◌, subst, arith}
+use Rattle.std.proofs.Common.{◌≡◌, ◌≢◌, inl, inr, ◌+◌, [], ◌∷◌, ◌++◌, length, take, Result, Err, ap, refl, sym, ◌∙◌, subst, arith}
 use Rattle.std.proofs.lemmas.Bool.{false≢true}
 use Rattle.std.proofs.lemmas.Grind.{common_steps}
 use Rattle.std.proofs.lemmas.List.Elements.{All-nil, All-push}
-use Rattle.vm_types.specs.State.{State}
+use Rattle.vm_types.specs.State.{State, after}
 use Rattle.vm_types.specs.declared.refusal.Refusal.TheVariants.{Device, Failed}
 use Rattle.vm_types.proofs.Runs.{after_more}
 use Rattle.vm_types.proofs.IsolationLemmas.{isolated}
 use Rattle.vm_types.specs.declared.answer.Answer.{Answer}
 use Rattle.vm_types.specs.declared.refusal.Refusal.{Refusal}
 use Rattle.vm_store.specs.Commands.{EndsWithDevice}
-use Rattle.vm_store.specs.Store.{disk_of, Holds}
+use Rattle.vm_store.specs.Store.{disk_of, Holds, IsHonest}
 use Rattle.vm_store.proofs.GuardLemmas.{guarded_at_rest}
 use Rattle.vm_store.proofs.RunLemmas.{ran_none, ran_more, rests_show, guarded_none, guarded_more, in_turn_more, none_more, take_one_more, no_failure}
 use Rattle.vm_store.proofs.store.Store.run.Goals as goal
@@ -25,6 +25,10 @@ loop-command-preserved g c =
     let new = c.apply-answer.new.self in
     let command = c.command-item.result in
     let sound = no_failure _ (λ is. let device = e.failed.0 is in let yes = c.is_device-failed.ensures.1 device in cc (yes, c.if-failed.false)) in
+    let stands : IsHonest new → (s : State) → Holds first s → Holds new (after s (take c.loop-command.command-index c.args.commands.now ++ command ∷ []) (c.loop-command.answers.items ++ c.apply-answer.result ∷ [])) =
+    λ honest s holds.
+    let ok : c.apply-answer.result ≡ Err Device → ⊥ = λ is. let yes = c.is_device-failed.ensures.1 is in cc (yes, c.if-failed.false) in
+    subst (λ (t : State). Holds new t) (sym (after_more s _ _ command c.apply-answer.result (before.run (goes.earlier honest) s holds).last.same)) ((e.performs.carried honest _ (before.holds (goes.earlier honest) s holds)).state ok) in
     rw (take_one_more c.args.commands.now c.loop-command.command-index c.command-item.result c.loop-command-test.true c.command-item.is, c.in-Ok-push.ensures.items) (record {
       more_blocks = omega (arith, goes.more_blocks, before.more_blocks);
       earlier = λ honest. before.earlier (goes.earlier honest);
@@ -34,10 +38,9 @@ loop-command-preserved g c =
       never = All-push (λ answer. answer ≢ Err Failed) c.loop-command.answers.items c.apply-answer.result before.never e.performs.only_then;
       many = grind (arith, common_steps);
       room = grind (arith, common_steps);
-      run = λ honest s holds. ran_more old (g.D.Disk.state (disk_of c.loop-command.self)) (g.D.Disk.state (disk_of c.apply-answer.new.self)) s _ _ c.command-item.result c.apply-answer.result (before.run (goes.earlier honest) s holds) (e.performs.carried honest _ (before.holds (goes.earlier honest) s holds)).crash;
-      holds = λ honest s holds.
-          let ok : c.apply-answer.result ≡ Err Device → ⊥ = λ is. let yes = c.is_device-failed.ensures.1 is in cc (yes, c.if-failed.false) in
-          subst (λ (t : State). Holds c.apply-answer.new.self t) (sym (after_more s _ _ c.command-item.result c.apply-answer.result (before.run (goes.earlier honest) s holds).last.same)) ((e.performs.carried honest _ (before.holds (goes.earlier honest) s holds)).state ok);
+      run = λ honest s holds. ran_more old (g.D.Disk.state (disk_of c.loop-command.self)) (g.D.Disk.state (disk_of c.apply-answer.new.self)) s _ _ c.command-item.result c.apply-answer.result (before.run (goes.earlier honest) s holds) (e.performs.carried honest _ (before.holds (goes.earlier honest) s holds)).crash
+          (inr (rests_show _ _ _ _ _ _ _ (stands honest s holds).rests));
+      holds = stands;
       guarded = λ honest s holds. guarded_more first mid new s _ _ command c.apply-answer.result (before.run (goes.earlier honest) s holds).last.same (before.told s)
           e honest (before.holds (goes.earlier honest) s holds)
           (before.guarded (goes.earlier honest) s holds);
@@ -75,7 +78,7 @@ returns-then-failed-clause-kept g c honest sound s holds =
     let old = g.D.Disk.state (disk_of c.args.self.now) in
     let count : length c.push.new.self.items ≡ c.loop-command.command-index + 1 = grind (arith, common_steps) in
     rw (count, take_one_more c.args.commands.now c.loop-command.command-index c.command-item.result c.loop-command-test.true c.command-item.is, c.in-Ok-push.ensures.items)
-    (ran_more old (g.D.Disk.state (disk_of c.loop-command.self)) (g.D.Disk.state (disk_of c.apply-answer.new.self)) s _ _ c.command-item.result c.apply-answer.result (before.run (goes.earlier honest) s holds) (e.performs.carried honest _ (before.holds (goes.earlier honest) s holds)).crash).moments
+    (ran_more old (g.D.Disk.state (disk_of c.loop-command.self)) (g.D.Disk.state (disk_of c.apply-answer.new.self)) s _ _ c.command-item.result c.apply-answer.result (before.run (goes.earlier honest) s holds) (e.performs.carried honest _ (before.holds (goes.earlier honest) s holds)).crash (inl (c.is_device-failed.ensures.0 c.if-failed.true))).moments
 
 pub returns-then-failed-clause-answers : goal.returns-then-failed-clause-answers
 returns-then-failed-clause-answers g c sound s =
