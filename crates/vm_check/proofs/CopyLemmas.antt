@@ -25,8 +25,8 @@ use Rattle.vm_tree.proofs.Descent.{subtree_top}
 use Rattle.vm_tree.specs.Root.{IsRooted, IsTop}
 use Rattle.vm_tree.specs.declared.root.Root.{Root}
 use Rattle.vm_tree.specs.BlockReads.{IsLongAt}
-use Rattle.vm_tree.specs.Tree.{Children, IsData, IsItself, IsLinked, LeafHolds, Sizes, StandForAll, StandsFor, Subtree}
-use Rattle.vm_check.specs.TreeCopy.{AreCopied, ChildCopied, CopiesOnly, IsCopyOf, IsNumberOf, IsPut, IsSomeLong, IsUpTo, Paired, PutsTo, Relinks, RootCopied, RowCopied, renumbered, renumbered_link}
+use Rattle.vm_tree.specs.Tree.{Children, IsData, LeafHolds, Sizes, StandForAll, StandsFor, Subtree}
+use Rattle.vm_check.specs.TreeCopy.{AreCopied, ChildCopied, CopiesOnly, IsCopyOf, IsNumberOf, IsPut, IsSomeLong, IsUpTo, Paired, PutsTo, Relinks, RootCopied, RowCopied, renumbered_link}
 use Rattle.vm_check.specs.Renumbering.{GoesOn, IsCopied, count_of, next_of, number_at}
 use Rattle.vm_check.specs.declared.tree_copy.CopyFault.{CopyFault}
 use Rattle.vm_check.specs.declared.renumbering.Renumbering.{Renumbering}
@@ -107,7 +107,7 @@ copied_put x y z limit n bytes old new number inside so_far put is = (
     here = assigned_here n old new put.assigned inside
 
     on : GoesOn old new
-    on = assigned_on n old new put.assigned put.fresh
+    on = assigned_on n old new put.assigned inside (omega (arith, so_far.given.least)) put.fresh
 
     by_case : (k : ℕ) → IsCopied new k → (k ≡ n) ⊎ (k ≢ n) → IsCopyOf new (block x k) (block z (number_at new k))
     by_case k copied (inl same) =

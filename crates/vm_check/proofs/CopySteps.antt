@@ -11,7 +11,6 @@ use Rattle.vm_disk.proofs.MomentLemmas.{and_then, at_end, started, touches_nothi
 use Rattle.vm_tree.specs.Calls.{Looks}
 use Rattle.vm_tree.proofs.Looking.{looks_on, looks_so}
 use Rattle.vm_check.specs.TreeCopy.{Puts, Steps, TouchesData, is_for_data}
-use Rattle.vm_check.specs.Renumbering.{next_of}
 use Rattle.vm_check.specs.declared.renumbering.Renumbering.{Renumbering}
 use Rattle.vm_check.proofs.RenumberLemmas.{goes_same, goes_then as numbers_then}
 

@@ -10,6 +10,7 @@ pub mod LinkLemmas
 pub mod MarkLemmas
 pub mod NotedLemmas
 pub mod OnlyLemmas
+pub mod ReachedLemmas
 pub mod RenumberLemmas
 pub mod RootLemmas
 pub mod RowLemmas

@@ -1,10 +1,18 @@
 -- Numbers of copies: how one more is given, and what stays.
-use Rattle.std.proofs.Common.{◌≡◌, ◌≢◌, ◌⊎◌, inl, inr, ℕ, zero, ◌+◌, ◌<◌, ◌≤◌, List, length, get_or, refl, sym, ap, ◌∙◌, subst, arith}
-use Rattle.std.proofs.lemmas.Bool.{cases_eq}
+use Rattle.std.proofs.Common.{◌≡◌, ◌≢◌, ◌⊎◌, inl, inr, ℕ, ◌+◌, ◌<◌, Bool, cond, List, length, get_or, refl, sym, ap, ◌∙◌, arith}
+use Rattle.std.specs.Prelude.{count_by, nat_lt}
+use Rattle.std.proofs.lemmas.Bool.{cases_eq, lt-ltb}
 use Rattle.std.proofs.lemmas.List.{get_or-set_other, get_or-set_same, length-set}
-use Rattle.vm_types.specs.declared.sizes.TheConstants.{FIRST_DATA}
-use Rattle.vm_check.specs.Renumbering.{AreGiven, Assigns, GoesOn, IsCopied, count_of, next_of, number_at}
+use Rattle.std.proofs.lemmas.List.Sums.{sum_by-set}
+use Rattle.vm_check.specs.Renumbering.{AreGiven, Assigns, GoesOn, IsCopied, copies_of, count_of, next_of, number_at}
 use Rattle.vm_check.specs.declared.renumbering.Renumbering.{Renumbering}
+
+-- what a block with this number counts
+abbrev pub weight : ℕ → ℕ
+weight number = cond (nat_lt 0 number) 1 0
+
+pub weighs_one : (number : ℕ) → 0 < number → weight number ≡ 1
+weighs_one number some = ap (λ (b : Bool). cond b 1 0) (lt-ltb 0 number some)
 
 module _ (n : ℕ) (old new : Renumbering) (a : Assigns n old new) where
   pub assigned_here : n < count_of old → number_at new n ≡ next_of old
@@ -13,11 +21,25 @@ module _ (n : ℕ) (old new : Renumbering) (a : Assigns n old new) where
   pub assigned_other : (k : ℕ) → k ≢ n → number_at new k ≡ number_at old k
   assigned_other k other = ap (λ (xs : List ℕ). get_or xs k 0) a.numbers ∙ get_or-set_other old.numbers.items n k (next_of old) 0 other
 
-  pub assigned_on : number_at old n ≡ 0 → GoesOn old new
-  assigned_on none = record {
+  -- no other block was copied
+  pub only_assigned : (k : ℕ) → IsCopied new k → IsCopied old k ⊎ (k ≡ n)
+  only_assigned k is = elim (cases_eq k n) [
+    | inl same ↦ inr same
+    | inr other ↦ inl (omega (arith, is, assigned_other k other))
+  ]
+
+  assigned_count : n < count_of old → 0 < next_of old → number_at old n ≡ 0 → copies_of new ≡ copies_of old + 1
+  assigned_count inside some none =
+      let all = sum_by-set weight old.numbers.items n (next_of old) 0 inside in
+      let before : weight (get_or old.numbers.items n 0) ≡ 0 = ap weight none in
+      omega (arith, all, before, weighs_one (next_of old) some, ap (λ (xs : List ℕ). count_by (λ k. nat_lt 0 k) xs) a.numbers)
+
+  pub assigned_on : n < count_of old → 0 < next_of old → number_at old n ≡ 0 → GoesOn old new
+  assigned_on inside some none = record {
     same_count = ap length a.numbers ∙ length-set old.numbers.items n (next_of old);
     kept = λ k is. assigned_other k (λ same. omega (arith, is, none, ap (number_at old) same));
     rising = omega (arith, a.next);
+    counted = omega (arith, a.next, assigned_count inside some none);
   }
 
   pub assigned_given : n < count_of old → number_at old n ≡ 0 → AreGiven old → AreGiven new
@@ -51,7 +73,7 @@ module _ (n : ℕ) (old new : Renumbering) (a : Assigns n old new) where
 
 -- nothing was given since
 pub goes_same : (numbers : Renumbering) → GoesOn numbers numbers
-goes_same numbers = record { same_count = refl; kept = λ n is. refl; rising = omega arith }
+goes_same numbers = record { same_count = refl; kept = λ n is. refl; rising = omega arith; counted = refl }
 
 pub still_copied : {old new : Renumbering} → GoesOn old new → (n : ℕ) → IsCopied old n → IsCopied new n
 still_copied on n is = omega (arith, is, on.kept n is)
@@ -61,4 +83,5 @@ goes_then first more = record {
   same_count = more.same_count ∙ first.same_count;
   kept = λ n is. more.kept n (still_copied first n is) ∙ first.kept n is;
   rising = omega (arith, first.rising, more.rising);
+  counted = omega (arith, first.counted, more.counted);
 }

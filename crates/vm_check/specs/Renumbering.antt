@@ -1,5 +1,5 @@
 -- Blocks that were copied, and the numbers of their copies.
-use Rattle.std.specs.Prelude.{◌≡◌, ℕ, ◌+◌, ◌<◌, ◌≤◌, length, replicate, slice_index, slice_set}
+use Rattle.std.specs.Prelude.{◌≡◌, ℕ, ◌+◌, ◌<◌, ◌≤◌, nat_lt, length, replicate, count_by, slice_index, slice_set}
 use Rattle.vm_types.specs.declared.sizes.TheConstants.{FIRST_DATA}
 use Rattle.vm_check.specs.declared.renumbering.Renumbering.{Renumbering}
 
@@ -15,6 +15,10 @@ IsCopied numbers n = 0 < number_at numbers n
 abbrev pub count_of : Renumbering → ℕ
 count_of numbers = length numbers.numbers.items
 
+-- how many blocks were copied
+abbrev pub copies_of : Renumbering → ℕ
+copies_of numbers = count_by (λ n. nat_lt 0 n) numbers.numbers.items
+
 -- the number of the next copy
 abbrev pub next_of : Renumbering → ℕ
 next_of numbers = numbers.next
@@ -28,11 +32,12 @@ pub record Assigns (n : ℕ) (old new : Renumbering) : Type 0 where
   pub numbers : new.numbers.items ≡ slice_set old.numbers.items n (next_of old)
   pub next : next_of new ≡ next_of old + 1
 
--- each copy has kept its number, and the next number has not fallen
+-- each copy has kept its number, the next number has not fallen, and it rose by one for each block that was copied
 pub record GoesOn (old new : Renumbering) : Type 0 where
   pub same_count : count_of new ≡ count_of old
   pub kept : (n : ℕ) → IsCopied old n → number_at new n ≡ number_at old n
   pub rising : next_of old ≤ next_of new
+  pub counted : next_of new + copies_of old ≡ next_of old + copies_of new
 
 -- copies have numbers of data blocks below the next one, and no two have the same
 pub record AreGiven (numbers : Renumbering) : Type 0 where

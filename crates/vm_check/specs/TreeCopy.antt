@@ -1,10 +1,12 @@
 -- Copies of blocks on another disk, under other numbers.
-use Rattle.std.specs.Prelude.{◌≡◌, ◌≢◌, ◌⊎◌, ℕ, ◌+◌, ◌<◌, ◌≤◌, nat_le, Bool, true, List, [], ◌∷◌, length, Option, None, Some, Result, Ok, Err, IfOk, IsOk, OnOk, map, slice_index_or}
+use Rattle.std.specs.Prelude.{◌≡◌, ◌≢◌, ◌⊎◌, ℕ, ◌+◌, ◌<◌, ◌≤◌, nat_le, Bool, true, List, [], ◌∷◌, length, Option, None, Some, Result, Err, IfOk, IsOk, OnOk, map, slice_index_or}
+use Rattle.std.specs.List.{AllByRecursion}
 use Rattle.vm_types.specs.declared.sizes.TheConstants.{FIRST_DATA}
 use Rattle.vm_types.specs.declared.key.Key.{Key}
 use Rattle.vm_types.specs.Map.{Map}
 use Rattle.vm_disk.specs.Disk.{Contents, DiskState, Goes, block}
 use Rattle.vm_disk.specs.Moments.{Throughout, TouchesOnly}
+use Rattle.vm_alloc.specs.Marks.{IsMarked}
 use Rattle.vm_block.specs.Changed.{with_at}
 use Rattle.vm_block.specs.Leaf.{HasRows, IsShort, LinkFits, Record, Row, link_bytes}
 use Rattle.vm_block.specs.Long.{IsLong}
@@ -17,7 +19,7 @@ use Rattle.vm_tree.specs.Root.{IsRooted}
 use Rattle.vm_tree.specs.declared.root.Root.{Root}
 use Rattle.vm_tree.specs.Tree.{Children, Sizes, StandForAll, StandsFor, Subtree}
 use Rattle.vm_tree.specs.declared.faults.TreeFault.TheVariants.{Device, Damaged}
-use Rattle.vm_check.specs.Marks.{OnSubtree, OnTree}
+use Rattle.vm_check.specs.Marks.{EachLink, LinksTo, OnSubtree, OnTree}
 use Rattle.vm_check.specs.Renumbering.{AreGiven, Assigns, GoesOn, IsCopied, next_of, number_at}
 use Rattle.vm_check.specs.declared.tree_copy.CopyFault.{CopyFault}
 use Rattle.vm_check.specs.declared.tree_copy.CopyFault.TheVariants.{Source, Target, Full}
@@ -217,6 +219,50 @@ SoundChildrenCopy result limit level count bytes s s' =
 abbrev pub SoundCopy : {T : Type 0} → Result T CopyFault → ℕ → ℕ → ℕ → DiskState → DiskState → Type 0
 SoundCopy result limit level b s s' = OnSubtree s s' limit level b (λ bs. IsUndamaged result)
 
+-- # Which blocks are copied, whatever the answer, if the source is honest after it
+
+-- a block for data that is marked
+abbrev pub IsMarkedData : List Bool → ℕ → Type 0
+IsMarkedData marks n = (FIRST_DATA ≤ n) × IsMarked marks n
+
+-- each block that was copied since is for data and marked; and if no number is left, there is such a block without a copy
+pub record CopiesMarked (none_left : Type 0) (marks : List Bool) (old new : Renumbering) : Type 0 where
+  pub only : CopiesOnly (IsMarkedData marks) old new
+  pub lacks : none_left → (n : ℕ) × IsMarkedData marks n × (number_at new n ≡ 0)
+
+-- the same with this result, if all these blocks are marked
+abbrev pub CopiesAmong : {T : Type 0} → Result T CopyFault → List ℕ → Renumbering → Renumbering → Type 0
+CopiesAmong result bs old new = (marks : List Bool) → AllByRecursion (IsMarked marks) bs → CopiesMarked (result ≡ Err Full) marks old new
+
+-- at the block of a long value, if it is marked
+abbrev pub ReachedLongCopy : {T : Type 0} → Result T CopyFault → ℕ → Renumbering → Renumbering → Type 0
+ReachedLongCopy result n old new = (marks : List Bool) → IsMarked marks n → CopiesMarked (result ≡ Err Full) marks old new
+
+-- at the row at i of a leaf of `count` rows, if the block to which it links is marked
+abbrev pub ReachedRowCopy : {T : Type 0} → Result T CopyFault → ℕ → ℕ → List ℕ → Renumbering → Renumbering → Type 0
+ReachedRowCopy result count i bytes old new =
+    (marks : List Bool) (ws : List Row) (d : Row) → HasRows bytes ws → count ≡ length ws
+    → ((b : ℕ) → LinksTo (slice_index_or ws i d) b → IsMarked marks b) → CopiesMarked (result ≡ Err Full) marks old new
+
+-- at all rows of a leaf of `count` rows, if the blocks to which they link are marked
+abbrev pub ReachedRowsCopy : {T : Type 0} → Result T CopyFault → ℕ → List ℕ → Renumbering → Renumbering → Type 0
+ReachedRowsCopy result count bytes old new =
+    (marks : List Bool) (ws : List Row) → HasRows bytes ws → count ≡ length ws → EachLink (IsMarked marks) ws → CopiesMarked (result ≡ Err Full) marks old new
+
+-- at the `count` children of an inner block, which are the tops of subtrees of this level
+abbrev pub ReachedChildrenCopy : {T : Type 0} → Result T CopyFault → ℕ → ℕ → ℕ → List ℕ → DiskState → Renumbering → DiskState → Renumbering → Type 0
+ReachedChildrenCopy result limit level count bytes s old s' new =
+    s'.honest ≡ true → (sizes : Sizes) (above : ℕ) (cs : List Child) (rs : List Record) (bs : List ℕ) → IsNode bytes above cs → count ≡ length cs
+    → Children (Subtree sizes s.now.contents limit level) cs rs bs → CopiesAmong result bs old new
+
+-- at the top of a subtree of this level
+abbrev pub ReachedCopy : {T : Type 0} → Result T CopyFault → ℕ → ℕ → ℕ → DiskState → Renumbering → DiskState → Renumbering → Type 0
+ReachedCopy result limit level b s old s' new = OnSubtree s s' limit level b (λ bs. CopiesAmong result bs old new)
+
+-- under the root of a tree
+abbrev pub ReachedTreeCopy : {T : Type 0} → Result T CopyFault → ℕ → Root → DiskState → Renumbering → DiskState → Renumbering → Type 0
+ReachedTreeCopy result limit root s old s' new = OnTree s s' limit root (λ bs. CopiesAmong result bs old new)
+
 -- # What a copy of a tree is
 
 -- the copy of a root: itself if it has no block, else it names the copy of its block
@@ -250,13 +296,15 @@ pub record IsPut (limit n : ℕ) (bytes : List ℕ) (y y' : Contents) (old new :
   pub written : block y' number ≡ bytes
   pub others : (k : ℕ) → k ≢ number → block y' k ≡ block y k
 
--- what a write of a copy does on any disk: it touches no block but those for data, and gives one number where it was done; where it finds
--- damage, the block was copied
+-- what a write of a copy does on any disk: it touches no block but those for data, and gives one number where it was done, to no other block;
+-- if no number is left, the block has none, and where it finds damage, the block was copied
 pub record Puts (target none_left done : Type 0) (damaged : ℕ → Type 0) (limit n : ℕ) (t : DiskState) (old : Renumbering) (t' : DiskState) (new : Renumbering) : Type 0 where
   pub goes : Goes target t t'
   pub touches : TouchesData t t'
   pub numbers : GoesOn old new
   pub full : none_left → limit ≤ next_of new
+  pub lacks : none_left → number_at new n ≡ 0
+  pub only : CopiesOnly (λ k. k ≡ n) old new
   pub assigned : done → Assigns n old new
   pub twice : (b : ℕ) → damaged b → IsCopied old n
 

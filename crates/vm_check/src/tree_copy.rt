@@ -4,7 +4,7 @@ ghost use Rattle.vm_types.specs.declared.sizes.TheConstants.{FIRST_DATA};
 ghost use Rattle.vm_check.specs.declared.tree_copy.CopyFault.TheVariants as copy;
 ghost use Rattle.vm_block.specs.Leaf.{LinkFits};
 ghost use Rattle.vm_block.specs.Told.{IfLeafRowAt};
-ghost use Rattle.vm_check.specs.TreeCopy.{CopiesBlock, CopiesChildren, CopiesLongs, CopiesMap, CopiesRoot, CopiesRow, CopiesRows, CopiesUpTo, IsPut, LeavesOthers, PutsTo, SoundChildrenCopy, SoundCopy, SoundLongCopy, SoundRowCopy, SoundRowsCopy, SoundTreeCopy, StepsTo, TellsRow};
+ghost use Rattle.vm_check.specs.TreeCopy.{CopiesBlock, CopiesChildren, CopiesLongs, CopiesMap, CopiesRoot, CopiesRow, CopiesRows, CopiesUpTo, IsPut, LeavesOthers, PutsTo, ReachedChildrenCopy, ReachedCopy, ReachedLongCopy, ReachedRowCopy, ReachedRowsCopy, ReachedTreeCopy, SoundChildrenCopy, SoundCopy, SoundLongCopy, SoundRowCopy, SoundRowsCopy, SoundTreeCopy, StepsTo, TellsRow};
 ghost use Rattle.vm_check.specs.Renumbering.{count_of, next_of};
 
 use crate::renumbering::Renumbering;
@@ -85,6 +85,7 @@ fn copy_long<S: Disk, T: Disk>(
         (S.state source.new) (T.state target.new) numbers.new }
     ensures only { CopiesLongs result (S.state source.old) numbers.old (S.state source.new) numbers.new }
     ensures sound { SoundLongCopy result blocks block (S.state source.old) (S.state source.new) }
+    ensures reached { ReachedLongCopy result block numbers.old numbers.new }
 {
     if !is_data(blocks, block) {
         return Err(CopyFault::Source(TreeFault::Damaged(block)));
@@ -139,6 +140,7 @@ fn copy_row<S: Disk, T: Disk>(
     ensures only { CopiesLongs result (S.state source.old) numbers.old (S.state source.new) numbers.new }
     ensures others { OnOk result (LeavesOthers count i bytes.old bytes.new) }
     ensures sound { SoundRowCopy result blocks count i bytes.old (S.state source.old) (S.state source.new) }
+    ensures reached { ReachedRowCopy result count i bytes.old numbers.old numbers.new }
 {
     let Some(link) = link_in(bytes, i) else {
         return Ok(());
@@ -170,6 +172,7 @@ fn copy_rows<S: Disk, T: Disk>(
         (S.state source.new) (T.state target.new) numbers.new }
     ensures only { CopiesLongs result (S.state source.old) numbers.old (S.state source.new) numbers.new }
     ensures sound { SoundRowsCopy result blocks count bytes.old (S.state source.old) (S.state source.new) }
+    ensures reached { ReachedRowsCopy result count bytes.old numbers.old numbers.new }
 {
     for i in 0..count {
         copy_row(source, blocks, target, limit, bytes, count, i, numbers)?;
@@ -197,6 +200,8 @@ fn copy_leaf<S: Disk, T: Disk>(
         (S.state source.new) (T.state target.new) numbers.new }
     ensures only { CopiesUpTo 0 result (S.state source.old) numbers.old (S.state source.new) numbers.new }
     ensures sound { SoundCopy result blocks 0 block (S.state source.old) (S.state source.new) }
+    ensures reached { ReachedCopy result blocks 0 block (S.state source.old) numbers.old
+        (S.state source.new) numbers.new }
 {
     if !is_data(blocks, block) {
         return Err(CopyFault::Source(TreeFault::Damaged(block)));
@@ -235,6 +240,8 @@ fn copy_children<S: Disk, T: Disk>(
         (S.state source.new) (T.state target.new) numbers.new }
     ensures only { CopiesUpTo level result (S.state source.old) numbers.old (S.state source.new) numbers.new }
     ensures sound { SoundChildrenCopy result blocks level count bytes.old (S.state source.old) (S.state source.new) }
+    ensures reached { ReachedChildrenCopy result blocks level count bytes.old (S.state source.old) numbers.old
+        (S.state source.new) numbers.new }
 {
     for i in 0..count {
         let child = child_at(bytes, i);
@@ -267,6 +274,8 @@ fn copy_node<S: Disk, T: Disk>(
         (S.state source.new) (T.state target.new) numbers.new }
     ensures only { CopiesUpTo level result (S.state source.old) numbers.old (S.state source.new) numbers.new }
     ensures sound { SoundCopy result blocks level block (S.state source.old) (S.state source.new) }
+    ensures reached { ReachedCopy result blocks level block (S.state source.old) numbers.old
+        (S.state source.new) numbers.new }
 {
     if !is_data(blocks, block) {
         return Err(CopyFault::Source(TreeFault::Damaged(block)));
@@ -312,6 +321,8 @@ fn copy_below<S: Disk, T: Disk>(
         (S.state source.new) (T.state target.new) numbers.new }
     ensures only { CopiesUpTo level result (S.state source.old) numbers.old (S.state source.new) numbers.new }
     ensures sound { SoundCopy result blocks level block (S.state source.old) (S.state source.new) }
+    ensures reached { ReachedCopy result blocks level block (S.state source.old) numbers.old
+        (S.state source.new) numbers.new }
 {
     if level == 0 {
         copy_leaf(source, blocks, target, limit, block, numbers)
@@ -357,6 +368,10 @@ pub fn copy_tree<S: Disk, T: Disk>(
 
     // On a tree, no damage is found.
     ensures sound { SoundTreeCopy result blocks root (S.state source.old) (S.state source.new) }
+
+    // On a tree, whatever the answer, only its blocks are copied. At Full, one of them was not.
+    ensures reached { ReachedTreeCopy result blocks root (S.state source.old) numbers.old
+        (S.state source.new) numbers.new }
 {
     if root.block == 0 {
         return Ok(root);

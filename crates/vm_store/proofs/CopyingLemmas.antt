@@ -1,11 +1,12 @@
 -- The maps of versions stand under the copies of their roots, and how a copy is put on a disk.
-use Rattle.std.proofs.Common.{◌≡◌, inl, inr, ℕ, zero, suc, ◌+◌, ◌<◌, ◌≤◌, ◌^◌, Bool, true, false, Option, IfSome, Result, Ok, Err, IfErr, OnOk, List, [], ◌∷◌, ◌++◌, length, take, get_or, map, replicate, refl, sym, ap, subst, ◌∙◌, arith}
+use Rattle.std.proofs.Common.{◌≡◌, inl, inr, ℕ, zero, suc, ◌+◌, ◌<◌, ◌≤◌, ◌^◌, Bool, true, false, Option, IfSome, Result, Ok, Err, IfErr, IsOk, OnOk, List, [], ◌∷◌, ◌++◌, length, take, get_or, map, replicate, refl, sym, ap, subst, ◌∙◌, arith}
 use Rattle.std.specs.List.{AllByRecursion}
 use Rattle.std.proofs.lemmas.Bool.Decides.{nat_tests}
 use Rattle.std.proofs.lemmas.List.{take_more}
 use Rattle.vm_types.specs.Map.{Map}
 use Rattle.vm_types.specs.State.{State}
 use Rattle.vm_types.specs.Tree.{Tree}
+use Rattle.vm_alloc.specs.Held.{IsHeld, free_count}
 use Rattle.vm_block.specs.Slot.{SlotFits}
 use Rattle.vm_block.specs.declared.slot.Entry.{Entry}
 use Rattle.vm_block.specs.declared.selector.SlotName.{SlotName}
@@ -26,7 +27,7 @@ use Rattle.vm_check.specs.Renumbering.{AreGiven, GoesOn, IsCopied, IsUnused, nex
 use Rattle.vm_check.specs.Suits.{SuitsAt}
 use Rattle.vm_check.specs.declared.renumbering.Renumbering.{Renumbering}
 use Rattle.vm_check.proofs.CopyLemmas.{paired_join, paired_so, root_on, rooted_copied}
-use Rattle.vm_store.specs.Copies.{ComesBefore, EntriesCopied, GoesOnBoth, HasVersions, IsCopy, IsOfFill, IsOfTarget, VersionCopied, refusal_of_copy}
+use Rattle.vm_store.specs.Copies.{ComesBefore, EntriesCopied, FillsFrom, GoesOnBoth, HasVersions, HoldsVersions, IsCopy, IsOfFill, IsOfTarget, VersionCopied, refusal_of_copy}
 use Rattle.vm_store.specs.Filed.{Filed, Standing, StandsAs}
 use Rattle.vm_store.specs.Layout.{HasMaps, IsPutDown}
 use Rattle.vm_store.specs.Rest.{IsSafe, Rests}
@@ -86,6 +87,11 @@ zeros zero n = refl
 zeros (suc k) zero = refl
 zeros (suc k) (suc n) = zeros k n
 
+pub unused_none : (kept : ℕ) (numbers : Renumbering) → IsUnused kept numbers → (n : ℕ) → IsCopied numbers n → ⊥
+unused_none kept numbers unused n is =
+    let zero_there : number_at numbers n ≡ 0 = ap (λ (xs : List ℕ). get_or xs n 0) unused.0 ∙ zeros kept n in
+    omega (arith, is, zero_there)
+
 -- where no number is given, all that was copied stands there
 pub unused_copied : (x y : Contents) (kept limit : ℕ) (numbers : Renumbering) → IsUnused kept numbers → 34 ≤ limit → AreCopied x y limit numbers
 unused_copied x y kept limit numbers unused room = record {
@@ -100,9 +106,7 @@ unused_copied x y kept limit numbers unused room = record {
 }
   where
     none : (n : ℕ) → IsCopied numbers n → ⊥
-    none n is =
-        let zero_there : number_at numbers n ≡ 0 = ap (λ (xs : List ℕ). get_or xs n 0) unused.0 ∙ zeros kept n in
-        omega (arith, is, zero_there)
+    none = unused_none kept numbers unused
 
 -- # The entries of the copies
 
@@ -168,22 +172,36 @@ pub versions_kept : (m : Medium) (limit kept : ℕ) (slot_name : SlotName) (bits
 versions_kept m limit kept slot_name bits committed working s same rests =
     subst (λ n. HasVersions s.committed n committed m.contents) (sym same) (has_versions m limit slot_name bits committed working s rests)
 
+-- the blocks under its roots are held, and the first ones
+pub versions_held : (m : Medium) (limit kept : ℕ) (slot_name : SlotName) (bits : List Bool) (committed working : List Version) (s : State) → kept ≡ s.kept → Rests m limit slot_name bits committed working s
+    → HoldsVersions bits kept committed m.contents
+versions_held m limit kept slot_name bits committed working s same rests = record {
+  first = rests.system;
+  filed = rests.old;
+  stands = subst (λ n. Standing (IsHeld bits) m.contents n committed rests.old) (sym same) (standing_in (IsSafe rests.format bits m) (IsHeld bits) m.contents m.contents s.kept (λ n is. refl) (λ n is. is.held) committed rests.old rests.safe);
+}
+
+-- what a copy reads is held, where it was done
+pub held_reads : {T : Type 0} (s s' : DiskState) (held : List Bool) (blocks many : ℕ) (full : Type 0) (result : Result T Refusal) → FillsFrom held full (IsOk result) s s' blocks → length held ≡ many → OnOk result (s'.reads + 34 + free_count held ≤ s.reads + many)
+held_reads s s' held blocks many full (Ok x) from same = omega (arith, from.reads refl, same)
+held_reads s s' held blocks many full (Err r) from same = tt
+
 -- # On a source that was only read
 
 -- the maps of one version
-pub version_at : (x : Contents) (kept : ℕ) (vs : List Version) (fs : List Filed) (i : ℕ) (d : Version) → i < length vs → Standing (λ n. Unit {0}) x kept vs fs → (f : Filed) × StandsAs (λ n. Unit {0}) x kept (get_or vs i d) f
-version_at x kept [] fs i d lt stands = absurd (omega (arith, lt))
-version_at x kept (v ∷ vs) [] i d lt stands = absurd stands
-version_at x kept (v ∷ vs) (f ∷ fs) zero d lt stands = (f, stands.0)
-version_at x kept (v ∷ vs) (f ∷ fs) (suc i) d lt stands = version_at x kept vs fs i d (omega (arith, lt)) stands.1
+pub version_at : (P : ℕ → Type 0) (x : Contents) (kept : ℕ) (vs : List Version) (fs : List Filed) (i : ℕ) (d : Version) → i < length vs → Standing P x kept vs fs → (f : Filed) × StandsAs P x kept (get_or vs i d) f
+version_at P x kept [] fs i d lt stands = absurd (omega (arith, lt))
+version_at P x kept (v ∷ vs) [] i d lt stands = absurd stands
+version_at P x kept (v ∷ vs) (f ∷ fs) zero d lt stands = (f, stands.0)
+version_at P x kept (v ∷ vs) (f ∷ fs) (suc i) d lt stands = version_at P x kept vs fs i d (omega (arith, lt)) stands.1
 
 module _ {n m : Medium} (same : m ≡ n) where
   pub under_here : (kept : ℕ) (root : Root) (bs : List ℕ) → IsUnder sizes n.contents kept root bs → IsUnder sizes m.contents kept root bs
   under_here kept root bs under = subst (λ (l : Medium). IsUnder sizes l.contents kept root bs) (sym same) under
 
-  pub version_here : (kept : ℕ) (v w : Version) (f : Filed) → v ≡ w → StandsAs (λ n. Unit {0}) n.contents kept v f → StandsAs (λ n. Unit {0}) m.contents kept w f
-  version_here kept v w f is stands =
-      subst (λ (l : Medium). StandsAs (λ n. Unit {0}) l.contents kept w f) (sym same) (subst (λ (u : Version). StandsAs (λ n. Unit {0}) n.contents kept u f) is stands)
+  pub version_here : (P : ℕ → Type 0) (kept : ℕ) (v w : Version) (f : Filed) → v ≡ w → StandsAs P n.contents kept v f → StandsAs P m.contents kept w f
+  version_here P kept v w f is stands =
+      subst (λ (l : Medium). StandsAs P l.contents kept w f) (sym same) (subst (λ (u : Version). StandsAs P n.contents kept u f) is stands)
 
 -- # Faults
 

@@ -10,6 +10,7 @@ pub mod ForgetLemmas
 pub mod FormattingLemmas
 pub mod EarliestLemmas
 pub mod FoundLemmas
+pub mod FullLemmas
 pub mod GrownLemmas
 pub mod GuardLemmas
 pub mod LayoutLemmas

@@ -1,5 +1,5 @@
 -- What a copy of a store on another disk is.
-use Rattle.std.specs.Prelude.{◌≡◌, ◌⊎◌, ℕ, ◌+◌, ◌<◌, ◌≤◌, true, false, List, [], vec_capacity, Result, IfErr, IfOk, OnOk}
+use Rattle.std.specs.Prelude.{◌≡◌, ◌⊎◌, ℕ, ◌+◌, ◌<◌, ◌≤◌, Bool, true, false, List, [], length, vec_capacity, Result, Err, IfErr, IfOk, IsOk, OnOk}
 use Rattle.vm_types.specs.declared.refusal.Refusal.{Refusal}
 use Rattle.vm_types.specs.declared.refusal.Refusal.TheVariants as refusal
 use Rattle.vm_types.specs.declared.sizes.TheConstants.{FIRST_DATA, MAX_VERSIONS}
@@ -7,10 +7,12 @@ use Rattle.vm_types.specs.State.{Seen, State}
 use Rattle.vm_types.specs.Tree.{Tree}
 use Rattle.vm_disk.specs.Disk.{Contents, DiskState, Goes, IsClean, Medium, block}
 use Rattle.vm_disk.specs.Moments.{Leaves, Throughout}
+use Rattle.vm_alloc.specs.Held.{IsHeld, free_count}
+use Rattle.vm_alloc.specs.Marks.{IsMarked}
 use Rattle.vm_block.specs.Header.{IsHeader}
 use Rattle.vm_block.specs.Slot.{SlotFits}
 use Rattle.vm_block.specs.declared.slot.Entry.{Entry}
-use Rattle.vm_check.specs.TreeCopy.{AreCopied, IsUndamaged, Paired, RootCopied, WhereCopied}
+use Rattle.vm_check.specs.TreeCopy.{AreCopied, CopiesMarked, IsUndamaged, Paired, RootCopied, WhereCopied}
 use Rattle.vm_check.specs.declared.tree_copy.CopyFault.{CopyFault}
 use Rattle.vm_check.specs.declared.tree_copy.CopyFault.TheVariants as of_copy
 use Rattle.vm_check.specs.Renumbering.{IsUnused}
@@ -54,6 +56,18 @@ SoundVersionCopy result kept v s s' = s'.honest ≡ true → (f : Filed) → Sta
 -- under the roots of all versions do
 abbrev pub SoundVersionsCopy : {T : Type 0} → Result T CopyFault → ℕ → List Version → DiskState → DiskState → Type 0
 SoundVersionsCopy result kept vs s s' = s'.honest ≡ true → (fs : List Filed) → Standing (λ n. Unit {0}) s.now.contents kept vs fs → IsUndamaged result
+
+-- # Which blocks are copied, whatever the answer, if the source is honest after it
+
+-- under both roots of the version lie maps in marked blocks
+abbrev pub ReachedVersionCopy : {T : Type 0} → Result T CopyFault → ℕ → Version → DiskState → Renumbering → DiskState → Renumbering → Type 0
+ReachedVersionCopy result kept v s old s' new =
+    s'.honest ≡ true → (marks : List Bool) (f : Filed) → StandsAs (IsMarked marks) s.now.contents kept v f → CopiesMarked (result ≡ Err of_copy.Full) marks old new
+
+-- under the roots of all versions do
+abbrev pub ReachedVersionsCopy : {T : Type 0} → Result T CopyFault → ℕ → List Version → DiskState → Renumbering → DiskState → Renumbering → Type 0
+ReachedVersionsCopy result kept vs s old s' new =
+    s'.honest ≡ true → (marks : List Bool) (fs : List Filed) → Standing (IsMarked marks) s.now.contents kept vs fs → CopiesMarked (result ≡ Err of_copy.Full) marks old new
 
 -- # The entries of a copy
 
@@ -104,6 +118,22 @@ IsOfTarget r = (r ≡ refusal.Device) ⊎ (r ≡ refusal.Full)
 -- or a block of the source is damaged
 abbrev pub IsOfFill : Refusal → Type 0
 IsOfFill r = IsOfTarget r ⊎ ((b : ℕ) × (r ≡ refusal.Damaged b))
+
+-- the first 34 blocks are held, and all blocks under the roots of the versions
+pub record HoldsVersions (held : List Bool) (kept : ℕ) (vs : List Version) (x : Contents) : Type 0 where
+  pub first : (n : ℕ) → n < FIRST_DATA → IsHeld held n
+  pub filed : List Filed
+  pub stands : Standing (IsHeld held) x kept vs filed
+
+-- if it is refused for want of blocks, it has fewer than are held; if it was done, no more blocks were read than are held for data
+pub record FillsFrom (held : List Bool) (full done : Type 0) (s s' : DiskState) (blocks : ℕ) : Type 0 where
+  pub lacks : full → blocks + free_count held < length held
+  pub reads : done → s'.reads + FIRST_DATA + free_count held ≤ s.reads + length held
+
+-- the same with this result, if the source is honest after it and the versions stand in held blocks
+abbrev pub FillsFromHeld : {T : Type 0} → Result T Refusal → DiskState → DiskState → ℕ → List Version → ℕ → Type 0
+FillsFromHeld result s s' kept vs blocks =
+    s'.honest ≡ true → (held : List Bool) → HoldsVersions held kept vs s.now.contents → FillsFrom held (result ≡ Err refusal.Full) (IsOk result) s s' blocks
 
 -- this is shown, and all is synced
 pub record IsCopy (seen : Seen) (m : Medium) : Type 0 where
@@ -160,6 +190,10 @@ module _ {D : Type 0} {members : _} where
   -- it shows just what the store has committed, in so many blocks, and all is synced, where it was done
   abbrev pub Copies : {T E : Type 0} → Result T E → (old new : Store D members) → DiskState → ℕ → Type 0
   Copies result old new t' blocks = OfState old new (λ s. t'.honest ≡ true → OnOk result (IsCopy (in_blocks s blocks) t'.now))
+
+  -- if it was done, it made no more reads than the source holds blocks for data
+  abbrev pub ReadsHeld : {T E : Type 0} → Result T E → (old new : Store D members) → Type 0
+  ReadsHeld result old new = OfState old new (λ s. OnOk result (reads_of new + FIRST_DATA + free_of old ≤ reads_of old + blocks_of old))
 
   -- it made no more reads of the source than the copy has blocks for data, where it was done
   abbrev pub ReadsFew : {T E : Type 0} → Result T E → (old new : Store D members) → DiskState → ℕ → Type 0

@@ -4,7 +4,7 @@ ghost use Rattle.vm_types.specs.declared.sizes.TheConstants.{FIRST_DATA};
 ghost use Rattle.vm_disk.specs.Moments.{OnlyReads};
 ghost use Rattle.vm_check.specs.TreeCopy.{StepsTo};
 ghost use Rattle.vm_check.specs.Renumbering.{count_of, next_of};
-ghost use Rattle.vm_store.specs.Copies.{ComesBefore, Copies, CopiesAtMost, CopiesEntries, CopiesVersion, CopiesVersions, Fills, FillsAtMost, FillsSoundly, GoesOnBoth, IsOfCopy, IsOfFill, IsRefusedFirst, IsRoom, LacksBlocks, OfState, ReadsFew, SoundVersionCopy, SoundVersionsCopy, refusal_of_copy};
+ghost use Rattle.vm_store.specs.Copies.{ComesBefore, Copies, CopiesAtMost, CopiesEntries, CopiesVersion, CopiesVersions, Fills, FillsAtMost, FillsFromHeld, FillsSoundly, GoesOnBoth, IsOfCopy, IsOfFill, IsRefusedFirst, IsRoom, LacksBlocks, OfState, ReachedVersionCopy, ReachedVersionsCopy, ReadsFew, ReadsHeld, SoundVersionCopy, SoundVersionsCopy, refusal_of_copy};
 ghost use Rattle.vm_store.specs.NewStore.{ComesBack, HadHeader, IsBadSize, LeavesStore, given_back};
 ghost use Rattle.vm_store.specs.Store.{IsHonest, IsSameButDisk, ReadsAlone, disk_of, has_failed};
 
@@ -65,6 +65,8 @@ fn copy_version<S: Disk, T: Disk>(
     ensures copied { CopiesVersion result limit version.now (S.state source.old)
         (T.state target.old) numbers.old (S.state source.new) (T.state target.new) numbers.new }
     ensures sound { SoundVersionCopy result blocks version.now (S.state source.old) (S.state source.new) }
+    ensures reached { ReachedVersionCopy result blocks version.now (S.state source.old) numbers.old
+        (S.state source.new) numbers.new }
 {
     let current = copy_tree(source, blocks, target, limit, version.current, numbers)?;
     let base = copy_tree(source, blocks, target, limit, version.base, numbers)?;
@@ -98,6 +100,8 @@ fn copy_versions<S: Disk, T: Disk>(
     ensures copied { CopiesVersions result limit versions.now copies.new.items (S.state source.old)
         (T.state target.old) numbers.old (S.state source.new) (T.state target.new) numbers.new }
     ensures sound { SoundVersionsCopy result blocks versions.now (S.state source.old) (S.state source.new) }
+    ensures reached { ReachedVersionsCopy result blocks versions.now (S.state source.old) numbers.old
+        (S.state source.new) numbers.new }
 {
     for version in versions {
         let copy = copy_version(source, blocks, target, limit, version, numbers)?;
@@ -128,6 +132,8 @@ fn copy_entries<S: Disk, T: Disk>(
     ensures copied { CopiesEntries result limit versions.now room.new.entries.items (S.state source.old)
         (T.state target.old) room.old.numbers (S.state source.new) (T.state target.new) room.new.numbers }
     ensures sound { SoundVersionsCopy result kept versions.now (S.state source.old) (S.state source.new) }
+    ensures reached { ReachedVersionsCopy result kept versions.now (S.state source.old) room.old.numbers
+        (S.state source.new) room.new.numbers }
 {
     copy_versions(
         source,
@@ -175,6 +181,7 @@ fn fill<S: Disk, T: Disk>(
         → OnlyReads (S.state source.old) (S.state source.new) }
     ensures bound { (S.state source.new).honest ≡ true → (T.state target.new).honest ≡ true
         → OnOk result ((S.state source.new).reads + FIRST_DATA ≤ (S.state source.old).reads + blocks) }
+    ensures held { FillsFromHeld result (S.state source.old) (S.state source.new) kept versions.now blocks }
     ensures refusals { IfErr result IsOfFill }
     ensures sound { FillsSoundly (S.state source.old) (T.state target.old) (S.state source.new) (T.state target.new)
         kept versions.now blocks result }
@@ -209,6 +216,9 @@ fn copy_to<S: Disk, T: Disk>(
     ensures same { IsSameButDisk source.old source.new }
     ensures reads { IsHonest source.new → ReadsAlone source.old source.new }
     ensures bound { ReadsFew result source.old source.new (T.state target.new) blocks }
+    ensures held { ReadsHeld result source.old source.new }
+    ensures full { OfState source.old source.new (λ s. result ≡ Err Refusal.Full
+        → LacksBlocks source.old blocks) }
     ensures late { IfErr result (λ r. ComesBefore r → ⊥) }
     ensures sound { OfState source.old source.new (λ s. IfErr result IsOfCopy) }
     ensures already { HadHeader (T.state target.old) (T.state target.new) (result ≡ Err Refusal.AlreadyAStore) }
@@ -273,8 +283,9 @@ pub fn copy<S: Disk, T: Disk>(
     ensures same { IsSameButDisk source.old source.new }
     ensures reads { IsHonest source.new → ReadsAlone source.old source.new }
 
-    // It makes no more reads than the copy has data blocks.
+    // It makes no more reads than the copy has data blocks, and no more than the source holds.
     ensures bound { ReadsFew result source.old source.new (T.state (given_back result)) blocks }
+    ensures held { ReadsHeld result source.old source.new }
 
     // What is refused before any call of either disk.
     ensures failed { ComesBack result Refusal.Failed ↔ (has_failed source.old ≡ true) }
@@ -287,6 +298,10 @@ pub fn copy<S: Disk, T: Disk>(
 
     // The only refusals if the store represents a state.
     ensures refusals { OfState source.old source.new (λ s. IfErr result (λ e. IsOfCopy e.1)) }
+
+    // It is Full only if there are fewer blocks than the source holds.
+    ensures full { OfState source.old source.new (λ s. ComesBack result Refusal.Full
+        → LacksBlocks source.old blocks) }
 
     // If there already is a store, it refuses and leaves the store as it was.
     ensures already { HadHeader (T.state target) (T.state (given_back result)) (ComesBack result Refusal.AlreadyAStore) }

@@ -1,6 +1,7 @@
-use Rattle.std.proofs.Common.{◌≡◌, ◌+◌, ◌-◌, ◌<◌, ◌≤◌, ◌++◌, ℕ, List, length, drop, get_or, inl, inr, refl, sym, ap, subst, ◌∙◌, arith}
+use Rattle.std.proofs.Common.{◌≡◌, ◌-◌, ◌<◌, ◌≤◌, ◌++◌, ℕ, List, length, drop, get_or, inl, inr, refl, sym, ap, subst, ◌∙◌, arith}
 use Rattle.std.proofs.lemmas.Bool.{false≢true}
 use Rattle.vm_disk.specs.Disk.{block}
+use Rattle.vm_alloc.specs.Marks.{IsMarked}
 use Rattle.vm_disk.proofs.MomentLemmas.{same_medium}
 use Rattle.vm_block.specs.Node.{IsNode}
 use Rattle.vm_block.specs.declared.node.Child.{Child}
@@ -13,6 +14,7 @@ use Rattle.vm_check.specs.Renumbering.{count_of, number_at}
 use Rattle.vm_check.proofs.CopyLemmas.{child_here, child_on, child_under, children_here, copied_back, copied_in, copies_block, fresh_still, node_here, node_over, only_after, only_put, ups_then, ups_up}
 use Rattle.vm_check.proofs.CopySoFar.{so_far_length, so_far_more, so_far_next}
 use Rattle.vm_check.proofs.CopySteps.{same_fault, step_fails, step_on, step_put, step_read}
+use Rattle.vm_check.proofs.ReachedLemmas.{child_each, marked_put, marked_so, marked_then, node_each, none_copied}
 use Rattle.vm_check.proofs.tree_copy.+copy_below.Goals as goal
 
 pub copy_children-returns-in_err-block-clause-step : goal.copy_children-returns-in_err-block-clause-step
@@ -30,6 +32,20 @@ copy_children-returns-in_err-block-clause-sound g t c source sizes above cs rs b
     let same = same_medium _ _ (so_far.step.looks.reads (c.in_err-block.ensures.step.looks.goes.earlier source)) in
     c.in_err-block.ensures.sound source sizes under.0 under.1 (child_here same sizes c.args.blocks c.args.level (get_or cs c.loop-i.i d) d under.0 under.1 (sym child ∙ so_far_next at d lt) under.2) b (same_fault _ _ _ c.from_residual.ensures.1 is)
 
+pub copy_children-returns-in_err-block-clause-reached : goal.copy_children-returns-in_err-block-clause-reached
+copy_children-returns-in_err-block-clause-reached g t c source sizes above cs rs bs node many below marks each =
+    let so_far = c.loop-i.invariant in
+    let lt : c.loop-i.i < length cs = omega (arith, c.loop-i-test.true, many) in
+    let d = c.child_at-child.result in
+    let at = so_far.nodes above cs node many in
+    let child = c.child_at-child.ensures.child above _ at.holds (omega (arith, lt, so_far_length at (omega (arith, lt)))) in
+    let under = child_each (IsMarked marks) (Subtree sizes _ c.args.blocks c.args.level) cs rs bs c.loop-i.i d lt below each in
+    let before = c.in_err-block.ensures.step.looks.goes.earlier source in
+    let same = same_medium _ _ (so_far.step.looks.reads before) in
+    marked_then marks _ _ _ (so_far.reached before sizes above cs rs bs node many below marks each)
+    (c.in_err-block.ensures.reached source sizes under.0 under.1 (child_here same sizes c.args.blocks c.args.level (get_or cs c.loop-i.i d) d under.0 under.1 (sym child ∙ so_far_next at d lt) under.2) marks under.3)
+    (λ is. same_fault _ _ _ c.from_residual.ensures.1 is)
+
 pub copy_children-loop-i-preserved : goal.copy_children-loop-i-preserved
 copy_children-loop-i-preserved g t c =
     let so_far = c.loop-i.invariant in
@@ -39,6 +55,16 @@ copy_children-loop-i-preserved g t c =
     record {
       step = step_on so_far.step refl more.step (λ is. cc) (λ is. cc) (λ is. cc) (λ is. refl);
       only = λ source. ups_then (same_medium _ _ (so_far.step.looks.reads (more.step.looks.goes.earlier source))) c.args.level c.args.numbers.now c.loop-i.numbers c.copy_below.new.numbers (so_far.only (more.step.looks.goes.earlier source)) (more.only source);
+      reached = λ source sizes above cs rs bs node many below marks each.
+          let lt : c.loop-i.i < length cs = omega (arith, c.loop-i-test.true, many) in
+          let at = so_far.nodes above cs node many in
+          let child = c.child_at-child.ensures.child above _ at.holds (omega (arith, lt, so_far_length at (omega (arith, lt)))) in
+          let under = child_each (IsMarked marks) (Subtree sizes _ c.args.blocks c.args.level) cs rs bs c.loop-i.i d lt below each in
+          let before = more.step.looks.goes.earlier source in
+          let same = same_medium _ _ (so_far.step.looks.reads before) in
+          marked_then marks _ _ _ (so_far.reached before sizes above cs rs bs node many below marks each)
+          (more.reached source sizes under.0 under.1 (child_here same sizes c.args.blocks c.args.level (get_or cs c.loop-i.i d) d under.0 under.1 (sym child ∙ so_far_next at d lt) under.2) marks under.3)
+          (λ is. cc);
       nodes = λ above cs node many.
           let lt : c.loop-i.i < length cs = omega (arith, c.loop-i-test.true, many) in
           let at = so_far.nodes above cs node many in
@@ -126,3 +152,34 @@ copy_node-returns-clause-sound g t c source sizes rs bs tree b is =
     let none : number_at c.args.numbers.now c.args.block ≡ 0 = omega (arith, c.number_of-number.ensures, c.if-number-ne0.false) in
     fresh_still _ c.args.numbers.now c.copy_children.new.numbers c.args.block (c.in_ok-copy_children.ensures.only source) none
     (node_here same c.args.block (c.args.level - 1) c.args.level at.0 (omega (arith, up)) at.1.node) (c.put_copy.ensures.puts.twice b is)
+
+pub copy_node-returns-then-not-is_data-clause-reached : goal.copy_node-returns-then-not-is_data-clause-reached
+copy_node-returns-then-not-is_data-clause-reached g t c source sizes rs bs tree marks each = none_copied marks c.args.numbers.now (λ is. cc)
+
+pub copy_node-returns-then-number-ne0-clause-reached : goal.copy_node-returns-then-number-ne0-clause-reached
+copy_node-returns-then-number-ne0-clause-reached g t c source sizes rs bs tree marks each = none_copied marks c.args.numbers.now (λ is. cc)
+
+pub copy_node-returns-in_err-count-clause-reached : goal.copy_node-returns-in_err-count-clause-reached
+copy_node-returns-in_err-count-clause-reached g t c source sizes rs bs tree marks each = none_copied marks c.args.numbers.now (λ is. cc (passed_on _ c.from_residual.ensures.1, is))
+
+pub copy_node-returns-in_err-copy_children-clause-reached : goal.copy_node-returns-in_err-copy_children-clause-reached
+copy_node-returns-in_err-copy_children-clause-reached g t c source sizes rs bs tree marks each =
+    let up : 0 < c.args.level = omega (arith, c.requires.inner) in
+    let at = node_read sizes _ _ _ _ rs bs up tree in
+    let under = node_each (IsMarked marks) sizes _ _ c.args.level _ rs bs at.0 up tree (λ ds other. (node_one _ c.args.level c.args.level at.0 ds at.1.node other.node).1) each in
+    let before = c.in_err-copy_children.ensures.step.looks.goes.earlier source in
+    let read = c.in_ok-count.ensures.only before at.0 at.1 in
+    let same = same_medium _ _ (c.in_ok-count.ensures.looks.reads before) in
+    marked_so marks _ _ (c.in_err-copy_children.ensures.reached source sizes c.args.level at.0 rs under.0 read.0 read.1 (children_here same sizes c.args.blocks (c.args.level - 1) at.0 rs under.0 under.1) marks under.3)
+    (λ is. same_fault _ _ _ c.from_residual-in_err-copy_children.ensures.1 is)
+
+pub copy_node-returns-clause-reached : goal.copy_node-returns-clause-reached
+copy_node-returns-clause-reached g t c source sizes rs bs tree marks each =
+    let up : 0 < c.args.level = omega (arith, c.requires.inner) in
+    let at = node_read sizes _ _ _ _ rs bs up tree in
+    let under = node_each (IsMarked marks) sizes _ _ c.args.level _ rs bs at.0 up tree (λ ds other. (node_one _ c.args.level c.args.level at.0 ds at.1.node other.node).1) each in
+    let before = c.in_ok-copy_children.ensures.step.looks.goes.earlier source in
+    let read = c.in_ok-count.ensures.only before at.0 at.1 in
+    let same = same_medium _ _ (c.in_ok-count.ensures.looks.reads before) in
+    marked_then marks _ _ _ (c.in_ok-copy_children.ensures.reached source sizes c.args.level at.0 rs under.0 read.0 read.1 (children_here same sizes c.args.blocks (c.args.level - 1) at.0 rs under.0 under.1) marks under.3)
+    (marked_put marks c.put_copy.ensures.puts (at.1.inside.0, under.2)) (λ is. is)

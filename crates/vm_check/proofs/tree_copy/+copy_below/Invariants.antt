@@ -2,7 +2,7 @@ use Rattle.std.proofs.Common.{◌≡◌, ◌+◌, ◌*◌, Ok, ℕ, true, List, 
 use Rattle.vm_disk.specs.Disk.{block}
 use Rattle.vm_block.specs.Node.{IsNode}
 use Rattle.vm_block.specs.declared.node.Child.{Child}
-use Rattle.vm_check.specs.TreeCopy.{AreCopied, ChildCopied, CopiesOnly, IsUpTo, StepsTo, WhereCopied}
+use Rattle.vm_check.specs.TreeCopy.{AreCopied, ChildCopied, CopiesOnly, IsUpTo, ReachedChildrenCopy, StepsTo, WhereCopied}
 use Rattle.vm_check.proofs.CopySoFar.{SoFar}
 use Rattle.vm_check.proofs.tree_copy.+copy_below.Given as goal
 
@@ -23,6 +23,7 @@ invariant-copy_children-loop-i g l =
     let t' = g.T.Disk.state l.target in record {
       step : StepsTo {T = Unit {0}} (Ok tt) l.limit s t l.fn.numbers s' t' l.numbers;
       only : s'.honest ≡ true → CopiesOnly (λ n. IsUpTo l.level (block s.now.contents n)) l.fn.numbers l.numbers;
+      reached : ReachedChildrenCopy {T = Unit {0}} (Ok tt) l.blocks l.level l.count l.fn.bytes s l.fn.numbers s' l.numbers;
       nodes : (above : ℕ) (cs : List Child) → IsNode l.fn.bytes above cs → l.count ≡ length cs → SoFar (λ _ _. Unit {0}) (IsNode l.bytes above) l.i cs;
       copied : (above : ℕ) (cs : List Child) → IsNode l.fn.bytes above cs → l.count ≡ length cs
           → WhereCopied l.limit s t l.fn.numbers s' t' (AreCopied s.now.contents t'.now.contents l.limit l.numbers × SoFar (ChildCopied l.numbers) (IsNode l.bytes above) l.i cs);

@@ -1,5 +1,7 @@
 use Rattle.std.proofs.Common.{◌≡◌, ◌<◌, List, inl, inr, refl, sym, subst, ◌∙◌, arith}
 use Rattle.std.proofs.lemmas.Bool.{false≢true}
+use Rattle.std.specs.List.{AllByRecursion}
+use Rattle.vm_alloc.specs.Marks.{IsMarked}
 use Rattle.vm_disk.specs.Disk.{block}
 use Rattle.vm_disk.proofs.MomentLemmas.{same_medium}
 use Rattle.vm_block.specs.Leaf.{HasRows}
@@ -10,6 +12,7 @@ use Rattle.vm_check.specs.TreeCopy.{IsUpTo, LeafCopied}
 use Rattle.vm_check.specs.Renumbering.{count_of, number_at}
 use Rattle.vm_check.proofs.CopyLemmas.{all_stand_here, copied_back, copied_in, copies_block, fresh_still, longs_up, only_after, only_put, rows_here}
 use Rattle.vm_check.proofs.CopySteps.{same_fault, step_fails, step_put}
+use Rattle.vm_check.proofs.ReachedLemmas.{beside_links, marked_put, marked_so, marked_then, none_copied}
 use Rattle.vm_check.proofs.tree_copy.copy_leaf.Goals as goal
 
 pub returns-then-not-is_data-clause-sound : goal.returns-then-not-is_data-clause-sound
@@ -69,3 +72,30 @@ returns-clause-sound g c source sizes rs bs tree b is =
     let none : number_at c.args.numbers.now c.args.block ≡ 0 = omega (arith, c.number_of-number.ensures, c.if-number-ne0.false) in
     fresh_still _ c.args.numbers.now c.copy_rows.new.numbers c.args.block (c.in_ok-copy_rows.ensures.only source) none (rows_here same c.args.block at.holds.rows at.holds.leaf)
     (c.put_copy.ensures.puts.twice b is)
+
+pub returns-then-not-is_data-clause-reached : goal.returns-then-not-is_data-clause-reached
+returns-then-not-is_data-clause-reached g c source sizes rs bs tree marks each = none_copied marks c.args.numbers.now (λ is. cc)
+
+pub returns-then-number-ne0-clause-reached : goal.returns-then-number-ne0-clause-reached
+returns-then-number-ne0-clause-reached g c source sizes rs bs tree marks each = none_copied marks c.args.numbers.now (λ is. cc)
+
+pub returns-in_err-count-clause-reached : goal.returns-in_err-count-clause-reached
+returns-in_err-count-clause-reached g c source sizes rs bs tree marks each = none_copied marks c.args.numbers.now (λ is. cc (passed_on _ c.from_residual.ensures.1, is))
+
+pub returns-in_err-copy_rows-clause-reached : goal.returns-in_err-copy_rows-clause-reached
+returns-in_err-copy_rows-clause-reached g c source sizes rs bs tree marks each =
+    let at = leaf_opens sizes _ _ _ _ rs bs refl tree in
+    let before = c.in_err-copy_rows.ensures.step.looks.goes.earlier source in
+    let read = c.in_ok-count.ensures.only before at.holds.rows (record { inside = at.place; rows = at.holds.leaf }) in
+    let all = subst (AllByRecursion (IsMarked marks)) at.first each in
+    marked_so marks _ _ (c.in_err-copy_rows.ensures.reached marks at.holds.rows read.0 read.1 (beside_links (IsMarked marks) _ _ at.holds.rows rs at.under at.holds.stand all.1))
+    (λ is. same_fault _ _ _ c.from_residual-in_err-copy_rows.ensures.1 is)
+
+pub returns-clause-reached : goal.returns-clause-reached
+returns-clause-reached g c source sizes rs bs tree marks each =
+    let at = leaf_opens sizes _ _ _ _ rs bs refl tree in
+    let before = c.in_ok-copy_rows.ensures.step.looks.goes.earlier source in
+    let read = c.in_ok-count.ensures.only before at.holds.rows (record { inside = at.place; rows = at.holds.leaf }) in
+    let all = subst (AllByRecursion (IsMarked marks)) at.first each in
+    marked_then marks _ _ _ (c.in_ok-copy_rows.ensures.reached marks at.holds.rows read.0 read.1 (beside_links (IsMarked marks) _ _ at.holds.rows rs at.under at.holds.stand all.1))
+    (marked_put marks c.put_copy.ensures.puts (at.place.0, all.0)) (λ is. is)

@@ -3,6 +3,7 @@ use Rattle.vm_block.specs.Leaf.{HasRows, link_bytes}
 use Rattle.vm_check.specs.Renumbering.{IsCopied}
 use Rattle.vm_check.proofs.CopyLemmas.{long_linked, with_same}
 use Rattle.vm_check.proofs.CopySteps.{same_fault}
+use Rattle.vm_check.proofs.ReachedLemmas.{marked_so, none_copied}
 use Rattle.vm_check.proofs.tree_copy.copy_row.Goals as goal
 
 pub returns-in_default-clause-copied : goal.returns-in_default-clause-copied
@@ -53,3 +54,17 @@ pub returns-clause-others : goal.returns-clause-others
 returns-clause-others g c ws d leaf many =
     let lt : c.args.i < length ws = omega (arith, many, c.requires.within) in
     (_, c.set_link.ensures ws d leaf many lt)
+
+pub returns-in_default-clause-reached : goal.returns-in_default-clause-reached
+returns-in_default-clause-reached g c marks ws d leaf many linked = none_copied marks c.args.numbers.now (λ is. cc)
+
+pub returns-in_err-block-clause-reached : goal.returns-in_err-block-clause-reached
+returns-in_err-block-clause-reached g c marks ws d leaf many linked =
+    let lt : c.args.i < length ws = omega (arith, many, c.requires.within) in
+    marked_so marks _ _ (c.in_err-block.ensures.reached marks (linked c.in-Some.link.block (c.in-Some.link, c.in-Some.ensures.fits, c.in-Some.ensures.row ws d leaf lt, refl)))
+    (λ is. same_fault _ _ _ c.from_residual.ensures.1 is)
+
+pub returns-clause-reached : goal.returns-clause-reached
+returns-clause-reached g c marks ws d leaf many linked =
+    let lt : c.args.i < length ws = omega (arith, many, c.requires.within) in
+    marked_so marks _ _ (c.in_ok-block.ensures.reached marks (linked c.in-Some.link.block (c.in-Some.link, c.in-Some.ensures.fits, c.in-Some.ensures.row ws d leaf lt, refl))) (λ is. cc)

@@ -1,6 +1,7 @@
 use Rattle.std.proofs.Common.{◌∙◌, ap, length, sym}
 use Rattle.vm_tree.proofs.Looking.{passed_on}
 use Rattle.vm_check.proofs.CopySteps.{same_fault}
+use Rattle.vm_check.proofs.ReachedLemmas.{marked_so}
 use Rattle.vm_store.specs.Versions.{slot_entries}
 use Rattle.vm_store.proofs.SlotLemmas.{slot-length}
 use Rattle.vm_store.proofs.store.copies.copy_entries.Goals as goal
@@ -23,3 +24,7 @@ returns-clause-copied g c source target so_far =
       copied = done.0;
       each = done.1;
     }
+
+pub returns-in_err-copy_versions-clause-reached : goal.returns-in_err-copy_versions-clause-reached
+returns-in_err-copy_versions-clause-reached g c source marks fs stands =
+    marked_so marks _ _ (c.in_err-copy_versions.ensures.reached source marks fs stands) (λ is. same_fault _ _ _ c.from_residual.ensures.1 is)

@@ -1,10 +1,10 @@
-use Rattle.std.proofs.Common.{List, ap, inl, inr, refl, subst, sym}
+use Rattle.std.proofs.Common.{List, ap, inl, inr, refl, subst, sym, arith}
 use Rattle.std.specs.Result.{is_err}
 use Rattle.vm_disk.proofs.MomentLemmas.{and_then, at_end, weaken}
 use Rattle.vm_store.specs.Store.{disk_of}
 use Rattle.vm_store.specs.declared.version.Version.{Version}
-use Rattle.vm_store.specs.Copies.{HasVersions, IsCopying, IsOfCopy, IsOfFill, IsOfTarget, in_blocks}
-use Rattle.vm_store.proofs.CopyingLemmas.{both_after, both_target, fill_blank, fill_late, refused_so, versions_kept}
+use Rattle.vm_store.specs.Copies.{HasVersions, HoldsVersions, IsCopying, IsOfCopy, IsOfFill, IsOfTarget, in_blocks}
+use Rattle.vm_store.proofs.CopyingLemmas.{both_after, both_target, fill_blank, fill_late, held_reads, refused_so, versions_held, versions_kept}
 use Rattle.vm_store.proofs.FormattingLemmas.{none_synced, not_true, still_there}
 use Rattle.vm_store.proofs.store.copies.copy_to.Goals as goal
 
@@ -51,3 +51,12 @@ returns-clause-moments g c source s holds honest =
     let looked = weaken _ _ _ P (λ m so_far. inl so_far) (c.has_header.ensures.moments before) in
     let filled = weaken _ _ _ P (λ m leaves. inr (none, leaves)) (c.fill.ensures.moments source s.committed has honest (synced.clean 0) (none_synced _ _ synced none)) in
     and_then _ _ _ P looked filled
+
+pub returns-clause-held : goal.returns-clause-held
+returns-clause-held g c source s holds =
+    held_reads _ _ _ _ _ _ c.fill.result (c.fill.ensures.held source c.args.source.now.held (subst (λ (vs : List Version). HoldsVersions c.args.source.now.held c.args.source.now.kept vs (g.S.Disk.state (disk_of c.args.source.now)).now.contents) (sym c.as_slice.ensures.items) (versions_held _ _ _ _ _ _ _ s holds.keeps holds.rests))) c.args.source.now.bits
+
+pub returns-clause-full : goal.returns-clause-full
+returns-clause-full g c source s holds is =
+    let held = c.fill.ensures.held source c.args.source.now.held (subst (λ (vs : List Version). HoldsVersions c.args.source.now.held c.args.source.now.kept vs (g.S.Disk.state (disk_of c.args.source.now)).now.contents) (sym c.as_slice.ensures.items) (versions_held _ _ _ _ _ _ _ s holds.keeps holds.rests)) in
+    omega (arith, held.lacks is, c.args.source.now.bits)

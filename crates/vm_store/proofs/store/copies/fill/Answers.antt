@@ -1,4 +1,4 @@
-use Rattle.std.proofs.Common.{List, ap, arith, refl, subst, sym}
+use Rattle.std.proofs.Common.{Err, List, Result, ap, arith, refl, subst, sym}
 use Rattle.std.specs.Result.{is_err}
 use Rattle.vm_types.specs.declared.refusal.Refusal.{Refusal}
 use Rattle.vm_types.specs.State.{Seen}
@@ -7,10 +7,12 @@ use Rattle.vm_disk.specs.Moments.{Leaves}
 use Rattle.vm_block.specs.Header.{IsHeader}
 use Rattle.vm_block.specs.declared.slot.Entry.{Entry}
 use Rattle.vm_check.specs.TreeCopy.{is_for_data}
+use Rattle.vm_check.specs.declared.tree_copy.CopyFault.{CopyFault}
 use Rattle.vm_store.specs.Layout.{HasMaps}
 use Rattle.vm_store.specs.Shown.{ShowsAtMost}
 use Rattle.vm_store.specs.Copies.{IsOfFill, IsOfTarget}
 use Rattle.vm_store.proofs.CopyingLemmas.{both_then, copied_now, fill_fault, first_apart, maps_copied, sound_fault, step_both, unused_copied}
+use Rattle.vm_store.proofs.FullLemmas.{full_fault, next_fewer, next_most}
 use Rattle.vm_store.proofs.LayoutLemmas.{KeepsFirst, first_untouched, no_header, nothing_most}
 use Rattle.vm_store.proofs.store.copies.fill.Goals as goal
 
@@ -87,3 +89,26 @@ returns-in-Ok-put_down-clause-bound g c source honest =
     let unused = unused_copied _ _ c.args.kept c.args.blocks _ c.requires.unused.numbers (omega (arith, c.requires.least)) in
     let done = c.in-Ok.ensures.copied source before unused in
     omega (arith, c.in-Ok.ensures.step.paid refl, done.copied.within, c.requires.unused.numbers.1)
+
+pub returns-in-Err-clause-held : goal.returns-in-Err-clause-held
+returns-in-Err-clause-held g c source held has =
+    let marked = c.in-Err.ensures.reached source held has.filed has.stands in
+    record {
+      lacks = λ is.
+          let to : CopyFault → Result (Unit {0}) CopyFault = λ f. Err f in
+          let none = ap to (full_fault c.in-Err.fault (cc (c.refusal_of.ensures, is))) in
+          omega (arith, c.in-Err.ensures.step.full none, next_fewer _ held c.args.kept _ _ (record { unused = c.requires.unused.numbers; on = c.in-Err.ensures.step.numbers; first = has.first }) marked none);
+      reads = λ is. cc;
+    }
+
+pub returns-in-Ok-put_down-clause-held : goal.returns-in-Ok-put_down-clause-held
+returns-in-Ok-put_down-clause-held g c source held has =
+    let marked = c.in-Ok.ensures.reached source held has.filed has.stands in
+    record {
+      lacks = λ is. cc;
+      reads = λ is.
+          omega (arith, c.in-Ok.ensures.step.paid refl, c.requires.unused.numbers.1, next_most _ held c.args.kept _ _ (record { unused = c.requires.unused.numbers; on = c.in-Ok.ensures.step.numbers; first = has.first }) marked);
+    }
+
+pub returns-in-Err-put_down-clause-held : goal.returns-in-Err-put_down-clause-held
+returns-in-Err-put_down-clause-held g c source held has = record { lacks = λ is. cc; reads = λ is. cc }
