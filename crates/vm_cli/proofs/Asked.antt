@@ -22,9 +22,9 @@ use Rattle.clap.specs.Faults.{fault_of, level_fault, values_fault}
 use Rattle.clap.specs.declared.builder.value_parser.ValueParser.TheVariants as vp
 use Rattle.clap.specs.declared.builder.value_parser.ValueParser.{ValueParser}
 use Rattle.clap.proofs.ValueTestLemmas.{Accepts-accepts, accepts-Accepts}
-use Rattle.vm_cli.specs.Words.{Wanted, altctl, asked_of, blocks_rule, buffer_rule, cache_rule, check_app, command_with, create_app, do_app, file_rule, grow_rule, grow_to_rule, buffer_by, is_set, line_rule, no_lock_rule, number_in, read_only_rule, refusal_by, run_app, strict_rule, tree_app, wait_rule}
+use Rattle.vm_cli.specs.Words.{Wanted, altctl, asked_of, blocks_rule, buffer_rule, cache_rule, check_app, command_with, copy_app, create_app, do_app, file_rule, grow_rule, grow_to_rule, buffer_by, is_set, line_rule, no_lock_rule, number_by, number_in, read_only_rule, refusal_by, run_app, strict_rule, tree_app, wait_rule}
 use Rattle.vm_cli.specs.Given.{input_of}
-use Rattle.vm_cli.specs.Words.Wanted.{check, create, do_lines, draw, run}
+use Rattle.vm_cli.specs.Words.Wanted.{check, copy, create, do_lines, draw, run}
 use Rattle.vm_cli.specs.declared.talk.OnRefusal.TheVariants.{Ignore, Tell}
 use Rattle.vm_cli.proofs.FaultFree.{Every, every-found, neither, nothing_wanting}
 use Rattle.vm_cli.proofs.Levels.{IsFilled, IsKnown, each_given, given_row, has-default, has-stays, held_row, level_rows, no-default}
@@ -112,6 +112,9 @@ check_level = built_leaf check_app.top
 abbrev tree_level : Shape
 tree_level = built_leaf tree_app.top
 
+abbrev copy_level : Shape
+copy_level = built_leaf copy_app.top
+
 -- what is known of an argument that takes one value
 abbrev valued : {c : List Rule} {a : Rule} → action_of a ≡ Set → 0 < (unwrap_or_range a.range).start_inclusive → values_fault a a.defaults ≡ [] → arg_by_id c a.id ≡ Some a → IsKnown c a
 valued sets least defaults found = inl (record { sets = sets; least = least; defaults = defaults; found = found })
@@ -143,6 +146,9 @@ check_known = (valued refl (lit< tt) refl refl, (flag (codes "true") refl refl r
 tree_known : Every (IsKnown tree_level.rules) tree_level.rules
 tree_known = (valued refl (lit< tt) refl refl, (flag (codes "true") refl refl refl refl, (flag (codes "true") refl refl refl refl, (help refl refl, tt))))
 
+copy_known : Every (IsKnown copy_level.rules) copy_level.rules
+copy_known = (valued refl (lit< tt) refl refl, (valued refl (lit< tt) refl refl, (valued refl (lit< tt) refl refl, (flag (codes "true") refl refl refl refl, (flag (codes "true") refl refl refl refl, (help refl refl, tt))))))
+
 -- the first value of a row that is filled
 first_text : (c : List Rule) (rows : List Row) (id : Text) (r : Row) (filled : IsFilled c r) → find (λ x. bytes_eq x.id id) rows ≡ Some r → first_of id rows ≡ Some filled.first
 first_text c rows id r filled found = rw (found, filled.has) refl
@@ -169,7 +175,7 @@ number_read c a low high rows r small parser case known row found named =
 
 -- the rules of the numbers, in their levels
 abbrev blocks_place : Rule
-blocks_place = with_index 2 (filled blocks_rule)
+blocks_place = with_index 2 (filled (blocks_rule true))
 
 abbrev cache_option : Rule
 cache_option = filled cache_rule
@@ -226,6 +232,13 @@ tree_rows : (rows : List Row) → Every (IsFilled tree_level.rules) rows → is_
 tree_rows rows filled file_given =
     let file = given_row tree_level tree_known refl rows (codes "file") filled file_given in
     (draw file.2.first, rw (first_text tree_level.rules rows (codes "file") file.0 file.2 file.1) refl)
+
+copy_rows : (rows : List Row) → Every (IsFilled copy_level.rules) rows → is_given (codes "file") rows ≡ true → is_given (codes "to") rows ≡ true
+    → (w : Wanted) × (asked_of (Some (codes "copy", rows)) ≡ Some w)
+copy_rows rows filled file_given to_given =
+    let file = given_row copy_level copy_known refl rows (codes "file") filled file_given in
+    let to = given_row copy_level copy_known refl rows (codes "to") filled to_given in
+    (copy file.2.first to.2.first (number_by 64 1048576 (codes "blocks") rows), rw (first_text copy_level.rules rows (codes "file") file.0 file.2 file.1, first_text copy_level.rules rows (codes "to") to.0 to.2 to.1) refl)
 
 -- at the end of a level the default values stand where no word said others
 module _ (rows : List Row) where
@@ -298,6 +311,13 @@ tree_asks words e =
     let given = each_given tree_level tree_known refl tree_level.rules rows (nothing_wanting false false (list_any (λ a. a.required && not (is_given a.id rows)) tree_level.rules) level.1).1 in
     tree_rows rows level.0 (given.0 refl)
 
+copy_asks : Asks copy_level
+copy_asks words e =
+    let level = level_rows copy_level copy_known refl words e in
+    let rows = rows_after copy_level.rules [] words in
+    let given = each_given copy_level copy_known refl copy_level.rules rows (nothing_wanting false false (list_any (λ a. a.required && not (is_given a.id rows)) copy_level.rules) level.1).1 in
+    copy_rows rows level.0 (given.0 refl) (given.1.0 refl)
+
 -- a subcommand asks for a job, or is `help`
 abbrev AsksOrHelps : Shape → Type 0
 AsksOrHelps s = Asks s ⊎ ((name : Text) → answers_to name (label_of s) ≡ true → bytes_eq name (codes "help") ≡ true)
@@ -310,7 +330,7 @@ helps name e = go (bytes_eq (codes "help") name) refl
     go false t = let bad : ⊥ = (let f = rw t at e in cc) in absurd bad
 
 each_asks : Every AsksOrHelps (built altctl).subs
-each_asks = (inl create_asks, (inl run_asks, (inl do_asks, (inl check_asks, (inl tree_asks, (inr helps, tt))))))
+each_asks = (inl create_asks, (inl run_asks, (inl do_asks, (inl check_asks, (inl tree_asks, (inl copy_asks, (inr helps, tt)))))))
 
 -- where the parse of the words has no fault, they ask for a job
 pub asks : (words : List Text) → fault_of altctl words ≡ [] → (w : Wanted) × (asked_of (subcommand_of altctl words) ≡ Some w)

@@ -6,9 +6,9 @@ use Rattle.clap.specs.declared.error.kind.ErrorKind.{ErrorKind}
 use Rattle.clap.specs.declared.error.kind.ErrorKind.TheVariants.{DisplayHelp, DisplayVersion}
 use Rattle.vm_cli.specs.Carried.{WritesStart}
 use Rattle.vm_cli.specs.Branches.{drawing}
-use Rattle.vm_cli.specs.Exits.{AskTalk, Ends, IsHelp, IsJob, JobEnds, MayEnd, Tells, TellsRefused, check_text, created_text, named_text, status_of}
+use Rattle.vm_cli.specs.Exits.{AskTalk, Ends, IsHelp, IsJob, JobEnds, MayEnd, Tells, TellsRefused, check_text, copied_text, created_text, named_text, status_of}
 use Rattle.vm_cli.specs.Words.{Wanted, altctl}
-use Rattle.vm_cli.specs.Words.Wanted.{check, create, draw}
+use Rattle.vm_cli.specs.Words.Wanted.{check, copy, create, draw}
 use Rattle.vm_cli.specs.declared.program.Exit.{Exit}
 use Rattle.vm_cli.specs.declared.program.Exit.TheVariants.{Done, LineRefused, Refused, WrongWords, Stopped}
 use Rattle.vm_cli.specs.declared.talk.Manner.{Manner}
@@ -108,10 +108,21 @@ module _ {W F : Type 0} (in_output : W → Option (List ℕ)) (in_errors : F →
   -- a tree was to be drawn
   pub drawn : (file : Text) (exit : Exit) → IsJob words (draw file)
       → JobEnds in_output in_errors (draw file) exit output output' errors errors' → Ends in_output in_errors exit words output output' errors errors'
-  drawn file exit job (inl (same, (branches, inl (is, written)))) = rw is (same, inl (drawing branches, inr (inr (inr (file, branches, job, refl))), written))
-  drawn file exit job (inl (same, (branches, inr (is, begun)))) = rw is (inl (same, inr (inl (drawing branches, inr (inr (inr (file, branches, job, refl))), begun))))
+  drawn file exit job (inl (same, (branches, inl (is, written)))) = rw is (same, inl (drawing branches, inr (inr (inr (inl (file, branches, job, refl)))), written))
+  drawn file exit job (inl (same, (branches, inr (is, begun)))) = rw is (inl (same, inr (inl (drawing branches, inr (inr (inr (inl (file, branches, job, refl)))), begun))))
   drawn file exit job (inr (same, (text, says, inl (is, written)))) = rw is (same, (text, (draw file, job, says), written))
   drawn file exit job (inr (same, (text, says, inr (is, begun)))) = rw is (inr (same, (text, inl (draw file, job, says), begun)))
+
+  -- a store was to be copied
+  pub copied : (file to : Text) (asked : Option ℕ) (exit : Exit) → IsJob words (copy file to asked)
+      → JobEnds in_output in_errors (copy file to asked) exit output output' errors errors' → Ends in_output in_errors exit words output output' errors errors'
+  copied file to asked exit job (inl (same, inl (blocks, used, inl (is, written)))) =
+      rw is (same, inl (copied_text blocks used, inr (inr (inr (inr (file, to, asked, blocks, used, job, refl)))), written))
+  copied file to asked exit job (inl (same, inl (blocks, used, inr (is, begun)))) =
+      rw is (inl (same, inr (inl (copied_text blocks used, inr (inr (inr (inr (file, to, asked, blocks, used, job, refl)))), begun))))
+  copied file to asked exit job (inl (same, inr (is, out))) = rw is (inl (same, inl out))
+  copied file to asked exit job (inr (same, (text, says, inl (is, written)))) = rw is (same, (text, (copy file to asked, job, says), written))
+  copied file to asked exit job (inr (same, (text, says, inr (is, begun)))) = rw is (inr (same, (text, inl (copy file to asked, job, says), begun)))
 
   -- memory was wanting
   pub no_memory : (exit : Exit) → exit ≡ Stopped → output' ≡ output → errors' ≡ errors → Ends in_output in_errors exit words output output' errors errors'

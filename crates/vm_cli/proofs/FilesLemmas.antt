@@ -22,12 +22,12 @@ use Rattle.vm_cli.specs.CachedLines.{buffer_for, IsNotServed, IsServed, answers_
 use Rattle.vm_cli.specs.DelayedLines.{IsRefusedLate, IsServedLate, answers_late, commands_late}
 use Rattle.vm_cli.specs.Exits.{IsJob, Tells}
 use Rattle.vm_cli.specs.Keeps.{Keeps, answers_of, commands_of}
-use Rattle.vm_cli.specs.Files.{Answers, Counts, Draws, Declines, Does, KeepsAll, Makes}
+use Rattle.vm_cli.specs.Files.{Answers, Counts, Draws, Declines, Does, Duplicates, KeepsAll, Makes}
 use Rattle.vm_cli.specs.Places.{KeepsOthers, PlaceState}
 use Rattle.vm_cli.specs.Runs.{AsksToWrite, Disks, IsLook, LooksOnly, ServesIn, ServesWords}
 use Rattle.vm_cli.specs.Sessions.{HasRefused}
 use Rattle.vm_cli.specs.Words.{Wanted, altctl}
-use Rattle.vm_cli.specs.Words.Wanted.{check, create, do_lines, draw, run}
+use Rattle.vm_cli.specs.Words.Wanted.{check, copy, create, do_lines, draw, run}
 use Rattle.vm_cli.specs.declared.program.Exit.{Exit}
 use Rattle.vm_cli.specs.declared.program.task.InMemory.{InMemory}
 use Rattle.vm_cli.specs.declared.program.Exit.TheVariants.{Done, Refused, Stopped}
@@ -240,6 +240,7 @@ module _ {D : Type 0} (members : Ghosts D) (cached : Ghosts (CachedDisk D member
     does = λ other lines in_memory on asked. let same : do_lines other lines in_memory on ≡ create name blocks = one_job words (create name blocks) (do_lines other lines in_memory on) job asked in absurd (cc);
     checks = λ other asked. let same : check other ≡ create name blocks = one_job words (create name blocks) (check other) job asked in absurd (cc);
     draws = λ other asked. let same : draw other ≡ create name blocks = one_job words (create name blocks) (draw other) job asked in absurd (cc);
+    copies = λ other to asked wanted. let same : copy other to asked ≡ create name blocks = one_job words (create name blocks) (copy other to asked) job wanted in absurd (cc);
     none = λ no. absurd (no (create name blocks) job);
   }
 
@@ -256,6 +257,7 @@ module _ {D : Type 0} (members : Ghosts D) (cached : Ghosts (CachedDisk D member
     does = λ other lines size refusal asked. let same : do_lines other lines size refusal ≡ run name in_memory on = one_job words (run name in_memory on) (do_lines other lines size refusal) job asked in absurd (cc);
     checks = λ other asked. let same : check other ≡ run name in_memory on = one_job words (run name in_memory on) (check other) job asked in absurd (cc);
     draws = λ other asked. let same : draw other ≡ run name in_memory on = one_job words (run name in_memory on) (draw other) job asked in absurd (cc);
+    copies = λ other to asked wanted. let same : copy other to asked ≡ run name in_memory on = one_job words (run name in_memory on) (copy other to asked) job wanted in absurd (cc);
     none = λ no. absurd (no (run name in_memory on) job);
   }
 
@@ -273,6 +275,7 @@ module _ {D : Type 0} (members : Ghosts D) (cached : Ghosts (CachedDisk D member
         inl (rw on_is opens, rw (name_is, lines_are, size_is, on_is) answers);
     checks = λ other asked. let same : check other ≡ do_lines name lines in_memory on = one_job words (do_lines name lines in_memory on) (check other) job asked in absurd (cc);
     draws = λ other asked. let same : draw other ≡ do_lines name lines in_memory on = one_job words (do_lines name lines in_memory on) (draw other) job asked in absurd (cc);
+    copies = λ other to asked wanted. let same : copy other to asked ≡ do_lines name lines in_memory on = one_job words (do_lines name lines in_memory on) (copy other to asked) job wanted in absurd (cc);
     none = λ no. absurd (no (do_lines name lines in_memory on) job);
   }
 
@@ -287,6 +290,7 @@ module _ {D : Type 0} (members : Ghosts D) (cached : Ghosts (CachedDisk D member
         let name_is : other ≡ name = cc in
         rw name_is (reads, told counts);
     draws = λ other asked. let same : draw other ≡ check name = one_job words (check name) (draw other) job asked in absurd (cc);
+    copies = λ other to asked wanted. let same : copy other to asked ≡ check name = one_job words (check name) (copy other to asked) job wanted in absurd (cc);
     none = λ no. absurd (no (check name) job);
   }
     where
@@ -306,12 +310,35 @@ module _ {D : Type 0} (members : Ghosts D) (cached : Ghosts (CachedDisk D member
         let name_is : other ≡ name = cc in
         rw name_is (reads, told drawn);
     checks = λ other asked. let same : check other ≡ draw name = one_job words (draw name) (check other) job asked in absurd (cc);
+    copies = λ other to asked wanted. let same : copy other to asked ≡ draw name = one_job words (draw name) (copy other to asked) job wanted in absurd (cc);
     none = λ no. absurd (no (draw name) job);
   }
     where
       told : Draws members name exit old new before after ⊎ Declines members (Denied name) name exit old new errors errors'
           → Draws members name exit old new before after ⊎ (Declines members (Denied name) name exit old new errors errors' ⊎ ((exit ≡ Stopped) × Untouched))
       told (inl drawn) = inl drawn
+      told (inr declines) = inr (inl declines)
+
+  -- a store was to be copied
+  pub did_copy : (name to : Text) (blocks : Option ℕ) → IsJob words (copy name to blocks)
+      → Duplicates members Reads Opens Denied name to blocks exit old new before after errors errors' ⊎ (Reads × Declines members (Denied name) name exit old new errors errors') → Did
+  did_copy name to blocks job copied = record {
+    creates = λ other size asked. let same : create other size ≡ copy name to blocks = one_job words (copy name to blocks) (create other size) job asked in absurd (cc);
+    runs = λ other in_memory on asked. let same : run other in_memory on ≡ copy name to blocks = one_job words (copy name to blocks) (run other in_memory on) job asked in absurd (cc);
+    does = λ other lines in_memory on asked. let same : do_lines other lines in_memory on ≡ copy name to blocks = one_job words (copy name to blocks) (do_lines other lines in_memory on) job asked in absurd (cc);
+    checks = λ other asked. let same : check other ≡ copy name to blocks = one_job words (copy name to blocks) (check other) job asked in absurd (cc);
+    draws = λ other asked. let same : draw other ≡ copy name to blocks = one_job words (copy name to blocks) (draw other) job asked in absurd (cc);
+    copies = λ other aim size asked. let same : copy other aim size ≡ copy name to blocks = one_job words (copy name to blocks) (copy other aim size) job asked in
+        let name_is : other ≡ name = cc in
+        let to_is : aim ≡ to = cc in
+        let size_is : size ≡ blocks = cc in
+        rw (name_is, to_is, size_is) (told copied);
+    none = λ no. absurd (no (copy name to blocks) job);
+  }
+    where
+      told : Duplicates members Reads Opens Denied name to blocks exit old new before after errors errors' ⊎ (Reads × Declines members (Denied name) name exit old new errors errors')
+          → Duplicates members Reads Opens Denied name to blocks exit old new before after errors errors' ⊎ ((Reads × Declines members (Denied name) name exit old new errors errors') ⊎ ((exit ≡ Stopped) × Untouched))
+      told (inl copied) = inl copied
       told (inr declines) = inr (inl declines)
 
   -- no call of the place was made, and it stopped, where the words ask for something
@@ -322,6 +349,7 @@ module _ {D : Type 0} (members : Ghosts D) (cached : Ghosts (CachedDisk D member
     does = λ name lines in_memory on asked. inr (stopped (do_lines name lines in_memory on) asked, untouched);
     checks = λ name asked. (reads, inr (inr (stopped (check name) asked, untouched)));
     draws = λ name asked. (reads, inr (inr (stopped (draw name) asked, untouched)));
+    copies = λ name to asked wanted. inr (inr (stopped (copy name to asked) wanted, untouched));
     none = λ no. untouched;
   }
 

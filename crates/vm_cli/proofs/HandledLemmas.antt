@@ -4,7 +4,7 @@ use Rattle.vm_types.specs.declared.answer.Answer.{Answer}
 use Rattle.vm_types.specs.declared.command.Command.{Command}
 use Rattle.vm_types.specs.declared.command.Command.TheVariants.{Merge}
 use Rattle.vm_types.specs.declared.refusal.Refusal.{Refusal}
-use Rattle.vm_types.specs.declared.refusal.Refusal.TheVariants.{Device, Failed, Memory}
+use Rattle.vm_types.specs.declared.refusal.Refusal.TheVariants.{Failed, Memory}
 use Rattle.vm_types.specs.State.{State}
 use Rattle.vm_store.specs.Commands.{CarriesOut}
 use Rattle.vm_store.specs.Store.{GrowsOn, Holds, has_failed}

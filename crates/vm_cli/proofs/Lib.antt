@@ -33,6 +33,7 @@ pub mod ExitLemmas
 pub mod KeepLemmas
 pub mod TalkKeepLemmas
 pub mod SessionLemmas
+mod CopyingLemmas
 mod FilesLemmas
 mod RealFilesLemmas
 mod CachingLemmas

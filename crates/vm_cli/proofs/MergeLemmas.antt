@@ -1,5 +1,5 @@
 -- Merges with a side for all conflicts.
-use Rattle.std.proofs.Common.{◌≡◌, ◌≢◌, ◌⊎◌, inl, inr, ◌++◌, ℕ, Bool, true, false, List, [], ◌∷◌, Option, Some, None, Result, Ok, Err, IsOk, refl, sym, ap, subst, ◌∙◌, ◌<◌, ◌≤◌, arith}
+use Rattle.std.proofs.Common.{◌≡◌, ◌≢◌, inl, inr, ℕ, Bool, true, false, List, Option, Some, None, Result, Ok, Err, IsOk, refl, sym, ap, subst, ◌∙◌, arith}
 use Rattle.vm_types.specs.Queries.{IsListing, conflicts_in}
 use Rattle.vm_types.specs.State.{State}
 use Rattle.vm_types.specs.declared.change.Conflict.{Conflict}
@@ -8,7 +8,7 @@ use Rattle.vm_types.specs.declared.command.Command.TheVariants.{Merge}
 use Rattle.vm_types.specs.declared.command.Side.{Side}
 use Rattle.vm_types.specs.declared.key.Key.{Key}
 use Rattle.vm_types.specs.declared.refusal.Refusal.{Refusal}
-use Rattle.vm_types.specs.declared.refusal.Refusal.TheVariants.{Device, Failed, Memory}
+use Rattle.vm_types.specs.declared.refusal.Refusal.TheVariants.{Failed, Memory}
 use Rattle.vm_store.specs.Queries.{Queries}
 use Rattle.vm_store.specs.Store.{GrowsOn, Holds, has_failed}
 use Rattle.vm_store.specs.declared.store.Store.{Store}
@@ -16,13 +16,13 @@ use Rattle.vm_cli.specs.Asking.{Request}
 use Rattle.vm_cli.specs.Feeds.{AnswersBy, AsksBy, HandlesRequest}
 use Rattle.vm_cli.specs.Replies.{ends_talk, reply_text}
 use Rattle.vm_cli.specs.Requests.{asked_in, limit_of}
-use Rattle.vm_cli.specs.Settlements.{for_all, for_others, is_settled}
+use Rattle.vm_cli.specs.Settlements.{for_all}
 use Rattle.vm_cli.specs.Talk.{AnsweredRequest, AnswersWithin, Done, FailsByDevice, Failing, Meets, Passes, RefusesMerge, Stood, after_line, error_text}
 use Rattle.vm_cli.specs.declared.answers.reply.Reply.{Reply}
 use Rattle.vm_cli.specs.declared.answers.reply.Reply.TheVariants as reply
 use Rattle.vm_cli.specs.declared.talk.OnCommand.{OnCommand}
 use Rattle.vm_cli.specs.declared.talk.OnCommand.TheVariants.{CarryOut, GrowIfFull, Refuse}
-use Rattle.vm_cli.proofs.HandledLemmas.{forbidden_handled, refusal_handled, request_as, told}
+use Rattle.vm_cli.proofs.HandledLemmas.{refusal_handled, request_as, told}
 use Rattle.vm_cli.proofs.PassLemmas.{goes_any, grows_both, never_both, passes_command, passes_reads}
 use Rattle.vm_cli.proofs.TalkLemmas.{was_sound}
 

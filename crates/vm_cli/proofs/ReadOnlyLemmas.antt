@@ -1,11 +1,11 @@
 -- A talk in which commands are refused only reads.
-use Rattle.std.proofs.Common.{◌≡◌, ◌⊎◌, inl, inr, ℕ, Bool, true, false, List, [], ◌∷◌, Option, None, Result, Ok, Err, refl, ◌∙◌, subst}
+use Rattle.std.proofs.Common.{◌≡◌, inl, inr, ℕ, Bool, true, false, List, [], ◌∷◌, Option, None, Result, Ok, Err, refl, ◌∙◌, subst}
 use Rattle.vm_types.specs.declared.answer.Answer.{Answer}
 use Rattle.vm_types.specs.declared.command.Command.{Command}
 use Rattle.vm_types.specs.declared.refusal.Refusal.{Refusal}
 use Rattle.vm_types.specs.State.{State}
 use Rattle.vm_disk.proofs.MomentLemmas.{reads_then}
-use Rattle.vm_store.specs.Store.{IsSameButDisk, disk_of}
+use Rattle.vm_store.specs.Store.{IsSameButDisk}
 use Rattle.vm_store.specs.declared.store.Store.{Store}
 use Rattle.vm_cli.specs.Asking.{Request}
 use Rattle.vm_cli.specs.Input.{without_return}

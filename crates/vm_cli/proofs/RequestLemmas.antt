@@ -1,5 +1,5 @@
 -- What words ask for.
-use Rattle.std.proofs.Common.{◌≡◌, ◌∷◌, ℕ, List, [], Option, Some, None, codes, option_map, refl}
+use Rattle.std.proofs.Common.{◌≡◌, ◌∷◌, ℕ, List, Option, Some, None, codes, option_map, refl}
 use Rattle.vm_types.specs.declared.at.At.{At}
 use Rattle.vm_types.specs.declared.command.Command.TheVariants.{Back, Checkpoint, New, NewAt, Put, Remove, Uncheck}
 use Rattle.vm_types.specs.declared.key.Key.{Key}

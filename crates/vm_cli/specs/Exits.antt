@@ -12,7 +12,7 @@ use Rattle.vm_store.specs.NewStore.{IsOfFormat}
 use Rattle.vm_cli.specs.Carried.{WritesStart}
 use Rattle.vm_cli.specs.Branches.{Branch, drawing}
 use Rattle.vm_cli.specs.Words.{Wanted, altctl, asked_of}
-use Rattle.vm_cli.specs.Words.Wanted.{check, create, do_lines, draw, run}
+use Rattle.vm_cli.specs.Words.Wanted.{check, copy, create, do_lines, draw, run}
 use Rattle.vm_cli.specs.declared.program.Exit.{Exit}
 use Rattle.vm_cli.specs.declared.program.store_counts.Counts.{Counts}
 use Rattle.vm_cli.specs.declared.program.task.InMemory.{InMemory}
@@ -34,6 +34,10 @@ status_of LineRefused = 4
 -- a store was made
 abbrev pub created_text : ℕ → List ℕ
 created_text blocks = codes "created " ++ (decimal blocks ++ 10 ∷ [])
+
+-- a store was copied to this many blocks, of which `used` are in use
+abbrev pub copied_text : ℕ → ℕ → List ℕ
+copied_text blocks used = codes "copied " ++ (decimal blocks ++ (codes ", " ++ (decimal used ++ (codes " used" ++ 10 ∷ []))))
 
 -- what a store holds: so many alternatives, checkpoints and free blocks
 abbrev pub check_text : ℕ → ℕ → ℕ → List ℕ
@@ -86,6 +90,10 @@ AskHelp words = (kind : ErrorKind) × IsHelp kind × IsAmong kind (fault_of altc
 abbrev pub AreWrong : List Text → Type 0
 AreWrong words = (kind : ErrorKind) × (¬ IsHelp kind) × IsAmong kind (fault_of altctl words)
 
+-- what is said if the copy of a store has no disk, or is refused
+abbrev pub SaysNoCopy : Text → List ℕ → Type 0
+SaysNoCopy to text = (text ≡ file_text (codes "altctl: cannot create ") to) ⊎ ((refusal : Refusal) × (text ≡ refused_text refusal))
+
 -- what is said where a job has no disk, or the disk is refused
 abbrev pub SaysRefused : Wanted → List ℕ → Type 0
 SaysRefused (create file blocks) text = (text ≡ file_text (codes "altctl: cannot create ") file) ⊎ ((refusal : Refusal) × IsOfFormat refusal × (text ≡ refused_text refusal))
@@ -93,14 +101,16 @@ SaysRefused (run file in_memory on) text = (text ≡ file_text (codes "altctl: c
 SaysRefused (do_lines file input in_memory on) text = (text ≡ file_text (codes "altctl: cannot open ") file) ⊎ ((refusal : Refusal) × (text ≡ refused_text refusal))
 SaysRefused (check file) text = (text ≡ file_text (codes "altctl: cannot open ") file) ⊎ ((refusal : Refusal) × (text ≡ refused_text refusal))
 SaysRefused (draw file) text = (text ≡ file_text (codes "altctl: cannot open ") file) ⊎ ((refusal : Refusal) × (text ≡ refused_text refusal))
+SaysRefused (copy file to blocks) text = (text ≡ file_text (codes "altctl: cannot open ") file) ⊎ SaysNoCopy to text
 
--- a text for the output: help or the version, that a store was made, what one holds, or a drawing
+-- a text for the output: help or the version, that a store was made or copied, what one holds, or a drawing
 abbrev pub IsNews : List Text → List ℕ → Type 0
 IsNews words text =
     AskHelp words
     ⊎ (((file : Text) × (blocks : ℕ) × IsJob words (create file blocks) × (text ≡ created_text blocks))
     ⊎ (((file : Text) × (alternatives : ℕ) × (checkpoints : ℕ) × (free : ℕ) × IsJob words (check file) × (text ≡ check_text alternatives checkpoints free))
-    ⊎ ((file : Text) × (branches : List Branch) × IsJob words (draw file) × (text ≡ drawing branches))))
+    ⊎ (((file : Text) × (branches : List Branch) × IsJob words (draw file) × (text ≡ drawing branches))
+    ⊎ ((file : Text) × (to : Text) × (asked : Option ℕ) × (blocks : ℕ) × (used : ℕ) × IsJob words (copy file to asked) × (text ≡ copied_text blocks used)))))
 
 -- a text for the errors: why a job was refused
 abbrev pub IsRefusal : List Text → List ℕ → Type 0
@@ -219,6 +229,11 @@ module _ {W F : Type 0} (in_output : W → Option (List ℕ)) (in_errors : F →
   abbrev pub TellsDrawing : Exit → W → W → Type 0
   TellsDrawing exit output output' = (branches : List Branch) × TellsOn in_output Done exit output output' (drawing branches)
 
+  -- the output is told that a store was copied; or the program stopped before
+  abbrev pub TellsCopied : Exit → W → W → Type 0
+  TellsCopied exit output output' =
+      ((blocks : ℕ) × (used : ℕ) × TellsOn in_output Done exit output output' (copied_text blocks used)) ⊎ ((exit ≡ Stopped) × (output' ≡ output))
+
   -- a job was done: what the output is told then, or how lines that were answered may end
   abbrev pub TellsDone : Wanted → Exit → W → W → Type 0
   TellsDone (create file blocks) exit output output' = TellsOn in_output Done exit output output' (created_text blocks)
@@ -226,6 +241,7 @@ module _ {W F : Type 0} (in_output : W → Option (List ℕ)) (in_errors : F →
   TellsDone (do_lines file input in_memory on) exit output output' = MayEnd on.on_refusal exit
   TellsDone (check file) exit output output' = TellsCounts exit output output'
   TellsDone (draw file) exit output output' = TellsDrawing exit output output'
+  TellsDone (copy file to blocks) exit output output' = TellsCopied exit output output'
 
   -- a job was refused: the errors are told why
   abbrev pub TellsRefused : Wanted → Exit → F → F → Type 0
@@ -246,6 +262,17 @@ module _ {W F : Type 0} (in_output : W → Option (List ℕ)) (in_errors : F →
   abbrev pub DrawEnds : Exit → W → W → F → F → Type 0
   DrawEnds exit output output' errors errors' =
       ((errors' ≡ errors) × TellsDrawing exit output output') ⊎ ((output' ≡ output) × TellsWhy in_errors exit errors errors')
+
+  -- the same, if a store is copied to a disk
+  abbrev pub OntoEnds : Exit → W → W → F → F → Type 0
+  OntoEnds exit output output' errors errors' =
+      ((errors' ≡ errors) × TellsCopied exit output output') ⊎ ((output' ≡ output) × TellsWhy in_errors exit errors errors')
+
+  -- the same, if a store is copied to a file of this name
+  abbrev pub CopyEnds : Text → Exit → W → W → F → F → Type 0
+  CopyEnds to exit output output' errors errors' =
+      ((errors' ≡ errors) × TellsCopied exit output output')
+      ⊎ ((output' ≡ output) × ((text : List ℕ) × SaysNoCopy to text × TellsOn in_errors Refused exit errors errors' text))
 
   -- the end, before it is said that the program stopped
   abbrev pub Ends : Exit → List Text → W → W → F → F → Type 0

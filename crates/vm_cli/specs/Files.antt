@@ -13,12 +13,13 @@ use Rattle.vm_store.specs.NewStore.{IsFormatted, IsFormatting, IsOfFormat}
 use Rattle.vm_store.specs.Shown.{Shows}
 use Rattle.vm_cli.specs.CachedLines.{IsServed, answers_told, commands_told}
 use Rattle.vm_cli.specs.Branches.{tree_text}
+use Rattle.vm_cli.specs.Copies.{IsInUse, MakesCopy, copy_of}
 use Rattle.vm_cli.specs.Exits.{IsJob, Tells, check_text, created_text, file_text, refused_text}
 use Rattle.vm_cli.specs.Keeps.{Keeps}
 use Rattle.vm_cli.specs.Places.{KeepsCame, KeepsOthers, PlaceState, WasLent}
 use Rattle.vm_cli.specs.Sessions.{HasCounted, HasMade, HasMadeNone, HasRefused, HasShown}
 use Rattle.vm_cli.specs.Words.{Wanted}
-use Rattle.vm_cli.specs.Words.Wanted.{check, create, do_lines, draw, run}
+use Rattle.vm_cli.specs.Words.Wanted.{check, copy, create, do_lines, draw, run}
 use Rattle.vm_cli.specs.declared.program.Exit.{Exit}
 use Rattle.vm_cli.specs.declared.program.task.InMemory.{InMemory}
 use Rattle.vm_cli.specs.declared.program.Exit.TheVariants.{Done, Refused, Stopped}
@@ -98,6 +99,18 @@ module _ {D : Type 0} (members : Ghosts D) where
     pub shown : HasShown (members.state found) (members.state back) seen
     pub told : Tells Done exit before after (tree_text seen.tree)
 
+  -- the store in the one file was copied to the other: at each moment the disk of the first was as it was found, at most synced
+  pub record Duplicates (Reads Opens : Type 0) (Denied : Text → Type 0) (name to : Text) (asked : Option ℕ) (exit : Exit) (old new : PlaceState) (before after errors errors' : Option (List ℕ)) : Type 0 where
+    pub found : D
+    pub back : D
+    pub held : old.files name ≡ Some (members.state found).now.contents
+    pub lent : WasLent name (members.state found) (members.state back) new
+    pub seen : Seen
+    pub used : ℕ
+    pub shown : HasShown (members.state found) (members.state back) seen
+    pub in_use : IsInUse members (members.state found).now.contents seen used
+    pub makes : MakesCopy Reads Opens Denied to (copy_of seen asked) used (members.state found) (members.state back) exit old new before after errors errors'
+
 module _ {D : Type 0} (members : Ghosts D) (cached : Ghosts (CachedDisk D members)) (late : Ghosts (DelayedDisk D members))
     (late_cached : Ghosts (DelayedDisk (CachedDisk D members) cached)) where
   -- the lines of an input were answered over the file of this name, of which up to so many blocks stayed or waited in memory
@@ -136,5 +149,9 @@ module _ {D : Type 0} (members : Ghosts D) (cached : Ghosts (CachedDisk D member
     -- words that ask for a drawing have the tree that the file showed drawn, or it is said why not; files are only read, too
     pub draws : (name : Text) → IsJob words (draw name)
         → Reads × (Draws members name exit old new before after ⊎ (Declines members (Denied name) name exit old new errors errors' ⊎ ((exit ≡ Stopped) × Untouched)))
+    -- words that ask for a copy have one made in a new file, or it is said why not
+    pub copies : (name : Text) (to : Text) (asked : Option ℕ) → IsJob words (copy name to asked)
+        → Duplicates members Reads Opens Denied name to asked exit old new before after errors errors'
+        ⊎ ((Reads × Declines members (Denied name) name exit old new errors errors') ⊎ ((exit ≡ Stopped) × Untouched))
     -- words that ask for no job touch no file
     pub none : ((job : Wanted) → IsJob words job → ⊥) → Untouched

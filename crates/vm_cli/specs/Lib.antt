@@ -25,6 +25,7 @@ pub mod StoreCounts
 pub mod Branches
 pub mod Places
 pub mod Progress
+pub mod Copies
 pub mod Files
 pub mod Runs
 pub mod RealFiles

@@ -11,7 +11,7 @@ use Rattle.vm_types.specs.declared.command.Command.TheVariants.{New, NewAt, Drop
 use Rattle.vm_types.specs.declared.key.Key.{Key}
 use Rattle.vm_cli.specs.Asking.{Request}
 use Rattle.vm_cli.specs.declared.talk.OnCommand.{OnCommand}
-use Rattle.vm_cli.specs.declared.talk.OnCommand.TheVariants.{CarryOut, GrowIfFull, Refuse}
+use Rattle.vm_cli.specs.declared.talk.OnCommand.TheVariants.{GrowIfFull, Refuse}
 use Rattle.vm_cli.specs.Escapes.{value_of}
 use Rattle.vm_cli.specs.Numbers.{key_of, number_of}
 use Rattle.vm_cli.specs.Pieces.{before_mark, behind_mark}

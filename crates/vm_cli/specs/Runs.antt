@@ -8,10 +8,10 @@ use Rattle.vm_disk.specs.declared.disk.Disk.{Ghosts}
 use Rattle.vm_cli.specs.CachedLines.{IsNotServed, IsServed}
 use Rattle.vm_cli.specs.Carried.{WritesStart}
 use Rattle.vm_cli.specs.Exits.{IsJob, Tells, TellsOn, file_text, refused_text, status_of, stopped_text}
-use Rattle.vm_cli.specs.Files.{Answers, Counts, Declines, Does, Draws, Makes}
+use Rattle.vm_cli.specs.Files.{Answers, Counts, Declines, Does, Draws, Duplicates, Makes}
 use Rattle.vm_cli.specs.Places.{PlaceState}
 use Rattle.vm_cli.specs.Words.{Wanted}
-use Rattle.vm_cli.specs.Words.Wanted.{check, create, do_lines, draw, run}
+use Rattle.vm_cli.specs.Words.Wanted.{check, copy, create, do_lines, draw, run}
 use Rattle.vm_cli.specs.declared.program.Exit.{Exit}
 use Rattle.vm_cli.specs.declared.program.Exit.TheVariants.{Refused, Stopped}
 use Rattle.vm_cli.specs.declared.program.task.InMemory.{InMemory}
@@ -67,6 +67,13 @@ module _ {P D : Type 0} (own : Ghosts D) (state : P → PlaceState) (denied : P 
       (state place').honest ≡ true
       → Draws own name exit (state place) (state place') before after ⊎ DeclinesIn name exit errors errors'
 
+  -- the store in a file was to be copied to another
+  abbrev pub DuplicatesIn : (P → ℕ) → Text → Text → Option ℕ → Exit → Option (List ℕ) → Option (List ℕ) → Option (List ℕ) → Option (List ℕ) → Type 0
+  DuplicatesIn to_write name to asked exit before after errors errors' =
+      (state place').honest ≡ true
+      → Duplicates own (to_write place' ≡ to_write place) (to_write place' ≡ to_write place + 1) (λ name. denied place' ≡ name ∷ denied place) name to asked exit (state place) (state place') before after errors errors'
+      ⊎ ((to_write place' ≡ to_write place) × DeclinesIn name exit errors errors')
+
 -- this status is that of an end of which this holds, and of what was said to the errors by then, which is all but where the program stopped:
 -- behind it, then, it was begun to say so
 abbrev pub EndsAs : {F : Type 0} → (F → Option (List ℕ)) → ℕ → F → (Exit → F → Type 0) → Type 0
@@ -87,6 +94,7 @@ IsLook (run file in_memory on) = on.on_command ≡ Refuse
 IsLook (do_lines file input in_memory on) = on.on_command ≡ Refuse
 IsLook (check file) = Unit {0}
 IsLook (draw file) = Unit {0}
+IsLook (copy file to blocks) = ⊥
 
 module _ {P D : Type 0} (over : Disks D) (state : P → PlaceState) (denied : P → List Text) (place place' : P) where
   -- lines were to be answered over a file

@@ -19,24 +19,24 @@ use Rattle.vm_cli.specs.declared.talk.OnRefusal.{OnRefusal}
 use Rattle.vm_cli.specs.declared.talk.OnRefusal.TheVariants.{Ignore, Stop, Tell}
 use Rattle.vm_cli.specs.declared.program.task.InMemory.{InMemory}
 use Rattle.vm_cli.specs.declared.program.task.Job.{Job}
-use Rattle.vm_cli.specs.declared.program.task.Job.TheVariants.{Check, Create, Do, Run, Tree}
+use Rattle.vm_cli.specs.declared.program.task.Job.TheVariants.{Check, Copy, Create, Do, Run, Tree}
 use Rattle.vm_cli.specs.Given.{input_of}
 
 -- the name of a file, which has to be there
 abbrev pub file_rule : Rule
 file_rule = record (new_rule (codes "file")) { required = true; value_names = 1 }
 
--- a number of blocks, which has to be there and in the range of a store
-abbrev pub blocks_rule : Rule
-blocks_rule = record (new_rule (codes "blocks")) {
-  required = true;
+-- a number of blocks in the range of a store, and whether it has to be there
+abbrev pub blocks_rule : Bool → Rule
+blocks_rule required = record (new_rule (codes "blocks")) {
+  required = required;
   value_names = 1;
   parser = Some (vp.Signed (pos MIN_BLOCKS) (pos MAX_BLOCKS));
 }
 
 -- `create FILE BLOCKS`
 abbrev pub create_app : App
-create_app = with_rule (with_rule (new_app (codes "create")) file_rule) blocks_rule
+create_app = with_rule (with_rule (new_app (codes "create")) file_rule) (blocks_rule true)
 
 -- an option for a number from 0 up to the most
 abbrev pub amount_rule : Text → ℕ → Rule
@@ -116,15 +116,23 @@ check_app = with_lock (with_rule (new_app (codes "check")) file_rule)
 abbrev pub tree_app : App
 tree_app = with_lock (with_rule (new_app (codes "tree")) file_rule)
 
+-- the name of the file with the copy, which has to be there
+abbrev pub to_rule : Rule
+to_rule = record (new_rule (codes "to")) { required = true; value_names = 1 }
+
+-- `copy [--no-lock] [--wait] FROM TO [BLOCKS]`
+abbrev pub copy_app : App
+copy_app = with_lock (with_rule (with_rule (with_rule (new_app (codes "copy")) file_rule) to_rule) (blocks_rule false))
+
 -- the program without its tasks, one of which has to be named unless its version is asked for
 abbrev pub top_app : App
 top_app = on_top (λ s. record s { subcommand_required = true; has_version = true }) (new_app (codes "altctl"))
 
--- `altctl create FILE BLOCKS`, `altctl run [OPTIONS] FILE`, `altctl do [OPTIONS] FILE LINE..`, `altctl check [--no-lock] [--wait] FILE` and
--- `altctl tree [--no-lock] [--wait] FILE`
+-- `altctl create FILE BLOCKS`, `altctl run [OPTIONS] FILE`, `altctl do [OPTIONS] FILE LINE..`, `altctl check [--no-lock] [--wait] FILE`,
+-- `altctl tree [--no-lock] [--wait] FILE` and `altctl copy [--no-lock] [--wait] FROM TO [BLOCKS]`
 abbrev pub altctl : App
 altctl =
-    with_subcommand (with_subcommand (with_subcommand (with_subcommand (with_subcommand top_app create_app.top) run_app.top) do_app.top) check_app.top) tree_app.top
+    with_subcommand (with_subcommand (with_subcommand (with_subcommand (with_subcommand (with_subcommand top_app create_app.top) run_app.top) do_app.top) check_app.top) tree_app.top) copy_app.top
 
 -- a job, with the file's name itself in place of a reference to it, and the input of the lines that were given
 pub data Wanted : Type 0 where
@@ -133,6 +141,7 @@ pub data Wanted : Type 0 where
   do_lines : Text → List ℕ → InMemory → Manner → Wanted
   check : Text → Wanted
   draw : Text → Wanted
+  copy : Text → Text → Option ℕ → Wanted
 
 -- what a job wants
 abbrev pub wanted_of : Job → Wanted
@@ -141,6 +150,7 @@ wanted_of (Run file in_memory on) = run file.now in_memory on
 wanted_of (Do file input in_memory on) = do_lines file.now input.items in_memory on
 wanted_of (Check file) = check file.now
 wanted_of (Tree file) = draw file.now
+wanted_of (Copy file to blocks) = copy file.now to.now blocks
 
 -- the number that a text says, where it lies in the range
 abbrev pub number_in : ℕ → ℕ → Text → Option ℕ
@@ -190,6 +200,10 @@ do_by rows file =
     (λ lines. option_and_then (λ in_memory. option_map (λ manner. do_lines file (input_of lines) in_memory manner) (manner_by Tell rows)) (memory_by rows))
     (all_of (codes "line") rows)
 
+-- what `copy` with these matches wants of this file
+abbrev pub copy_by : List Row → Text → Option Wanted
+copy_by rows file = option_map (λ to. copy file to (number_by MIN_BLOCKS MAX_BLOCKS (codes "blocks") rows)) (first_of (codes "to") rows)
+
 -- what a subcommand with these matches wants of this file
 abbrev pub asked_by : Text → List Row → Text → Option Wanted
 asked_by name rows file =
@@ -197,7 +211,8 @@ asked_by name rows file =
     else (if bytes_eq name (codes "run") then option_and_then (λ in_memory. option_map (λ manner. run file in_memory manner) (manner_by Ignore rows)) (memory_by rows)
     else (if bytes_eq name (codes "do") then do_by rows file
     else (if bytes_eq name (codes "check") then Some (check file)
-    else (if bytes_eq name (codes "tree") then Some (draw file) else None))))
+    else (if bytes_eq name (codes "tree") then Some (draw file)
+    else (if bytes_eq name (codes "copy") then copy_by rows file else None)))))
 
 -- the job that the matches of a subcommand ask for
 abbrev pub asked_of : Option (Text × List Row) → Option Wanted

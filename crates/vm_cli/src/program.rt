@@ -10,6 +10,7 @@ pub mod help;
 pub mod mem_files;
 pub mod place;
 pub mod progress;
+pub mod store_copy;
 pub mod store_counts;
 pub mod task;
 pub mod tree_lines;
@@ -27,6 +28,7 @@ use clap::error::ErrorKind;
 use place::Place;
 use std::alloc::Global;
 use std::io::{Read, Write};
+use store_copy::copy;
 use store_counts::{Counts, count};
 use task::{InMemory, Job};
 use tree_view::tree;
@@ -189,6 +191,7 @@ fn do_job<P: Place, R: Read, W: Write, F: Write>(
         }
         Ok(Job::Check { file }) => check(alloc, file, place, output, errors),
         Ok(Job::Tree { file }) => tree(alloc, file, place, output, errors),
+        Ok(Job::Copy { file, to, blocks }) => copy(alloc, file, to, blocks, place, output, errors),
         Err(error) => explain(alloc, &error, output, errors),
     }
 }

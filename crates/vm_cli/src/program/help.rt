@@ -140,6 +140,30 @@ A session:
         0        0         0  yes  |  `- pipes
         2        1         1   no  `- south";
 
+/// What `copy` does.
+pub const COPY: &str = "\
+Opens a store for reading alone, makes the file TO, and copies to it all that
+was committed: every alternative, base and checkpoint.";
+
+/// The number of blocks that `copy` takes.
+pub const COPY_BLOCKS: &str = "How many blocks TO has: 64 to 1048576 [default: as FROM]";
+
+/// What a copy is for.
+pub const COPY_AFTER: &str = "\
+A copy is a backup that was read and tested, and a new store of BLOCKS blocks:
+smaller, if that is less than FROM has, and larger if it is more. What versions
+share stays shared. The blocks in use lie at the beginning of TO in the order of
+the trees, so it opens quickly. If BLOCKS is less than are in use, the answer is
+13 Full, and no file is made.
+
+Until all was copied and synced, TO shows no store. If a copy fails, it
+is left: remove it.
+
+A session:
+
+  $ altctl copy map.alt small.alt 256
+  copied 256, 35 used";
+
 /// What `run` does.
 pub const RUN: &str = "\
 Opens a store and answers the lines of the standard input, one after another,

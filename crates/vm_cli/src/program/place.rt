@@ -151,7 +151,7 @@ impl<'a, R: Files<File = File>, W: World> RealFiles<'a, R, W> {
         };
         self.opened.note(&());
         self.events.note(&Event::Made(Snapshot::of(&made)));
-        self.progress.set_total(u64::from(blocks));
+        self.progress.begin(u64::from(blocks));
         FileDisk::create(Watched::new(made, self.progress), blocks).ok()
     }
 

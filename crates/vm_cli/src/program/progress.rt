@@ -61,7 +61,13 @@ impl Progress {
     }
 
     /// Makes the line show how many blocks there are in all, as long as no more were counted.
-    pub(crate) fn set_total(&self, blocks: u64) {
+    fn set_total(&self, blocks: u64) {
+        self.total.set(blocks);
+    }
+
+    /// Begins to count anew, for a file of this many blocks that is being made.
+    pub(crate) fn begin(&self, blocks: u64) {
+        self.blocks.set(0);
         self.total.set(blocks);
     }
 

@@ -60,4 +60,11 @@ pub enum Job<'a> {
     Tree {
         file: &'a str,
     },
+    /// Opens the store in a file read only, and makes the file `to` with a copy of it, of as many
+    /// blocks as the store has if no number is given.
+    Copy {
+        file: &'a str,
+        to: &'a str,
+        blocks: Option<u32>,
+    },
 }

@@ -2,7 +2,7 @@
 ghost use Rattle.clap.specs.Words.{FailsBy, app_of, fault_of, found_of, first_of, new_app, rows_of, rule_of, subcommand_rows_of};
 ghost use Rattle.std.specs.Prelude.{◌≡◌, ◌⊎◌, if◌then◌else◌, IfErr, IfOk, None, Some, false, map, ℕ, List, option_map, option_and_then, codes};
 ghost use Rattle.std.specs.String.{string_bytes};
-ghost use Rattle.vm_cli.specs.Words.{AddsTask, IsAsked, IsAskedOf, IsLocal, WordsAsk, altctl, amount_rule, blocks_rule, check_app, command_with, create_app, do_app, file_rule, flag_rule, grow_to_rule, line_rule, is_set, manner_by, number_by, memory_by, run_app, top_app, tree_app, wanted_of, with_lock, with_options};
+ghost use Rattle.vm_cli.specs.Words.{AddsTask, IsAsked, IsAskedOf, IsLocal, WordsAsk, altctl, amount_rule, blocks_rule, check_app, command_with, copy_app, create_app, do_app, file_rule, flag_rule, grow_to_rule, line_rule, is_set, manner_by, number_by, memory_by, run_app, to_rule, top_app, tree_app, wanted_of, with_lock, with_options};
 
 use crate::program::file_lock::{Access, LockWanted};
 use crate::program::given::input_of;
@@ -32,7 +32,7 @@ pub fn job<'a>(alloc: Global, words: &'a [String]) -> Result<Job<'a>, Error>
 }
 
 /// The lock that the words ask for, if the program takes one. It takes none if they name no task,
-/// if they make a new file, which is nobody else's yet, if they say that it takes none, or if
+/// on a file that they make, which is nobody else's yet, if they say that it takes none, or if
 /// memory cannot be allocated.
 pub(crate) fn lock_wanted<'a>(alloc: Global, words: &'a [String]) -> Option<LockWanted<'a>> {
     let matches = command(alloc).ok()?.try_get_matches_from(words).ok()?;
@@ -41,7 +41,7 @@ pub(crate) fn lock_wanted<'a>(alloc: Global, words: &'a [String]) -> Option<Lock
     let access = match name {
         "run" | "do" if is_given(matches, "read-only") => Access::Read,
         "run" | "do" => Access::Write,
-        "check" | "tree" => Access::Read,
+        "check" | "tree" | "copy" => Access::Read,
         _ => return None,
     };
     if is_given(matches, "no-lock") {
@@ -71,6 +71,7 @@ fn asked<'a>(alloc: Global, matches: &ArgMatches<'a>) -> Result<Option<Job<'a>>,
         "do" => asked_do(alloc, matches, file),
         "check" => Ok(Some(Job::Check { file })),
         "tree" => Ok(Some(Job::Tree { file })),
+        "copy" => Ok(asked_copy(matches, file)),
         _ => Ok(None),
     }
 }
@@ -120,6 +121,15 @@ fn asked_do<'a>(
         in_memory,
         manner,
     }))
+}
+
+/// The job of `copy` with these matches.
+fn asked_copy<'a>(matches: &ArgMatches<'a>, file: &'a str) -> Option<Job<'a>>
+    ensures { IsAsked (codes "copy") (rows_of (found_of matches.now)) file.now result }
+{
+    let to = matches.get_str("to")?;
+    let blocks = number_of(matches, "blocks", MIN_BLOCKS, MAX_BLOCKS);
+    Some(Job::Copy { file, to, blocks })
 }
 
 /// How many blocks stay and wait in memory.
@@ -207,7 +217,8 @@ fn command<'a>(alloc: Global) -> Result<Command<'a>, AllocError>
     let program = with_task(program, run(alloc));
     let program = with_task(program, do_lines(alloc));
     let program = with_task(program, check(alloc));
-    with_task(program, tree(alloc))
+    let program = with_task(program, tree(alloc));
+    with_task(program, copy(alloc))
 }
 
 /// The program with one more task, if both could be made. Each `?` beside a command is a path on
@@ -259,8 +270,8 @@ fn create<'a>(alloc: Global) -> Result<Command<'a>, AllocError>
 {
     let about = "Makes a file with an empty store";
     described(alloc, "create", about, help::CREATE, help::CREATE_AFTER)
-        .arg(file(alloc, help::CREATE_FILE))?
-        .arg(blocks(alloc))
+        .arg(file(alloc, "FILE", help::CREATE_FILE))?
+        .arg(blocks(alloc, help::CREATE_BLOCKS, true))
 }
 
 fn run<'a>(alloc: Global) -> Result<Command<'a>, AllocError>
@@ -270,6 +281,7 @@ fn run<'a>(alloc: Global) -> Result<Command<'a>, AllocError>
     let about = "Opens a store and answers the lines of the standard input";
     let command = described(alloc, "run", about, help::RUN, help::RUN_AFTER).arg(file(
         alloc,
+        "FILE",
         help::RUN_FILE,
     ))?;
     with_options(alloc, command)
@@ -281,7 +293,7 @@ fn do_lines<'a>(alloc: Global) -> Result<Command<'a>, AllocError>
 {
     let about = "Opens a store and answers the lines that the words are";
     let command = described(alloc, "do", about, help::DO, help::DO_AFTER)
-        .arg(file(alloc, help::RUN_FILE))?
+        .arg(file(alloc, "FILE", help::RUN_FILE))?
         .arg(line(alloc))?;
     with_options(alloc, command)
 }
@@ -317,6 +329,7 @@ fn check<'a>(alloc: Global) -> Result<Command<'a>, AllocError>
     let about = "Opens a store, changes nothing, and prints what it holds";
     let command = described(alloc, "check", about, help::CHECK, help::CHECK_AFTER).arg(file(
         alloc,
+        "FILE",
         help::CHECK_FILE,
     ))?;
     with_lock(alloc, command)
@@ -329,17 +342,40 @@ fn tree<'a>(alloc: Global) -> Result<Command<'a>, AllocError>
     let about = "Opens a store, changes nothing, and draws its alternatives as a tree";
     let command = described(alloc, "tree", about, help::TREE, help::TREE_AFTER).arg(file(
         alloc,
+        "FILE",
         help::CHECK_FILE,
     ))?;
     with_lock(alloc, command)
 }
 
-fn file<'a>(alloc: Global, about: &'a str) -> Arg<'a>
+fn copy<'a>(alloc: Global) -> Result<Command<'a>, AllocError>
+    ensures app { IfOk result (λ c. app_of c ≡ copy_app) }
+    ensures local { IfOk result (λ c. IsLocal c) }
+{
+    let about = "Copies a store to a new file, which may be smaller or larger";
+    let command = described(alloc, "copy", about, help::COPY, help::COPY_AFTER)
+        .arg(file(alloc, "FROM", help::CHECK_FILE))?
+        .arg(to(alloc))?
+        .arg(blocks(alloc, help::COPY_BLOCKS, false))?;
+    with_lock(alloc, command)
+}
+
+fn to<'a>(alloc: Global) -> Arg<'a>
+    ensures rule { rule_of result ≡ to_rule }
+    ensures local { result.global ≡ false }
+{
+    Arg::new(alloc, "to")
+        .value_name("TO")
+        .help(help::CREATE_FILE)
+        .required(true)
+}
+
+fn file<'a>(alloc: Global, shown: &'a str, about: &'a str) -> Arg<'a>
     ensures rule { rule_of result ≡ file_rule }
     ensures local { result.global ≡ false }
 {
     Arg::new(alloc, "file")
-        .value_name("FILE")
+        .value_name(shown)
         .help(about)
         .required(true)
 }
@@ -355,14 +391,14 @@ fn line<'a>(alloc: Global) -> Arg<'a>
         .action(ArgAction::Append)
 }
 
-fn blocks<'a>(alloc: Global) -> Arg<'a>
-    ensures rule { rule_of result ≡ blocks_rule }
+fn blocks<'a>(alloc: Global, about: &'a str, required: bool) -> Arg<'a>
+    ensures rule { rule_of result ≡ blocks_rule required }
     ensures local { result.global ≡ false }
 {
     Arg::new(alloc, "blocks")
         .value_name("BLOCKS")
-        .help(help::CREATE_BLOCKS)
-        .required(true)
+        .help(about)
+        .required(required)
         .value_parser(value_parser!(u32).range(64..=1_048_576))
 }
 

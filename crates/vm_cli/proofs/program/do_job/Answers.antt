@@ -2,9 +2,9 @@ use Rattle.std.proofs.Common.{map, inl, inr, refl}
 use Rattle.std.specs.String.{string_bytes}
 use Rattle.clap.specs.Words.{kind_of}
 use Rattle.vm_cli.specs.Exits.{IsJob}
-use Rattle.vm_cli.specs.Words.Wanted.{check, create, do_lines, draw, run}
-use Rattle.vm_cli.proofs.ExitLemmas.{checked, drawn, help_or_mistake, helped, made, mistaken, no_memory, talked}
-use Rattle.vm_cli.proofs.FilesLemmas.{did_check, did_create, did_draw, did_lines, did_nothing, did_run, looks_for, looks_with, no_fault, served_lines, served_none, served_other, served_run}
+use Rattle.vm_cli.specs.Words.Wanted.{check, copy, create, do_lines, draw, run}
+use Rattle.vm_cli.proofs.ExitLemmas.{checked, copied, drawn, help_or_mistake, helped, made, mistaken, no_memory, talked}
+use Rattle.vm_cli.proofs.FilesLemmas.{did_check, did_copy, did_create, did_draw, did_lines, did_nothing, did_run, looks_for, looks_with, no_fault, served_lines, served_none, served_other, served_run}
 use Rattle.vm_cli.proofs.program.do_job.Goals as goal
 
 pub returns-in-Ok-Create-clause-ends : goal.returns-in-Ok-Create-clause-ends
@@ -41,6 +41,13 @@ returns-in-Ok-Tree-clause-ends g c =
     let e = rw c.in-Ok-Tree.field-0-is at c.in-Ok-Tree.ensures in
     let job : IsJob words (draw c.in-Ok-Tree.file.now) = (e.faults, e.ok) in
     drawn g.W.Write.contents g.F.Write.contents words _ _ _ _ c.in-Ok-Tree.file.now _ job c.tree.ensures.says
+
+pub returns-in-Ok-Copy-clause-ends : goal.returns-in-Ok-Copy-clause-ends
+returns-in-Ok-Copy-clause-ends g c =
+    let words = map string_bytes c.args.words.now in
+    let e = rw c.in-Ok-Copy.field-0-is at c.in-Ok-Copy.ensures in
+    let job : IsJob words (copy c.in-Ok-Copy.file.now c.in-Ok-Copy.to.now c.in-Ok-Copy.blocks) = (e.faults, e.ok) in
+    copied g.W.Write.contents g.F.Write.contents words _ _ _ _ c.in-Ok-Copy.file.now c.in-Ok-Copy.to.now c.in-Ok-Copy.blocks _ job c.copy.ensures.says
 
 pub returns-in-Err-clause-ends : goal.returns-in-Err-clause-ends
 returns-in-Err-clause-ends g c =
@@ -89,6 +96,13 @@ returns-in-Ok-Tree-clause-files g c honest =
     let job : IsJob words (draw c.in-Ok-Tree.file.now) = (e.faults, e.ok) in
     did_draw g.P.D.Disk _ _ _ _ _ _ _ _ words _ _ _ _ _ _ _ _ c.in-Ok-Tree.file.now job c.tree.ensures.reads (c.tree.ensures.files honest)
 
+pub returns-in-Ok-Copy-clause-files : goal.returns-in-Ok-Copy-clause-files
+returns-in-Ok-Copy-clause-files g c honest =
+    let words = map string_bytes c.args.words.now in
+    let e = rw c.in-Ok-Copy.field-0-is at c.in-Ok-Copy.ensures in
+    let job : IsJob words (copy c.in-Ok-Copy.file.now c.in-Ok-Copy.to.now c.in-Ok-Copy.blocks) = (e.faults, e.ok) in
+    did_copy g.P.D.Disk _ _ _ _ _ _ _ _ words _ _ _ _ _ _ _ _ c.in-Ok-Copy.file.now c.in-Ok-Copy.to.now c.in-Ok-Copy.blocks job (c.copy.ensures.files honest)
+
 pub returns-in-Err-clause-files : goal.returns-in-Err-clause-files
 returns-in-Err-clause-files g c honest =
     let words = map string_bytes c.args.words.now in
@@ -132,6 +146,13 @@ returns-in-Ok-Tree-clause-looks g c =
     let job : IsJob words (draw c.in-Ok-Tree.file.now) = (e.faults, e.ok) in
     looks_for g.P.Place.to_write _ _ words (draw c.in-Ok-Tree.file.now) job (λ looks. c.tree.ensures.reads)
 
+pub returns-in-Ok-Copy-clause-looks : goal.returns-in-Ok-Copy-clause-looks
+returns-in-Ok-Copy-clause-looks g c =
+    let words = map string_bytes c.args.words.now in
+    let e = rw c.in-Ok-Copy.field-0-is at c.in-Ok-Copy.ensures in
+    let job : IsJob words (copy c.in-Ok-Copy.file.now c.in-Ok-Copy.to.now c.in-Ok-Copy.blocks) = (e.faults, e.ok) in
+    looks_for g.P.Place.to_write _ _ words (copy c.in-Ok-Copy.file.now c.in-Ok-Copy.to.now c.in-Ok-Copy.blocks) job (λ looks. absurd looks)
+
 pub returns-in-Err-clause-looks : goal.returns-in-Err-clause-looks
 returns-in-Err-clause-looks g c = ((λ job is looks. refl), (λ no. refl))
 
@@ -155,6 +176,13 @@ returns-in-Ok-Tree-clause-served g c =
     let e = rw c.in-Ok-Tree.field-0-is at c.in-Ok-Tree.ensures in
     let job : IsJob words (draw c.in-Ok-Tree.file.now) = (e.faults, e.ok) in
     served_other _ g.P.Place.denied _ _ words _ _ _ _ _ _ (draw c.in-Ok-Tree.file.now) job (λ name in_memory on same. cc) (λ name lines in_memory on same. cc)
+
+pub returns-in-Ok-Copy-clause-served : goal.returns-in-Ok-Copy-clause-served
+returns-in-Ok-Copy-clause-served g c =
+    let words = map string_bytes c.args.words.now in
+    let e = rw c.in-Ok-Copy.field-0-is at c.in-Ok-Copy.ensures in
+    let job : IsJob words (copy c.in-Ok-Copy.file.now c.in-Ok-Copy.to.now c.in-Ok-Copy.blocks) = (e.faults, e.ok) in
+    served_other _ g.P.Place.denied _ _ words _ _ _ _ _ _ (copy c.in-Ok-Copy.file.now c.in-Ok-Copy.to.now c.in-Ok-Copy.blocks) job (λ name in_memory on same. cc) (λ name lines in_memory on same. cc)
 
 pub returns-in-Ok-Run-clause-served : goal.returns-in-Ok-Run-clause-served
 returns-in-Ok-Run-clause-served g c =

@@ -1,4 +1,4 @@
-use Rattle.std.proofs.Common.{◌≡◌, ◌++◌, ◌∷◌, [], None, arith}
+use Rattle.std.proofs.Common.{None, arith}
 use Rattle.vm_types.specs.declared.change.Conflict.{Conflict}
 use Rattle.vm_cli.proofs.OthersLemmas.{others_left, others_pushed}
 use Rattle.vm_cli.proofs.lines.settlement.for_others.Goals as goal

@@ -69,3 +69,14 @@ returns-in-tree c =
     let asks : asked_of (subcommand_rows_of c.args.matches.now) ≡ asked_by (codes "tree") rows c.in-Some-get_str.file.now =
     asked_of-entered _ _ rows _ entered file ∙ ap (λ (name : Text). asked_by name rows c.in-Some-get_str.file.now) c.in-tree.is in
     sym asks
+
+pub returns-in-copy : goal.returns-in-copy
+returns-in-copy c =
+    let rows = rows_of (found_of c.in-Some.matches.now) in
+    let entered : subcommand_rows_of c.args.matches.now ≡ Some (c.in-Some.name.now, rows) =
+    subcommand_rows-parts _ _ _ _ c.in-Some.ensures.name c.in-Some.ensures.rows in
+    let given = rw c.in-Some-get_str.is at c.get_str.ensures in
+    let file : first_of (codes "file") rows ≡ Some c.in-Some-get_str.file.now = sym (first_value-rows (found_of c.in-Some.matches.now) (codes "file")) ∙ sym given in
+    let asks : asked_of (subcommand_rows_of c.args.matches.now) ≡ asked_by (codes "copy") rows c.in-Some-get_str.file.now =
+    asked_of-entered _ _ rows _ entered file ∙ ap (λ (name : Text). asked_by name rows c.in-Some-get_str.file.now) c.in-copy.is in
+    c.asked_copy.ensures ∙ sym asks

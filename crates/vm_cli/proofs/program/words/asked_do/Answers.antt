@@ -1,4 +1,4 @@
-use Rattle.std.proofs.Common.{◌≡◌, ◌∙◌, Some, None, codes, map, rules, sym}
+use Rattle.std.proofs.Common.{◌≡◌, ◌∙◌, Some, None, codes, map, sym}
 use Rattle.clap.specs.Words.{all_of, found_of, rows_of}
 use Rattle.clap.proofs.WalkLemmas.{raw_values-rows}
 use Rattle.vm_cli.proofs.Matches.{do_by-lines, do_by-none}

@@ -1,7 +1,7 @@
-use Rattle.std.proofs.Common.{◌≡◌, ◌-◌, suc, false, Err, Ok, arith, inl, inr, refl, rules, sym, ◌∙◌}
+use Rattle.std.proofs.Common.{◌≡◌, ◌-◌, Err, Ok, arith, inl, inr, rules}
 use Rattle.vm_types.specs.declared.command.Command.TheVariants.{Grow}
 use Rattle.vm_types.specs.declared.refusal.Refusal.TheVariants.{Full}
-use Rattle.vm_store.specs.Store.{blocks_of, has_failed}
+use Rattle.vm_store.specs.Store.{blocks_of}
 use Rattle.vm_cli.specs.Replies.{reply_text}
 use Rattle.vm_cli.proofs.ChainLemmas.{counted_blocks, fails_then, full_sound, grown_sound, grows_first, tries_again, tries_no_more, tries_once}
 use Rattle.vm_cli.proofs.talk.growth.+carry_out.Goals as goal

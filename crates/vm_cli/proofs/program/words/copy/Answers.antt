@@ -1,0 +1,18 @@
+use Rattle.std.proofs.Common.{◌∙◌, ap}
+use Rattle.std.proofs.lemmas.Result.{IfOk-weaker}
+use Rattle.vm_cli.specs.Words.{with_lock}
+use Rattle.vm_cli.proofs.Commands.{local_arg, with_arg}
+use Rattle.vm_cli.proofs.program.words.copy.Goals as goal
+
+pub returns-clause-app : goal.returns-clause-app
+returns-clause-app c =
+    let first = with_arg _ _ _ _ _ c.in_ok-arg.ensures c.described.ensures.app c.file.ensures.rule c.file.ensures.local in
+    let second = with_arg _ _ _ _ _ c.in_ok-arg-2.ensures first c.to.ensures.rule c.to.ensures.local in
+    let third = with_arg _ _ _ _ _ c.in_ok-command.ensures second c.blocks-2.ensures.rule c.blocks-2.ensures.local in
+    IfOk-weaker c.with_lock.result _ _ (λ whole is. is ∙ ap with_lock third) c.with_lock.ensures.app
+
+pub returns-clause-local : goal.returns-clause-local
+returns-clause-local c =
+    let first = local_arg _ _ _ c.in_ok-arg.ensures c.described.ensures.local c.file.ensures.local in
+    let second = local_arg _ _ _ c.in_ok-arg-2.ensures first c.to.ensures.local in
+    c.with_lock.ensures.local (local_arg _ _ _ c.in_ok-command.ensures second c.blocks-2.ensures.local)
