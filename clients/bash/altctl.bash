@@ -3,12 +3,12 @@ _altctl() {
     local word=${COMP_WORDS[COMP_CWORD]} before=${COMP_WORDS[COMP_CWORD - 1]} command=${COMP_WORDS[1]-} options=--help
     COMPREPLY=()
     if [ "$COMP_CWORD" -eq 1 ]; then
-        mapfile -t COMPREPLY < <(compgen -W 'create run do check tree --help --version' -- "$word")
+        mapfile -t COMPREPLY < <(compgen -W 'create run do check tree copy --help --version' -- "$word")
         return
     fi
     case $command in
     run | do) options='--cache --buffer --strict --read-only --grow --grow-to --no-lock --wait --help' ;;
-    check | tree) options='--no-lock --wait --help' ;;
+    check | tree | copy) options='--no-lock --wait --help' ;;
     esac
     case $before:$word in
     --cache:* | --buffer:* | --grow-to:*) ;;

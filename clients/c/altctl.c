@@ -628,7 +628,7 @@ static int connect_store(alt_store *store, const char *path)
     return ALT_OK;
 }
 
-/* What a `create` of so many blocks that ended with a status gives. */
+/* The error of a `create` of a file with this many blocks, by its status. */
 static int created(uint32_t blocks, alt_details *details)
 {
     if (details->status == 0)
@@ -638,23 +638,60 @@ static int created(uint32_t blocks, alt_details *details)
     return details->status == 1 || details->status == 2 ? ALT_CANNOT_CREATE : end_of(details);
 }
 
+/* Runs the program without input until it ends. Notes its end and the beginning of its output. */
+static int run_to_end(const char *const *words, int lock, char *output, size_t room, alt_details *details)
+{
+    int streams[3] = {apart(open("/dev/null", O_RDONLY | O_CLOEXEC)), nameless(), nameless()};
+    pid_t started;
+    int error = ALT_SYSTEM;
+    if (streams[0] >= 0 && streams[1] >= 0 && streams[2] >= 0)
+        error = start(&started, words, streams[0], streams[1], streams[2], lock);
+    if (error == ALT_OK) {
+        note_end(started, streams[2], details);
+        ssize_t length = pread(streams[1], output, room - 1, 0);
+        output[length > 0 ? length : 0] = 0;
+    }
+    close_all(streams, 3);
+    return error;
+}
+
 int alt_create(const char *file, uint32_t blocks, const alt_options *options)
 {
-    char digits[16];
+    char digits[16], output[80];
     snprintf(digits, sizeof digits, "%" PRIu32, blocks);
     const char *program = options != NULL && options->program != NULL ? options->program : "altctl";
     const char *words[] = {program, "create", "--", file, digits, NULL};
-    int streams[2] = {apart(open("/dev/null", O_RDWR | O_CLOEXEC)), nameless()};
-    pid_t started;
-    int error = ALT_SYSTEM;
-    if (streams[0] >= 0 && streams[1] >= 0)
-        error = start(&started, words, streams[0], streams[0], streams[1], -1);
-    if (error == ALT_OK) {
-        alt_details details = {0};
-        note_end(started, streams[1], &details);
-        error = created(blocks, &details);
-    }
-    close_all(streams, 2);
+    alt_details details = {0};
+    int error = run_to_end(words, -1, output, sizeof output, &details);
+    return error == ALT_OK ? created(blocks, &details) : error;
+}
+
+/* The error of a `copy` to this many blocks. */
+static int copied(uint32_t blocks, alt_details *details)
+{
+    if (details->status == 1 && strncmp(details->said, "altctl: cannot create ", 22) != 0)
+        return end_of(details);
+    return created(blocks, details);
+}
+
+int alt_copy(const char *file, const char *to, uint32_t blocks, alt_size *size, const alt_options *options)
+{
+    char digits[16], output[80];
+    snprintf(digits, sizeof digits, "%" PRIu32, blocks);
+    alt_options how = options != NULL ? *options : none;
+    how.read_only = 1;
+    const char *program = how.program != NULL ? how.program : "altctl";
+    const char *words[] = {program, "copy", "--", file, to, blocks == 0 ? NULL : digits, NULL};
+    alt_details details = {0};
+    int lock = -1;
+    int error = lock_file(file, &how, &lock);
+    if (error == ALT_OK)
+        error = run_to_end(words, lock, output, sizeof output, &details);
+    close_all(&lock, 1);
+    if (error == ALT_OK)
+        error = copied(blocks, &details);
+    if (error == ALT_OK && size != NULL && sscanf(output, "copied %" SCNu32 ", %" SCNu32, &size->blocks, &size->used) != 2)
+        return ALT_BAD_ANSWER;
     return error;
 }
 

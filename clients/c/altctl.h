@@ -149,6 +149,16 @@ typedef struct {
 /* Makes a store of 64 to 1,048,576 blocks of 4,096 bytes in a new file. */
 int alt_create(const char *file, uint32_t blocks, const alt_options *options);
 
+typedef struct {
+    uint32_t blocks, used;
+} alt_size;
+
+/* Copies what was committed to a new file of `blocks` blocks, or of as many as the store has if `blocks` is 0. *size becomes the
+   number of its blocks and of those in use; it may be NULL. ALT_FULL: more than `blocks` are in use, and no file is made.
+   ALT_IN_USE: the store is open for changes, perhaps by this program; it may be open for reading. Any other failure may leave a
+   file that is no store. */
+int alt_copy(const char *file, const char *to, uint32_t blocks, alt_size *size, const alt_options *options);
+
 /* Opens the store in a file, which stays locked (`flock`) as long as the program runs. A name that begins with `unix:` is the
    socket of a service. Close *store even if this fails: until then `alt_error_text` has the details. It may be NULL then. */
 int alt_open(alt_store **store, const char *file, const alt_options *options);

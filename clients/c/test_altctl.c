@@ -1260,6 +1260,93 @@ static void what_cannot_be_opened_is_told(void)
     SAME(ALT_OK, alt_close(NULL));
 }
 
+/* --- copies ----------------------------------------------------------------------------------------- */
+
+/* The names of two files beside the store, which are not there. */
+static char first_copy[4100], second_copy[4100];
+
+static void remove_copies(void)
+{
+    snprintf(first_copy, sizeof first_copy, "%s.first", file);
+    snprintf(second_copy, sizeof second_copy, "%s.second", file);
+    unlink(first_copy);
+    unlink(second_copy);
+}
+
+/* Looks whether two files have the same bytes. */
+static int have_same_bytes(const char *one, const char *other)
+{
+    FILE *files[2] = {fopen(one, "rb"), fopen(other, "rb")};
+    int bytes[2] = {0, 0};
+    while (files[0] != NULL && files[1] != NULL && bytes[0] == bytes[1] && bytes[0] != EOF)
+        for (int at = 0; at < 2; at++)
+            bytes[at] = fgetc(files[at]);
+    for (int at = 0; at < 2; at++)
+        if (files[at] != NULL)
+            fclose(files[at]);
+    return bytes[0] == EOF && bytes[1] == EOF;
+}
+
+static void what_was_committed_is_copied(void)
+{
+    alt_size size = {0, 0};
+    remove_copies();
+    SAME(ALT_OK, alt_copy(file, first_copy, 0, &size, &options));
+    SAME(34, size.used);
+    SAME(1, have_same_bytes(file, first_copy));
+    alt_store *store = opened(), *copy;
+    SAME(ALT_OK, alt_put(store, "top", (alt_key){7, 1}, "duct", 4));
+    SAME(ALT_OK, alt_commit(store));
+    SAME(ALT_IN_USE, alt_copy(file, second_copy, 0, &size, &options));
+    SAME(-1, access(second_copy, F_OK));
+    SAME(ALT_OK, alt_close(store));
+    alt_options reading = options;
+    reading.read_only = 1;
+    SAME(ALT_OK, alt_open(&store, file, &reading));
+    SAME(ALT_OK, alt_copy(file, second_copy, 5000, &size, &options));
+    SAME(5000, size.blocks);
+    SAME(35, size.used);
+    SAME(ALT_CANNOT_CREATE, alt_copy(file, second_copy, 0, NULL, &options));
+    SAME(ALT_OK, alt_close(store));
+    SAME(ALT_OK, alt_open(&copy, second_copy, &options));
+    char value[8];
+    size_t length;
+    uint64_t blocks;
+    SAME(ALT_OK, alt_get(copy, "top", (alt_key){7, 1}, value, sizeof value, &length));
+    SAME(4, length);
+    SAME(ALT_OK, alt_blocks(copy, &blocks));
+    SAME(5000, blocks);
+    SAME(ALT_OK, alt_close(copy));
+    remove_copies();
+}
+
+static void what_cannot_be_copied_is_told(void)
+{
+    char value[ALT_LONGEST_VALUE] = {0};
+    alt_store *store = opened();
+    remove_copies();
+    SAME(ALT_OK, alt_grow(store, 128));
+    for (uint64_t number = 0; number < 40; number++)
+        SAME(ALT_OK, alt_put(store, "top", (alt_key){7, number}, value, sizeof value));
+    SAME(ALT_OK, alt_commit(store));
+    SAME(ALT_OK, alt_close(store));
+    SAME(ALT_FULL, alt_copy(file, first_copy, 64, NULL, &options));
+    SAME(ALT_BAD_SIZE, alt_copy(file, first_copy, 63, NULL, &options));
+    SAME(ALT_BAD_SIZE, alt_copy(file, first_copy, (1 << 20) + 1, NULL, &options));
+    SAME(ALT_SYSTEM, alt_copy("/nowhere/map.alt", first_copy, 0, NULL, &options));
+    SAME(ENOENT, errno);
+    alt_options wrong = {.program = "/nowhere/altctl"};
+    SAME(ALT_NO_PROGRAM, alt_copy(file, first_copy, 0, NULL, &wrong));
+    SAME(-1, access(first_copy, F_OK));
+    SAME(ALT_CANNOT_CREATE, alt_copy(file, "/nowhere/copy", 0, NULL, &options));
+    SAME(ALT_CANNOT_CREATE, alt_copy(file, file, 0, NULL, &options));
+    SAME(ALT_OK, alt_copy(file, first_copy, 0, NULL, &options));
+    SAME(0, truncate(first_copy, 100000));
+    SAME(ALT_NOT_A_STORE, alt_copy(first_copy, second_copy, 0, NULL, &options));
+    SAME(-1, access(second_copy, F_OK));
+    remove_copies();
+}
+
 /* --- behind a service ------------------------------------------------------------------------------- */
 
 /* Starts the service over the file, and connects to it. */
@@ -1451,6 +1538,8 @@ static const struct {
     TEST(a_file_may_have_any_name),
     TEST(other_answers_are_told),
     TEST(what_cannot_be_opened_is_told),
+    TEST(what_was_committed_is_copied),
+    TEST(what_cannot_be_copied_is_told),
     SERVED(a_service_commits_each_change),
     SERVED(a_batch_is_made_as_a_whole),
     SERVED(a_batch_may_be_refused_or_forgotten),

@@ -26,6 +26,8 @@ from typing import NamedTuple, Optional
 AHEAD, PIPE = 60, 4096
 # How many records a scan asks for at once. A number has 64 bits, and a table 16.
 PAGE, NUMBER_BITS, LAST_NUMBER, LAST_TABLE = 1000, 64, 2**64 - 1, 2**16 - 1
+# How many blocks a store has at least and at most.
+LEAST_BLOCKS, MOST_BLOCKS = 64, 2**20
 
 
 class Refusal(Exception):
@@ -91,6 +93,13 @@ class Conflict(NamedTuple):
 class Alternative(NamedTuple):
     name: str
     parent: Optional[str]
+
+
+class Copied(NamedTuple):
+    """How many blocks a copy has, and how many of them are in use."""
+
+    blocks: int
+    used: int
 
 
 class Entry(NamedTuple):
@@ -198,6 +207,7 @@ class Process:
 
     def __init__(self, file, program, cache, wait, read_only, grow):
         os.stat(file)
+        self._words = program, os.path.abspath(os.fsdecode(file))
         options = [*([] if cache is None else ["--cache", str(cache)]), *(["--wait"] if wait else [])]
         options += ["--read-only"] if read_only else []
         options += [] if grow is False else ["--grow"] if grow is True else ["--grow", "--grow-to", str(grow)]
@@ -206,6 +216,19 @@ class Process:
         words = [program, "run", *options, "--", os.fsdecode(file)]
         self._program = subprocess.Popen(words, stdin=subprocess.PIPE, stdout=subprocess.PIPE, **how)
         self.lines, self.answers = self._program.stdin, self._program.stdout
+
+    def copy(self, to, blocks):
+        """Has a second process copy the file, whose lock this one holds."""
+        program, file = self._words
+        words = [program, "copy", "--no-lock", "--", file, os.fsdecode(to), *([] if blocks is None else [str(blocks)])]
+        how = {"stdin": subprocess.DEVNULL, "stdout": subprocess.PIPE, "stderr": subprocess.PIPE, "start_new_session": True}
+        ran = subprocess.run(words, encoding="utf-8", errors="replace", **how)
+        if ran.returncode == 0:
+            return Copied(*map(int, re.findall("[0-9]+", ran.stdout)))
+        refused = re.fullmatch("altctl: ([0-9]+ [A-Za-z]+.*)\n", ran.stderr)
+        if ran.returncode == 1 and refused:
+            raise refusal_of(["error", *refused[1].split()])
+        raise Ended(ran.returncode, ran.stderr)
 
     def end(self):
         """Ends it, and gives its status and what it said."""
@@ -498,6 +521,24 @@ class Store:
     def blocks(self):
         """The number of blocks, free ones and others."""
         return int(self._ask("blocks")[1])
+
+    def copy(self, to, blocks=None):
+        """Copies what was committed to a new file of `blocks` blocks, or of as many as the store has, and gives that number and how
+        many are in use, as Copied. Raises the Refusal 13 Full if more than `blocks` are in use; no file is made then. If it fails
+        otherwise, for instance as the file exists, it raises Ended, and may leave a file that is no store.
+
+        A second process reads the file meanwhile. Here that is safe: between two lines the program writes nothing, and other calls
+        of this store wait. An `altctl copy --no-lock` of your own is not safe while a commit, a reclaim or any other line runs."""
+        if isinstance(self._other, Service) or self._batch is not None:
+            raise ValueError("a service copies its store itself, by the line backup")
+        if blocks is not None and not LEAST_BLOCKS <= whole(blocks) <= MOST_BLOCKS:
+            raise Refusal(21, "BadSize")
+        with self._turn:
+            # Each reads all answers, and fails if the program, which holds the lock, has ended.
+            self.free()
+            copied = self._other.copy(to, blocks)
+            self.free()
+        return copied
 
     def alternatives(self):
         return self._list(lambda words: Alternative(words[0], None if words[1] == "~" else words[1]), "alts")

@@ -6,6 +6,7 @@ import fcntl
 import io
 import os
 import random
+import shutil
 import subprocess
 import sys
 import tempfile
@@ -20,7 +21,7 @@ sys.dont_write_bytecode = True
 HERE = Path(__file__).resolve().parent
 sys.path.insert(0, str(HERE))
 import example
-from altctl import Alternative, Change, Conflict, Ended, Record, Refusal, Store, Tally, decode, encode
+from altctl import Alternative, Change, Conflict, Copied, Ended, Record, Refusal, Store, Tally, decode, encode
 
 F_SETPIPE_SZ = 1031  # fcntl has the name from Python 3.10 on.
 ALTCTL = os.environ.get("ALTCTL", str(HERE.parent.parent / "altctl"))
@@ -376,6 +377,152 @@ class StoreTests(unittest.TestCase):
             self.refused(24, "ReadOnly", "", store.commit)
             self.assertEqual(b"one", other.get("top", 1, 1))
 
+    def copy_of(self, store, blocks=None):
+        """Copies a store, and gives what came and the copy's file."""
+        to = os.path.join(os.path.dirname(self.file), f"copy-{len(os.listdir(os.path.dirname(self.file)))}.alt")
+        return store.copy(to, blocks), to
+
+    def test_a_new_store_is_copied(self):
+        with self.open() as store:
+            copied, to = self.copy_of(store)
+            self.assertEqual(Copied(64, 34), copied)
+            self.assertEqual(Path(self.file).read_bytes(), Path(to).read_bytes())
+            for blocks in (64, 65, 1000):
+                copied, to = self.copy_of(store, blocks)
+                self.assertEqual((Copied(blocks, 34), blocks * 4096), (copied, os.path.getsize(to)))
+                with Store(to, ALTCTL) as other:
+                    self.assertEqual((blocks, blocks - 34), (other.blocks(), other.free()))
+
+    def test_what_was_committed_is_copied(self):
+        with self.open() as store:
+            store.grow(128)
+            store.put("top", 7, 1, b"duct")
+            store.new("north", "top")
+            store.put("north", 7, 1, b"pipe")
+            store.checkpoint("north", "before")
+            store.put("north", 7, 2, b"x" * 4000)
+            store.put("top", 7, 1, b"hose")
+            store.commit()
+            before = self.copy_of(store)
+            store.put("top", 7, 3, b"new")
+            store.uncheck("north", "before")
+            store.new("south", "top")
+            store.grow(200)
+            after = self.copy_of(store)
+            self.assertEqual(b"new", store.get("top", 7, 3))
+        # The leaf of top, and for north its own, its long value, the leaf of the checkpoint and that of the base.
+        self.assertEqual([Copied(128, 39)] * 2, [before[0], after[0]])
+        self.assertEqual(Path(before[1]).read_bytes(), Path(after[1]).read_bytes())
+        with Store(after[1], ALTCTL) as copy:
+            self.assertEqual([Record(7, 1, b"hose")], list(copy.list("top")))
+            self.assertEqual([Record(7, 1, b"duct")], list(copy.list("north@")))
+            self.assertEqual([Record(7, 1, b"pipe")], list(copy.list("north@before")))
+            self.assertEqual([Conflict(7, 1, b"duct", b"hose", b"pipe")], list(copy.conflicts("north")))
+            self.assertEqual([Change(7, 1, b"duct", b"pipe"), Change(7, 2, None, b"x" * 4000)], list(copy.changes("north")))
+            self.assertEqual([Alternative("top", None), Alternative("north", "top")], list(copy.alternatives()))
+
+    def test_a_store_that_is_copied_gets_smaller_but_not_too_small(self):
+        # Each value takes a block, and 40 records three leaves or more and a root.
+        with self.open(grow=True) as store:
+            store.put_many("top", ((7, number, bytes(4000)) for number in range(40)))
+            store.commit()
+            copied, to = self.copy_of(store)
+            self.assertEqual(store.blocks(), copied.blocks)
+            self.assertGreaterEqual(copied.used, 34 + 40 + 3 + 1)
+            small, smaller = self.copy_of(store, copied.used)
+            self.assertEqual((copied.used, copied.used), small)
+            gone = f"{self.file}.gone"
+            self.refused(13, "Full", "", store.copy, gone, copied.used - 1)
+            self.refused(13, "Full", "", store.copy, gone, 64)
+            for blocks in (63, 0, -1, 2**20 + 1):
+                self.refused(21, "BadSize", "", store.copy, gone, blocks)
+            self.assertRaises(TypeError, store.copy, gone, "64")
+            self.assertFalse(os.path.exists(gone))
+        with Store(smaller, ALTCTL) as copy:
+            self.assertEqual(0, copy.free())
+            self.assertEqual([Record(7, number, bytes(4000)) for number in range(40)], list(copy.list("top")))
+
+    def test_a_copy_of_a_copy_has_the_same_bytes(self):
+        rng = random.Random(5)
+        with Store(self.grown(1000), ALTCTL) as store:
+            for name in ("a", "b"):
+                store.new(name, "top")
+                store.put_many("top", ((7, rng.randrange(100), b"x" * rng.choice([1, 300])) for _ in range(100)))
+                store.checkpoint("top", name)
+            store.commit()
+            copied, first = self.copy_of(store, 700)
+        with Store(first, ALTCTL, read_only=True) as copy:
+            copied_again, second = self.copy_of(copy)
+        with Store(second, ALTCTL, read_only=True) as copy:
+            third = self.copy_of(copy, 700)[1]
+            larger = self.copy_of(copy, 900)[1]
+        self.assertEqual(copied, copied_again)
+        self.assertEqual(Path(first).read_bytes(), Path(second).read_bytes())
+        self.assertEqual(Path(first).read_bytes(), Path(third).read_bytes())
+        with Store(larger, ALTCTL) as copy:
+            self.assertEqual((900, 900 - copied.used), (copy.blocks(), copy.free()))
+
+    def test_a_copy_that_cannot_be_made(self):
+        with self.open() as store:
+            before = Path(self.file).read_bytes()
+            for to in (self.file, os.path.dirname(self.file), f"{self.file}/none", f"{self.file}.none/copy"):
+                with self.assertRaises(Ended) as came:
+                    store.copy(to)
+                self.assertEqual((1, f"altctl: cannot create {to}\n"), (came.exception.status, came.exception.said))
+            self.assertEqual(30, store.free())
+            self.assertEqual(before, Path(self.file).read_bytes())
+        self.assertRaises(ValueError, store.copy, f"{self.file}.none")
+
+    def test_a_copy_comes_between_rows(self):
+        with Store(self.grown(128), ALTCTL) as store:
+            store.put_many("top", ((7, number, b"%d" % number) for number in range(300)))
+            rows = store.list("top")
+            seen = [next(rows).value]
+            self.assertEqual(Copied(128, 34), self.copy_of(store)[0])
+            self.assertEqual([b"%d" % number for number in range(300)], seen + [it.value for it in rows])
+
+    def test_each_copy_beside_threads_is_what_a_commit_left(self):
+        def work():
+            for number in range(100):
+                store.put("top", 7, 1, b"%d" % number)
+                store.put("top", 7, 2, b"%d" % number)
+                store.commit()
+
+        with Store(self.grown(128), ALTCTL) as store:
+            store.put_many("top", [(7, 1, b""), (7, 2, b"")])
+            store.commit()
+            writer = threading.Thread(target=work)
+            writer.start()
+            files = [self.copy_of(store)[1] for _ in range(10)]
+            writer.join()
+        for file in files:
+            with Store(file, ALTCTL) as copy:
+                values = [it.value for it in copy.list("top")]
+                self.assertEqual(values[:1] * 2, values)
+                self.assertEqual(93, copy.free())
+
+    def test_a_copy_of_a_file_that_has_a_strange_name(self):
+        with tempfile.TemporaryDirectory() as folder:
+            shutil.move(self.file, os.path.join(folder, "-store"))
+            here = os.getcwd()
+            try:
+                os.chdir(folder)
+                program = ALTCTL if os.path.isabs(ALTCTL) else os.path.join(here, ALTCTL)
+                with Store("-store", program) as store:
+                    os.chdir("/")
+                    self.assertEqual(Copied(64, 34), store.copy(Path(folder, "-copy")))
+                    os.chdir(folder)
+                    self.assertEqual(Copied(80, 34), store.copy(b"-copy-2", 80))
+                    self.assertEqual(["-copy", "-copy-2", "-store"], sorted(os.listdir(folder)))
+            finally:
+                os.chdir(here)
+
+    def test_a_program_that_has_ended_copies_nothing(self):
+        with self.assertRaises(Ended), self.open() as store:
+            store._other._program.kill()
+            store.copy(f"{self.file}.none")
+        self.assertFalse(os.path.exists(f"{self.file}.none"))
+
     def test_many_lines_go_ahead_of_their_answers(self):
         due = {(number % 3, number): b"%d" % number for number in range(1000)}
         with Store(self.grown(4096), ALTCTL) as store:
@@ -671,6 +818,13 @@ class ServiceTests(unittest.TestCase):
             with one.batch():
                 self.assertRaises(ValueError, one.next, "north", 7, 1, 1)
                 self.assertRaises(ValueError, one.scan, "north")
+
+    def test_a_service_is_not_copied(self):
+        with self.open() as store:
+            self.assertRaises(ValueError, store.copy, f"{self.file}.none")
+            with store.batch():
+                self.assertRaises(ValueError, store.copy, f"{self.file}.none")
+        self.assertFalse(os.path.exists(f"{self.file}.none"))
 
     def test_a_batch_is_made_as_a_whole(self):
         with self.open() as one, self.open() as other:
