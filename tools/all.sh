@@ -41,6 +41,7 @@ try 300 documents.py
 try 300 session.sh
 try 120 ../clients/python/test_altctl.py
 try 300 progress.py
+try 120 copy_beside.py
 if [ -n "$quick" ]; then
     # Behind the gate: the program that it has built is the one that dist/ carries.
     try 60 dist.sh --check

@@ -4,8 +4,10 @@ after each session: `tools/compare.py [-n FILES] [-s SEED] [--short] [ALTCTL]`.
 
 Of the file every byte is compared where no written block waits (half of the files), and else those of header, slots and
 each block that a committed version reaches, since blocks that nobody needs are not written then. Between sessions some
-slots are made such of format 1. At the end it spoils bytes of the file, and compares what opening it is answered. The
-model goes by docs/MODEL.md and docs/FORMATS.md, and shares nothing with the store. It stands beside the gate."""
+slots are made such of format 1. Now and then the file is copied to another size, after a session or between two of its
+lines, and each byte of the copy is compared. At the end it spoils bytes of the file, and compares what opening it is
+answered. The model goes by docs/MODEL.md and docs/FORMATS.md, and shares nothing with the store. It stands beside the
+gate."""
 import argparse
 import os
 import random
@@ -13,9 +15,11 @@ import struct
 import subprocess
 import sys
 import tempfile
+import time
 from typing import NamedTuple
 
 BLOCK, FIRST = 4096, 34
+LEAST, MOST = 64, 1 << 20
 # A leaf has rows of 252 bytes. A value of more than 240 bytes stands in a block of its own, and has 4,000 at most.
 ROW, SHORT, LONGEST = 252, 240, 4000
 # So many blocks have to be spare for each record that is changed.
@@ -239,6 +243,39 @@ class Store:
                     rest = items[0][1]
         now = self.remove_below(root, key)
         return now[0][1] if now else 0
+
+    # --- copies
+
+    def copied(self, blocks):
+        """The store that a copy of what was committed is. Each block that a version reaches gets the next number: the versions in
+        order, the current records before the base, and each block after those that it names."""
+        copy, numbers = Store(blocks), {}
+        copy.working, copy.held = [it.copy() for it in self.committed], set()
+        for it in copy.working:
+            it.current = self.copy_under(it.current, copy, numbers)
+            it.base = self.copy_under(it.base, copy, numbers)
+        for at, block in enumerate(copy.slot_blocks(copy.working), 2):
+            copy.disk[at] = block
+        return copy
+
+    def copy_under(self, root, copy, numbers):
+        """Copies what lies under a root, each block once, and gives the number that the root has there."""
+        if root and root not in numbers:
+            level, items = self.decoded(root)
+            if level:
+                items = [(key, self.copy_under(child, copy, numbers)) for key, child in items]
+            else:
+                items = [(key, self.copy_value(key, stored, copy, numbers)) for key, stored in items]
+            numbers[root] = copy.write(level, items)[1]
+        return numbers[root] if root else 0
+
+    def copy_value(self, key, stored, copy, numbers):
+        """What a leaf of the copy has of a value."""
+        if not isinstance(stored, Link):
+            return stored
+        if stored.block not in numbers:
+            numbers[stored.block] = copy.stored(key, self.value_of(stored)).block
+        return Link(stored.size, numbers[stored.block])
 
     # --- space
 
@@ -647,10 +684,8 @@ def checked(altctl, file, store):
     alternatives = sum(it.tag == b"A" for it in store.committed)
     free = store.kept - FIRST - len(store.reached(store.committed))
     wanted = f"alternatives {alternatives}\ncheckpoints {len(store.committed) - alternatives}\nfree {free}\n"
-    ran = subprocess.run([altctl, "check", file], stdin=subprocess.DEVNULL, stdout=subprocess.PIPE, stderr=subprocess.PIPE)
-    if (ran.returncode, ran.stdout.decode(), ran.stderr) != (0, wanted, b""):
-        return f"a check says {ran}, and not {wanted!r}"
-    return None
+    came = started(altctl, "check", file)
+    return None if came == (0, wanted, "") else f"a check says {came}, and not {wanted!r}"
 
 
 class Editor:
@@ -817,44 +852,151 @@ def lower(rng, file, store):
             it.write(store.disk[slot])
 
 
+def started(altctl, *words):
+    """Runs the program, and gives its status, its output and its standard error."""
+    ran = subprocess.run([altctl, *words], stdin=subprocess.DEVNULL, stdout=subprocess.PIPE, stderr=subprocess.PIPE)
+    return ran.returncode, ran.stdout.decode(), ran.stderr.decode()
+
+
+def read(file):
+    with open(file, "rb") as it:
+        return it.read()
+
+
+def copies(altctl, rng, file, store, options):
+    """Copies a file to a random size, and says what differs from the model."""
+    to, used = f"{file}.copy", FIRST + len(store.reached(store.committed))
+    chosen = rng.choice([None, None, used - 1, used, used, used + 1, max(used, LEAST) + rng.randrange(300), 2 * store.kept, 63, 64, MOST + 1])
+    blocks, before = store.kept if chosen is None else chosen, read(file)
+    came = started(altctl, "copy", *options, file, to, *([] if chosen is None else [str(chosen)]))
+    what = f"a copy to {chosen} blocks"
+    if not LEAST <= blocks <= MOST:
+        due = 2, "", came[2]
+    elif blocks < used:
+        due = 1, "", "altctl: 13 Full\n"
+    else:
+        due = 0, f"copied {blocks}, {used} used\n", ""
+    if came != due:
+        return f"{what} is answered {came}, and not {due}"
+    if read(file) != before:
+        return f"{what} changes the file"
+    if os.path.exists(to) != (due[0] == 0):
+        return f"{what}, answered {came}: the file is there, or is not"
+    return copied_twice(altctl, to, store.copied(blocks), used, what) if due[0] == 0 else None
+
+
+def copied_twice(altctl, to, copy, used, what):
+    """Compares a copy with the one of the model, and copies it to as many blocks, which gives the same bytes."""
+    if read(to) != b"".join(copy.disk):
+        os.replace(to, "copy.alt")
+        return f"{what}, left as copy.alt, has other bytes"
+    copy.open()
+    why = checked(altctl, to, copy)
+    if why:
+        return f"{what}: {why}"
+    due = [(0, f"copied {copy.blocks}, {used} used\n", ""), (1, "", f"altctl: cannot create {to}.2\n")]
+    came = [started(altctl, "copy", to, f"{to}.2") for _ in due]
+    if came != due:
+        return f"{what}, copied again, is answered {came}, and not {due}"
+    if read(f"{to}.2") != read(to):
+        return f"{what}, copied again, has other bytes"
+    os.remove(to)
+    os.remove(f"{to}.2")
+    return None
+
+
+class Session:
+    """A process of the program on a file. Its answers go to a file, too, so no side waits for the other."""
+
+    PATIENCE = 60
+
+    def __init__(self, altctl, options, file):
+        self.answers = tempfile.TemporaryFile()
+        how = {"stdin": subprocess.PIPE, "stdout": self.answers, "stderr": subprocess.PIPE}
+        self.program = subprocess.Popen([altctl, "run", *options, file], **how)
+
+    def say(self, lines, size):
+        """Sends lines, and waits until the answers have this many bytes in all, or the program has ended."""
+        try:
+            self.program.stdin.write(lines)
+            self.program.stdin.flush()
+        except BrokenPipeError:
+            return
+        late = time.monotonic() + self.PATIENCE
+        while os.fstat(self.answers.fileno()).st_size < size and self.program.poll() is None and time.monotonic() < late:
+            time.sleep(0.001)
+
+    def end(self):
+        """Ends the input, and gives the status, the answers and what came on the standard error."""
+        _, faults = self.program.communicate(timeout=self.PATIENCE)
+        self.answers.seek(0)
+        with self.answers:
+            return self.program.returncode, self.answers.read().decode(), faults
+
+
+def random_lines(store, editor, count):
+    """Random lines, and what the model answers."""
+    lines, answers = "", ""
+    for _ in range(count):
+        line, words = editor.line(store)
+        lines += line
+        if isinstance(words, list):
+            try:
+                words = store.apply(words)
+            except Refused as refused:
+                words = refused.text
+        if words is not None:
+            answers += words + "\n"
+    return lines, answers
+
+
+def session(altctl, rng, options, file, store, editor):
+    """Runs a session of random lines, in some of them with a copy of the file between two lines. Gives the number of lines, the
+    lines, and what differs from the model."""
+    count, talk = rng.choice([10, 100, 400]), Session(altctl, options, file)
+    first = rng.randrange(count) if not editor.is_plain and rng.random() < 0.3 else count
+    lines, answers = random_lines(store, editor, first)
+    talk.say(lines.encode("latin-1"), len(answers))
+    why = copies(altctl, rng, file, store, ["--no-lock"]) if first < count else None
+    more, due = random_lines(store, editor, count - first)
+    talk.say(more.encode("latin-1"), len(answers + due))
+    came = talk.end()
+    if came != (0, answers + due, b""):
+        why = f"the answers differ: {difference(answers + due, came)}"
+    return count, lines + more, why
+
+
+def bytes_differ(file, store, waits):
+    """What differs between the file and the model's blocks, apart from those that need not be written."""
+    found = read(file)
+    needed = {*range(FIRST), *store.reached(store.committed)} if waits else range(len(store.disk))
+    for at, block in enumerate(store.disk):
+        if at in needed and found[at * BLOCK : (at + 1) * BLOCK] != block:
+            return f"block {at} differs"
+    if len(found) != BLOCK * len(store.disk):
+        return f"the file has {len(found)} bytes, and not {BLOCK * len(store.disk)}"
+    return None
+
+
 def compared(altctl, rng, folder, waits, most):
     """Makes a file, runs some sessions over it, and says what differs from the model."""
     options = [] if waits else ["--buffer", "0"]
     file, blocks = os.path.join(folder, "map.alt"), rng.choice([64, 64, 66, 100, 200, 1000])
-    made = subprocess.run([altctl, "create", file, str(blocks)], stdout=subprocess.PIPE, stderr=subprocess.PIPE)
-    if (made.returncode, made.stdout) != (0, f"created {blocks}\n".encode()):
+    made = started(altctl, "create", file, str(blocks))
+    if made[:2] != (0, f"created {blocks}\n"):
         return f"create said {made}"
     store, editor = Store(blocks), Editor(rng, most)
     count = 0
     for _ in range(rng.randrange(1, 5)):
         store.open()
         lower(rng, file, store)
-        lines, answers = "", []
-        for _ in range(rng.choice([10, 100, 400])):
-            line, words = editor.line(store)
-            lines += line
-            if isinstance(words, list):
-                try:
-                    words = store.apply(words)
-                except Refused as refused:
-                    words = refused.text
-            if words is not None:
-                answers.append(words + "\n")
-            count += 1
-        ran = subprocess.run([altctl, "run", *options, file], input=lines.encode("latin-1"), stdout=subprocess.PIPE, stderr=subprocess.PIPE)
-        if (ran.returncode, ran.stdout.decode(), ran.stderr) != (0, "".join(answers), b""):
-            return f"the answers differ: {difference(lines, answers, ran)}"
-        why = checked(altctl, file, store)
+        more, lines, why = session(altctl, rng, options, file, store, editor)
+        count += more
+        why = why or checked(altctl, file, store) or bytes_differ(file, store, waits)
+        if not why and not editor.is_plain and rng.random() < 0.3:
+            why = copies(altctl, rng, file, store, [])
         if why:
             return f"{why}, after these lines:\n{lines}"
-        with open(file, "rb") as it:
-            found = it.read()
-        needed = {*range(FIRST), *store.reached(store.committed)} if waits else range(len(store.disk))
-        for at, block in enumerate(store.disk):
-            if at in needed and found[at * BLOCK : (at + 1) * BLOCK] != block:
-                return f"block {at} differs after these lines:\n{lines}"
-        if len(found) != BLOCK * len(store.disk):
-            return f"the file has {len(found)} bytes, and not {BLOCK * len(store.disk)}, after these lines:\n{lines}"
     why = opened(altctl, rng, file, store.disk)
     if why:
         os.replace(file, "spoiled.alt")
@@ -863,10 +1005,11 @@ def compared(altctl, rng, folder, waits, most):
     return count
 
 
-def difference(lines, answers, ran):
-    given, wanted = ran.stdout.decode().split("\n"), "".join(answers).split("\n")
+def difference(answers, came):
+    status, text, faults = came
+    given, wanted = text.split("\n"), answers.split("\n")
     at = next((i for i, (a, b) in enumerate(zip(given, wanted)) if a != b), min(len(given), len(wanted)))
-    return f"status {ran.returncode}, {ran.stderr!r}, at answer line {at + 1}: {given[at : at + 3]} and not {wanted[at : at + 3]}; lines:\n{lines}"
+    return f"status {status}, {faults!r}, at answer line {at + 1}: {given[at : at + 3]} and not {wanted[at : at + 3]}"
 
 
 def main():

@@ -6,7 +6,8 @@ A session is random lines, given one at a time, and each call that changes the f
 moment, before, in and after each of these calls, files are made as a crash then may leave them: with all that was synced, any
 bytes in the blocks that were written since, and as much of a growth as may be. The program opens each of them, and has to show
 what the last commit that was acknowledged made, or the one that was under way. The next lines of the session are run over one of
-these files. The model is that of `tools/compare.py`.
+these files. So are the calls of a copy of the store: up to the header's write each of these files is no store, in it no store or
+the whole copy. The model is that of `tools/compare.py`.
 
 With `--broken` the files are made wrongly, so that it has to fail: `block` forgets a block that was synced, and `sync` takes
 every second sync for none.
@@ -25,7 +26,7 @@ from collections import Counter
 from typing import NamedTuple
 
 sys.dont_write_bytecode = True
-from compare import BLOCK, Editor, Refused, Store
+from compare import BLOCK, FIRST, LEAST, Editor, Refused, Store, read, started
 from kill import Failure, Program, unlike
 from preloaded import PROGRAM, build_program, compiled, preloaded
 
@@ -53,11 +54,6 @@ class Call(NamedTuple):
 
 
 WRITE, LENGTH, SYNC = range(3)
-
-
-def read(file):
-    with open(file, "rb") as it:
-        return it.read()
 
 
 def recorded(file):
@@ -146,7 +142,7 @@ class Disk:
             return held[-1] if chance.random() < 0.7 else chance.choice(held)
         if kind == "torn":
             return torn(chance, held[-1], chance.choice(held))
-        return chance.choice([bytes(BLOCK), chance.randbytes(BLOCK), chance.choice(self.synced)])
+        return chance.choice([bytes(BLOCK), chance.randbytes(BLOCK), chance.choice(self.synced or [bytes(BLOCK)])])
 
 
 def torn(chance, one, other):
@@ -302,6 +298,69 @@ def make_store(chance, file):
         raise Failure(f"a new store: {ran}")
 
 
+def copy_store(chance, file, to, variables):
+    """Copies a store, and gives the blocks of the copy that the model makes."""
+    store, before = opened(blocks_of(read(file))), read(file)
+    used = FIRST + len(store.reached(store.committed))
+    blocks = max(LEAST, used + chance.choice([0, 0, 1, 40]))
+    ran = subprocess.run([PROGRAM, "copy", file, to, str(blocks)], capture_output=True, text=True, env=variables, timeout=60)
+    if (ran.returncode, ran.stdout, ran.stderr) != (0, f"copied {blocks}, {used} used\n", ""):
+        raise Failure(f"a copy: {ran}")
+    if read(file) != before:
+        raise Failure("a copy changed the store")
+    return store.copied(blocks).disk
+
+
+class CopyCrashes:
+    """The crashes of one copy, of which `whole` are the bytes."""
+
+    def __init__(self, chance, image, whole, most, count):
+        self.chance, self.image, self.whole, self.most, self.count = chance, image, whole, most, count
+        self.seen = set()
+
+    def try_calls(self, disk, calls):
+        """Looks at the moments in each call and after it. The last but one writes the header, and the last one makes it last."""
+        for number, call in enumerate(calls, 1):
+            self.count["calls of copies"] += 1
+            if call.kind != SYNC:
+                disk.apply(call)
+            self.try_moment(disk, number >= len(calls) - 1, False, f"in call {number}")
+            if call.kind == SYNC:
+                disk.apply(call)
+            self.try_moment(disk, number >= len(calls) - 1, number == len(calls), f"after call {number}")
+
+    def try_moment(self, disk, may_be_whole, is_whole, when):
+        """Looks at files that a crash may leave at a moment: each is the whole copy or no store."""
+        for _ in range(self.most):
+            text = disk.crashed(self.chance)
+            mark = hash(text), may_be_whole, is_whole
+            if mark in self.seen:
+                continue
+            self.seen.add(mark)
+            self.count["images of copies"] += 1
+            with open(self.image, "wb") as it:
+                it.write(text)
+            came = started(PROGRAM, "check", self.image)
+            shows = text == self.whole and may_be_whole
+            self.count["images of copies that show the store"] += shows
+            if is_whole and not shows or not shows and came != (1, "", "altctl: 19 NotAStore\n") or shows and came[0]:
+                raise Failure(f"a crash of a copy {when} leaves what is answered {came}")
+
+
+def try_copy(chance, file, library, said, count):
+    """Copies a store, and tries crashes of the copy."""
+    to, record, image = (f"{file}.{name}" for name in ("copy", "calls", "image"))
+    whole = b"".join(copy_store(chance, file, to, preloaded(library, store=to, recorded=record)))
+    disk, calls = Disk(b"", said.broken), recorded(record)
+    if [it.kind for it in calls[-2:]] != [WRITE, SYNC] or calls[-2].place:
+        raise Failure("a copy does not end with the write of the header, and a sync")
+    CopyCrashes(chance, image, whole, said.i, count).try_calls(disk, calls)
+    if not read(to) == disk.text() == whole:
+        raise Failure("the copy is not what the recorded calls made, or not what the model makes")
+    for name in (to, record, image):
+        os.remove(name)
+
+
 def run_session(seed, folder, library, said, count):
     """Runs one session, and tries crashes of it."""
     chance, options = random.Random(seed), OPTIONS[seed % len(OPTIONS)]
@@ -317,6 +376,7 @@ def run_session(seed, folder, library, said, count):
             crashes.try_calls(disk, recorded(record))
             if read(file) != disk.text():
                 raise Failure("the file is not what the recorded calls made")
+            try_copy(chance, file, library, said, count)
         except Failure as failure:
             raise Failure(f"seed {seed}, {' '.join(options) or 'no options'}, round {number}: {failure}") from None
         os.remove(record)

@@ -1,18 +1,20 @@
 #!/bin/sh
 # Measures the program over real files beside a store in the same format that is written by hand in C, without proofs
-# (`plain.c`), and prints tables in Markdown: `tools/measure.sh [-c] [-d DIVISOR] [--peers] [--long] [--pages] [ALTCTL]`.
+# (`plain.c`), and prints tables in Markdown:
+# `tools/measure.sh [-c] [-d DIVISOR] [--peers] [--long] [--pages] [--copies] [ALTCTL]`.
 # Both get the same lines, and all answers of both are compared with what is expected. A time is the middle one of three.
 # With -c it is the least one, and only that in which the process had a processor, which other work on the machine
 # disturbs less; a DIVISOR of 1 to 16 makes all of it that many times smaller. With --peers loads and gets are measured over LMDB
 # and SQLite, too (`peers.c`), where Debian's packages liblmdb-dev and libsqlite3-dev are installed. With --long values
 # of 2,000 bytes are measured instead, in one record each and split over several, by the program alone: plain.c has
 # none; that needs about 3 GB for temporary files. With --pages parts of versions are measured instead: pages, ranges and
-# differences, by the program alone, with --peers pages of LMDB and SQLite, too. It stands beside the gate: times are
-# looked at, never tested.
+# differences, by the program alone, with --peers pages of LMDB and SQLite, too. With --copies copies are measured
+# instead, beside `cp` and, with --peers, `mdb_copy -c` and `VACUUM INTO`, and openings of a store from a cold disk before
+# and after it was copied; that needs about 4 GB. It stands beside the gate: times are looked at, never tested.
 set -eu
 
 usage() {
-    echo 'usage: tools/measure.sh [-c] [-d DIVISOR] [--peers] [--long] [--pages] [ALTCTL]' >&2
+    echo 'usage: tools/measure.sh [-c] [-d DIVISOR] [--peers] [--long] [--pages] [--copies] [ALTCTL]' >&2
     exit 2
 }
 
@@ -26,6 +28,7 @@ divisor=1
 peers=
 long=
 pages=
+copies=
 while [ $# -gt 0 ]; do
     case $1 in
     -c) clock=2 ;;
@@ -37,6 +40,7 @@ while [ $# -gt 0 ]; do
     --peers) peers=1 ;;
     --long) long=1 ;;
     --pages) pages=1 ;;
+    --copies) copies=1 ;;
     -*) usage ;;
     *) break ;;
     esac
@@ -62,6 +66,9 @@ many_pages=1000
 page=100
 design_changes=1000
 many_diffs=100
+# A million records take some 89,200 blocks, if their keys came in random order.
+full_blocks=$((98304 / divisor))
+quarter_blocks=$((356352 / divisor))
 
 tools=$(cd "$(dirname "$0")" && pwd)
 altctl=${1:-$tools/../altctl}
@@ -260,6 +267,14 @@ print_parts() {
                         each("lmdb", it), each("sqlite", it)
             }
         }'
+}
+
+# The rows of copies and openings, with the blocks of the file that was made or opened.
+print_copies() {
+    echo
+    echo "| $1 | Time | Blocks of the file |"
+    echo '|---|---|---|'
+    chosen | awk -F '|' "$functions"'{ printf "| %s | %s | %s |\n", $1, short($3, $5), grouped($6) }'
 }
 
 # The blocks that the loads of the table wrote, beside those of the trees at their ends.
@@ -659,6 +674,80 @@ measure_both_pages() {
     measure_pages "$large_records" "$large_blocks"
 }
 
+# Has a command make the file `copy`, as a row.
+measure_copy() {
+    what=$1
+    shift
+    for round in $(seq $rounds); do
+        rm -f "$work/copy"
+        times=$("$work/timed" run "$@")
+        [ -s "$work/copy" ] || fail "no file by $what"
+        add "$what" time 1 "$(echo "$times" | cut -d ' ' -f $clock)" "$(blocks_of "$work/copy")" 0
+    done
+}
+
+blocks_of() {
+    echo $(($(stat -c %s "$1") / 4096))
+}
+
+# Opens a store of which no page is in memory, by the words after the second, as a row.
+measure_cold() {
+    what=$1
+    file=$2
+    shift 2
+    for round in $(seq $rounds); do
+        sync "$file"
+        dd if="$file" iflag=nocache count=0 2>"$work/faults" || fail "$(cat "$work/faults")"
+        times=$("$work/timed" run "$program" check "$@" "$file")
+        add "$what" time 1 "$(echo "$times" | cut -d ' ' -f $clock)" "$(blocks_of "$file")" 0
+    done
+}
+
+# Makes a store of this many blocks, puts the records in random order, commits, and measures copies of it.
+measure_copies_of() {
+    begin "$1"
+    ask "large_load_random"
+    end
+    used=$(($1 - $(free_of_store)))
+    of="a store with $((100 * used / $1)) % of its blocks in use"
+    measure_copy "$of: cp, and a sync" sh -c "cp '$work/store' '$work/copy' && sync '$work/copy'"
+    measure_copy "$of: copy to as few blocks as are in use" "$program" copy "$work/store" "$work/copy" "$used"
+    measure_copy "$of: copy" "$program" copy "$work/store" "$work/copy"
+}
+
+# Opens the store from a cold disk, then its last copy, then its smallest one.
+measure_openings() {
+    for option in '' --no-lock; do
+        measure_cold "a cold opening${option:+, $option}" "$work/store" $option
+        measure_cold "a cold opening of its copy${option:+, $option}" "$work/copy" $option
+    done
+    mv "$work/copy" "$work/store"
+    "$program" copy "$work/store" "$work/copy" "$used" >"$work/answers"
+    for option in '' --no-lock; do
+        measure_cold "a cold opening of its smallest copy${option:+, $option}" "$work/copy" $option
+    done
+    rm -f "$work/store" "$work/copy"
+}
+
+# The same records in LMDB, copied by its own program.
+measure_lmdb_copy() {
+    start
+    ask large_load_random
+    end
+    measure_copy 'LMDB: mdb_copy -c, and a sync' sh -c "mdb_copy -n -c '$work/store' '$work/copy' && sync '$work/copy'"
+    rm -f "$work/store"* "$work/copy"
+}
+
+measure_sqlite_copy() {
+    start
+    ask large_load_random
+    end
+    into="import sqlite3, sys; sqlite3.connect(sys.argv[1]).execute('VACUUM INTO ?', (sys.argv[2],))"
+    measure_copy 'SQLite: VACUUM INTO, and a sync' \
+        sh -c "python3 -c \"\$0\" '$work/store' '$work/copy' && sync '$work/copy'" "$into"
+    rm -f "$work/store"* "$work/copy"
+}
+
 # Lets both programs do the same, one after the other, so many times.
 both() {
     for round in $(seq "$2"); do
@@ -705,6 +794,26 @@ if [ -n "$pages" ]; then
     [ -z "$peers" ] || try_peer lmdb measure_both_pages -DLMDB -llmdb
     [ -z "$peers" ] || try_peer sqlite measure_both_pages -lsqlite3
     print_parts 'Parts of versions'
+    exit 0
+fi
+if [ -n "$copies" ]; then
+    table=copies name=altctl program=$altctl
+    numbers "$large_records" random >"$work/large_random"
+    { put_lines top 16 0 <"$work/large_random" && echo commit; } | all_ok large_load_random
+    measure_copies_of "$full_blocks"
+    measure_copies_of "$quarter_blocks"
+    measure_openings
+    if [ -n "$peers" ] && ! command -v mdb_copy >/dev/null; then
+        echo 'measure: lmdb is left out: mdb_copy is not installed' >&2
+    elif [ -n "$peers" ]; then
+        try_peer lmdb measure_lmdb_copy -DLMDB -llmdb
+    fi
+    if [ -n "$peers" ] && ! python3 -c 'import sqlite3' 2>"$work/faults"; then
+        echo 'measure: sqlite is left out: it is not there in Python' >&2
+    elif [ -n "$peers" ]; then
+        try_peer sqlite measure_sqlite_copy -lsqlite3
+    fi
+    print_copies "$(grouped "$large_records") records"
     exit 0
 fi
 table=small

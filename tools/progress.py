@@ -1,5 +1,5 @@
 #!/usr/bin/env python3
-"""Has the program make, open, list, check and grow a store over a device that is slow: `tools/progress.py`. On a terminal the
+"""Has the program make, open, list, check, copy and grow a store over a device that is slow: `tools/progress.py`. On a terminal the
 standard error tells how far a job is, and nothing of that is left on the screen when it is done; anywhere else no byte is written
 there, nor on a terminal where the job is short. What is answered is the same each time. Where it isn't so, it says so and ends with
 status 1.
@@ -21,6 +21,8 @@ from preloaded import PROGRAM, build_program, compiled, preloaded
 
 # As many blocks as take two seconds to write, sixteen at a time, and as many leaves as take three to read.
 BLOCKS, RECORDS, SLOW = 6144, 5400, 6000
+# Those of a copy: the store is opened in less than a second, the copy takes three.
+COPIED, FEW = 4096, 900
 LINE = re.compile(rb"\raltctl: (\d+)(?: of (\d+))? blocks")
 
 
@@ -73,18 +75,18 @@ def screen(written):
     return ["".join(row).rstrip() for row in rows]
 
 
-def expect_progress(what, written, jobs, total):
-    """Looks whether the terminal told how far so many jobs are, each with rising numbers, of so many blocks or, where that is 0, of no
+def expect_progress(what, written, jobs, totals):
+    """Looks whether the terminal told how far so many jobs are, each with rising numbers, of these numbers of blocks or, for 0, of no
     number, and is blank after."""
     told = [(int(it[1]), int(it[2] or 0)) for it in LINE.finditer(written)]
     begun = sum(n == 0 or told[n - 1][0] >= blocks for n, (blocks, _) in enumerate(told))
     expect(f"{what}: jobs that were told", jobs, begun)
-    expect(f"{what}: of how many blocks", {total}, {told_total for _, told_total in told})
+    expect(f"{what}: of how many blocks", totals, {told_total for _, told_total in told})
     expect(f"{what}: lines, one job", True, len(told) >= 2 * jobs)
     expect(f"{what}: the screen", [""], screen(written))
 
 
-def try_job(what, words, lines, slow, jobs, total=BLOCKS, prepare=None):
+def try_job(what, words, lines, slow, jobs, totals=frozenset({BLOCKS}), prepare=None):
     """Runs one job with its standard error on a pipe, on a terminal with its output, and on a terminal alone. Where the job changes
     the file, `prepare` is called before each time."""
     came = {}
@@ -96,7 +98,7 @@ def try_job(what, words, lines, slow, jobs, total=BLOCKS, prepare=None):
     expect(f"{what}: status and standard error", (0, b""), (status, faults))
     expect(f"{what}: the same on a terminal", (0, output), came["terminal"][:2])
     expect(f"{what}: what stands on the screen", output.decode().split("\n"), screen(came["screen"][2]))
-    expect_progress(what, came["terminal"][2], jobs, total)
+    expect_progress(what, came["terminal"][2], jobs, totals)
     status, quick, faults = run(words, lines, {}, True) if not prepare else (0, output, b"")
     expect(f"{what}: a short job on a terminal", (0, output, b""), (status, quick, faults))
 
@@ -114,13 +116,19 @@ def main():
             expect("puts on a terminal", (0, b""), (status, faults))
             try_job("open and list", ["run", "--cache", "0", file], ["list top"], slow, 2)
             try_job("check", ["check", file], [], slow, 1)
+            run(["create", small, "1024"], [], {}, False)
+            run(["run", small], [*puts[:FEW], "commit"], {}, False)
+            # With what is read for the copy, they are more blocks than it has.
+            remove = lambda: os.path.exists(grown) and os.remove(grown)
+            try_job("copy", ["copy", small, grown, str(COPIED)], [], slow, 1, {COPIED, 0}, remove)
+            os.remove(small)
             run(["create", small, "64"], [], {}, False)
             # How many blocks there will be is not known where they are counted.
-            try_job("growth", ["run", grown], [f"grow {BLOCKS}"], slow, 1, total=0, prepare=lambda: shutil.copy(small, grown))
+            try_job("growth", ["run", grown], [f"grow {BLOCKS}"], slow, 1, {0}, lambda: shutil.copy(small, grown))
         except Failure as it:
             print(f"progress: {it}")
             return 1
-    print("progress: a terminal was told how far four jobs are, and nothing else was")
+    print("progress: a terminal was told how far five jobs are, and nothing else was")
     return 0
 
 

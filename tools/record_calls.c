@@ -1,7 +1,7 @@
 /* Records the calls of a program that change one file, or make it last. It is loaded before the C library by
    LD_PRELOAD.
 
-   STORE=PATH       the file
+   STORE=PATH       the file, which the program may make
    RECORDED=PATH    the calls are appended to this file as soon as they have succeeded: each is three numbers of
                     eight bytes, its kind, its place and its size, and behind those of a write the bytes
 
@@ -16,13 +16,21 @@
 
 enum { WRITE, LENGTH, SYNC };
 
-static int recorded = -1;
+static int recorded = -1, is_found;
 static struct stat store;
+
+static int find_store(void)
+{
+    const char *path = getenv("STORE");
+    is_found = is_found || (path && stat(path, &store) == 0);
+    return is_found;
+}
 
 static void __attribute__((constructor)) open_record(void)
 {
-    const char *path = getenv("STORE"), *into = getenv("RECORDED");
-    if (path && into && stat(path, &store) == 0)
+    const char *into = getenv("RECORDED");
+    find_store();
+    if (into)
         recorded = open(into, O_WRONLY | O_CREAT | O_APPEND | O_CLOEXEC, 0600);
 }
 
@@ -36,7 +44,7 @@ static void append(const void *from, size_t count)
 static void record(int file, uint64_t kind, uint64_t place, uint64_t size, const void *bytes)
 {
     struct stat it;
-    if (recorded < 0 || fstat(file, &it) != 0 || it.st_dev != store.st_dev || it.st_ino != store.st_ino)
+    if (recorded < 0 || !find_store() || fstat(file, &it) != 0 || it.st_dev != store.st_dev || it.st_ino != store.st_ino)
         return;
     uint64_t head[] = {kind, place, size};
     append(head, sizeof head);

@@ -227,14 +227,25 @@ run_session() {
     refusals=$((refusals + number - 1))
 }
 
+# Tests the file that a copy was to make: it shows what the store shows, or no store if memory was wanting.
+check_copy() {
+    if [ "$status" = 0 ]; then
+        shown "$room/copied" | cmp -s - "$room/usual_shown" || fail "copy, allocation $1: it shows something else"
+    elif [ -e "$room/copied" ]; then
+        [ "$("$program" check "$room/copied" 2>&1)" = 'altctl: 19 NotAStore' ] || fail "copy, allocation $1: it is a store"
+    fi
+}
+
 # Has a job done that only reads the store that a session left, and refuses the allocation of this number: none, where
-# it is 0. The first word names the job.
+# it is 0. The first word names the job. A copy is made anew.
 read_store() {
-    rm -f "$room/refused"
+    rm -f "$room/refused" "$room/copied"
+    [ "$1" != copy ] || set -- "$1" "$2" "$room/copied"
     status=0
     timeout 60 env LD_PRELOAD="$room/refuse.so" REFUSE="$2" REFUSED="$room/refused" \
-        "$program" "$1" "$room/store" >"$room/shown" 2>"$room/said" </dev/null || status=$?
+        "$program" "$1" "$room/store" ${3:+"$3"} >"$room/shown" 2>"$room/said" </dev/null || status=$?
     cmp -s "$room/store" "$room/usual" || fail "$1, allocation $2: the file was changed"
+    [ "$1" != copy ] || check_copy "$2"
 }
 
 # Has a job done that only reads the store that a session left, with each allocation refused. What it prints is in
@@ -271,6 +282,14 @@ run_checks() {
     cp "$room/usual" "$room/store"
     echo free | "$program" run "$room/store" >>"$room/due"
     run_reads check
+}
+
+# Copies the store that a session left, with each allocation refused. It has so many blocks, all but the free ones in use.
+run_copies() {
+    cp "$room/usual" "$room/store"
+    spare=$(echo free | "$program" run "$room/store")
+    echo "copied $1, $(($1 - ${spare#free })) used" >"$room/due"
+    run_reads copy
 }
 
 # Draws the tree of the store that a session left, with each allocation refused. These lines are due below top.
@@ -374,12 +393,14 @@ refusals=0
 run_all_commands
 run_session a 256
 run_checks 1
+run_copies 300
 run_trees <<'END'
       1        0         0  yes  `- a
                                     * before
 END
 run_session x 64
 run_checks 0
+run_copies 80
 echo '      0        2         0   no  `- x' | run_trees
 do_all_lines
 for line in 'merge .*' 'grow 300' 'grow 1000'; do

@@ -27,6 +27,15 @@ compare() {
     fi
 }
 
+# That no file has this name.
+absent() {
+    if [ -e "$2" ]; then
+        echo "$1: expected no file $2, and one came"
+        differences=$((differences + 1))
+        rm "$2"
+    fi
+}
+
 # Starts the program with the words after the status, on the bytes in `lines`. Compares its status, its
 # output with `output`, and its standard error with `faults`, where that is there.
 program() {
@@ -545,11 +554,7 @@ compare 'create over a file: the file' f.before f
 
 for size in 63 1048577 many; do
     program "create with $size blocks" 2 create g "$size"
-    if [ -e g ]; then
-        echo "create with $size blocks: expected no file, and one came"
-        differences=$((differences + 1))
-        rm g
-    fi
+    absent "create with $size blocks" g
 done
 program 'no words' 2
 
@@ -716,6 +721,20 @@ changed unmerged conflicts post
                                     * before
 END
 
+# Copies a store, which stays as it is, to a file: the number of its blocks, of those in use, and further words of the copy.
+copied() {
+    cp "$1" before
+    : >lines
+    echo "copied $3, $4 used" >output
+    : >faults
+    name="copy of $1 to $2"
+    from=$1 to=$2 size=$3
+    shift 4
+    program "$name" 0 copy "$from" "$to" "$@"
+    compare "$name: the file" before "$from"
+    has_bytes "$to" $((4096 * size))
+}
+
 # Root may write a file that says otherwise, unless this is taken from it.
 able=$altctl
 if [ "$(id -u)" = 0 ]; then
@@ -746,6 +765,7 @@ changed unmerged conflicts post
       0        0         0  yes  `- a
                                     * before
 END
+copied sealed/f of_sealed 64 35
 altctl=$able
 chmod 0755 sealed
 
@@ -755,6 +775,10 @@ for file in absent h; do
     [ -e $file ] || echo "altctl: cannot open $file" >faults
     program "check of $file" 1 check $file
     program "tree of $file" 1 tree $file
+    [ -e $file ] || echo "altctl: cannot open $file" >faults
+    [ ! -e $file ] || echo 'altctl: 19 NotAStore' >faults
+    program "copy of $file" 1 copy $file made
+    absent "copy of $file" made
 done
 
 # What is neither a plain file nor a block device: nobody waits for a pipe to be written to.
@@ -771,8 +795,13 @@ for file in pipe folder link /dev/null; do
         echo "altctl: cannot open $file" >faults
         program "$word of $file, which has no blocks" 1 $word $file
     done
+    echo "altctl: cannot open $file" >faults
+    program "copy of $file, which has no blocks" 1 copy $file made
+    absent "copy of $file, which has no blocks" made
     echo "altctl: cannot create $file" >faults
     program "create over $file, which has no blocks" 1 create $file 64
+    echo "altctl: cannot create $file" >faults
+    program "copy to $file, which has no blocks" 1 copy counted $file
 done
 altctl=$able
 
@@ -821,6 +850,7 @@ alternatives 2
 checkpoints 1
 free 44
 END
+    copied "$device" of_device 80 36
     printf 'grow 81\nfree\n' >lines
     echo 'error 15 Device' >output
     echo 'altctl: stopped' >faults
@@ -847,7 +877,93 @@ END
 
 full_output check counted
 full_output tree counted
+# The copy was made, and only that was not said.
+full_output copy counted unsaid
+checked 'check of a copy that was not said' unsaid <<'END'
+alternatives 2
+checkpoints 1
+free 29
+END
 rm -f faults
+
+# --- copies of a store ------------------------------------------------------------------------------
+
+create new 64
+copied new of_new 64 34
+compare 'a copy of a new store' new of_new
+copied counted of_counted 64 35
+checked 'check of a copy' of_counted <<'END'
+alternatives 2
+checkpoints 1
+free 29
+END
+copied counted larger 70 35 70
+copied larger of_larger 64 35 64
+compare 'a copy of a copy that was larger' of_counted of_larger
+# A copy has nothing that no commit made durable: no blocks of a growth, and none after the store.
+copied growing of_growing 128 35
+session 'a copy of a store that has grown' of_growing <<'END'
+> list top
+record 1 1 x
+end 1
+> free
+free 93
+END
+copied longer of_longer 64 35 --no-lock
+
+# 40 long values under four leaves and a root, as their keys rise; a base keeps the leaf and the root that top has replaced.
+create stuffed 200
+{
+    for n in $(seq 40); do echo "put top 7 $n $most"; done
+    printf 'new a top\nput top 7 1 duct\ncommit\n'
+} >lines
+sed 's/.*/ok/' lines >output
+: >faults
+program 'long values to copy' 0 run stuffed
+checked 'check of long values to copy' stuffed <<'END'
+alternatives 2
+checkpoints 0
+free 119
+END
+copied stuffed whole 81 81 81
+session 'a copy without a free block' whole <<END
+> free
+free 0
+> get top 7 1
+value duct
+> get a 7 40
+value $most
+> changes a
+end 0
+> tally a
+tally 0 1 0 no
+> put top 7 41 duct
+error 13 Full
+> grow 98
+ok
+> put top 7 41 duct
+ok
+END
+: >lines
+: >output
+for size in 64 80; do
+    echo 'altctl: 13 Full' >faults
+    program "copy to $size blocks" 1 copy stuffed made "$size"
+    absent "copy to $size blocks" made
+done
+for size in 63 1048577 many; do
+    program "copy to $size blocks" 2 copy stuffed made "$size"
+    absent "copy to $size blocks" made
+done
+program 'copy without a second file' 2 copy stuffed
+for file in counted stuffed pointer; do
+    [ -e "$file" ] || ln -s nowhere "$file"
+    cp stuffed before
+    echo "altctl: cannot create $file" >faults
+    program "copy over $file" 1 copy stuffed "$file"
+    compare "copy over $file: the file" before stuffed
+done
+absent 'copy over a link' nowhere
 
 # --- standard descriptors that are closed, or fail --------------------------------------------------
 
@@ -895,15 +1011,6 @@ stopped_if() {
     esac
 }
 
-# That no file has this name.
-absent() {
-    if [ -e "$2" ]; then
-        echo "$1: expected no file $2, and one came"
-        differences=$((differences + 1))
-        rm "$2"
-    fi
-}
-
 # A store with a value that spells commands.
 create spelled 64
 session 'a value that spells commands' spelled <<'END'
@@ -913,6 +1020,7 @@ ok
 ok
 END
 create fresh 64
+copied spelled spelled_copy 64 35
 cp spelled answered
 printf 'free\nput top 1 2 b\ncommit\n' >lines
 "$altctl" run answered <lines >answers
@@ -948,6 +1056,14 @@ for which in 0 1 2 01 02 12 012; do
     closed tree $which "$status" tree store
     compare "tree, closed $which: the file" spelled store
 
+    echo 'copied 64, 35 used' >output
+    : >faults
+    status=$(stopped_if 1 $which 0)
+    closed copy $which "$status" copy store made
+    compare "copy, closed $which: the file" spelled store
+    compare "copy, closed $which: what was made" spelled_copy made
+    rm -f made
+
     : >output
     echo 'altctl: 19 NotAStore' >faults
     status=$(stopped_if 2 $which 1)
@@ -975,7 +1091,7 @@ done
 # Only one descriptor is left, and it is the one that is closed: the program opens no file.
 echo 1 >status
 cp spelled store
-for words in 'create made 64' 'run store' 'check store' 'tree store'; do
+for words in 'create made 64' 'run store' 'check store' 'tree store' 'copy store made'; do
     came=0
     sh -c 'exec >&-; ulimit -n 3; exec "$0" "$@"' "$tools/../crates/altctl/out/altctl" $words <lines 2>faults.came || came=$?
     echo "$came" >status.came
@@ -998,7 +1114,7 @@ led_to_store() {
     redirected "$1 $2" "$2" $1
     compare "$1 $2: the file" spelled store
 }
-for words in 'run store' 'do store free' 'check store' 'tree store'; do
+for words in 'run store' 'do store free' 'check store' 'tree store' 'copy store made'; do
     led_to_store "$words" '<lines 1<>store 2>faults.came'
     led_to_store "$words" '<lines >>store 2>faults.came'
 done
@@ -1015,6 +1131,13 @@ for words in 'check store' 'check /dev/stdin' 'tree store'; do
     "$altctl" ${words%% *} store >output
     redirected "$words <store" '<store >output.came 2>faults.came' $words
     compare "$words <store: the file" spelled store
+done
+echo 'copied 64, 35 used' >output
+for words in 'copy store made' 'copy /dev/stdin made'; do
+    redirected "$words <store" '<store >output.came 2>faults.came' $words
+    compare "$words <store: the file" spelled store
+    compare "$words <store: what was made" spelled_copy made
+    rm -f made
 done
 # By another name of it, and by a lock that takes the number of a closed input.
 : >output
@@ -1048,6 +1171,8 @@ unheard() {
 }
 
 unheard 'run without a file' run g
+unheard 'copy without a file' copy g made
+absent 'a full standard error' made
 unheard 'wrong words' create g many
 unheard 'no UTF-8' run "$(printf '\377')"
 absent 'a full standard error' g
@@ -1078,23 +1203,32 @@ until [ -s answers.came ]; do sleep 0.1; done
 cp locked before
 : >lines
 : >output
-for words in 'run locked' 'do locked free' 'check locked' 'tree locked' 'run --strict locked'; do
+for words in 'run locked' 'do locked free' 'check locked' 'tree locked' 'run --strict locked' 'copy locked made'; do
     echo 'altctl: locked is in use' >faults
     program "$words, beside a run" 1 $words
     compare "$words, beside a run: the file" before locked
 done
+absent 'copy, beside a run' made
+copied locked of_locked 64 34 --no-lock
 printf 'alternatives 1\ncheckpoints 0\nfree 30\n' >output
 : >faults
 program 'check --no-lock, beside a run' 0 check --no-lock locked
 echo 'get top 1 1' >lines
 "$altctl" run --wait locked <lines >waited.came 2>&1 9>&- &
 waiter=$!
+"$altctl" copy --wait locked made >copied.came 2>&1 9>&- &
+copier=$!
 sleep 0.5
 : >output
 compare 'run --wait, beside a run' output waited.came
+compare 'copy --wait, beside a run' output copied.came
+absent 'copy --wait, beside a run' made
 echo commit >&9
 exec 9>&-
-wait "$holder" "$waiter"
+wait "$holder" "$waiter" "$copier"
+echo 'copied 64, 35 used' >output
+compare 'copy --wait, after a run' output copied.came
+rm made
 printf 'ok\nok\n' >output
 compare 'the run that held the lock' output answers.came
 echo 'value a' >output
@@ -1113,6 +1247,10 @@ if command -v flock >/dev/null; then
     printf 'alternatives 1\ncheckpoints 0\nfree 29\n' >output
     "$altctl" check locked >came 2>&1 8<&-
     compare 'check beside a shared lock' output came
+    echo 'copied 64, 35 used' >output
+    "$altctl" copy locked made >came 2>&1 8<&-
+    compare 'copy beside a shared lock' output came
+    rm made
     echo 'altctl: locked is in use' >output
     "$altctl" do locked free >came 2>&1 8<&- || :
     compare 'do beside a shared lock' output came
@@ -1153,6 +1291,10 @@ altctl=./limited
 : >output
 echo 'altctl: cannot create limits' >faults
 program 'create over a limit' 1 create limits 64
+echo 'altctl: cannot create copies' >faults
+program 'copy over a limit' 1 copy locked copies
+echo 'altctl: 19 NotAStore' >faults
+program 'check of what a copy over a limit left' 1 check copies
 
 limit=8
 printf 'put top 1 2 b\nfree\n' >lines

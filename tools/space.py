@@ -2,13 +2,13 @@
 """Tries what the program does where there is no room for a file: `tools/space.py [ALTCTL]`. Where something is lost, it says so and
 ends with status 1.
 
-Room is wanting in two ways: by a limit on the size of a file, for each number of blocks; and in a small file system of its own, in
-memory, that has each number of blocks left. Each time one list of lines is run over a store, which grows in it. It may stop with
-`error 15 Device`; then the store has to open again with what was acknowledged, in a file that is no shorter than it was, and the
-rest of the lines, with room, ends as usual. Where there is no room for a growth, it is that line which is answered so, and no later
-one. The small file system is mounted in a namespace of its own; where the machine does not allow that, this part is left out, and
-the last line says so. It stands beside the gate: a full device is a device that fails, over which the store is proved; this tries
-files and the program.
+Room is wanting in two ways: by a limit on the size of a file, for each number of blocks; and in a small file system of its own,
+in memory, that has each number of blocks left. Each time one list of lines is run over a store, which grows in it. It may stop
+with `error 15 Device`; then the store has to open again with what was acknowledged, in a file that is no shorter than it was,
+and the rest of the lines, with room, ends as usual. Where there is no room for a growth, it is that line which is answered so,
+and no later one. A copy for which there is no room is not made. The small file system is mounted in a namespace of its own;
+where the machine does not allow that, this part is left out, and the last line says so. It stands beside the gate: a full
+device is a device that fails, over which the store is proved; this tries files and the program.
 """
 import os
 import resource
@@ -17,7 +17,7 @@ import sys
 import tempfile
 
 sys.dont_write_bytecode = True
-from fixed_run import BLOCK, BLOCKS, LINES, MORE, Failure, check_answers, create, expect, finish, run_and_finish, shown_after, start
+from fixed_run import BLOCK, BLOCKS, LINES, MORE, QUERIES, SHOWN, Failure, check_answers, create, expect, finish, run_and_finish, shown_after, start
 
 
 def limited_to(blocks):
@@ -37,11 +37,44 @@ def create_without_room(altctl, file, blocks, prepare=None):
     os.remove(file)
 
 
+def copy_without_room(altctl, source, file, blocks, prepare=None):
+    """Has the program copy a store to a file, with room for this many blocks alone. What was written of it is no store."""
+    with open(source, "rb") as it:
+        before = it.read()
+    for how in (f"a copy, with room for {blocks} blocks", "a copy over a file that stayed"):
+        came = start(altctl, ["copy", source, file], prepare=prepare)
+        expect(how, (1, [], f"altctl: cannot create {file}\n"), came)
+    if os.path.getsize(file) > blocks * BLOCK:
+        raise Failure(f"a copy, with room for {blocks} blocks: the file has {os.path.getsize(file)} bytes")
+    expect(f"check of {blocks} blocks", (1, [], "altctl: 19 NotAStore\n"), start(altctl, ["check", file]))
+    with open(source, "rb") as it:
+        expect("the store that was copied is as it was", True, it.read() == before)
+    os.remove(file)
+
+
+def copy_with_room(altctl, source, file, prepare=None):
+    """Has the program copy a store to a file for which there is just enough room."""
+    came = start(altctl, ["copy", source, file], prepare=prepare)
+    expect("a copy, with room for each block", (0, [f"copied {BLOCKS}, 36 used"], ""), came)
+    expect("a copy, opened", (0, SHOWN[5], ""), start(altctl, ["run", file], QUERIES))
+    os.remove(file)
+
+
+def make_copied(altctl, folder):
+    """Makes a store that can be copied, with the first of the lines."""
+    source = os.path.join(folder, "source")
+    create(altctl, source)
+    expect("lines of a store to copy", (0, ["ok"] * 5, ""), start(altctl, ["run", source], LINES[:5]))
+    return source
+
+
 def try_limits(altctl, folder):
     """Limits the size of the file to each number of blocks. Gives how many of the runs were stopped."""
-    file = os.path.join(folder, "limited")
+    file, source = os.path.join(folder, "limited"), make_copied(altctl, folder)
     for blocks in range(BLOCKS):
         create_without_room(altctl, file, blocks, limited_to(blocks))
+        copy_without_room(altctl, source, file, blocks, limited_to(blocks))
+    copy_with_room(altctl, source, file, limited_to(BLOCKS))
     stops = 0
     for blocks in range(MORE + 1):
         create(altctl, file)
@@ -124,11 +157,16 @@ def copy_with_holes(whole, file):
 
 def try_small_disk(altctl, folder):
     """The same where the file system has each number of blocks left. The folder is mounted in memory."""
-    file, whole = os.path.join(folder, "small"), os.path.join(folder, "whole")
+    file, whole, source = os.path.join(folder, "small"), os.path.join(folder, "whole"), make_copied(altctl, folder)
     for blocks in range(BLOCKS):
         filler = leave_free(folder, blocks)
         create_without_room(altctl, file, blocks)
+        copy_without_room(altctl, source, file, blocks)
         os.remove(filler)
+    filler = leave_free(folder, BLOCKS)
+    copy_with_room(altctl, source, file)
+    os.remove(filler)
+    os.remove(source)
     create(altctl, whole)
     stops, stopped = 0, True
     while stopped:
@@ -186,7 +224,7 @@ def main():
         print(f"space: {failure}", file=sys.stderr)
         return 1
     told = "no small file system can be mounted here" if full is None else f"{full} on a small file system"
-    print(f"space: nothing is lost: {BLOCKS} files were not made whole, {limited} runs were stopped by a limit, {told}")
+    print(f"space: nothing is lost: {BLOCKS} files and as many copies were not made whole, {limited} runs were stopped by a limit, {told}")
     return 0
 
 

@@ -195,7 +195,8 @@ class PackageTests(unittest.TestCase):
     def test_words_are_completed(self):
         file = self.prefix / "share/bash-completion/completions/altctl"
         cases = (
-            (["altctl", "c"], ["create", "check"]),
+            (["altctl", "c"], ["create", "check", "copy"]),
+            (["altctl", "copy", "--"], ["--no-lock", "--wait", "--help"]),
             (["altctl", "run", "--c"], ["--cache"]),
             (["altctl", "check", "--"], ["--no-lock", "--wait", "--help"]),
             (["altctl", "tree", str(self.prefix / "incl")], [str(self.prefix / "include")]),
