@@ -3,20 +3,36 @@ use Rattle.std.proofs.Common.{◌≡◌, ◌≢◌, ◌⊎◌, ◌-◌, ◌∙�
 use Rattle.std.proofs.lemmas.Slice.Eq.{bytes_eq-Decides}
 use Rattle.std.specs.Str.{bytes_eq}
 use Rattle.clap.specs.Words.{Text}
+use Rattle.vm_types.specs.declared.refusal.Refusal.{Refusal}
+use Rattle.vm_types.specs.declared.refusal.Refusal.TheVariants.{AlreadyAStore, BadSize, Device, Failed, Full}
 use Rattle.vm_types.specs.State.{Seen, State, opened}
 use Rattle.vm_disk.specs.Disk.{Contents, DiskState, Goes}
 use Rattle.vm_disk.specs.declared.disk.Disk.{Ghosts}
-use Rattle.vm_store.specs.Copies.{in_blocks}
+use Rattle.vm_store.specs.Copies.{IsOfCopy, in_blocks}
+use Rattle.vm_store.specs.NewStore.{IsBadSize}
 use Rattle.vm_store.specs.Recovery.{OpensAs}
+use Rattle.vm_store.specs.Refused.{IsStore}
 use Rattle.vm_store.specs.Store.{disk_of}
 use Rattle.vm_store.specs.declared.store.Store.{Store}
-use Rattle.vm_cli.specs.Copies.{CopiesOnto, IsInUse, MakesCopy, ToldOfCopy, used_of}
+use Rattle.vm_cli.specs.Copies.{CopiesOnto, IsInUse, MakesCopy, RefusesCopy, ToldOfCopy, used_of}
 use Rattle.vm_cli.specs.Places.{Creates, PlaceState, TakesBack}
 use Rattle.vm_cli.specs.declared.program.Exit.{Exit}
 
 -- a file that is there and one that is not have different names
 apart_from : (name other : List ℕ) (files : List ℕ → Option Contents) (contents : Contents) → files name ≡ Some contents → files other ≡ None → other ≢ name
 apart_from name other files contents there absent is = let no : None ≡ Some contents = sym absent ∙ ap files is ∙ there in cc
+
+-- why a copy is refused, from what its call says of each refusal
+pub why_none : (blocks : ℕ) (start : DiskState) (refusal : Refusal) → IsOfCopy refusal → refusal ≢ Failed → (refusal ≡ BadSize → IsBadSize blocks start.blocks)
+    → (refusal ≡ AlreadyAStore → IsStore start.now.contents) → refusal ≢ Device → refusal ≢ Full → RefusesCopy blocks start refusal
+why_none blocks start refusal of well size already device enough = elim of [
+  | inl is ↦ absurd (well is)
+  | inr (inl is) ↦ subst (RefusesCopy blocks start) (sym is) (size is)
+  | inr (inr (inl is)) ↦ subst (RefusesCopy blocks start) (sym is) tt
+  | inr (inr (inr (inl is))) ↦ subst (RefusesCopy blocks start) (sym is) (already is)
+  | inr (inr (inr (inr (inl is)))) ↦ absurd (device is)
+  | inr (inr (inr (inr (inr is)))) ↦ absurd (enough is)
+]
 
 -- what is told of a copy, of the source's disk from earlier on
 told_from : (seen : Seen) (used : ℕ) (found mid back start end : DiskState) (exit : Exit) (before after errors errors' : Option (List ℕ)) → Goes ⊥ found mid

@@ -1,17 +1,19 @@
 -- What becomes of a store that is copied to a new file, and of that file.
-use Rattle.std.specs.Prelude.{◌≡◌, ◌≢◌, ◌⊎◌, ℕ, ◌+◌, ◌-◌, ◌<◌, ◌≤◌, true, false, List, ◌∷◌, Option, Some, None, IfErr, IfOk, Result, codes, replicate}
+use Rattle.std.specs.Prelude.{◌≡◌, ◌⊎◌, ℕ, ◌+◌, ◌-◌, ◌<◌, ◌≤◌, true, List, ◌∷◌, Option, Some, None, IfErr, IfOk, Result, codes, replicate}
 use Rattle.clap.specs.Words.{Text}
 use Rattle.vm_types.specs.declared.refusal.Refusal.{Refusal}
-use Rattle.vm_types.specs.declared.refusal.Refusal.TheVariants.{Device, Full}
+use Rattle.vm_types.specs.declared.refusal.Refusal.TheVariants.{AlreadyAStore, BadSize, Full, Memory}
 use Rattle.vm_types.specs.declared.sizes.TheConstants.{BLOCK_SIZE}
-use Rattle.vm_types.specs.State.{Seen, State}
+use Rattle.vm_types.specs.State.{Seen}
 use Rattle.vm_disk.specs.Disk.{Contents, DiskState}
 use Rattle.vm_disk.specs.Moments.{Throughout}
 use Rattle.vm_disk.specs.declared.disk.Disk.{Ghosts}
-use Rattle.vm_store.specs.Copies.{IsCopy, IsCopying, IsOfCopy, OfState, in_blocks}
+use Rattle.vm_store.specs.Copies.{IsCopy, IsCopying, in_blocks}
+use Rattle.vm_store.specs.NewStore.{IsBadSize}
 use Rattle.vm_store.specs.Recovery.{OpensAs}
+use Rattle.vm_store.specs.Refused.{IsStore}
 use Rattle.vm_store.specs.Rest.{spare_of}
-use Rattle.vm_store.specs.Store.{Holds, IsHonest, blocks_of, disk_of, free_of, has_failed}
+use Rattle.vm_store.specs.Store.{FromState, blocks_of, disk_of, free_of}
 use Rattle.vm_store.specs.declared.store.Store.{Store}
 use Rattle.vm_cli.specs.Exits.{Tells, copied_text, file_text, refused_text}
 use Rattle.vm_cli.specs.Places.{KeepsOthers, PlaceState, WasLent}
@@ -49,14 +51,21 @@ module _ {D : Type 0} (members : Ghosts D) where
     pub shows : opens.seen ≡ seen
     pub used_are : used ≡ seen.blocks - spare_of opens.holds.rests
 
+-- why a copy of this many blocks on a disk is refused: for want of memory; or the disk has fewer, or it has a store
+abbrev pub RefusesCopy : ℕ → DiskState → Refusal → Type 0
+RefusesCopy blocks start Memory = Unit {0}
+RefusesCopy blocks start BadSize = IsBadSize blocks start.blocks
+RefusesCopy blocks start AlreadyAStore = IsStore start.now.contents
+RefusesCopy blocks start refusal = ⊥
+
 -- a store was to be copied from a disk that went from the first to the second state to one that went from the third to the last: what is
--- told with this end, if the copy shows this and `used` blocks are in use. It was copied; or it is told why not, which is never for want of
--- blocks; or a call of one of the two disks failed, and the program stops
+-- told with this end, if the copy shows this and `used` blocks are in use. It was copied; or it is told why not; or a call of one of the
+-- two disks failed, and the program stops
 abbrev pub ToldOfCopy : (seen : Seen) (used : ℕ) → DiskState → DiskState → DiskState → DiskState → Exit
     → Option (List ℕ) → Option (List ℕ) → Option (List ℕ) → Option (List ℕ) → Type 0
 ToldOfCopy seen used s s' start end exit before after errors errors' =
     (IsCopy seen end.now × Tells Done exit before after (copied_text seen.blocks used))
-    ⊎ (((refusal : Refusal) × IsOfCopy refusal × (refusal ≢ Device) × (refusal ≢ Full) × Tells Refused exit errors errors' (refused_text refusal))
+    ⊎ (((refusal : Refusal) × RefusesCopy seen.blocks start refusal × Tells Refused exit errors errors' (refused_text refusal))
     ⊎ ((exit ≡ Stopped) × (s.failures + start.failures < s'.failures + end.failures)))
 
 -- the same, of the disk that was made: at each moment it is as it was, at most synced, or it was no store and a crash shows at most the copy
@@ -87,16 +96,12 @@ pub record MakesCopy (Reads Opens : Type 0) (Denied : Text → Type 0) (name : T
   pub others : KeepsOthers name old new
 
 module _ {D : Type 0} {members : _} where
-  -- Q holds of each state that a store stood for which had not failed, if its disk is honest after the call
-  abbrev pub FromWell : (old new : Store D members) → (State → Type 0) → Type 0
-  FromWell old new Q = IsHonest new → has_failed old ≡ false → (s : State) → Holds old s → Q s
-
   -- a store was copied to a disk which is honest after it, and as many blocks as are in use
   abbrev pub CopiesTo : (old new : Store D members) → Size → DiskState → DiskState → Exit
       → Option (List ℕ) → Option (List ℕ) → Option (List ℕ) → Option (List ℕ) → Type 0
   CopiesTo old new size start end exit before after errors errors' =
       used_of old ≤ size.blocks
-      → OfState old new (λ s. end.honest ≡ true
+      → FromState old new (λ s. end.honest ≡ true
       → CopiesOnto (in_blocks s size.blocks) size.used (members.state (disk_of old)) (members.state (disk_of new)) start end exit before after errors errors')
 
   -- a file was asked for with a copy of a store, at a place that is honest after it
@@ -104,7 +109,7 @@ module _ {D : Type 0} {members : _} where
       → Option (List ℕ) → Option (List ℕ) → Option (List ℕ) → Option (List ℕ) → Type 0
   CopiesIn state denied to_write place place' name asked old new exit before after errors errors' =
       (state place').honest ≡ true
-      → FromWell old new (λ s. MakesCopy (to_write place' ≡ to_write place) (to_write place' ≡ to_write place + 1) (λ name. denied place' ≡ name ∷ denied place)
+      → FromState old new (λ s. MakesCopy (to_write place' ≡ to_write place) (to_write place' ≡ to_write place + 1) (λ name. denied place' ≡ name ∷ denied place)
       name (in_blocks s (blocks_for asked s.blocks)) (used_of old) (members.state (disk_of old)) (members.state (disk_of new)) exit (state place) (state place') before after errors errors')
 
 module _ {P D : Type 0} (own : Ghosts D) (state : P → PlaceState) (denied : P → List Text) (to_write : P → ℕ) (place place' : P) where
