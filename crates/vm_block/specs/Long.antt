@@ -1,5 +1,5 @@
 -- A block of a long value: it has the value's key, too.
-use Rattle.std.specs.Prelude.{◌≡◌, ℕ, ◌<◌, ◌≤◌, List, ◌++◌, length, codes}
+use Rattle.std.specs.Prelude.{◌≡◌, ℕ, ◌<◌, ◌≤◌, List, ◌++◌, length, take, drop, codes}
 use Rattle.byteorder.specs.Endian.{little_bytes}
 use Rattle.vm_types.specs.Bytes.{longest}
 use Rattle.vm_types.specs.declared.key.Key.{Key}
@@ -23,3 +23,7 @@ pub record IsLong (bytes : List ℕ) (key : Key) (value : List ℕ) : Type 0 whe
   pub above : MAX_SHORT < length value
   pub most : length value ≤ longest
   pub fits : KeyFits key
+
+-- what stands in a block in the place of a long value of this length
+abbrev pub long_value_of : ℕ → List ℕ → List ℕ
+long_value_of len bytes = take len (drop 26 bytes)

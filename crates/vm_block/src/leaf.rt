@@ -58,7 +58,7 @@ pub fn write_leaf(rows: &[(Key, Stored<'_>)], out: &mut Block)
 }
 
 /// The rows of a leaf. None exactly when the bytes are not a leaf.
-pub fn read_leaf(bytes: &Block) -> Option<ArrayVec<(Key, Stored<'_>), 16>>
+pub fn read_leaf(bytes: &Block) -> Option<ArrayVec<(Key, Stored<'_>), MAX_ROWS>>
     ensures found { IfSome result (λ rows. HasRows bytes.now (map row_of rows.items)) }
     ensures stored { IfSome result (λ rows. AreStored rows.items) }
     ensures only { IfHasRows bytes.now (λ ws. IsSomeAnd result (λ rows. map row_of rows.items ≡ ws)) }

@@ -1,6 +1,6 @@
 //! The forms of a store's blocks: the header, the selector, leaves and inner blocks of trees, slots
 //! with their entries, and blocks of long values. Nothing else in the store writes or tests one,
-//! except that `vm_catalog` knows the cells of a slot and `vm_diff` the fields of a row.
+//! except that `vm_catalog` knows the cells of a slot.
 //!
 //! It stands on `vm_types` for keys, values and names, on `byteorder` for numbers as bytes, on
 //! `arrayvec` for inline lists, and on no disk. Its one promise: a block is read exactly when its
@@ -41,12 +41,12 @@ pub use laws::{one_form, written_is_a_form};
 pub use leaf::{read_leaf, write_leaf};
 pub use leaf_rows::stored_at;
 pub use leaf_split::split_rows;
-pub use long::{read_long, write_long};
+pub use long::{long_value, read_long, write_long};
 pub use node::{Child, Node, read_node, spelled_children, write_node};
-pub use row::{child_row, record_row, record_value};
+pub use row::{child_row, record_link, record_row, record_value};
 pub use row_removal::{Taken, remove_row};
 pub use selector::{SlotName, read_selector, write_selector};
-pub use sizes::{MAX_CHILDREN, MAX_ROWS, MAX_SHORT};
+pub use sizes::{MAX_CHILDREN, MAX_LEVEL, MAX_ROWS, MAX_SHORT};
 pub use slot::{
     Entry, Kind, SlotFormat, SlotHead, read_entry, read_slot_head, write_entry, write_slot_head,
 };

@@ -2,7 +2,7 @@
 ghost use Rattle.std.specs.Prelude.{◌≡◌, ◌≤◌, ◌++◌, List, ℕ, length, drop, IfSome, IsSomeAnd};
 ghost use Rattle.vm_types.specs.declared.key.Key.{Key};
 ghost use Rattle.vm_types.specs.Bytes.{longest};
-ghost use Rattle.vm_block.specs.Long.{IsLong, long_bytes, long_head};
+ghost use Rattle.vm_block.specs.Long.{IsLong, long_bytes, long_head, long_value_of};
 
 use crate::bytes::{are_zero, put, put_zeros};
 use crate::head::long_len;
@@ -45,4 +45,13 @@ pub fn read_long(bytes: &Block) -> Option<(Key, &[u8])>
         return None;
     }
     Some((read_key(&bytes[16..]), &bytes[26..end]))
+}
+
+/// The value in a block of a long value, if it has this length.
+#[inline(always)]
+pub fn long_value(bytes: &Block, len: usize) -> &[u8]
+    requires { len ≤ longest }
+    ensures { result.now ≡ long_value_of len bytes.now }
+{
+    &bytes[26..26 + len]
 }

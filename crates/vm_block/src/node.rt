@@ -8,7 +8,7 @@ ghost use Rattle.vm_block.specs.Told.{IfNode, IsNodeWith};
 
 use crate::bytes::{is_framed, put, put_zeros};
 use crate::keys::{read_key, write_key};
-use crate::sizes::MAX_CHILDREN;
+use crate::sizes::{MAX_CHILDREN, MAX_LEVEL};
 use arrayvec::ArrayVec;
 use byteorder::{ByteOrder, LittleEndian};
 use vm_types::{Block, BlockNumber, Key};
@@ -24,7 +24,7 @@ pub struct Child {
 #[derive(Debug, Drop)]
 pub struct Node {
     pub level: u8,
-    pub children: ArrayVec<Child, 256>,
+    pub children: ArrayVec<Child, MAX_CHILDREN>,
 }
 
 pub(crate) fn write_child(child: Child, out: &mut [u8])
@@ -100,7 +100,7 @@ pub(crate) fn read_child(bytes: &[u8]) -> Child
 }
 
 /// Reads the `count` children that the bytes begin with into an empty list.
-fn read_children(bytes: &[u8], count: usize, children: &mut ArrayVec<Child, 256>)
+fn read_children(bytes: &[u8], count: usize, children: &mut ArrayVec<Child, MAX_CHILDREN>)
     requires few { count ≤ MAX_CHILDREN }
     requires room { 14 * count ≤ length bytes.now }
     requires empty { children.old.items ≡ [] }
@@ -115,7 +115,7 @@ fn read_children(bytes: &[u8], count: usize, children: &mut ArrayVec<Child, 256>
 
 /// The `count` children that are spelled behind the head of an inner block. If the bytes are an
 /// inner block of `count` children, these are its children; otherwise they are whatever is there.
-pub fn spelled_children(bytes: &Block, count: usize) -> ArrayVec<Child, 256>
+pub fn spelled_children(bytes: &Block, count: usize) -> ArrayVec<Child, MAX_CHILDREN>
     requires { count ≤ MAX_CHILDREN }
     ensures many { length result.items ≡ count }
     ensures fit { AllByRecursion ChildFits result.items }
@@ -129,9 +129,9 @@ pub fn spelled_children(bytes: &Block, count: usize) -> ArrayVec<Child, 256>
 
 /// Whether an inner block may have this level and this many children.
 pub(crate) fn is_in_range(level: u32, count: u32) -> bool
-    ensures { IsTrue result ↔ ((0 < level) × (level ≤ 7) × (0 < count) × (count ≤ MAX_CHILDREN)) }
+    ensures { IsTrue result ↔ ((0 < level) × (level ≤ MAX_LEVEL) × (0 < count) × (count ≤ MAX_CHILDREN)) }
 {
-    (1..=7).contains(&level) && (1..=256).contains(&count)
+    (1..=u32::from(MAX_LEVEL)).contains(&level) && (1..=MAX_CHILDREN as u32).contains(&count)
 }
 
 /// The inner block, if the bytes are one.

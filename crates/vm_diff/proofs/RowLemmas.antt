@@ -1,15 +1,12 @@
 -- Rows of a block one after another, and what two blocks share of them.
-use Rattle.std.proofs.Common.{◌≡◌, ◌⊎◌, inl, inr, nat_lt, true, false, Option, None, Some, ℕ, zero, suc, ◌+◌, ◌-◌, ◌<◌, ◌≤◌, Bool, cond, lt-ltb, le-ltb, subst, take, List, [], ◌∷◌, ◌++◌, length, get_or, drop, refl, sym, ap, ap₂, ◌∙◌, arith}
+use Rattle.std.proofs.Common.{◌≡◌, ◌⊎◌, inl, inr, Option, None, Some, ℕ, zero, suc, ◌+◌, ◌-◌, ◌<◌, ◌≤◌, Bool, subst, List, [], ◌∷◌, ◌++◌, length, get_or, drop, refl, sym, ap, ap₂, ◌∙◌, arith}
 use Rattle.std.specs.List.{AllByRecursion}
-use Rattle.std.proofs.lemmas.Bool.{cases_lt}
 use Rattle.vm_types.specs.declared.key.Key.{Key}
 use Rattle.vm_disk.specs.Disk.{Contents}
-use Rattle.byteorder.specs.Endian.{little_number}
-use Rattle.byteorder.specs.Numbers.{little_number-reads_back}
-use Rattle.vm_block.specs.Padding.{zeros, padded}
-use Rattle.vm_block.specs.Leaf.{Record, Row, RowFits, LinkFits, link_bytes, record_bytes}
+use Rattle.vm_block.specs.Leaf.{Record, Row, RowFits, record_bytes}
+use Rattle.vm_block.specs.Long.{long_value_of}
 use Rattle.vm_block.specs.declared.stored.Link.{Link}
-use Rattle.vm_block.proofs.RecordLemmas.{length-link, link_stored, record_key, row_length, row_value}
+use Rattle.vm_block.proofs.RecordLemmas.{record_key}
 use Rattle.vm_block.proofs.WayLemmas.{leaf_piece}
 use Rattle.vm_tree.specs.Over.{beside_over}
 use Rattle.vm_tree.specs.Tree.{IsWithin, LeafHolds, StandForAll, StandsFor}
@@ -19,10 +16,10 @@ use Rattle.vm_diff.specs.Cuts.{CutsChildren, CutsEntries, FirstAt, SecondAt}
 use Rattle.vm_diff.specs.Entry.{Entry, EntryFor, EntriesFor, key_of_entry}
 use Rattle.vm_diff.specs.Entry.Entry.{Own, Linked}
 use Rattle.vm_block.specs.Node.{IsNode}
-use Rattle.vm_block.specs.Row.{key_of, record_of, child_of, leaf_row, node_row}
+use Rattle.vm_block.specs.Row.{key_of, link_of, record_of, child_of, leaf_row, node_row}
 use Rattle.vm_block.specs.declared.node.Child.{Child}
-use Rattle.vm_block.proofs.RowLemmas.{node_child, row_key, row_record}
-use Rattle.vm_diff.specs.Rows.{rows_from, entry_of, entry_of_length, entries_from, children_from, with_held}
+use Rattle.vm_block.proofs.RowLemmas.{node_child, row_key, row_linked, row_record, row_unlinked}
+use Rattle.vm_diff.specs.Rows.{rows_from, entry_of, entry_with, entries_from, children_from, with_held}
 use Rattle.vm_diff.specs.Front.{first_of, next_of}
 use Rattle.vm_diff.specs.Front.Front.{End, Far, Pair}
 use Rattle.vm_diff.specs.Ahead.{PassedBoth}
@@ -85,18 +82,14 @@ module _ {X : Type 0} where
 
 -- # Entries
 
--- the entry in the bytes of a row
-pub entry_long : (row : List ℕ) (len : ℕ) → len ≡ little_number 2 (drop 10 row) → 240 < len → entry_of row ≡ Linked (key_of row) (record { len = len; block = little_number 4 (drop 12 row) })
-unfolding entry_of entry_of_length
-entry_long row len is lt =
-    ap (λ n. entry_of_length n row) (sym is)
-    ∙ ap (λ t. cond {A = Entry} t (Linked (key_of row) (record { len = len; block = little_number 4 (drop 12 row) })) (Own (record_of row).0 (record_of row).1)) (lt-ltb 240 len lt)
+-- the entry in a row, by its link
+pub entry_linked : (row : List ℕ) (link : Link) → link_of row ≡ Some link → entry_of row ≡ Linked (key_of row) link
+unfolding entry_of
+entry_linked row link is = ap (λ (found : Option Link). entry_with found row) is
 
-pub entry_short : (row : List ℕ) (len : ℕ) → len ≡ little_number 2 (drop 10 row) → len ≤ 240 → entry_of row ≡ Own (record_of row).0 (record_of row).1
-unfolding entry_of entry_of_length
-entry_short row len is few =
-    ap (λ n. entry_of_length n row) (sym is)
-    ∙ ap (λ t. cond {A = Entry} t (Linked (key_of row) (record { len = len; block = little_number 4 (drop 12 row) })) (Own (record_of row).0 (record_of row).1)) (le-ltb 240 len few)
+pub entry_own : (row : List ℕ) → link_of row ≡ None → entry_of row ≡ Own (record_of row).0 (record_of row).1
+unfolding entry_of
+entry_own row is = ap (λ (found : Option Link). entry_with found row) is
 
 -- the key in a row of a leaf
 row_keyed : (w : Row) → RowFits w → key_of (record_bytes w) ≡ w.0
@@ -106,22 +99,13 @@ row_keyed w fits = row_key (record_bytes w) w.0 fits.0 (record_key w)
 entry_stands : (x : Contents) (limit : ℕ) (w : Row) (r : Record) (bs row : List ℕ) → RowFits w → row ≡ record_bytes w → IsWithin longest r → StandsFor x limit w r bs → EntryFor x limit (entry_of row) r bs
 entry_stands x limit w r bs row fits is within (inl itself) =
     let of = row_record row w fits itself.short is in
-    let entry : entry_of row ≡ Own w.0 w.1 =
-    entry_short row (length w.1) (sym (ap (λ z. little_number 2 (drop 10 z)) is ∙ row_length w fits)) itself.short ∙ ap (λ (q : Record). Own q.0 q.1) of in
+    let entry : entry_of row ≡ Own w.0 w.1 = entry_own row (row_unlinked row w fits itself.short is) ∙ ap (λ (q : Record). Own q.0 q.1) of in
     subst (λ (e : Entry). EntryFor x limit e r bs) (sym entry) (itself.same, itself.none)
 entry_stands x limit w r bs row fits is within (inr linked) =
-    let len : length w.1 ≡ linked.link.len = ap length linked.spelled ∙ length-link linked.link linked.fits in
-    let counted : linked.link.len ≡ little_number 2 (drop 10 row) = sym len ∙ sym (ap (λ z. little_number 2 (drop 10 z)) is ∙ row_length w fits) in
-    let block_is : little_number 4 (drop 12 row) ≡ linked.link.block = ap (λ z. little_number 4 (drop 12 z)) is ∙ link_number w linked.link linked.fits linked.spelled in
     let key : key_of row ≡ w.0 = ap key_of is ∙ row_keyed w fits in
-    let entry : entry_of row ≡ Linked w.0 linked.link =
-    entry_long row linked.link.len counted linked.fits.long ∙ ap₂ (λ (k : Key) n. Linked k (record { len = linked.link.len; block = n })) key block_is in
+    let entry : entry_of row ≡ Linked w.0 linked.link = entry_linked row linked.link (row_linked row w linked.link fits linked.fits linked.spelled is) ∙ ap (λ (k : Key). Linked k linked.link) key in
     subst (λ (e : Entry). EntryFor x limit e r bs) (sym entry)
     (record { key_is = linked.key; many = linked.many; most = within.1; place = linked.place; value = linked.value; only = linked.only })
-  where
-    link_number : (v : Row) (link : Link) → LinkFits link → v.1 ≡ link_bytes link → little_number 4 (drop 12 (record_bytes v)) ≡ link.block
-    link_number v link small spelled =
-        ap (little_number 4) (row_value v ∙ ap (λ z. take 240 (padded 240 z)) spelled ∙ link_stored link small) ∙ little_number-reads_back 4 link.block (zeros 236) small.block
 
 -- what rows stand for, the entries in their bytes stand for
 rows_stand : (test : ℕ → Bool) (x : Contents) (limit : ℕ) (ws : List Row) (rs : List Record) (bs : List ℕ) (f : ℕ → List ℕ) (i n : ℕ) → n ≡ length ws → ((k : ℕ) (d : Row) → k < length ws → (f (i + k) ≡ record_bytes (get_or ws k d)) × RowFits (get_or ws k d))
@@ -173,7 +157,7 @@ leaf_alone h long len es none = ap (λ (k : Option Key). with_held k long len es
 pub unheld : (h : Option Key) (long : List ℕ) (len : ℕ) (es now : List Entry) → h ≡ None → with_held h long len es ≡ now → es ≡ now
 unheld h long len es now none view = subst (λ (k : Option Key). with_held k long len es ≡ now) none view
 
-pub held_first : (h : Option Key) (key : Key) (long : List ℕ) (len : ℕ) (es now : List Entry) → h ≡ Some key → with_held h long len es ≡ now → Own key (take len (drop 26 long)) ∷ es ≡ now
+pub held_first : (h : Option Key) (key : Key) (long : List ℕ) (len : ℕ) (es now : List Entry) → h ≡ Some key → with_held h long len es ≡ now → Own key (long_value_of len long) ∷ es ≡ now
 held_first h key long len es now some view = subst (λ (k : Option Key). with_held k long len es ≡ now) some view
 
 -- where a link comes first, no value is held, and some entries are left
@@ -193,12 +177,13 @@ first_own : (e : Entry) (es : List Entry) (key : Key) (value : List ℕ) → fir
 first_own (Own k v) es key value is = let keys : k ≡ key = cc in let values : v ≡ value = cc in ap₂ Own keys values
 first_own (Linked k link) es key value is = absurd cc
 
+value_with : (link : Option Link) (row : List ℕ) (key : Key) (value : List ℕ) → entry_with link row ≡ Own key value → (record_of row).1 ≡ value
+value_with None row key value is = cc
+value_with (Some link) row key value is = absurd cc
+
 own_value : (row : List ℕ) (key : Key) (value : List ℕ) → entry_of row ≡ Own key value → (record_of row).1 ≡ value
-own_value row key value is =
-    elim (cases_lt 240 (little_number 2 (drop 10 row))) [
-      | inl more ↦ let both = sym (entry_long row (little_number 2 (drop 10 row)) refl more) ∙ is in absurd cc
-      | inr few ↦ let both = sym (entry_short row (little_number 2 (drop 10 row)) refl few) ∙ is in cc
-    ]
+unfolding entry_of
+own_value row key value is = value_with (link_of row) row key value is
 
 pub row_first : (row : List ℕ) (es now : List Entry) (key : Key) (value : List ℕ) → entry_of row ∷ es ≡ now → first_of now [] ≡ Pair key value → (record_of row).1 ≡ value
 row_first row es now key value is first =
@@ -256,13 +241,14 @@ second_at key P f i zero at = tt
 second_at key P f i (suc n) at = first_at key P f (suc i) n (λ some. at (omega (arith, some)))
 
 -- the key of the entry in a row
+key_with : (link : Option Link) (row : List ℕ) → key_of_entry (entry_with link row) ≡ key_of row
+unfolding record_of
+key_with None row = refl
+key_with (Some link) row = refl
+
 entry_key : (row : List ℕ) → key_of_entry (entry_of row) ≡ key_of row
-unfolding entry_of entry_of_length record_of
-entry_key row =
-    elim (nat_lt 240 (little_number 2 (drop 10 row))) as (λ t. key_of_entry (cond {A = Entry} t (Linked (key_of row) (record { len = little_number 2 (drop 10 row); block = little_number 4 (drop 12 row) })) (Own (record_of row).0 (record_of row).1)) ≡ key_of row) [
-      | true ↦ refl
-      | false ↦ refl
-    ]
+unfolding entry_of
+entry_key row = key_with (link_of row) row
 
 pub children_cuts : (low high : ℕ) (bytes : List ℕ) (first end count : ℕ) (cs : List Child) → cs ≡ children_from bytes 0 count → first ≤ end → end ≤ count
     → (0 < first → (first < count) × (place (child_of (node_row bytes first)).low ≤ low)) → (first + 1 < count → low < place (child_of (node_row bytes (first + 1))).low)

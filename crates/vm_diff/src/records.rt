@@ -12,14 +12,14 @@ ghost use Rattle.vm_diff.specs.Rows.{AreSameRows, entry_of};
 
 use crate::front::Next;
 use crate::part::Part;
-use byteorder::{ByteOrder, LittleEndian};
 use std::marker::Model;
 use vm_block::{
-    Link, MAX_ROWS, MAX_SHORT, read_long, record_key, record_row, record_value, rows_size,
+    Link, MAX_ROWS, long_value, read_long, record_key, record_link, record_row, record_value,
+    rows_size,
 };
 use vm_disk::Disk;
 use vm_tree::{TreeFault, data_at};
-use vm_types::{Block, BlockNumber, Key, Value};
+use vm_types::{Block, BlockNumber, Key};
 
 /// The records of a leaf from one on, in the leaf's bytes. One may come before them: the record
 /// whose long value was read, with the block that has the value.
@@ -91,10 +91,7 @@ impl Records {
         ensures short { length result.now ≤ longest }
     {
         match self.held {
-            Some(_) => {
-                prove!(self.len <= Value::MAX_LEN);
-                &self.long[26..26 + self.len]
-            }
+            Some(_) => long_value(&self.long, self.len),
             None if self.at < self.count => record_value(&self.bytes, self.at),
             None => &[],
         }
@@ -200,13 +197,10 @@ fn entry_at(bytes: &Block, i: usize) -> Next
     ensures { result ≡ next_of (first_of (entry_of (leaf_row bytes.now i) ∷ []) []) }
 {
     let key = record_key(bytes, i);
-    let row = record_row(bytes, i);
-    let len = LittleEndian::read_u16(&row[10..]);
-    if len <= MAX_SHORT {
-        return Next::Record(key);
+    match record_link(bytes, i) {
+        Some(link) => Next::Long(key, link),
+        None => Next::Record(key),
     }
-    let block = LittleEndian::read_u32(&row[12..]);
-    Next::Long(key, Link { len, block })
 }
 
 /// The length of a key's value in its block. None if the block is not the key's, or the link gives

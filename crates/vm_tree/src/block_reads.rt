@@ -113,7 +113,7 @@ pub fn node_at<D: Disk>(
     blocks: u32,
     level: u8,
     block: BlockNumber,
-) -> Result<ArrayVec<Child, 256>, TreeFault>
+) -> Result<ArrayVec<Child, MAX_CHILDREN>, TreeFault>
     requires { blocks ≤ (D.state disk.old).blocks }
     ensures looks { OnlyLooks result (D.state disk.old) (D.state disk.new) }
     ensures once { ReadsOne blocks block (D.state disk.old).reads (D.state disk.new).reads }

@@ -1,5 +1,5 @@
-use Rattle.std.proofs.Common.{◌+◌, ◌-◌, List, [], ◌∷◌, length, take, drop, refl, sym, ap, ◌∙◌, subst, arith}
-use Rattle.vm_block.specs.Long.{IsLong}
+use Rattle.std.proofs.Common.{◌+◌, ◌-◌, List, [], ◌∷◌, length, drop, refl, sym, ap, ◌∙◌, subst, arith}
+use Rattle.vm_block.specs.Long.{IsLong, long_value_of}
 use Rattle.vm_block.proofs.HeadLemmas.{some_same}
 use Rattle.vm_block.proofs.LongLemmas.{long_value}
 use Rattle.vm_diff.specs.Entry.{Entry}
@@ -20,8 +20,8 @@ returns-clause-record g c =
     let s = c.self.inside in
     let far = far_inside s.held s.long s.bytes s.len s.at (s.count - s.at) c.args.key c.args.link (ap (λ (es : List Entry). first_of es []) c.self.view_is ∙ c.requires.front) in (
       c.args.key,
-      take c.in-Some.len (drop 26 c.data_at.new.bytes),
-      ap (λ (es : List Entry). Own c.args.key (take c.in-Some.len (drop 26 c.data_at.new.bytes)) ∷ es)
+      long_value_of c.in-Some.len c.data_at.new.bytes,
+      ap (λ (es : List Entry). Own c.args.key (long_value_of c.in-Some.len c.data_at.new.bytes) ∷ es)
           (entries_past s.bytes s.at (s.count - (s.at + 1)) (s.count - s.at) (omega (arith, far.1)) ∙ ap (λ (es : List Entry). drop 1 es) (unheld s.held s.long s.len _ _ far.0 c.self.view_is)),
     )
 

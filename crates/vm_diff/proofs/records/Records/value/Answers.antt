@@ -3,9 +3,6 @@ use Rattle.vm_block.specs.Row.{leaf_row}
 use Rattle.vm_diff.proofs.RowLemmas.{entries_none, entries_some, none_first, row_first, unheld}
 use Rattle.vm_diff.proofs.records.Records.value.Goals as goal
 
-pub prove-unreachable-requires : goal.prove-unreachable-requires
-prove-unreachable-requires c = omega (arith, c.if-prove.true, c.self.invariant.2)
-
 pub returns-in-None-clause-value : goal.returns-in-None-clause-value
 returns-in-None-clause-value c key value first =
     let s = c.self.inside in
