@@ -39,8 +39,3 @@ AcceptsLeaf result old new limit b =
 abbrev pub AcceptsNode : {T : Type 0} → Result T TreeFault → DiskState → DiskState → ℕ → ℕ → Type 0
 AcceptsNode result old new limit b =
     new.honest ≡ true → (level : ℕ) (cs : List Child) → IsNodeAt old.now.contents limit level b cs → OkUnlessDevice result
-
--- and one of this level is
-abbrev pub AcceptsNodeAt : {T : Type 0} → Result T TreeFault → DiskState → DiskState → ℕ → ℕ → ℕ → Type 0
-AcceptsNodeAt result old new limit level b =
-    new.honest ≡ true → (cs : List Child) → IsNodeAt old.now.contents limit level b cs → OkUnlessDevice result

@@ -66,6 +66,11 @@ pub record ClosedTo (x : Contents) (most : ℕ) (marks : List Bool) : Type 0 whe
 abbrev pub IsClosed : Contents → List Bool → Type 0
 IsClosed x marks = ClosedTo x 7 marks
 
+-- the marks fit the disk: there is one for each of `blocks` blocks, which the disk has
+pub record MarksFit (blocks : ℕ) (x : DiskState) (marks : List Bool) : Type 0 where
+  pub inside : blocks ≤ x.blocks
+  pub bits : length marks ≡ blocks
+
 -- for each block that was read a data block was marked
 abbrev pub PaysReads : DiskState → DiskState → List Bool → List Bool → Type 0
 PaysReads old new marks later = new.reads + unmarked later ≤ old.reads + unmarked marks

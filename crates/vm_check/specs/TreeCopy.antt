@@ -20,7 +20,7 @@ use Rattle.vm_tree.specs.declared.root.Root.{Root}
 use Rattle.vm_tree.specs.Tree.{Children, Sizes, StandForAll, StandsFor, Subtree}
 use Rattle.vm_tree.specs.declared.faults.TreeFault.TheVariants.{Device, Damaged}
 use Rattle.vm_check.specs.Marks.{EachLink, LinksTo, OnSubtree, OnTree}
-use Rattle.vm_check.specs.Renumbering.{AreGiven, Assigns, GoesOn, IsCopied, next_of, number_at}
+use Rattle.vm_check.specs.Renumbering.{AreGiven, Assigns, GoesOn, IsCopied, count_of, next_of, number_at}
 use Rattle.vm_check.specs.declared.tree_copy.CopyFault.{CopyFault}
 use Rattle.vm_check.specs.declared.tree_copy.CopyFault.TheVariants.{Source, Target, Full}
 use Rattle.vm_check.specs.declared.renumbering.Renumbering.{Renumbering}
@@ -95,6 +95,13 @@ pub record AreCopied (x y : Contents) (limit : ℕ) (numbers : Renumbering) : Ty
   pub each : (n : ℕ) → IsCopied numbers n → IsCopyOf numbers (block x n) (block y (number_at numbers n))
 
 -- # What a step of copying does
+
+-- the numbers fit both disks: each block of the source below `blocks` has one, the target has all blocks below `limit`, and the next number is of a data block
+pub record NumbersFit (blocks limit : ℕ) (s t : DiskState) (numbers : Renumbering) : Type 0 where
+  pub inside : blocks ≤ s.blocks
+  pub room : limit ≤ t.blocks
+  pub known : count_of numbers ≡ blocks
+  pub least : FIRST_DATA ≤ next_of numbers
 
 -- is this a block for data?
 abbrev pub is_for_data : ℕ → Bool

@@ -62,6 +62,12 @@ no_met = record { low_number = 0; high_number = 0; low_table = 0; high_table = 0
 abbrev pub span_at : List Met → ℕ → Span
 span_at spans n = span_of (slice_index_or spans n no_met)
 
+-- what is kept fits the disk: there are a mark and a span for each of `blocks` blocks, which the disk has
+pub record SpansFit (blocks : ℕ) (x : DiskState) (marks : List Bool) (spans : List Met) : Type 0 where
+  pub inside : blocks ≤ x.blocks
+  pub bits : length marks ≡ blocks
+  pub room : length spans ≡ blocks
+
 -- block n is the top of a subtree of this level, with these lowest and highest keys, all of whose blocks are marked
 pub record Whole (sizes : Sizes) (x : Contents) (limit : ℕ) (marks : List Bool) (n : ℕ) (span : Span) : Type 0 where
   pub records : List Record

@@ -1,14 +1,13 @@
 //! What a block of a tree is, read from a disk.
 ghost use Rattle.std.specs.Prelude.{◌≡◌, ◌≢◌, ◌≤◌, IfOk};
-ghost use Rattle.vm_block.specs.Told.{IsNodeSize};
 ghost use Rattle.vm_tree.specs.Calls.{OnlyLooks};
 ghost use Rattle.vm_tree.specs.BlockReads.{ReadsOne};
-ghost use Rattle.vm_check.specs.Form.{AcceptsLeaf, AcceptsNode, AcceptsNodeAt, HasRead, IsFilled, IsForm};
+ghost use Rattle.vm_check.specs.Form.{AcceptsLeaf, AcceptsNode, HasRead, IsFilled, IsForm};
 
-use vm_block::{MAX_CHILDREN, node_size, rows_size};
+use vm_block::{node_size, rows_size};
 use vm_disk::{Disk, Need};
-use vm_tree::{TreeFault, data_at, load_data};
-use vm_types::{Block, BlockNumber};
+use vm_tree::{TreeFault, load_data};
+use vm_types::BlockNumber;
 
 /// What a block of a tree is.
 #[derive(Clone, Copy, Debug)]
@@ -43,28 +42,5 @@ pub(crate) fn form_at<D: Disk>(
             Some((level, count)) => Ok(Form::Node(level, count)),
             None => Err(TreeFault::Damaged(block)),
         },
-    }
-}
-
-/// Reads an inner block of this level into these bytes, and returns how many children it has.
-pub(crate) fn node_at<D: Disk>(
-    disk: &mut D,
-    blocks: u32,
-    level: u8,
-    block: BlockNumber,
-    bytes: &mut Block,
-) -> Result<usize, TreeFault>
-    requires { blocks ≤ (D.state disk.old).blocks }
-    ensures looks { OnlyLooks result (D.state disk.old) (D.state disk.new) }
-    ensures once { ReadsOne blocks block (D.state disk.old).reads (D.state disk.new).reads }
-    ensures few { IfOk result (λ count. count ≤ MAX_CHILDREN) }
-    ensures form { IfOk result (λ count. IsNodeSize bytes.new (level, count)) }
-    ensures found { HasRead result (D.state disk.old) (D.state disk.new) block bytes.new }
-    ensures only { AcceptsNodeAt result (D.state disk.old) (D.state disk.new) blocks level block }
-{
-    data_at(disk, blocks, block, bytes)?;
-    match node_size(bytes) {
-        Some((found, count)) if found == level => Ok(count),
-        _ => Err(TreeFault::Damaged(block)),
     }
 }

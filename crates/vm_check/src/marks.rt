@@ -4,16 +4,15 @@ ghost use Rattle.vm_alloc.specs.Held.{HoldsMore};
 ghost use Rattle.vm_block.specs.Told.{IfHasRows, IfLeafRowAt};
 ghost use Rattle.vm_tree.specs.Calls.{OnlyLooks};
 ghost use Rattle.vm_tree.specs.Tree.{IsData};
-ghost use Rattle.vm_check.specs.Marks.{Closes, Covers, CoversBelow, CoversUnder, MarksLink, MarksLinks, MarksOnlyBelow, MarksOnlyLink, MarksOnlyLinks, MarksOnlyOn, MarksOnlyUnder, OnLeaf, PaysReads, SoundBelow, SoundLeaf, SoundLink, SoundLinks, SoundOn, SoundUnder, TellsLink, unmarked};
+ghost use Rattle.vm_check.specs.Marks.{Closes, Covers, CoversBelow, CoversUnder, MarksFit, MarksLink, MarksLinks, MarksOnlyBelow, MarksOnlyLink, MarksOnlyLinks, MarksOnlyOn, MarksOnlyUnder, OnLeaf, PaysReads, SoundBelow, SoundLeaf, SoundLink, SoundLinks, SoundOn, SoundUnder, TellsLink, unmarked};
 ghost use Rattle.vm_check.specs.Noted.{inner_of, notes_of};
 ghost use Rattle.vm_check.specs.Notes.{is_noted};
 
-use crate::form::node_at;
 use crate::noted::NotedDisk;
 use vm_alloc::Marks;
 use vm_block::{MAX_ROWS, Stored, child_at, is_long_leaf, rows_size, stored_at};
 use vm_disk::Disk;
-use vm_tree::{Root, TreeFault, data_at, is_data};
+use vm_tree::{Root, TreeFault, data_at, is_data, node_into};
 use vm_types::{Block, BlockNumber};
 
 /// The block that row `i` of a leaf links to.
@@ -82,8 +81,7 @@ fn mark_links_at<D: Disk>(
     block: BlockNumber,
     marks: &mut Marks,
 ) -> Result<(), TreeFault>
-    requires inside { blocks ≤ (D.state (inner_of disk.old)).blocks }
-    requires bits { length marks.old ≡ blocks }
+    requires fit { MarksFit blocks (D.state (inner_of disk.old)) marks.old }
     ensures looks { OnlyLooks result (D.state (inner_of disk.old)) (D.state (inner_of disk.new)) }
     ensures once { (D.state (inner_of disk.new)).reads ≤ (D.state (inner_of disk.old)).reads + 1 }
     ensures growing { HoldsMore marks.old marks.new }
@@ -113,8 +111,7 @@ fn mark_beside<D: Disk>(
     block: BlockNumber,
     marks: &mut Marks,
 ) -> Result<(), TreeFault>
-    requires inside { blocks ≤ (D.state (inner_of disk.old)).blocks }
-    requires bits { length marks.old ≡ blocks }
+    requires fit { MarksFit blocks (D.state (inner_of disk.old)) marks.old }
     ensures looks { OnlyLooks result (D.state (inner_of disk.old)) (D.state (inner_of disk.new)) }
     ensures once { (D.state (inner_of disk.new)).reads ≤ (D.state (inner_of disk.old)).reads + 1 }
     ensures unread { is_noted (notes_of disk.old) block ≡ true → disk.new ≡ disk.old }
@@ -142,8 +139,7 @@ fn mark_leaf<D: Disk>(
     block: BlockNumber,
     marks: &mut Marks,
 ) -> Result<(), TreeFault>
-    requires inside { blocks ≤ (D.state (inner_of disk.old)).blocks }
-    requires bits { length marks.old ≡ blocks }
+    requires fit { MarksFit blocks (D.state (inner_of disk.old)) marks.old }
     ensures looks { OnlyLooks result (D.state (inner_of disk.old)) (D.state (inner_of disk.new)) }
     ensures once { PaysReads (D.state (inner_of disk.old))
         (D.state (inner_of disk.new)) marks.old marks.new }
@@ -174,9 +170,8 @@ fn mark_node<D: Disk>(
     block: BlockNumber,
     marks: &mut Marks,
 ) -> Result<(), TreeFault>
-    requires inside { blocks ≤ (D.state (inner_of disk.old)).blocks }
+    requires fit { MarksFit blocks (D.state (inner_of disk.old)) marks.old }
     requires inner { 0 < level }
-    requires bits { length marks.old ≡ blocks }
     ensures looks { OnlyLooks result (D.state (inner_of disk.old)) (D.state (inner_of disk.new)) }
     ensures once { PaysReads (D.state (inner_of disk.old))
         (D.state (inner_of disk.new)) marks.old marks.new }
@@ -196,7 +191,7 @@ fn mark_node<D: Disk>(
     }
     marks.set(block);
     let mut bytes = [0; 4096];
-    let count = node_at(disk, blocks, level, block, &mut bytes)?;
+    let count = node_into(disk, blocks, level, block, &mut bytes)?;
     for i in 0..count {
         let child = child_at(&bytes, i);
         mark_below(disk, blocks, level - 1, child.block, marks)?;
@@ -215,8 +210,7 @@ fn mark_below<D: Disk>(
     block: BlockNumber,
     marks: &mut Marks,
 ) -> Result<(), TreeFault>
-    requires inside { blocks ≤ (D.state (inner_of disk.old)).blocks }
-    requires bits { length marks.old ≡ blocks }
+    requires fit { MarksFit blocks (D.state (inner_of disk.old)) marks.old }
     ensures looks { OnlyLooks result (D.state (inner_of disk.old)) (D.state (inner_of disk.new)) }
     ensures once { PaysReads (D.state (inner_of disk.old))
         (D.state (inner_of disk.new)) marks.old marks.new }
@@ -242,8 +236,7 @@ fn mark_root<D: Disk>(
     root: Root,
     marks: &mut Marks,
 ) -> Result<(), TreeFault>
-    requires inside { blocks ≤ (D.state (inner_of disk.old)).blocks }
-    requires bits { length marks.old ≡ blocks }
+    requires fit { MarksFit blocks (D.state (inner_of disk.old)) marks.old }
     ensures looks { OnlyLooks result (D.state (inner_of disk.old)) (D.state (inner_of disk.new)) }
     ensures once { PaysReads (D.state (inner_of disk.old))
         (D.state (inner_of disk.new)) marks.old marks.new }

@@ -4,7 +4,7 @@ ghost use Rattle.vm_types.specs.declared.sizes.TheConstants.{FIRST_DATA};
 ghost use Rattle.vm_check.specs.declared.tree_copy.CopyFault.TheVariants as copy;
 ghost use Rattle.vm_block.specs.Leaf.{LinkFits};
 ghost use Rattle.vm_block.specs.Told.{IfLeafRowAt};
-ghost use Rattle.vm_check.specs.TreeCopy.{CopiesBlock, CopiesChildren, CopiesLongs, CopiesMap, CopiesRoot, CopiesRow, CopiesRows, CopiesUpTo, IsPut, LeavesOthers, PutsTo, ReachedChildrenCopy, ReachedCopy, ReachedLongCopy, ReachedRowCopy, ReachedRowsCopy, ReachedTreeCopy, SoundChildrenCopy, SoundCopy, SoundLongCopy, SoundRowCopy, SoundRowsCopy, SoundTreeCopy, StepsTo, TellsRow};
+ghost use Rattle.vm_check.specs.TreeCopy.{CopiesBlock, CopiesChildren, CopiesLongs, CopiesMap, CopiesRoot, CopiesRow, CopiesRows, CopiesUpTo, IsPut, LeavesOthers, NumbersFit, PutsTo, ReachedChildrenCopy, ReachedCopy, ReachedLongCopy, ReachedRowCopy, ReachedRowsCopy, ReachedTreeCopy, SoundChildrenCopy, SoundCopy, SoundLongCopy, SoundRowCopy, SoundRowsCopy, SoundTreeCopy, StepsTo, TellsRow};
 ghost use Rattle.vm_check.specs.Renumbering.{count_of, next_of};
 
 use crate::renumbering::Renumbering;
@@ -75,10 +75,7 @@ fn copy_long<S: Disk, T: Disk>(
     block: BlockNumber,
     numbers: &mut Renumbering,
 ) -> Result<BlockNumber, CopyFault>
-    requires inside { blocks ≤ (S.state source.old).blocks }
-    requires room { limit ≤ (T.state target.old).blocks }
-    requires known { count_of numbers.old ≡ blocks }
-    requires least { FIRST_DATA ≤ next_of numbers.old }
+    requires fit { NumbersFit blocks limit (S.state source.old) (T.state target.old) numbers.old }
     ensures step { StepsTo result limit (S.state source.old) (T.state target.old) numbers.old
         (S.state source.new) (T.state target.new) numbers.new }
     ensures copied { CopiesBlock result limit block (S.state source.old) (T.state target.old) numbers.old
@@ -129,10 +126,7 @@ fn copy_row<S: Disk, T: Disk>(
 ) -> Result<(), CopyFault>
     requires within { i < count }
     requires few { count ≤ MAX_ROWS }
-    requires inside { blocks ≤ (S.state source.old).blocks }
-    requires room { limit ≤ (T.state target.old).blocks }
-    requires known { count_of numbers.old ≡ blocks }
-    requires least { FIRST_DATA ≤ next_of numbers.old }
+    requires fit { NumbersFit blocks limit (S.state source.old) (T.state target.old) numbers.old }
     ensures step { StepsTo result limit (S.state source.old) (T.state target.old) numbers.old
         (S.state source.new) (T.state target.new) numbers.new }
     ensures copied { CopiesRow result limit count i bytes.old bytes.new (S.state source.old) (T.state target.old) numbers.old
@@ -162,10 +156,7 @@ fn copy_rows<S: Disk, T: Disk>(
     numbers: &mut Renumbering,
 ) -> Result<(), CopyFault>
     requires few { count ≤ MAX_ROWS }
-    requires inside { blocks ≤ (S.state source.old).blocks }
-    requires room { limit ≤ (T.state target.old).blocks }
-    requires known { count_of numbers.old ≡ blocks }
-    requires least { FIRST_DATA ≤ next_of numbers.old }
+    requires fit { NumbersFit blocks limit (S.state source.old) (T.state target.old) numbers.old }
     ensures step { StepsTo result limit (S.state source.old) (T.state target.old) numbers.old
         (S.state source.new) (T.state target.new) numbers.new }
     ensures copied { CopiesRows result limit count bytes.old bytes.new (S.state source.old) (T.state target.old) numbers.old
@@ -190,10 +181,7 @@ fn copy_leaf<S: Disk, T: Disk>(
     block: BlockNumber,
     numbers: &mut Renumbering,
 ) -> Result<BlockNumber, CopyFault>
-    requires inside { blocks ≤ (S.state source.old).blocks }
-    requires room { limit ≤ (T.state target.old).blocks }
-    requires known { count_of numbers.old ≡ blocks }
-    requires least { FIRST_DATA ≤ next_of numbers.old }
+    requires fit { NumbersFit blocks limit (S.state source.old) (T.state target.old) numbers.old }
     ensures step { StepsTo result limit (S.state source.old) (T.state target.old) numbers.old
         (S.state source.new) (T.state target.new) numbers.new }
     ensures copied { CopiesBlock result limit block (S.state source.old) (T.state target.old) numbers.old
@@ -230,10 +218,7 @@ fn copy_children<S: Disk, T: Disk>(
     numbers: &mut Renumbering,
 ) -> Result<(), CopyFault>
     requires few { count ≤ MAX_CHILDREN }
-    requires inside { blocks ≤ (S.state source.old).blocks }
-    requires room { limit ≤ (T.state target.old).blocks }
-    requires known { count_of numbers.old ≡ blocks }
-    requires least { FIRST_DATA ≤ next_of numbers.old }
+    requires fit { NumbersFit blocks limit (S.state source.old) (T.state target.old) numbers.old }
     ensures step { StepsTo result limit (S.state source.old) (T.state target.old) numbers.old
         (S.state source.new) (T.state target.new) numbers.new }
     ensures copied { CopiesChildren result limit count bytes.old bytes.new (S.state source.old) (T.state target.old) numbers.old
@@ -264,10 +249,7 @@ fn copy_node<S: Disk, T: Disk>(
     numbers: &mut Renumbering,
 ) -> Result<BlockNumber, CopyFault>
     requires inner { 0 < level }
-    requires inside { blocks ≤ (S.state source.old).blocks }
-    requires room { limit ≤ (T.state target.old).blocks }
-    requires known { count_of numbers.old ≡ blocks }
-    requires least { FIRST_DATA ≤ next_of numbers.old }
+    requires fit { NumbersFit blocks limit (S.state source.old) (T.state target.old) numbers.old }
     ensures step { StepsTo result limit (S.state source.old) (T.state target.old) numbers.old
         (S.state source.new) (T.state target.new) numbers.new }
     ensures copied { CopiesBlock result limit block (S.state source.old) (T.state target.old) numbers.old
@@ -311,10 +293,7 @@ fn copy_below<S: Disk, T: Disk>(
     block: BlockNumber,
     numbers: &mut Renumbering,
 ) -> Result<BlockNumber, CopyFault>
-    requires inside { blocks ≤ (S.state source.old).blocks }
-    requires room { limit ≤ (T.state target.old).blocks }
-    requires known { count_of numbers.old ≡ blocks }
-    requires least { FIRST_DATA ≤ next_of numbers.old }
+    requires fit { NumbersFit blocks limit (S.state source.old) (T.state target.old) numbers.old }
     ensures step { StepsTo result limit (S.state source.old) (T.state target.old) numbers.old
         (S.state source.new) (T.state target.new) numbers.new }
     ensures copied { CopiesBlock result limit block (S.state source.old) (T.state target.old) numbers.old

@@ -10,20 +10,21 @@ ghost use Rattle.vm_tree.specs.Root.{AreSizes, sizes_of};
 ghost use Rattle.vm_check.specs.Marks.{PaysJustReads};
 ghost use Rattle.vm_check.specs.Suits.{Suits};
 ghost use Rattle.vm_check.specs.Verification.{AcceptsTrees, Found, PaidFor};
-ghost use Rattle.vm_check.specs.Visits.{AcceptsChildren, AcceptsLong, AcceptsRow, AcceptsRows, AcceptsSubtree, AcceptsTree, EndsBelowNext, IsHighest, IsLongMet, Visits, VisitsChildren, VisitsLong, VisitsRoot, VisitsRow, VisitsRows, met_of, span_of};
+ghost use Rattle.vm_check.specs.Visits.{AcceptsChildren, AcceptsLong, AcceptsRow, AcceptsRows, AcceptsSubtree, AcceptsTree, EndsBelowNext, IsHighest, IsLongMet, SpansFit, Visits, VisitsChildren, VisitsLong, VisitsRoot, VisitsRow, VisitsRows, met_of, span_of};
 
 use crate::form::{Form, form_at};
 use std::alloc::Global;
 use vm_alloc::Marks;
 use vm_block::{
-    Link, MAX_CHILDREN, MAX_ROWS, Stored, child_at, is_long_leaf, lowest_key, record_key, stored_at,
+    Link, MAX_CHILDREN, MAX_LEVEL, MAX_ROWS, Stored, child_at, is_long_leaf, lowest_key,
+    record_key, stored_at,
 };
 use vm_disk::{Disk, Need};
 use vm_tree::{ListFault, Root, TreeFault, is_data, long_at};
 use vm_types::{Block, BlockNumber, FIRST_DATA, Key, MAX_BLOCKS, MIN_BLOCKS};
 
 /// The level of the blocks of long values, above that of any inner block.
-const LONG: u8 = 8;
+const LONG: u8 = MAX_LEVEL + 1;
 
 /// What was found at a block: its level, and the lowest and the highest key under it. For a long
 /// value both are its key, and `len` is its length in bytes.
@@ -92,9 +93,7 @@ fn visit<D: Disk, const LEAF: usize, const FAN: usize>(
     marks: &mut Marks,
     spans: &mut [Met],
 ) -> Result<Span, TreeFault>
-    requires inside { blocks ≤ (D.state disk.old).blocks }
-    requires bits { length marks.old ≡ blocks }
-    requires room { length spans.old ≡ blocks }
+    requires fit { SpansFit blocks (D.state disk.old) marks.old spans.old }
     requires low { most ≤ 7 }
     ensures looks { OnlyLooks result (D.state disk.old) (D.state disk.new) }
     ensures once { PaysJustReads (D.state disk.old) (D.state disk.new) marks.old marks.new }
@@ -200,9 +199,7 @@ fn visit_long<D: Disk>(
     marks: &mut Marks,
     spans: &mut [Met],
 ) -> Result<(), TreeFault>
-    requires inside { blocks ≤ (D.state disk.old).blocks }
-    requires bits { length marks.old ≡ blocks }
-    requires room { length spans.old ≡ blocks }
+    requires fit { SpansFit blocks (D.state disk.old) marks.old spans.old }
     ensures looks { OnlyLooks result (D.state disk.old) (D.state disk.new) }
     ensures once { PaysJustReads (D.state disk.old) (D.state disk.new) marks.old marks.new }
     ensures growing { HoldsMore marks.old marks.new }
@@ -244,9 +241,7 @@ fn visit_row<D: Disk>(
     spans: &mut [Met],
 ) -> Result<(), TreeFault>
     requires row { i < MAX_ROWS }
-    requires inside { blocks ≤ (D.state disk.old).blocks }
-    requires bits { length marks.old ≡ blocks }
-    requires room { length spans.old ≡ blocks }
+    requires fit { SpansFit blocks (D.state disk.old) marks.old spans.old }
     ensures looks { OnlyLooks result (D.state disk.old) (D.state disk.new) }
     ensures once { PaysJustReads (D.state disk.old) (D.state disk.new) marks.old marks.new }
     ensures growing { HoldsMore marks.old marks.new }
@@ -274,9 +269,7 @@ fn visit_rows<D: Disk>(
     spans: &mut [Met],
 ) -> Result<(), TreeFault>
     requires few { count ≤ MAX_ROWS }
-    requires inside { blocks ≤ (D.state disk.old).blocks }
-    requires bits { length marks.old ≡ blocks }
-    requires room { length spans.old ≡ blocks }
+    requires fit { SpansFit blocks (D.state disk.old) marks.old spans.old }
     ensures looks { OnlyLooks result (D.state disk.old) (D.state disk.new) }
     ensures once { PaysJustReads (D.state disk.old) (D.state disk.new) marks.old marks.new }
     ensures growing { HoldsMore marks.old marks.new }
@@ -302,9 +295,7 @@ fn visit_beside<D: Disk>(
     spans: &mut [Met],
 ) -> Result<(), TreeFault>
     requires few { count ≤ MAX_ROWS }
-    requires inside { blocks ≤ (D.state disk.old).blocks }
-    requires bits { length marks.old ≡ blocks }
-    requires room { length spans.old ≡ blocks }
+    requires fit { SpansFit blocks (D.state disk.old) marks.old spans.old }
     ensures looks { OnlyLooks result (D.state disk.old) (D.state disk.new) }
     ensures once { PaysJustReads (D.state disk.old) (D.state disk.new) marks.old marks.new }
     ensures growing { HoldsMore marks.old marks.new }
@@ -334,9 +325,7 @@ fn visit_children<D: Disk, const LEAF: usize, const FAN: usize>(
     marks: &mut Marks,
     spans: &mut [Met],
 ) -> Result<Key, TreeFault>
-    requires inside { blocks ≤ (D.state disk.old).blocks }
-    requires bits { length marks.old ≡ blocks }
-    requires room { length spans.old ≡ blocks }
+    requires fit { SpansFit blocks (D.state disk.old) marks.old spans.old }
     requires few { count ≤ MAX_CHILDREN }
     requires low { level ≤ 7 }
     ensures looks { OnlyLooks result (D.state disk.old) (D.state disk.new) }
@@ -450,9 +439,7 @@ fn visit_root<D: Disk, const LEAF: usize, const FAN: usize, const LEVELS: usize>
     spans: &mut [Met],
 ) -> Result<Root, TreeFault>
     requires sizes { AreSizes LEAF FAN LEVELS }
-    requires inside { blocks ≤ (D.state disk.old).blocks }
-    requires bits { length marks.old ≡ blocks }
-    requires room { length spans.old ≡ blocks }
+    requires fit { SpansFit blocks (D.state disk.old) marks.old spans.old }
     ensures looks { OnlyLooks result (D.state disk.old) (D.state disk.new) }
     ensures once { PaysJustReads (D.state disk.old) (D.state disk.new) marks.old marks.new }
     ensures count { length marks.new ≡ blocks }

@@ -22,21 +22,21 @@ pub mark_node-returns-in_err-count-clause-once : goal.mark_node-returns-in_err-c
 mark_node-returns-in_err-count-clause-once g t c =
     omega (
       arith,
-      c.node_at.ensures.once.most,
-      set_less _ _ _ _ c.set.ensures c.requires.bits (c.is_data.ensures.0 c.if-not-is_data.false) (λ is. false≢true (sym c.if-is_set.false ∙ c.is_set.ensures.1 is)),
+      c.node_into.ensures.once.most,
+      set_less _ _ _ _ c.set.ensures c.requires.fit.bits (c.is_data.ensures.0 c.if-not-is_data.false) (λ is. false≢true (sym c.if-is_set.false ∙ c.is_set.ensures.1 is)),
     )
 
 pub mark_node-loop-i-init : goal.mark_node-loop-i-init
 mark_node-loop-i-init g t c =
     let any = c.in_ok-count.ensures.looks.goes in
     let inside = c.is_data.ensures.0 c.if-not-is_data.false in
-    let less = set_less _ _ _ _ c.set.ensures c.requires.bits inside (λ is. false≢true (sym c.if-is_set.false ∙ c.is_set.ensures.1 is)) in
+    let less = set_less _ _ _ _ c.set.ensures c.requires.fit.bits inside (λ is. false≢true (sym c.if-is_set.false ∙ c.is_set.ensures.1 is)) in
     let grows = subst (HoldsMore c.args.marks.now) (sym c.set.ensures) (taken_holds_more c.args.marks.now c.args.block) in
     record {
       looks = looks_so c.in_ok-count.ensures.looks (λ is. cc);
       since = λ honest. honest;
-      many = grows.same_length ∙ c.requires.bits;
-      once = omega (arith, c.node_at.ensures.once.most, less);
+      many = grows.same_length ∙ c.requires.fit.bits;
+      once = omega (arith, c.node_into.ensures.once.most, less);
       growing = grows;
       marked = λ honest sizes cs node count bs none closed. subst (λ (ds : List _). MarksMore ds c.set.new.self c.set.new.self) (sym none) (same_more _ c.set.new.self tt);
       only = λ honest sizes cs node count bs none n is. inl is;
@@ -46,12 +46,12 @@ pub mark_node-returns-in_err-mark_below-clause-marked : goal.mark_node-returns-i
 mark_node-returns-in_err-mark_below-clause-marked g t c honest sizes rs bs tree closed =
     let so_far = c.loop-i.invariant in
     let inside = subtree_top sizes _ _ _ _ rs bs tree in
-    let form = c.in_ok-count.ensures.form in
-    let start = node_start sizes _ _ _ _ rs bs form.0 (omega (arith, c.requires.inner)) tree (λ ds at. same_children _ _ _ form.0 ds (c.in_ok-count.ensures.found (so_far.since (c.in_err-mark_below.ensures.looks.goes.earlier honest))) form.1 at.node) in
-    let lt : c.loop-i.i < length form.0 = omega (arith, c.loop-i-test.true, form.2) in
-    let is = c.child_at-child.ensures.child _ form.0 form.1 lt in
-    rw (passed_on _ c.from_residual-in_err-mark_below.ensures.1) (node_fault sizes _ _ _ _ _ _ bs form.0 c.child_at-child.result _ _ _ _ (same_medium _ _ (so_far.looks.reads (c.in_err-mark_below.ensures.looks.goes.earlier honest))) (omega (arith, inside.1, c.requires.bits)) c.set.ensures (omega (arith, c.requires.inner))
-    lt is start closed (so_far.marked (c.in_err-mark_below.ensures.looks.goes.earlier honest) sizes form.0 form.1 form.2) (λ qs ds. c.in_err-mark_below.ensures.marked honest sizes qs ds))
+    let form = c.in_ok-count.ensures.count in
+    let start = node_start sizes _ _ _ _ rs bs form.children (omega (arith, c.requires.inner)) tree (λ ds at. same_children _ _ _ form.children ds (c.in_ok-count.ensures.found (so_far.since (c.in_err-mark_below.ensures.looks.goes.earlier honest))).bytes_are form.node at.node) in
+    let lt : c.loop-i.i < length form.children = omega (arith, c.loop-i-test.true, form.many) in
+    let is = c.child_at-child.ensures.child _ form.children form.node lt in
+    rw (passed_on _ c.from_residual-in_err-mark_below.ensures.1) (node_fault sizes _ _ _ _ _ _ bs form.children c.child_at-child.result _ _ _ _ (same_medium _ _ (so_far.looks.reads (c.in_err-mark_below.ensures.looks.goes.earlier honest))) (omega (arith, inside.1, c.requires.fit.bits)) c.set.ensures (omega (arith, c.requires.inner))
+    lt is start closed (so_far.marked (c.in_err-mark_below.ensures.looks.goes.earlier honest) sizes form.children form.node (sym form.many)) (λ qs ds. c.in_err-mark_below.ensures.marked honest sizes qs ds))
 
 pub mark_node-loop-i-preserved : goal.mark_node-loop-i-preserved
 mark_node-loop-i-preserved g t c =
@@ -79,10 +79,10 @@ mark_node-loop-i-preserved g t c =
 pub mark_node-returns-clause-marked : goal.mark_node-returns-clause-marked
 mark_node-returns-clause-marked g t c honest sizes rs bs tree closed =
     let inside = subtree_top sizes _ _ _ _ rs bs tree in
-    let form = c.in_ok-count.ensures.form in
-    let start = node_start sizes _ _ _ _ rs bs form.0 (omega (arith, c.requires.inner)) tree (λ ds at. same_children _ _ _ form.0 ds (c.in_ok-count.ensures.found (c.loop-i.invariant.since honest)) form.1 at.node) in
-    node_marked sizes _ _ _ _ _ bs _ _ _ _ (omega (arith, inside.1, c.requires.bits)) c.set.ensures (omega (arith, c.requires.inner)) (omega (arith, c.loop-i-test.false, form.2)) start closed
-    (c.loop-i.invariant.marked honest sizes form.0 form.1 form.2)
+    let form = c.in_ok-count.ensures.count in
+    let start = node_start sizes _ _ _ _ rs bs form.children (omega (arith, c.requires.inner)) tree (λ ds at. same_children _ _ _ form.children ds (c.in_ok-count.ensures.found (c.loop-i.invariant.since honest)).bytes_are form.node at.node) in
+    node_marked sizes _ _ _ _ _ bs _ _ _ _ (omega (arith, inside.1, c.requires.fit.bits)) c.set.ensures (omega (arith, c.requires.inner)) (omega (arith, c.loop-i-test.false, form.many)) start closed
+    (c.loop-i.invariant.marked honest sizes form.children form.node (sym form.many))
 
 pub mark_node-returns-in_err-count-clause-marked : goal.mark_node-returns-in_err-count-clause-marked
 mark_node-returns-in_err-count-clause-marked g t c honest sizes rs bs tree closed =
@@ -101,11 +101,11 @@ mark_node-returns-in_err-count-clause-sound g t c honest sizes rs bs tree =
 pub mark_node-returns-in_err-mark_below-clause-sound : goal.mark_node-returns-in_err-mark_below-clause-sound
 mark_node-returns-in_err-mark_below-clause-sound g t c honest sizes rs bs tree =
     let so_far = c.loop-i.invariant in
-    let form = c.in_ok-count.ensures.form in
-    let start = node_start sizes _ _ _ _ rs bs form.0 (omega (arith, c.requires.inner)) tree (λ ds at. same_children _ _ _ form.0 ds (c.in_ok-count.ensures.found (so_far.since (c.in_err-mark_below.ensures.looks.goes.earlier honest))) form.1 at.node) in
-    let lt : c.loop-i.i < length form.0 = omega (arith, c.loop-i-test.true, form.2) in
-    let is = c.child_at-child.ensures.child _ form.0 form.1 lt in
-    rw (passed_on _ c.from_residual-in_err-mark_below.ensures.1) (child_sound sizes _ _ _ _ form.0 _ c.child_at-child.result (same_medium _ _ (so_far.looks.reads (c.in_err-mark_below.ensures.looks.goes.earlier honest))) lt is _ _ start.joined (λ qs ds. c.in_err-mark_below.ensures.sound honest sizes qs ds))
+    let form = c.in_ok-count.ensures.count in
+    let start = node_start sizes _ _ _ _ rs bs form.children (omega (arith, c.requires.inner)) tree (λ ds at. same_children _ _ _ form.children ds (c.in_ok-count.ensures.found (so_far.since (c.in_err-mark_below.ensures.looks.goes.earlier honest))).bytes_are form.node at.node) in
+    let lt : c.loop-i.i < length form.children = omega (arith, c.loop-i-test.true, form.many) in
+    let is = c.child_at-child.ensures.child _ form.children form.node lt in
+    rw (passed_on _ c.from_residual-in_err-mark_below.ensures.1) (child_sound sizes _ _ _ _ form.children _ c.child_at-child.result (same_medium _ _ (so_far.looks.reads (c.in_err-mark_below.ensures.looks.goes.earlier honest))) lt is _ _ start.joined (λ qs ds. c.in_err-mark_below.ensures.sound honest sizes qs ds))
 
 pub mark_node-returns-in_err-count-clause-only : goal.mark_node-returns-in_err-count-clause-only
 mark_node-returns-in_err-count-clause-only g t c honest sizes rs bs tree = only_set _ bs _ _ c.set.ensures (top_within sizes _ _ _ _ rs bs tree)
@@ -113,19 +113,19 @@ mark_node-returns-in_err-count-clause-only g t c honest sizes rs bs tree = only_
 pub mark_node-returns-in_err-mark_below-clause-only : goal.mark_node-returns-in_err-mark_below-clause-only
 mark_node-returns-in_err-mark_below-clause-only g t c honest sizes rs bs tree =
     let so_far = c.loop-i.invariant in
-    let form = c.in_ok-count.ensures.form in
-    let start = node_start sizes _ _ _ _ rs bs form.0 (omega (arith, c.requires.inner)) tree (λ ds at. same_children _ _ _ form.0 ds (c.in_ok-count.ensures.found (so_far.since (c.in_err-mark_below.ensures.looks.goes.earlier honest))) form.1 at.node) in
-    let lt : c.loop-i.i < length form.0 = omega (arith, c.loop-i-test.true, form.2) in
-    let is = c.child_at-child.ensures.child _ form.0 form.1 lt in
+    let form = c.in_ok-count.ensures.count in
+    let start = node_start sizes _ _ _ _ rs bs form.children (omega (arith, c.requires.inner)) tree (λ ds at. same_children _ _ _ form.children ds (c.in_ok-count.ensures.found (so_far.since (c.in_err-mark_below.ensures.looks.goes.earlier honest))).bytes_are form.node at.node) in
+    let lt : c.loop-i.i < length form.children = omega (arith, c.loop-i-test.true, form.many) in
+    let is = c.child_at-child.ensures.child _ form.children form.node lt in
     only_top _ start.under bs _ _ _ c.set.ensures start.first
-    (child_only_fault sizes _ _ _ _ form.0 _ c.child_at-child.result (same_medium _ _ (so_far.looks.reads (c.in_err-mark_below.ensures.looks.goes.earlier honest))) lt is _ _ _ (so_far.only (c.in_err-mark_below.ensures.looks.goes.earlier honest) sizes form.0 form.1 form.2)
+    (child_only_fault sizes _ _ _ _ form.children _ c.child_at-child.result (same_medium _ _ (so_far.looks.reads (c.in_err-mark_below.ensures.looks.goes.earlier honest))) lt is _ _ _ (so_far.only (c.in_err-mark_below.ensures.looks.goes.earlier honest) sizes form.children form.node (sym form.many))
     (λ qs ds. c.in_err-mark_below.ensures.only honest sizes qs ds) start.under start.joined)
 
 pub mark_node-returns-clause-only : goal.mark_node-returns-clause-only
 mark_node-returns-clause-only g t c honest sizes rs bs tree =
-    let form = c.in_ok-count.ensures.form in
-    let start = node_start sizes _ _ _ _ rs bs form.0 (omega (arith, c.requires.inner)) tree (λ ds at. same_children _ _ _ form.0 ds (c.in_ok-count.ensures.found (c.loop-i.invariant.since honest)) form.1 at.node) in
-    only_top _ start.under bs _ _ _ c.set.ensures start.first (only_all (IsBelow sizes _ _ _) form.0 _ start.under _ _ (omega (arith, c.loop-i-test.false, form.2)) (c.loop-i.invariant.only honest sizes form.0 form.1 form.2) start.joined)
+    let form = c.in_ok-count.ensures.count in
+    let start = node_start sizes _ _ _ _ rs bs form.children (omega (arith, c.requires.inner)) tree (λ ds at. same_children _ _ _ form.children ds (c.in_ok-count.ensures.found (c.loop-i.invariant.since honest)).bytes_are form.node at.node) in
+    only_top _ start.under bs _ _ _ c.set.ensures start.first (only_all (IsBelow sizes _ _ _) form.children _ start.under _ _ (omega (arith, c.loop-i-test.false, form.many)) (c.loop-i.invariant.only honest sizes form.children form.node (sym form.many)) start.joined)
 
 pub mark_node-returns-in_err-mark_below-clause-looks : goal.mark_node-returns-in_err-mark_below-clause-looks
 mark_node-returns-in_err-mark_below-clause-looks g t c = looks_on c.loop-i.invariant.looks c.mark_below.ensures.looks (search rules)

@@ -26,7 +26,7 @@ returns-clause-once g c =
       arith,
       c.mark_beside.ensures.once,
       c.mark_beside.ensures.fewer,
-      set_less _ _ _ _ c.set.ensures c.requires.bits (c.is_data.ensures.0 c.if-not-is_data.false) (λ is. false≢true (sym c.if-is_set.false ∙ c.is_set.ensures.1 is)),
+      set_less _ _ _ _ c.set.ensures c.requires.fit.bits (c.is_data.ensures.0 c.if-not-is_data.false) (λ is. false≢true (sym c.if-is_set.false ∙ c.is_set.ensures.1 is)),
     )
 
 pub returns-clause-marked : goal.returns-clause-marked
@@ -34,7 +34,7 @@ returns-clause-marked g c honest sizes rs bs tree closed =
     let at = leaf_opens sizes _ _ _ _ rs bs refl tree in
     let beside = c.mark_beside.ensures in
     fine_so _ _ c.mark_beside.result (beside.sound at.place honest at.holds.rows at.holds.leaf (links_data _ _ at.holds.rows rs at.under at.holds.stand)) (beside.marked honest at.holds.rows at.holds.leaf)
-    (λ each. leaf_marked sizes _ _ _ _ rs bs _ _ _ refl (omega (arith, at.place.1, c.requires.bits)) c.set.ensures beside.growing at each (beside.only honest at.holds.rows at.holds.leaf))
+    (λ each. leaf_marked sizes _ _ _ _ rs bs _ _ _ refl (omega (arith, at.place.1, c.requires.fit.bits)) c.set.ensures beside.growing at each (beside.only honest at.holds.rows at.holds.leaf))
 
 pub returns-clause-sound : goal.returns-clause-sound
 returns-clause-sound g c honest sizes rs bs tree =

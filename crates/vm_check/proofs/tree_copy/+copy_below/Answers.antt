@@ -128,7 +128,7 @@ copy_node-returns-clause-copied g t c source target so_far =
     let form = c.in_ok-count.ensures.count in
     let same = same_medium _ _ (c.in_ok-count.ensures.looks.reads before) in
     let nodes = c.in_ok-copy_children.ensures.copied c.args.level form.children form.node form.many source (c.put_copy.ensures.puts.goes.earlier target) (copied_in same _ c.args.limit c.args.numbers.now so_far) in
-    let inside : c.args.block < count_of c.copy_children.new.numbers = omega (arith, (c.is_data.ensures.0 c.if-not-is_data.false).1, c.requires.known, c.in_ok-copy_children.ensures.step.numbers.same_count) in
+    let inside : c.args.block < count_of c.copy_children.new.numbers = omega (arith, (c.is_data.ensures.0 c.if-not-is_data.false).1, c.requires.fit.known, c.in_ok-copy_children.ensures.step.numbers.same_count) in
     copies_block _ _ _ _ _ _ _ _ c.put_copy.result inside (copied_back same _ c.args.limit c.copy_children.new.numbers nodes.0) (c.put_copy.ensures.put target)
     (inr (inl (subst (λ (bytes : List _). NodeCopied c.copy_children.new.numbers bytes c.copy_children.new.bytes) found.bytes_are nodes.1)))
 

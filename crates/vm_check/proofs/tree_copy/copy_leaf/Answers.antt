@@ -50,7 +50,7 @@ returns-clause-copied g c source target so_far =
     let form = c.in_ok-count.ensures.count in
     let same = same_medium _ _ (c.in_ok-count.ensures.looks.reads before) in
     let rows = c.in_ok-copy_rows.ensures.copied form.0 form.1 (sym form.2) source (c.put_copy.ensures.puts.goes.earlier target) (copied_in same _ c.args.limit c.args.numbers.now so_far) in
-    let inside : c.args.block < count_of c.copy_rows.new.numbers = omega (arith, (c.is_data.ensures.0 c.if-not-is_data.false).1, c.requires.known, c.in_ok-copy_rows.ensures.step.numbers.same_count) in
+    let inside : c.args.block < count_of c.copy_rows.new.numbers = omega (arith, (c.is_data.ensures.0 c.if-not-is_data.false).1, c.requires.fit.known, c.in_ok-copy_rows.ensures.step.numbers.same_count) in
     copies_block _ _ _ _ _ _ _ _ c.put_copy.result inside (copied_back same _ c.args.limit c.copy_rows.new.numbers rows.0) (c.put_copy.ensures.put target)
     (inl (subst (λ (bytes : List _). LeafCopied c.copy_rows.new.numbers bytes c.copy_rows.new.bytes) found.bytes_are rows.1))
 

@@ -9,7 +9,7 @@ use Rattle.vm_check.proofs.tree_copy.copy_long.Goals as goal
 pub returns-clause-copied : goal.returns-clause-copied
 returns-clause-copied g c source target so_far =
     let found = c.in_ok-data_at.ensures.found source in
-    let inside : c.args.block < count_of c.args.numbers.now = omega (arith, (c.is_data.ensures.0 c.if-not-is_data.false).1, c.requires.known) in
+    let inside : c.args.block < count_of c.args.numbers.now = omega (arith, (c.is_data.ensures.0 c.if-not-is_data.false).1, c.requires.fit.known) in
     copies_block _ _ _ _ _ _ _ _ c.put_copy.result inside so_far (c.put_copy.ensures.put target)
     (inr (inr record { key = c.in-Some.field-0.0; value = c.in-Some.field-0.1.now; was = subst (λ (bytes : List _). IsLong bytes c.in-Some.field-0.0 c.in-Some.field-0.1.now) found.bytes_are c.in-Some.ensures.found; is = found.bytes_are }))
 

@@ -23,31 +23,31 @@ use Rattle.vm_check.proofs.verification.+walk.Goals.{visit_children-then-ne-via-
 
 pub visit-returns-then-least-gt0-clause-once : goal.visit-returns-then-least-gt0-clause-once
 visit-returns-then-least-gt0-clause-once g t c =
-    omega (arith, c.form_at.ensures.once.one (c.is_data.ensures.0 c.if-not-is_data.false), set_less _ _ _ _ c.set.ensures c.requires.bits (c.is_data.ensures.0 c.if-not-is_data.false) (λ is. false≢true (sym c.if-is_set.false ∙ c.is_set.ensures.1 is)))
+    omega (arith, c.form_at.ensures.once.one (c.is_data.ensures.0 c.if-not-is_data.false), set_less _ _ _ _ c.set.ensures c.requires.fit.bits (c.is_data.ensures.0 c.if-not-is_data.false) (λ is. false≢true (sym c.if-is_set.false ∙ c.is_set.ensures.1 is)))
 
 pub visit-returns-then-level-least-clause-once : goal.visit-returns-then-level-least-clause-once
 visit-returns-then-level-least-clause-once g t c =
-    omega (arith, c.form_at.ensures.once.one (c.is_data.ensures.0 c.if-not-is_data.false), set_less _ _ _ _ c.set.ensures c.requires.bits (c.is_data.ensures.0 c.if-not-is_data.false) (λ is. false≢true (sym c.if-is_set.false ∙ c.is_set.ensures.1 is)))
+    omega (arith, c.form_at.ensures.once.one (c.is_data.ensures.0 c.if-not-is_data.false), set_less _ _ _ _ c.set.ensures c.requires.fit.bits (c.is_data.ensures.0 c.if-not-is_data.false) (λ is. false≢true (sym c.if-is_set.false ∙ c.is_set.ensures.1 is)))
 
 pub visit-returns-in_ok-visit_beside-in-Leaf-clause-once : goal.visit-returns-in_ok-visit_beside-in-Leaf-clause-once
 visit-returns-in_ok-visit_beside-in-Leaf-clause-once g t c =
-    omega (arith, c.visit_beside.ensures.once, c.form_at.ensures.once.one (c.is_data.ensures.0 c.if-not-is_data.false), set_less _ _ _ _ c.set.ensures c.requires.bits (c.is_data.ensures.0 c.if-not-is_data.false) (λ is. false≢true (sym c.if-is_set.false ∙ c.is_set.ensures.1 is)))
+    omega (arith, c.visit_beside.ensures.once, c.form_at.ensures.once.one (c.is_data.ensures.0 c.if-not-is_data.false), set_less _ _ _ _ c.set.ensures c.requires.fit.bits (c.is_data.ensures.0 c.if-not-is_data.false) (λ is. false≢true (sym c.if-is_set.false ∙ c.is_set.ensures.1 is)))
 
 pub visit-returns-in_err-visit_beside-in-Leaf-clause-once : goal.visit-returns-in_err-visit_beside-in-Leaf-clause-once
 visit-returns-in_err-visit_beside-in-Leaf-clause-once g t c =
-    omega (arith, c.visit_beside.ensures.once, c.form_at.ensures.once.one (c.is_data.ensures.0 c.if-not-is_data.false), set_less _ _ _ _ c.set.ensures c.requires.bits (c.is_data.ensures.0 c.if-not-is_data.false) (λ is. false≢true (sym c.if-is_set.false ∙ c.is_set.ensures.1 is)))
+    omega (arith, c.visit_beside.ensures.once, c.form_at.ensures.once.one (c.is_data.ensures.0 c.if-not-is_data.false), set_less _ _ _ _ c.set.ensures c.requires.fit.bits (c.is_data.ensures.0 c.if-not-is_data.false) (λ is. false≢true (sym c.if-is_set.false ∙ c.is_set.ensures.1 is)))
 
 pub visit-returns-in_err-form-clause-once : goal.visit-returns-in_err-form-clause-once
 visit-returns-in_err-form-clause-once g t c =
-    omega (arith, c.form_at.ensures.once.one (c.is_data.ensures.0 c.if-not-is_data.false), set_less _ _ _ _ c.set.ensures c.requires.bits (c.is_data.ensures.0 c.if-not-is_data.false) (λ is. false≢true (sym c.if-is_set.false ∙ c.is_set.ensures.1 is)))
+    omega (arith, c.form_at.ensures.once.one (c.is_data.ensures.0 c.if-not-is_data.false), set_less _ _ _ _ c.set.ensures c.requires.fit.bits (c.is_data.ensures.0 c.if-not-is_data.false) (λ is. false≢true (sym c.if-is_set.false ∙ c.is_set.ensures.1 is)))
 
 pub visit-returns-in_ok-high-in-Node-clause-once : goal.visit-returns-in_ok-high-in-Node-clause-once
 visit-returns-in_ok-high-in-Node-clause-once g t c =
-    omega (arith, c.visit_children.ensures.once, c.form_at.ensures.once.one (c.is_data.ensures.0 c.if-not-is_data.false), set_less _ _ _ _ c.set.ensures c.requires.bits (c.is_data.ensures.0 c.if-not-is_data.false) (λ is. false≢true (sym c.if-is_set.false ∙ c.is_set.ensures.1 is)))
+    omega (arith, c.visit_children.ensures.once, c.form_at.ensures.once.one (c.is_data.ensures.0 c.if-not-is_data.false), set_less _ _ _ _ c.set.ensures c.requires.fit.bits (c.is_data.ensures.0 c.if-not-is_data.false) (λ is. false≢true (sym c.if-is_set.false ∙ c.is_set.ensures.1 is)))
 
 pub visit-returns-in_err-high-in-Node-clause-once : goal.visit-returns-in_err-high-in-Node-clause-once
 visit-returns-in_err-high-in-Node-clause-once g t c =
-    omega (arith, c.visit_children.ensures.once, c.form_at.ensures.once.one (c.is_data.ensures.0 c.if-not-is_data.false), set_less _ _ _ _ c.set.ensures c.requires.bits (c.is_data.ensures.0 c.if-not-is_data.false) (λ is. false≢true (sym c.if-is_set.false ∙ c.is_set.ensures.1 is)))
+    omega (arith, c.visit_children.ensures.once, c.form_at.ensures.once.one (c.is_data.ensures.0 c.if-not-is_data.false), set_less _ _ _ _ c.set.ensures c.requires.fit.bits (c.is_data.ensures.0 c.if-not-is_data.false) (λ is. false≢true (sym c.if-is_set.false ∙ c.is_set.ensures.1 is)))
 
 pub visit-returns-then-not-is_data-clause-only : goal.visit-returns-then-not-is_data-clause-only
 visit-returns-then-not-is_data-clause-only g t c honest levels l rs bs known least most tree rises suit =
@@ -96,8 +96,8 @@ visit-returns-in_ok-visit_beside-in-Leaf-clause-found g t c honest levels known 
     (record {
       keeps = c.keep.ensures;
       is = c.set.ensures;
-      inside = omega (arith, inside.1, c.requires.bits);
-      room = omega (arith, inside.1, c.requires.room);
+      inside = omega (arith, inside.1, c.requires.fit.bits);
+      room = omega (arith, inside.1, c.requires.fit.room);
       fresh = λ is. false≢true (sym c.if-is_set.false ∙ c.is_set.ensures.1 is);
       found = record {
         inside = inside;
@@ -120,8 +120,8 @@ visit-returns-in_err-visit_beside-in-Leaf-clause-only g t c honest levels l rs b
     (record {
       keeps = c.keep.ensures;
       is = c.set.ensures;
-      inside = omega (arith, inside.1, c.requires.bits);
-      room = omega (arith, inside.1, c.requires.room);
+      inside = omega (arith, inside.1, c.requires.fit.bits);
+      room = omega (arith, inside.1, c.requires.fit.room);
       fresh = λ is. false≢true (sym c.if-is_set.false ∙ c.is_set.ensures.1 is);
       found = record {
         inside = inside;
@@ -150,8 +150,8 @@ visit-returns-in_ok-high-in-Node-clause-found g t c honest levels known =
     rw c.node_span-span.ensures (node_exit _ _ _ _ _ _ _ form.0 lowest first _ _ _ _ _ _ _ (c.keep-in-Node.ensures ∙ ap (λ (s : Span). met_of s) c.node_span-span.ensures) (same_medium _ _ (c.form_at.ensures.looks.reads (c.in_ok-high-in-Node.ensures.looks.goes.earlier honest)))
     (record {
       is = c.set.ensures;
-      inside = omega (arith, inside.1, c.requires.bits);
-      room = omega (arith, inside.1, c.requires.room);
+      inside = omega (arith, inside.1, c.requires.fit.bits);
+      room = omega (arith, inside.1, c.requires.fit.room);
       fresh = λ is. false≢true (sym c.if-is_set.false ∙ c.is_set.ensures.1 is);
       data_block = inside;
       node = node_as _ _ _ form.0 (c.in_ok-form.ensures.found (c.in_ok-high-in-Node.ensures.looks.goes.earlier honest)) form.1;
@@ -169,8 +169,8 @@ visit-returns-in_err-high-in-Node-clause-only g t c honest levels l rs bs known 
     rw (passed_on _ c.from_residual-in_err-high-in-Node.ensures.1) (node_fault _ _ _ _ _ _ _ l form.0 first _ _ _ rs bs _ (same_medium _ _ (c.form_at.ensures.looks.reads (c.in_err-high-in-Node.ensures.looks.goes.earlier honest)))
     (record {
       is = c.set.ensures;
-      inside = omega (arith, inside.1, c.requires.bits);
-      room = omega (arith, inside.1, c.requires.room);
+      inside = omega (arith, inside.1, c.requires.fit.bits);
+      room = omega (arith, inside.1, c.requires.fit.room);
       fresh = λ is. false≢true (sym c.if-is_set.false ∙ c.is_set.ensures.1 is);
       data_block = inside;
       node = node_as _ _ _ form.0 (c.in_ok-form.ensures.found (c.in_err-high-in-Node.ensures.looks.goes.earlier honest)) form.1;
@@ -207,7 +207,7 @@ visit_children-returns-then-ne-clause-only g t c honest levels above cs rs bs no
 pub visit_children-loop-i-init : goal.visit_children-loop-i-init
 visit_children-loop-i-init g t c = record {
   looks = looks_none _ (λ is. cc);
-  many = c.requires.bits;
+  many = c.requires.fit.bits;
   once = refl;
   growing = holds_same _;
   found = λ honest levels above cs node count known. children_none _ _ _ _ _ _ _ known;

@@ -13,11 +13,11 @@ returns-then-not-is_long_met-clause-only g c honest long value formed at many =
 
 pub returns-in_err-long_at-clause-once : goal.returns-in_err-long_at-clause-once
 returns-in_err-long_at-clause-once g c =
-    omega (arith, c.long_at.ensures.once.one (c.is_data.ensures.0 c.if-not-is_data.false), set_less _ _ _ _ c.set.ensures c.requires.bits (c.is_data.ensures.0 c.if-not-is_data.false) (λ is. false≢true (sym c.if-is_set.false ∙ c.is_set.ensures.1 is)))
+    omega (arith, c.long_at.ensures.once.one (c.is_data.ensures.0 c.if-not-is_data.false), set_less _ _ _ _ c.set.ensures c.requires.fit.bits (c.is_data.ensures.0 c.if-not-is_data.false) (λ is. false≢true (sym c.if-is_set.false ∙ c.is_set.ensures.1 is)))
 
 pub returns-clause-once : goal.returns-clause-once
 returns-clause-once g c =
-    omega (arith, c.long_at.ensures.once.one (c.is_data.ensures.0 c.if-not-is_data.false), set_less _ _ _ _ c.set.ensures c.requires.bits (c.is_data.ensures.0 c.if-not-is_data.false) (λ is. false≢true (sym c.if-is_set.false ∙ c.is_set.ensures.1 is)))
+    omega (arith, c.long_at.ensures.once.one (c.is_data.ensures.0 c.if-not-is_data.false), set_less _ _ _ _ c.set.ensures c.requires.fit.bits (c.is_data.ensures.0 c.if-not-is_data.false) (λ is. false≢true (sym c.if-is_set.false ∙ c.is_set.ensures.1 is)))
 
 pub returns-then-is_set-clause-found : goal.returns-then-is_set-clause-found
 returns-then-is_set-clause-found g c honest long formed =
@@ -27,5 +27,5 @@ returns-then-is_set-clause-found g c honest long formed =
 pub returns-clause-found : goal.returns-clause-found
 returns-clause-found g c honest long formed =
     let inside = c.is_data.ensures.0 c.if-not-is_data.false in
-    long_first _ _ c.args.key c.args.link _ _ _ _ _ c.keep.ensures c.set.ensures (omega (arith, inside.1, c.requires.bits)) (omega (arith, inside.1, c.requires.room)) (λ is. false≢true (sym c.if-is_set.false ∙ c.is_set.ensures.1 is))
+    long_first _ _ c.args.key c.args.link _ _ _ _ _ c.keep.ensures c.set.ensures (omega (arith, inside.1, c.requires.fit.bits)) (omega (arith, inside.1, c.requires.fit.room)) (λ is. false≢true (sym c.if-is_set.false ∙ c.is_set.ensures.1 is))
     (c.in_ok-long_at.ensures.found honest) c.in_ok-long_at.ensures.len formed

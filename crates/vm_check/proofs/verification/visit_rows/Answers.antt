@@ -9,7 +9,7 @@ use Rattle.vm_check.proofs.verification.visit_rows.Goals as goal
 pub loop-i-init : goal.loop-i-init
 loop-i-init g c = record {
   looks = looks_none _ (λ is. cc);
-  many = c.requires.bits;
+  many = c.requires.fit.bits;
   once = refl;
   growing = holds_same _;
   found = λ honest long ws leaf many formed. rows_none _ _ _ _ formed;
