@@ -21,9 +21,11 @@ pub mod LongerLemmas
 pub mod MarkedLemmas
 pub mod MarkingLemmas
 pub mod MergeSteps
+mod MergeTaken
 pub mod MovedLemmas
 pub mod OpeningLemmas
 pub mod PairLemmas
+pub mod PartsLemmas
 pub mod PerformLemmas
 pub mod QueryLemmas
 pub mod ReachLemmas

@@ -1,14 +1,13 @@
 -- From what a command's own function promises to what `apply` does.
-use Rattle.std.proofs.Common.{◌≡◌, ◌≢◌, ◌↔◌, ◌≤◌, ℕ, Bool, false, length, vec_capacity, Result, Ok, Err, OnErr, IsTrue, refl, sym, subst, ◌∙◌}
+use Rattle.std.proofs.Common.{◌≡◌, ◌≢◌, ◌↔◌, ◌≤◌, ℕ, Bool, false, Result, Ok, Err, OnErr, IsTrue, refl, sym, subst, ◌∙◌}
 use Rattle.vm_types.specs.declared.answer.Answer.{Answer}
 use Rattle.vm_types.specs.declared.command.Command.{Command}
 use Rattle.vm_types.specs.declared.command.Command.TheVariants.{Back, Checkpoint, Commit, Drop, Grow, Merge, New, NewAt, Post, Put, Reclaim, Remove, Rollback, Uncheck}
 use Rattle.vm_types.specs.declared.refusal.Refusal.{Refusal}
-use Rattle.vm_types.specs.declared.sizes.TheConstants.{MAX_BLOCKS, MAX_VERSIONS, MIN_BLOCKS}
 use Rattle.vm_types.specs.declared.refusal.Refusal.TheVariants.{Device, Failed, Memory}
 use Rattle.vm_store.specs.Answers.{ChangesEntriesAlone, IsEarly, IsGrow, TakesMemory}
 use Rattle.vm_store.specs.Commands.{CarriesOut, Performs}
-use Rattle.vm_store.specs.Store.{EarlyKeeps, EarlyLeavesDisk, GoesOn, GrowsOn, IsCarriedOut, IsHonest, IsNoLonger, KeepsFree, LeavesBlocks, MarksAll, NewAreFree, ReadsOnly, RollsBack, WritesCommit, disk_of, entries_of, has_failed}
+use Rattle.vm_store.specs.Store.{EarlyKeeps, EarlyLeavesDisk, GoesOn, GrowsOn, IsCarriedOut, IsHonest, IsNoLonger, KeepsFree, LeavesBlocks, MarksAll, NewAreFree, ReadsFew, ReadsOnly, RollsBack, WritesCommit, disk_of, entries_of, has_failed}
 use Rattle.vm_store.specs.declared.store.Store.{Store}
 use Rattle.vm_store.proofs.LongerLemmas.{goes_grow}
 use Rattle.vm_store.proofs.RunLemmas.{answers_on, no_failure}
@@ -22,27 +21,41 @@ never_early : (a : Result Answer Refusal) (refusal : Refusal) → a ≡ Err refu
 never_early a refusal is device early = let same : refusal ≡ Device = cc (is, device) in subst IsEarly same early
 
 module _ {D : Type 0} {members : _} where
-  -- a command that is no Grow
-  pub performs : (old new : Store D members) (c : Command) (a : Result Answer Refusal) → (IsGrow c → ⊥) → IsCarriedOut old new c a → a ≢ Err Failed → (a ≡ Err Memory → TakesMemory c) → GoesOn (a ≡ Err Device) old new
-      → OnErr a (entries_of new ≡ entries_of old) → EarlyKeeps a old new → (ChangesEntriesAlone c → LeavesBlocks old new) → (IsHonest new → MarksAll a old new c)
-      → (IsHonest new → ReadsOnly c a old new) → KeepsFree c a old new → (c ≡ Commit → WritesCommit a old new) → (c ≡ Rollback → RollsBack a old new) → Performs old new c a
-  performs old new c a fixed carried only_then memory goes same unchanged blocks marked reads free written back = record {
-    carried = carried;
-    only_then = only_then;
-    memory = memory;
-    goes = goes_grow _ _ _ goes;
-    as_long = λ no. goes.same_blocks;
+  -- what the function of a command that is no Grow promises
+  pub record Promises (old new : Store D members) (c : Command) (a : Result Answer Refusal) : Type 0 where
+    pub carried : IsCarriedOut old new c a
+    pub only_then : a ≢ Err Failed
+    pub memory : a ≡ Err Memory → TakesMemory c
+    pub goes : GoesOn (a ≡ Err Device) old new
+    pub same : OnErr a (entries_of new ≡ entries_of old)
+    pub unchanged : EarlyKeeps a old new
+    pub blocks : ChangesEntriesAlone c → LeavesBlocks old new
+    pub marked : IsHonest new → MarksAll a old new c
+    pub reads : IsHonest new → ReadsOnly c a old new
+    pub few : ReadsFew c a old new
+    pub free : KeepsFree c a old new
+    pub written : c ≡ Commit → WritesCommit a old new
+    pub back : c ≡ Rollback → RollsBack a old new
+
+  pub performs : (old new : Store D members) (c : Command) (a : Result Answer Refusal) → (IsGrow c → ⊥) → Promises old new c a → Performs old new c a
+  performs old new c a fixed its = record {
+    carried = its.carried;
+    only_then = its.only_then;
+    memory = its.memory;
+    goes = goes_grow _ _ _ its.goes;
+    as_long = λ no. its.goes.same_blocks;
     no_more = λ blocks is. absurd (fixed (subst IsGrow (sym is) tt));
     untouched = λ is. absurd (fixed is);
-    same = same;
-    unchanged = unchanged;
-    blocks = blocks;
-    marked = marked;
-    reads = reads;
-    free = free;
-    written = written;
+    same = its.same;
+    unchanged = its.unchanged;
+    blocks = its.blocks;
+    marked = its.marked;
+    reads = its.reads;
+    few = its.few;
+    free = its.free;
+    written = its.written;
     grown = λ blocks is. absurd (fixed (subst IsGrow (sym is) tt));
-    back = back;
+    back = its.back;
   }
 
   -- a Grow
@@ -61,6 +74,7 @@ module _ {D : Type 0} {members : _} where
     blocks = λ alone. absurd alone;
     marked = λ honest is. absurd is;
     reads = λ honest. tt;
+    few = tt;
     free = tt;
     written = λ is. cc;
     grown = λ n is. subst (λ (b : ℕ). NewAreFree a old new b) (same_grow blocks n is) grown;
@@ -72,10 +86,9 @@ module _ {D : Type 0} {members : _} where
       in_err (Err refusal) same = same
 
 -- a store that differs from another one in whether it has failed alone, and in how its invariant is known
-module _ {D : Type 0} {members : _} (old mid : Store D members) (failed : Bool) (least : MIN_BLOCKS ≤ mid.blocks) (most : mid.blocks ≤ MAX_BLOCKS) (inside : mid.blocks ≤ (members.state (disk_of mid)).blocks)
-    (kept_least : MIN_BLOCKS ≤ mid.kept) (kept_most : mid.kept ≤ mid.blocks) (bits : length mid.held ≡ mid.blocks) (mark_bits : length mid.marks ≡ mid.blocks) (before_bits : length mid.before ≡ mid.blocks) (room : MAX_VERSIONS ≤ vec_capacity mid.entries) where
+module _ {D : Type 0} {members : _} (old mid : Store D members) (failed : Bool) (inside : mid.parts.blocks ≤ (members.state (disk_of mid)).blocks) where
   abbrev pub new : Store D members
-  new = record mid { failed = failed; least = least; most = most; inside = inside; kept_least = kept_least; kept_most = kept_most; bits = bits; mark_bits = mark_bits; before_bits = before_bits; room_entries = room }
+  new = record mid { failed = failed; inside = inside }
 
   -- it read as much
   reads_on : (a : Result Answer Refusal) (c : Command) → ReadsOnly c a old mid → ReadsOnly c a old new
@@ -94,23 +107,30 @@ module _ {D : Type 0} {members : _} (old mid : Store D members) (failed : Bool) 
   reads_on a Reclaim reads = reads
   reads_on a (Grow blocks) reads = reads
 
+  -- it read as few blocks
+  few_on : (a : Result Answer Refusal) (c : Command) → ReadsFew c a old mid → ReadsFew c a old new
+  few_on a (New name parent) few = tt
+  few_on a (NewAt name parent checkpoint) few = tt
+  few_on a (Drop alt) few = tt
+  few_on a (Put alt key value) few = tt
+  few_on a (Remove alt key) few = tt
+  few_on a (Checkpoint alt name) few = tt
+  few_on a (Uncheck alt name) few = tt
+  few_on a (Back alt name) few = tt
+  few_on a (Merge alt settled) few = few
+  few_on a (Post alt) few = few
+  few_on a Commit few = tt
+  few_on a Rollback few = tt
+  few_on a Reclaim few = tt
+  few_on a (Grow blocks) few = tt
+
   -- an early refusal leaves all but the disk as it was
   early_on : (a : Result Answer Refusal) → has_failed old ≡ false → (IsTrue failed → a ≡ Err Device) → EarlyKeeps a old mid → EarlyKeeps a old new
   early_on (Ok x) sound noted keeps = tt
   early_on (Err refusal) sound noted keeps = λ early.
       let was = keeps early in record {
         alloc = was.alloc;
-        blocks = was.blocks;
-        kept = was.kept;
-        slot_name = was.slot_name;
-        entries = was.entries;
-        committed = was.committed;
-        working = was.working;
-        held = was.held;
-        marks = was.marks;
-        before = was.before;
-        series = was.series;
-        changes = was.changes;
+        parts = was.parts;
         failed = no_failure failed (λ is. never_early (Err refusal) refusal refl (noted is) early) ∙ sym sound;
       }
 
@@ -137,6 +157,7 @@ module _ {D : Type 0} {members : _} (old mid : Store D members) (failed : Bool) 
       blocks = did.blocks;
       marked = did.marked;
       reads = λ honest. reads_on a c (did.reads honest);
+      few = few_on a c did.few;
       free = keeps_on a old mid new (λ honest. honest) refl c did.free;
       written = did.written;
       grown = did.grown;

@@ -72,25 +72,14 @@ module _ {D : Type 0} {members : _} where
   pub same_store : (store : Store D members) → IsSameButDisk store store
   same_store store = record {
     alloc = refl;
-    blocks = refl;
-    kept = refl;
-    slot_name = refl;
-    entries = refl;
-    committed = refl;
-    working = refl;
-    held = refl;
-    marks = refl;
-    before = refl;
-    series = refl;
-    changes = refl;
+    parts = refl;
     failed = refl;
   }
 
   -- a store that was only read stands for what it stood for
   pub still_holds : (old new : Store D members) → IsSameButDisk old new → ReadsAlone old new → (s : State) → Holds old s → Holds new s
   still_holds old new same reads s holds =
-      let medium = same_medium _ _ reads in
-      rw (medium, same.blocks, same.kept, same.slot_name, same.held, same.before, same.series, same.committed, same.working) holds
+      rw (same_medium _ _ reads, same.parts) holds
 
   -- a query of a store that had failed
   pub query_failed : {T : Type 0} (old : Store D members) (result : Result T Refusal) (IsDue : State → Type 0) → has_failed old ≡ true → result ≡ Err Failed → Queries old old result IsDue
@@ -132,21 +121,21 @@ module _ {D : Type 0} {members : _} where
 
   -- a query that is refused for a version that is not there
   pub query_lacking : {T : Type 0} (old new : Store D members) (result : Result T Refusal) (IsDue : State → Type 0) → has_failed old ≡ false → IsSameButDisk old new → disk_of new ≡ disk_of old
-      → (at : At) (refusal : Refusal) → Err refusal ≡ root_at old.working at → result ≡ Err refusal
+      → (at : At) (refusal : Refusal) → Err refusal ≡ root_at old.parts.working at → result ≡ Err refusal
       → ((s : State) (holds : Holds old s) → map_at s.working at ≡ Err refusal → IsDue s) → Queries old new result IsDue
   query_lacking old new result IsDue sound same unread at refusal lacks is value =
       query_refused old new result IsDue sound same unread
-      (λ device. not_of_versions old.working at refusal Device (λ e. cc) (λ e. cc) (sym lacks) (cc (is, device)))
-      (λ failed. not_of_versions old.working at refusal Failed (λ e. cc) (λ e. cc) (sym lacks) (cc (is, failed)))
+      (λ device. not_of_versions old.parts.working at refusal Device (λ e. cc) (λ e. cc) (sym lacks) (cc (is, device)))
+      (λ failed. not_of_versions old.parts.working at refusal Failed (λ e. cc) (λ e. cc) (sym lacks) (cc (is, failed)))
       (λ s holds. value s holds (at_lacking _ _ _ _ _ _ s holds.rests at refusal (sym lacks)))
 
   -- a query that is refused for an alternative or a parent that is not there
-  pub query_unpaired : {T : Type 0} (old : Store D members) (result : Result T Refusal) (IsDue : State → Type 0) → has_failed old ≡ false → (alt : List ℕ) (refusal : Refusal) → LacksPair old.working alt refusal → result ≡ Err refusal
+  pub query_unpaired : {T : Type 0} (old : Store D members) (result : Result T Refusal) (IsDue : State → Type 0) → has_failed old ≡ false → (alt : List ℕ) (refusal : Refusal) → LacksPair old.parts.working alt refusal → result ≡ Err refusal
       → ((s : State) → Holds old s → IsDue s) → Queries old old result IsDue
   query_unpaired old result IsDue sound alt refusal lacks is value =
       query_refused old old result IsDue sound (same_store old) refl
-      (λ device. not_of_pairs old.working alt refusal Device (λ e. cc) (λ e. cc) lacks (cc (is, device)))
-      (λ failed. not_of_pairs old.working alt refusal Failed (λ e. cc) (λ e. cc) lacks (cc (is, failed)))
+      (λ device. not_of_pairs old.parts.working alt refusal Device (λ e. cc) (λ e. cc) lacks (cc (is, device)))
+      (λ failed. not_of_pairs old.parts.working alt refusal Failed (λ e. cc) (λ e. cc) lacks (cc (is, failed)))
       value
 
   -- a query that passes on what a call on a tree answers

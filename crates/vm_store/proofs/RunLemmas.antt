@@ -68,7 +68,7 @@ rests_show m limit slot_name bits committed working s rests left may = shows_old
 -- one answer of a run
 module _ {D : Type 0} {members : _} (old new : Store D members) (s : State) (holds : Holds old s) (r : Result Answer Refusal) where
   -- what is answered is told by the disk of the store and its size
-  pub answers_on : (other : Store D members) (command : Command) → members.state (disk_of other) ≡ members.state (disk_of new) → other.blocks ≡ new.blocks → Answers old new s holds command r → Answers old other s holds command r
+  pub answers_on : (other : Store D members) (command : Command) → members.state (disk_of other) ≡ members.state (disk_of new) → other.parts.blocks ≡ new.parts.blocks → Answers old new s holds command r → Answers old other s holds command r
   answers_on other (New name parent) same size answer = answer
   answers_on other (NewAt name parent checkpoint) same size answer = answer
   answers_on other (Drop alt) same size answer = answer
@@ -79,7 +79,7 @@ module _ {D : Type 0} {members : _} (old new : Store D members) (s : State) (hol
   answers_on other (Back alt name) same size answer = answer
   answers_on other (Merge alt settled) same size answer =
       let told : DiskState → ℕ → Type 0 = λ t n. IsMergeAnswer s (spare_of holds.rests) (MeetsFullPath t.now.contents n (current_of s.working alt) (merge_changes s.working alt settled)) alt settled r in
-      subst (λ n. told (members.state (disk_of other)) n) (sym size) (subst (λ (t : DiskState). told t new.blocks) (sym same) answer)
+      subst (λ n. told (members.state (disk_of other)) n) (sym size) (subst (λ (t : DiskState). told t new.parts.blocks) (sym same) answer)
   answers_on other (Post alt) same size answer = answer
   answers_on other Commit same size answer = answer
   answers_on other Rollback same size answer = answer

@@ -7,7 +7,7 @@ use Rattle.vm_types.specs.State.{State, accepted, answer_of, next, tree_after, e
 use Rattle.vm_types.specs.declared.answer.Answer.{Answer}
 use Rattle.vm_types.specs.declared.answer.Answer.TheVariants.{Done}
 use Rattle.vm_types.specs.declared.command.Command.{Command}
-use Rattle.vm_types.specs.declared.command.Command.TheVariants.{New, NewAt, Drop, Put, Remove, Checkpoint, Uncheck, Back, Post, Commit, Reclaim}
+use Rattle.vm_types.specs.declared.command.Command.TheVariants.{Back, Checkpoint, Commit, Drop, Merge, New, NewAt, Post, Put, Reclaim, Remove, Uncheck}
 use Rattle.vm_types.specs.declared.refusal.Refusal.{Refusal}
 use Rattle.vm_types.specs.declared.refusal.Refusal.TheVariants.{Device}
 use Rattle.vm_disk.specs.Disk.{Medium}
@@ -23,7 +23,7 @@ use Rattle.vm_store.specs.Rest.{Rests}
 use Rattle.vm_store.proofs.FirstLemmas.{unread}
 use Rattle.vm_store.proofs.RestingLemmas.{rests_on}
 use Rattle.vm_store.specs.Answers.{ChangesEntriesAlone, HasMarked}
-use Rattle.vm_store.specs.Store.{Answers, Holds, IsHonest, KeepsFree, ReadsOnly, disk_of, held_of}
+use Rattle.vm_store.specs.Store.{Answers, Holds, IsHonest, KeepsFree, ReadsFew, ReadsOnly, disk_of, held_of}
 use Rattle.vm_store.specs.declared.store.Store.{Store}
 use Rattle.vm_store.specs.Turns.{StandFor, Turns}
 
@@ -94,7 +94,7 @@ turned_kept s command alone = absurd alone
 
 -- the answer is the one that is due
 module _ {D : Type 0} {members : _} (old new : Store D members) (s : State) (holds : Holds old s) (r : Result Answer Refusal) where
-  pub turned_answers : (command : Command) → ChangesEntriesAlone command → Turns old.working new.working command r → Answers old new s holds command r
+  pub turned_answers : (command : Command) → ChangesEntriesAlone command → Turns old.parts.working new.parts.working command r → Answers old new s holds command r
   turned_answers (New name parent) alone turned = due s _ (New name parent) r _ refl refl (turned.answers _ _ _ _ (standing holds.rests))
   turned_answers (NewAt name parent checkpoint) alone turned = due s _ (NewAt name parent checkpoint) r _ refl refl (turned.answers _ _ _ _ (standing holds.rests))
   turned_answers (Drop alt) alone turned = due s _ (Drop alt) r _ refl refl (turned.answers _ _ _ _ (standing holds.rests))
@@ -133,11 +133,22 @@ module _ {D : Type 0} {members : _} (a : Result Answer Refusal) (old new other :
   pub keeps_on : (c : Command) → KeepsFree c a old new → KeepsFree c a old other
   keeps_on (Put alt key value) keeps = rw held (keeps.0, λ is. keeps.1 (honest is))
   keeps_on (Remove alt key) keeps = rw held (keeps.0, λ is. keeps.1 (honest is))
+  keeps_on (Merge alt settled) keeps = λ is s holds. rw held (keeps (honest is) s holds)
   keeps_on (Post alt) keeps = held ∙ keeps
   keeps_on Commit keeps = held ∙ keeps
   keeps_on c keeps = tt
 
--- nor does it read
+-- nor of the reads of a command that changes entries alone
+pub entries_few : {D : Type 0} {members : _} (c : Command) (a : Result Answer Refusal) (old new : Store D members) → ChangesEntriesAlone c → ReadsFew c a old new
+entries_few (New name parent) a old new alone = tt
+entries_few (NewAt name parent checkpoint) a old new alone = tt
+entries_few (Drop alt) a old new alone = tt
+entries_few (Checkpoint alt name) a old new alone = tt
+entries_few (Uncheck alt name) a old new alone = tt
+entries_few (Back alt name) a old new alone = tt
+entries_few c a old new alone = absurd alone
+
+-- it does not read
 pub entries_read : {D : Type 0} {members : _} (c : Command) (a : Result Answer Refusal) (old new : Store D members) → ChangesEntriesAlone c → disk_of new ≡ disk_of old → ReadsOnly c a old new
 entries_read (New name parent) a old new alone same = unread a old new same
 entries_read (NewAt name parent checkpoint) a old new alone same = unread a old new same

@@ -1,7 +1,8 @@
 -- What a store answers.
-use Rattle.std.specs.Prelude.{◌≡◌, ◌⊎◌, ℕ, ◌*◌, ◌<◌, nat_lt, Bool, true, false, List, Option, None, option_copied, Result, Ok, Err, IsOk}
+use Rattle.std.specs.Prelude.{◌≡◌, ◌⊎◌, ℕ, ◌+◌, ◌*◌, ◌<◌, ◌≤◌, nat_lt, Bool, true, false, List, Option, None, option_copied, Result, Ok, Err, IsOk}
 use Rattle.std.specs.Borrow.{Bor}
 use Rattle.vm_types.specs.declared.answer.Answer.{Answer}
+use Rattle.vm_types.specs.declared.answer.Answer.TheVariants.{Merged}
 use Rattle.vm_types.specs.declared.change.Change.{Change}
 use Rattle.vm_types.specs.declared.command.Command.{Command}
 use Rattle.vm_types.specs.declared.command.Side.{Side}
@@ -68,6 +69,11 @@ IsEarly Device = ⊥
 IsEarly (Damaged block) = ⊥
 IsEarly refusal = Unit {0}
 
+-- a Merge that makes no change: it is done, and changes no record, or it is refused before blocks are marked
+abbrev pub MakesNoChange : Result Answer Refusal → Type 0
+MakesNoChange (Ok answer) = answer ≡ Merged 0
+MakesNoChange (Err refusal) = IsEarly refusal
+
 -- a refusal that comes before a block is taken or written: each one but Deep, Device and Damaged
 abbrev pub ComesFirst : Refusal → Type 0
 ComesFirst Deep = ⊥
@@ -97,6 +103,13 @@ most_taken most (Ok answer) = most
 most_taken most (Err Device) = most
 most_taken most (Err refusal) = 0
 
+-- how many blocks a Merge takes at most that makes so many changes: 16 for each, and none where it is refused before the first of them
+abbrev pub taken_by_changes : ℕ → Result Answer Refusal → ℕ
+taken_by_changes changes (Ok answer) = 16 * changes
+taken_by_changes changes (Err Deep) = 16 * changes
+taken_by_changes changes (Err Device) = 16 * changes
+taken_by_changes changes (Err refusal) = 0
+
 -- an answer to a change that comes after the marking, where one is needed: it was made, or refused for want of blocks or of room in its tree
 abbrev pub ComesAfterMarking : Result Answer Refusal → Type 0
 ComesAfterMarking (Ok answer) = Unit {0}
@@ -104,11 +117,19 @@ ComesAfterMarking (Err Full) = Unit {0}
 ComesAfterMarking (Err Deep) = Unit {0}
 ComesAfterMarking (Err refusal) = ⊥
 
--- blocks were marked, and none was taken then: a Reclaim was served, or a Put or a Remove was refused for want of blocks
+-- where so many blocks are free before a Merge and after it, and so many are spare: if enough are free for all its changes, it takes no
+-- more than those; if too few are, blocks are marked first, and all that were spare but so many are free after it
+abbrev pub TakesForChanges : ℕ → Result Answer Refusal → (before after spare : ℕ) → Type 0
+TakesForChanges changes answer before after spare =
+    (blocks_a_change * changes ≤ before → before ≤ after + taken_by_changes changes answer)
+    × (before < blocks_a_change * changes → ComesAfterMarking answer → spare ≤ after + taken_by_changes changes answer)
+
+-- blocks were marked, and none was taken then: a Reclaim was served, or a Put, a Remove or a Merge was refused for want of blocks
 abbrev pub HasMarked : Command → Result Answer Refusal → Type 0
 HasMarked Reclaim answer = IsOk answer
 HasMarked (Put alt key value) answer = answer ≡ Err Full
 HasMarked (Remove alt key) answer = answer ≡ Err Full
+HasMarked (Merge alt settled) answer = answer ≡ Err Full
 HasMarked command answer = ⊥
 
 -- the one command that makes a store larger

@@ -13,7 +13,7 @@ use Rattle.vm_disk.specs.Disk.{LeftAt, Medium, moment}
 use Rattle.vm_disk.specs.Moments.{Throughout}
 use Rattle.vm_store.specs.Answers.{ChangesEntriesAlone, IsGrow, TakesMemory}
 use Rattle.vm_store.specs.Guarded.{IsGuarded}
-use Rattle.vm_store.specs.Store.{EarlyKeeps, EarlyLeavesDisk, GrowsFree, GrowsNoMore, GrowsOn, Holds, IsAsLong, IsCarriedOut, IsHonest, KeepsFree, LeavesBlocks, MarksAll, ReadsOnly, RollsBack, WritesCommit, disk_of, entries_of, has_failed, held_of}
+use Rattle.vm_store.specs.Store.{EarlyKeeps, EarlyLeavesDisk, GrowsFree, GrowsNoMore, GrowsOn, Holds, IsAsLong, IsCarriedOut, IsHonest, KeepsFree, LeavesBlocks, MarksAll, ReadsFew, ReadsOnly, RollsBack, WritesCommit, disk_of, entries_of, has_failed, held_of}
 use Rattle.vm_store.specs.Shown.{Shows}
 use Rattle.vm_store.specs.declared.store.Store.{Store}
 
@@ -41,11 +41,15 @@ module _ {D : Type 0} {members : _} where
     pub unchanged : EarlyKeeps answer old new
     -- to make, drop or go back to alternatives and checkpoints takes no device call and no block
     pub blocks : ChangesEntriesAlone command → LeavesBlocks old new
-    -- after a Reclaim, and a Put or a Remove that is refused for want of blocks, just the spare ones are free
+    -- after a Reclaim, and a Put, a Remove or a Merge that is refused for want of blocks, just the spare ones are free
     pub marked : IsHonest new → MarksAll answer old new command
-    -- a Post and a Reclaim only read, and so does each other command but a Grow that is refused before it takes a block
+    -- a Post and a Reclaim only read, and so do a Merge that changes nothing and each other command but a Grow that is refused before it takes
+    -- a block
     pub reads : IsHonest new → ReadsOnly command answer old new
-    -- of the free blocks, or of the spare ones after a marking, a Put takes 16 at most and a Remove 8; a Post and a Commit take none
+    -- a Post and a Merge that makes no change look only at blocks that trees do not share
+    pub few : ReadsFew command answer old new
+    -- of the free blocks, or of the spare ones after a marking, a Put takes 16 at most, a Remove 8, and a Merge 16 for each change; a Post and
+    -- a Commit take none
     pub free : KeepsFree command answer old new
     -- a Commit writes the other slot, in format 2, and the selector, byte by byte, and no other block
     pub written : command ≡ Commit → WritesCommit answer old new

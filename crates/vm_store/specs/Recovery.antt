@@ -11,7 +11,7 @@ use Rattle.vm_catalog.specs.declared.reader.Slot.{Slot}
 use Rattle.vm_store.specs.Refused.{IsRefused, IsStore}
 use Rattle.vm_store.specs.Shown.{Shows, ShowsNothing}
 use Rattle.vm_alloc.specs.Held.{free_count}
-use Rattle.vm_store.specs.Rest.{Rests, spare_of}
+use Rattle.vm_store.specs.Rest.{PartsStandFor, spare_of}
 use Rattle.vm_store.specs.Store.{Holds, disk_of, free_of}
 use Rattle.vm_store.specs.declared.store.Store.{Store}
 use Rattle.vm_store.specs.declared.store.parts.Parts.{Parts}
@@ -20,8 +20,8 @@ use Rattle.vm_store.specs.declared.store.parts.Parts.{Parts}
 pub record PartsHold (m : Medium) (parts : Parts) : Type 0 where
   pub seen : Seen
   pub shown : Shows m.contents seen
-  pub holds : Rests m parts.blocks parts.slot_name parts.held parts.committed parts.working (opened seen)
-  pub free : (s : State) (rests : Rests m parts.blocks parts.slot_name parts.held parts.committed parts.working s) → free_count parts.held ≡ spare_of rests
+  pub holds : PartsStandFor m parts (opened seen)
+  pub free : (s : State) (holds : PartsStandFor m parts s) → free_count parts.held ≡ spare_of holds.rests
 
 -- both of a pair are this
 abbrev pub IsTwice : {X : Type 0} → X → X × X → Type 0

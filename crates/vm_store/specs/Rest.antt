@@ -15,6 +15,7 @@ use Rattle.vm_store.specs.Filed.{Filed, Standing, tree_of, reach}
 use Rattle.vm_store.specs.Spare.{spare}
 use Rattle.vm_tree.specs.declared.root.Root.{Root}
 use Rattle.vm_store.specs.Versions.{is_alternative_of, slot_entries, with_current}
+use Rattle.vm_store.specs.declared.store.parts.Parts.{Parts}
 use Rattle.vm_store.specs.declared.version.Version.{Version}
 
 -- held, not to be lost in a crash, and such as a store of this format may have
@@ -84,3 +85,7 @@ pub record HoldsWith (m : Medium) (limit kept : ℕ) (slot_name : SlotName) (bit
   pub rests : Rests m limit slot_name bits committed working s
   pub keeps : kept ≡ s.kept
   pub series_kept : KeepsSeries series m limit slot_name bits before committed working s
+
+-- a store with these parts stands for this state, on a disk that holds m
+abbrev pub PartsStandFor : Medium → Parts → State → Type 0
+PartsStandFor m parts s = HoldsWith m parts.blocks parts.kept parts.slot_name parts.held parts.before parts.series parts.committed parts.working s

@@ -1,13 +1,13 @@
 -- A store, and the state that it stands for.
 use Rattle.std.specs.Prelude.{◌≡◌, ◌≢◌, ℕ, ◌+◌, ◌-◌, ◌<◌, ◌≤◌, ◌⊎◌, Bool, true, false, List, Option, None, find, take, Result, Ok, Err, IfErr, OnOk}
 use Rattle.vm_types.specs.declared.answer.Answer.{Answer}
-use Rattle.vm_types.specs.declared.answer.Answer.TheVariants.{Done}
+use Rattle.vm_types.specs.declared.answer.Answer.TheVariants.{Done, Merged}
 use Rattle.vm_types.specs.declared.command.Command.{Command}
 use Rattle.vm_types.specs.declared.command.Command.TheVariants.{Commit, Grow, Merge, Post, Put, Reclaim, Remove}
 use Rattle.vm_types.specs.declared.refusal.Refusal.{Refusal}
 use Rattle.vm_types.specs.declared.refusal.Refusal.TheVariants.{Device, Full}
 use Rattle.vm_types.specs.Kept.{LeftBy}
-use Rattle.vm_types.specs.State.{Seen, State, blocks_a_change, committed_of, next, outcome}
+use Rattle.vm_types.specs.State.{Seen, State, blocks_a_change, committed_of, edits, next, outcome}
 use Rattle.vm_types.specs.Tree.{current_of}
 use Rattle.vm_disk.specs.Disk.{Goes}
 use Rattle.vm_disk.specs.Moments.{Leaves, OnlyReads, Throughout}
@@ -17,12 +17,13 @@ use Rattle.vm_block.specs.declared.slot.SlotFormat.TheVariants.{Two}
 use Rattle.vm_catalog.specs.Written.{TouchesBoth, WritesBoth}
 use Rattle.vm_tree.specs.Unsynced.{NeverSyncs}
 use Rattle.vm_check.specs.Noted.{inner_of}
-use Rattle.vm_store.specs.Answers.{ComesAfterMarking, ComesFirst, HasMarked, IsAnswer, IsDeep, IsEarly, IsGrowDue, IsMergeAnswer, merge_changes, most_taken}
+use Rattle.vm_store.specs.Answers.{ComesAfterMarking, ComesFirst, HasMarked, IsAnswer, IsDeep, IsEarly, IsGrowDue, IsMergeAnswer, MakesNoChange, TakesForChanges, merge_changes, most_taken}
 use Rattle.vm_store.specs.ChangeList.{MeetsFullPath}
 use Rattle.vm_store.specs.Growth.{Grows}
 use Rattle.vm_store.specs.Guarded.{IsGuarded}
-use Rattle.vm_store.specs.Rest.{HoldsWith, spare_of}
+use Rattle.vm_store.specs.Rest.{PartsStandFor, spare_of}
 use Rattle.vm_store.specs.Roots.{current_root}
+use Rattle.vm_store.specs.Shared.{unshared_on_sides, unshared_with_parent}
 use Rattle.vm_store.specs.Shown.{Shows}
 use Rattle.vm_store.specs.Versions.{is_alternative_of, slot_entries}
 use Rattle.vm_store.specs.declared.store.Store.{Store}
@@ -39,30 +40,20 @@ module _ {D : Type 0} {members : _} where
 
   -- the entries, committed and working, with the tops of their trees
   abbrev pub entries_of : Store D members → List Version × List Version
-  entries_of store = (store.committed, store.working)
+  entries_of store = (store.parts.committed, store.parts.working)
 
   -- the alternative in which a series of changes goes on, if one does
   abbrev pub series_of : Store D members → Option (List ℕ)
-  series_of store = store.series
+  series_of store = store.parts.series
 
   -- the block of the root of the working records of an alternative
   abbrev pub root_of : Store D members → List ℕ → ℕ
-  root_of store alt = current_root (find (is_alternative_of alt) store.working)
+  root_of store alt = current_root (find (is_alternative_of alt) store.parts.working)
 
   -- the store is as before: its size, entries, held blocks, marks and series, and whether it has failed; of its disk nothing is said
   pub record IsSameButDisk (old new : Store D members) : Type 0 where
     pub alloc : new.alloc ≡ old.alloc
-    pub blocks : new.blocks ≡ old.blocks
-    pub kept : new.kept ≡ old.kept
-    pub slot_name : new.slot_name ≡ old.slot_name
-    pub entries : new.entries ≡ old.entries
-    pub committed : new.committed ≡ old.committed
-    pub working : new.working ≡ old.working
-    pub held : new.held ≡ old.held
-    pub marks : new.marks ≡ old.marks
-    pub before : new.before ≡ old.before
-    pub series : new.series ≡ old.series
-    pub changes : new.changes ≡ old.changes
+    pub parts : new.parts ≡ old.parts
     pub failed : new.failed ≡ old.failed
 
   -- the disk has kept the rules of a disk in every call so far
@@ -91,24 +82,23 @@ module _ {D : Type 0} {members : _} where
 
   -- which blocks are held
   abbrev pub held_of : Store D members → List Bool
-  held_of store = store.held
+  held_of store = store.parts.held
 
   -- how many blocks it has
   abbrev pub blocks_of : Store D members → ℕ
-  blocks_of store = store.blocks
+  blocks_of store = store.parts.blocks
 
   -- how many of them were committed
   abbrev pub kept_of : Store D members → ℕ
-  kept_of store = store.kept
+  kept_of store = store.parts.kept
 
   -- how many blocks are not held
   abbrev pub free_of : Store D members → ℕ
-  free_of store = free_count store.held
+  free_of store = free_count store.parts.held
 
   -- the store stands for this state
   abbrev pub Holds : Store D members → State → Type 0
-  Holds store s =
-      HoldsWith (members.state (disk_of store)).now store.blocks store.kept store.slot_name store.held store.before store.series store.committed store.working s
+  Holds store s = PartsStandFor (members.state (disk_of store)).now store.parts s
 
   -- Q holds for each state that a store stands for which has not failed
   abbrev pub InState : Store D members → (State → Type 0) → Type 0
@@ -143,7 +133,7 @@ module _ {D : Type 0} {members : _} where
   pub record RollsBack (answer : Result Answer Refusal) (old new : Store D members) : Type 0 where
     pub accepted : answer ≡ Ok Done
     pub disk : disk_of new ≡ disk_of old
-    pub entries : entries_of new ≡ (old.committed, old.committed)
+    pub entries : entries_of new ≡ (old.parts.committed, old.parts.committed)
     pub blocks : blocks_of new ≡ kept_of old
     pub held : held_of new ≡ take (kept_of old) (held_of old)
     pub series : series_of new ≡ None
@@ -171,10 +161,12 @@ module _ {D : Type 0} {members : _} where
       (blocks_a_change ≤ free_of old → free_of old ≤ free_of new + most_taken most answer)
       × (IsHonest new → free_of old < blocks_a_change → ComesAfterMarking answer → (s : State) (holds : Holds old s) → spare_of holds.rests ≤ free_of new + most_taken most answer)
 
-  -- so a Put takes 16 blocks at most and a Remove 8; and a Post and a Commit take none
+  -- so a Put takes 16 blocks at most, a Remove 8, and a Merge 16 for each of its changes; and a Post and a Commit take none
   abbrev pub KeepsFree : Command → Result Answer Refusal → (old new : Store D members) → Type 0
   KeepsFree (Put alt key value) answer old new = TakesUpTo 16 answer old new
   KeepsFree (Remove alt key) answer old new = TakesUpTo 8 answer old new
+  KeepsFree (Merge alt settled) answer old new =
+      IsHonest new → (s : State) (holds : Holds old s) → TakesForChanges (edits s.working (Merge alt settled)) answer (free_of old) (free_of new) (spare_of holds.rests)
   KeepsFree (Post alt) answer old new = held_of new ≡ held_of old
   KeepsFree Commit answer old new = held_of new ≡ held_of old
   KeepsFree command answer old new = Unit {0}
@@ -183,19 +175,28 @@ module _ {D : Type 0} {members : _} where
   -- store's number of blocks, and the selector that names this slot; and at no moment it touches another block
   abbrev pub WritesCommit : Result Answer Refusal → (old new : Store D members) → Type 0
   WritesCommit answer old new =
-      WritesBoth answer (members.state (disk_of new)) (other_slot old.slot_name) Two old.blocks (slot_entries old.working)
-      × TouchesBoth (members.state (disk_of old)) (members.state (disk_of new)) (other_slot old.slot_name) (slot_entries old.working)
+      WritesBoth answer (members.state (disk_of new)) (other_slot old.parts.slot_name) Two old.parts.blocks (slot_entries old.parts.working)
+      × TouchesBoth (members.state (disk_of old)) (members.state (disk_of new)) (other_slot old.parts.slot_name) (slot_entries old.parts.working)
 
   -- a command that is refused before it takes or writes a block only reads
   abbrev pub FirstReads : Result Answer Refusal → (old new : Store D members) → Type 0
   FirstReads answer old new = IfErr answer (λ refusal. ComesFirst refusal → ReadsAlone old new)
 
-  -- a Post and a Reclaim only read, and so does each other command that is refused so; of a Grow `EarlyLeavesDisk` tells it
+  -- a Post and a Reclaim only read, and so do a Merge that changes nothing and each other command that is refused so; of a Grow
+  -- `EarlyLeavesDisk` tells it
   abbrev pub ReadsOnly : Command → Result Answer Refusal → (old new : Store D members) → Type 0
   ReadsOnly (Post alt) answer old new = ReadsAlone old new
   ReadsOnly Reclaim answer old new = ReadsAlone old new
+  ReadsOnly (Merge alt settled) answer old new = FirstReads answer old new × (answer ≡ Ok (Merged 0) → ReadsAlone old new)
   ReadsOnly (Grow blocks) answer old new = Unit {0}
   ReadsOnly command answer old new = FirstReads answer old new
+
+  -- a Post makes no more reads than there are blocks that only one of its base and its parent's current tree has; a Merge that makes no
+  -- change no more than these and those that only one of its base and its current tree has
+  abbrev pub ReadsFew : Command → Result Answer Refusal → (old new : Store D members) → Type 0
+  ReadsFew (Post alt) answer old new = ReadsAtMost old new (λ s holds. unshared_with_parent holds.rests alt)
+  ReadsFew (Merge alt settled) answer old new = MakesNoChange answer → ReadsAtMost old new (λ s holds. unshared_on_sides holds.rests alt)
+  ReadsFew command answer old new = Unit {0}
 
   -- the blocks that a store lacks of so many are free, too, where it was done
   abbrev pub NewAreFree : Result Answer Refusal → (old new : Store D members) → ℕ → Type 0
@@ -224,7 +225,7 @@ module _ {D : Type 0} {members : _} where
   -- what is answered to a command by a store that stands for the state, in terms of the store before and after
   abbrev pub Answers : (old new : Store D members) (s : State) → Holds old s → Command → Result Answer Refusal → Type 0
   Answers old new s holds (Merge alt settled) result =
-      IsMergeAnswer s (spare_of holds.rests) (MeetsFullPath (members.state (disk_of new)).now.contents new.blocks (current_of s.working alt) (merge_changes s.working alt settled)) alt settled result
+      IsMergeAnswer s (spare_of holds.rests) (MeetsFullPath (members.state (disk_of new)).now.contents new.parts.blocks (current_of s.working alt) (merge_changes s.working alt settled)) alt settled result
   Answers old new s holds (Grow blocks) result = IsGrowDue (outcome s (Grow blocks)) result
   Answers old new s holds command result =
       IsAnswer s (spare_of holds.rests) (IsDeep (members.state (disk_of old)).now.contents (root_of old) s.working command) command result

@@ -82,6 +82,10 @@ pub fn make_changes<D: Disk>(
     ensures unsynced { (D.state disk.new).honest ≡ true
         → NeverSyncs (D.state disk.old) (D.state disk.new) }
 
+    // At most 16 blocks are taken per change. With no changes, nothing is done.
+    ensures taken { free_count held.old ≤ free_count held.new + 16 * length changes.now }
+    ensures none { length changes.now ≡ 0 → (disk.new ≡ disk.old) × (held.new ≡ held.old) }
+
     // On a tree in held blocks the answer is a root that has the map with the changes made, or Deep
     // if one of them meets a full path, unless the device fails.
     ensures changed { (D.state disk.new).honest ≡ true → (m : Map)

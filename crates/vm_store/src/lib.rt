@@ -22,10 +22,10 @@ pub use store::{Stop, Store, copy, format, open};
 pub use tally::Tally;
 
 /// The maximum number of records in a leaf.
-const LEAF: usize = 16;
+const LEAF: usize = vm_block::MAX_ROWS;
 
 /// The maximum number of children of an inner block.
-const FAN: usize = 256;
+const FAN: usize = vm_block::MAX_CHILDREN;
 
 /// The maximum number of levels of a tree.
-const LEVELS: usize = 8;
+const LEVELS: usize = vm_block::MAX_LEVEL as usize + 1;

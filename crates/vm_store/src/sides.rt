@@ -109,6 +109,7 @@ pub fn changes_of_merge<D: Disk>(
     ensures reads { (D.state disk.new).honest ≡ true
         → OnlyReads (D.state disk.old) (D.state disk.new) }
     ensures changes { GivesMerge (D.state disk.old) (D.state disk.new) blocks roots result settled.now }
+    ensures bound { ReadsSides (D.state disk.old) (D.state disk.new) blocks roots }
 {
     let sides = read_sides(alloc, disk, blocks, roots)?;
     let conflicts = keys_in_conflict(alloc, &sides.theirs, &sides.mine)?;

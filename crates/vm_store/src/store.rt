@@ -1,8 +1,7 @@
 //! A store, and its commands and queries.
-ghost use Rattle.std.specs.Prelude.{◌≡◌, ◌↔◌, ◌≤◌, ◌^◌, true, false, length, vec_capacity, IsTrue};
+ghost use Rattle.std.specs.Prelude.{◌≡◌, ◌↔◌, ◌≤◌, true, false, length, IsTrue};
 ghost use Rattle.vm_types.specs.Bytes.{longest};
 ghost use Rattle.vm_types.specs.declared.command.Command.TheVariants.{Put};
-ghost use Rattle.vm_types.specs.declared.sizes.TheConstants.{MAX_BLOCKS, MAX_VERSIONS, MIN_BLOCKS};
 ghost use Rattle.vm_check.specs.Noted.{inner_of};
 ghost use Rattle.vm_disk.specs.Moments.{Leaves};
 ghost use Rattle.vm_store.specs.Shown.{Shows};
@@ -16,14 +15,12 @@ mod queries;
 mod recovery;
 mod spare;
 
-use crate::versions::Versions;
 pub use command_list::Stop;
 pub use copies::copy;
 pub use new_store::format;
+use parts::Parts;
 pub use recovery::open;
 use std::alloc::Global;
-use vm_alloc::{Baseline, Held, Marks};
-use vm_block::{Entry, SlotName};
 use vm_check::NotedDisk;
 use vm_disk::Disk;
 use vm_types::{Answer, Command, Key, Name, Refusal};
@@ -40,33 +37,9 @@ pub struct Store<D: Disk> {
     // It notes which leaves have no long value, so that a marking need not read them.
     disk: NotedDisk<D>,
     alloc: Global,
-    blocks: u32,
-    // How many of them were committed. The others came by a Grow since then.
-    kept: u32,
-    slot_name: SlotName,
-    entries: Vec<Entry>,
-    committed: Versions,
-    working: Versions,
-    held: Held,
-    // The marks of a marking. Between calls it is only memory for the next one.
-    marks: Marks,
-    // While a series of changes is open, the blocks that were held before it and still are.
-    before: Baseline,
-    // The alternative whose records were changed by every command since the series began, if one is
-    // open.
-    series: Option<Name>,
-    // How many changes were made outside a series since the last one began.
-    changes: u32,
+    parts: Parts,
     failed: bool,
-    ghost least: { MIN_BLOCKS ≤ blocks },
-    ghost most: { blocks ≤ MAX_BLOCKS },
-    ghost inside: { blocks ≤ (D.state (inner_of disk)).blocks },
-    ghost kept_least: { MIN_BLOCKS ≤ kept },
-    ghost kept_most: { kept ≤ blocks },
-    ghost bits: { length held ≡ blocks },
-    ghost mark_bits: { length marks ≡ blocks },
-    ghost before_bits: { length before ≡ blocks },
-    ghost room_entries: { MAX_VERSIONS ≤ vec_capacity entries },
+    ghost inside: { parts.blocks ≤ (D.state (inner_of disk)).blocks },
 }
 
 impl<D: Disk> Store<D> {
@@ -119,17 +92,7 @@ impl<D: Disk> Store<D> {
         let Store {
             disk,
             alloc: _,
-            blocks: _,
-            kept: _,
-            slot_name: _,
-            entries: _,
-            committed: _,
-            working: _,
-            held: _,
-            marks: _,
-            before: _,
-            series: _,
-            changes: _,
+            parts: _,
             failed: _,
         } = self;
         disk.into_inner()

@@ -6,7 +6,7 @@ ghost use Rattle.vm_check.specs.TreeCopy.{StepsTo};
 ghost use Rattle.vm_check.specs.Renumbering.{count_of, next_of};
 ghost use Rattle.vm_store.specs.Copies.{ComesBefore, Copies, CopiesAtMost, CopiesEntries, CopiesVersion, CopiesVersions, Fills, FillsAtMost, FillsFromHeld, FillsSoundly, GoesOnBoth, IsOfCopy, IsOfFill, IsRefusedFirst, IsRoom, LacksBlocks, OfState, ReachedVersionCopy, ReachedVersionsCopy, ReadsFew, ReadsHeld, SoundVersionCopy, SoundVersionsCopy, refusal_of_copy};
 ghost use Rattle.vm_store.specs.NewStore.{ComesBack, HadHeader, IsBadSize, LeavesStore, given_back};
-ghost use Rattle.vm_store.specs.Store.{IsHonest, IsSameButDisk, ReadsAlone, disk_of, has_failed};
+ghost use Rattle.vm_store.specs.Store.{IsHonest, IsSameButDisk, ReadsAlone, disk_of, has_failed, kept_of};
 
 use super::Store;
 use super::new_store::{has_header, put_down};
@@ -207,7 +207,7 @@ fn copy_to<S: Disk, T: Disk>(
     blocks: u32,
     room: &mut Room,
 ) -> Result<(), Refusal>
-    requires unused { IsRoom source.old.kept room.old }
+    requires unused { IsRoom (kept_of source.old) room.old }
     requires limit { blocks ≤ (T.state target.old).blocks }
     requires least { MIN_BLOCKS ≤ blocks }
     requires most { blocks ≤ MAX_BLOCKS }
@@ -233,8 +233,8 @@ fn copy_to<S: Disk, T: Disk>(
     }
     fill(
         &mut source.disk,
-        source.kept,
-        source.committed.as_slice(),
+        source.parts.kept,
+        source.parts.committed.as_slice(),
         target,
         blocks,
         room,
@@ -244,7 +244,7 @@ fn copy_to<S: Disk, T: Disk>(
 /// Room for a copy of a store to `blocks` blocks of a disk that has `available`, or why there can be
 /// no copy.
 fn prepare<S: Disk>(source: &Store<S>, available: u32, blocks: u32) -> Result<Room, Refusal>
-    ensures room { IfOk result (IsRoom source.now.kept) }
+    ensures room { IfOk result (IsRoom (kept_of source.now)) }
     ensures fits { OnOk result (IsBadSize blocks available → ⊥) }
     ensures enough { OnOk result (LacksBlocks source.now blocks → ⊥) }
     ensures well { OnOk result (has_failed source.now ≡ false) }
@@ -254,10 +254,10 @@ fn prepare<S: Disk>(source: &Store<S>, available: u32, blocks: u32) -> Result<Ro
     if blocks < MIN_BLOCKS || blocks > MAX_BLOCKS || blocks > available {
         return Err(Refusal::BadSize);
     }
-    let Some(room) = room_for(source.alloc, source.kept) else {
+    let Some(room) = room_for(source.alloc, source.parts.kept) else {
         return Err(Refusal::Memory);
     };
-    if blocks < source.blocks - source.held.free_count() {
+    if blocks < source.parts.blocks - source.parts.held.free_count() {
         return Err(Refusal::Full);
     }
     Ok(room)

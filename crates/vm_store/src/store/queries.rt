@@ -1,6 +1,7 @@
 //! Queries: they change nothing, and answer for the working state.
 ghost use Rattle.std.specs.Prelude.{◌≡◌, true, false, IfErr, OnOk};
 
+mod counts;
 mod differences;
 mod get;
 mod list;

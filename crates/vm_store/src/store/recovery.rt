@@ -143,6 +143,7 @@ fn read_maps<D: Disk>(
     };
     Ok(Parts {
         blocks,
+        kept: blocks,
         slot_name,
         entries,
         committed,
@@ -150,6 +151,8 @@ fn read_maps<D: Disk>(
         held,
         marks,
         before,
+        series: None,
+        changes: 0,
     })
 }
 
@@ -194,34 +197,12 @@ pub fn open<D: Disk>(alloc: Global, disk: D) -> Result<Store<D>, (D, Refusal)>
 {
     let mut disk = NotedDisk::new(disk);
     match find_store(alloc, &mut disk) {
-        Ok(parts) => {
-            let Parts {
-                blocks,
-                slot_name,
-                entries,
-                committed,
-                working,
-                held,
-                marks,
-                before,
-            } = parts;
-            Ok(Store {
-                disk,
-                alloc,
-                blocks,
-                kept: blocks,
-                slot_name,
-                entries,
-                committed,
-                working,
-                held,
-                marks,
-                before,
-                series: None,
-                changes: 0,
-                failed: false,
-            })
-        }
+        Ok(parts) => Ok(Store {
+            disk,
+            alloc,
+            parts,
+            failed: false,
+        }),
         Err(refusal) => Err((disk.into_inner(), refusal)),
     }
 }

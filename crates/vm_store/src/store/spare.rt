@@ -1,4 +1,4 @@
-//! Blocks that no version needs: marking and counting them.
+//! Blocks that no version needs: marking them, and whether enough of them are free.
 ghost use Rattle.std.specs.Prelude.{◌≡◌, ◌≢◌, ◌↔◌, ◌<◌, ◌≤◌, ◌*◌, true, false, ℕ, List, length, Ok, Err, OnOk, IfOk, IfErr, IsTrue};
 ghost use Rattle.vm_types.specs.State.{State, blocks_a_change};
 ghost use Rattle.vm_disk.specs.Disk.{Goes};
@@ -52,19 +52,6 @@ fn mark_versions<D: Disk>(
 impl<D: Disk> Store<D> {
     ghost use Rattle.vm_store.specs.Store.{has_failed, entries_of, root_of, Holds, free_of, IsHonest, GoesOn, ReadsAlone, SpareIsFree};
 
-    /// The number of free blocks. Free blocks are always spare. After an opening and after a
-    /// Reclaim, every spare block is free; from then on, each block that is written is taken from
-    /// them.
-    pub fn free(&self) -> Result<u32, Refusal>
-        ensures failed { has_failed self.now ≡ true → result ≡ Err Refusal.Failed }
-        ensures counted { has_failed self.now ≡ false → result ≡ Ok (free_of self.now) }
-        ensures spare { (s : State) (holds : Holds self.now s)
-            → IfOk result (λ n. n ≤ spare_of holds.rests) }
-    {
-        self.ready()?;
-        Ok(self.held.free_count())
-    }
-
     /// Holds exactly the blocks that the committed or the working entries reach, together with the
     /// store's own. An open series stays open: what only its alternative's records need was not
     /// held before the series, and is not now.
@@ -83,11 +70,19 @@ impl<D: Disk> Store<D> {
             → OnOk result (free_of self.new ≡ spare_of holds.rests) }
         ensures state { IsHonest self.new → (s : State) → Holds self.old s → Holds self.new s }
     {
-        self.marks.clear();
-        mark_versions(&mut self.disk, self.committed.as_slice(), &mut self.marks)?;
-        mark_versions(&mut self.disk, self.working.as_slice(), &mut self.marks)?;
-        self.held.replace(&self.marks);
-        self.before.keep_held(&self.held);
+        self.parts.marks.clear();
+        mark_versions(
+            &mut self.disk,
+            self.parts.committed.as_slice(),
+            &mut self.parts.marks,
+        )?;
+        mark_versions(
+            &mut self.disk,
+            self.parts.working.as_slice(),
+            &mut self.parts.marks,
+        )?;
+        self.parts.held.replace(&self.parts.marks);
+        self.parts.before.keep_held(&self.parts.held);
         Ok(())
     }
 
@@ -95,7 +90,7 @@ impl<D: Disk> Store<D> {
     pub(super) fn has_free(&self, changes: usize) -> bool
         ensures { IsTrue result ↔ (blocks_a_change * changes ≤ free_of self.now) }
     {
-        changes <= (self.held.free_count() / BLOCKS_A_CHANGE) as usize
+        changes <= (self.parts.held.free_count() / BLOCKS_A_CHANGE) as usize
     }
 
     /// Whether enough blocks are spare for this many record changes. If fewer are free, it marks

@@ -17,6 +17,8 @@ invariant-loop-i g l =
       rising : old.failures ≤ now.failures;
       most : l.i ≤ length l.changes;
       room : 17 * length l.changes ≤ free_count l.held + 17 * l.i;
+      taken : free_count l.fn.held ≤ free_count l.held + 16 * l.i;
+      none : l.i ≡ 0 → (l.disk ≡ l.fn.disk) × (l.held ≡ l.fn.held);
       still : HoldsMore l.fn.held l.held;
       moments : now.honest ≡ true → Throughout old now (TouchesOnly (is_free l.before) old.now);
       unsynced : now.honest ≡ true → NeverSyncs old now;

@@ -22,19 +22,19 @@ impl<D: Disk> Store<D> {
         ensures written { WritesCommit result self.old self.new }
         ensures carried { IsCarriedOut self.old self.new Command.Commit result }
     {
-        write_entries(&mut self.entries, self.working.as_slice());
+        write_entries(&mut self.parts.entries, self.parts.working.as_slice());
         match publish(
             &mut self.disk,
-            self.slot_name,
+            self.parts.slot_name,
             SlotFormat::Two,
-            self.blocks,
-            &self.entries,
+            self.parts.blocks,
+            &self.parts.entries,
         ) {
             Ok(()) => {
-                self.slot_name = self.slot_name.other();
-                self.kept = self.blocks;
-                self.committed.copy_from(&self.working);
-                self.series = None;
+                self.parts.slot_name = self.parts.slot_name.other();
+                self.parts.kept = self.parts.blocks;
+                self.parts.committed.copy_from(&self.parts.working);
+                self.parts.series = None;
                 Ok(Answer::Done)
             }
             Err(_) => Err(Refusal::Device),

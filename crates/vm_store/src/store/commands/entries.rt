@@ -23,8 +23,8 @@ impl<D: Disk> Store<D> {
         ensures unchanged { EarlyKeeps result self.old self.new }
         ensures carried { IsCarriedOut self.old self.new command.now result }
     {
-        let answer = self.working.change_by(command)?;
-        self.series = None;
+        let answer = self.parts.working.change_by(command)?;
+        self.parts.series = None;
         Ok(answer)
     }
 }

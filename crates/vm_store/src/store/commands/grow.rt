@@ -1,6 +1,5 @@
 //! Growing a store.
-ghost use Rattle.std.specs.Prelude.{◌≡◌, ◌≢◌, ◌≤◌, true, false, IfErr, OnOk};
-ghost use Rattle.vm_types.specs.State.{State};
+ghost use Rattle.std.specs.Prelude.{◌≡◌, ◌≢◌, ◌≤◌, true, IfErr, OnOk};
 ghost use Rattle.vm_disk.specs.Disk.{Enlarges};
 ghost use Rattle.vm_types.specs.declared.command.Command.TheVariants.{Grow};
 
@@ -10,19 +9,7 @@ use vm_disk::Disk;
 use vm_types::{Answer, MAX_BLOCKS, Refusal};
 
 impl<D: Disk> Store<D> {
-    ghost use Rattle.vm_store.specs.Store.{blocks_of, disk_of, has_failed, entries_of, EarlyLeavesDisk, IsCarriedOut, IsNoLonger, NewAreFree, Holds, IsHonest, IsSameButDisk, GrowsOn, EarlyKeeps};
-
-    /// How many blocks the store has, including those of the slots. The next Commit keeps that
-    /// number.
-    pub fn blocks(&self) -> Result<u32, Refusal>
-        ensures failed { has_failed self.now ≡ true → result ≡ Err Refusal.Failed }
-        ensures counted { has_failed self.now ≡ false → result ≡ Ok (blocks_of self.now) }
-        ensures value { has_failed self.now ≡ false → (s : State) → Holds self.now s
-            → result ≡ Ok s.blocks }
-    {
-        self.ready()?;
-        Ok(self.blocks)
-    }
+    ghost use Rattle.vm_store.specs.Store.{disk_of, has_failed, entries_of, EarlyLeavesDisk, IsCarriedOut, IsNoLonger, NewAreFree, IsHonest, IsSameButDisk, GrowsOn, EarlyKeeps};
 
     /// Grows the store to `blocks` blocks in all. Memory for the held and the marked blocks is
     /// allocated before the disk is asked for blocks, so that nothing has to be undone.
@@ -38,10 +25,10 @@ impl<D: Disk> Store<D> {
         ensures carried { IsCarriedOut self.old self.new (Grow blocks) result }
         ensures grown { NewAreFree result self.old self.new blocks }
     {
-        if blocks <= self.blocks || blocks > MAX_BLOCKS {
+        if blocks <= self.parts.blocks || blocks > MAX_BLOCKS {
             return Err(Refusal::BadSize);
         }
-        let Ok(held) = self.held.extended(self.alloc, blocks) else {
+        let Ok(held) = self.parts.held.extended(self.alloc, blocks) else {
             return Err(Refusal::Memory);
         };
         let Ok(marks) = Marks::new(self.alloc, blocks) else {
@@ -54,11 +41,8 @@ impl<D: Disk> Store<D> {
             return Err(Refusal::Memory);
         };
         self.lengthen(blocks)?;
-        self.blocks = blocks;
-        self.held = held;
-        self.marks = marks;
-        self.before = before;
-        self.series = None;
+        self.parts.grow_to(blocks, held, marks, before);
+        self.parts.series = None;
         Ok(Answer::Done)
     }
 

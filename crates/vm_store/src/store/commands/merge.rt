@@ -1,6 +1,7 @@
 //! The command that brings into an alternative what its parent changed.
 ghost use Rattle.std.specs.Prelude.{◌≡◌, ◌≢◌, true, OnErr, IfErr};
 ghost use Rattle.vm_types.specs.State.{State};
+ghost use Rattle.vm_types.specs.declared.answer.Answer.TheVariants.{Merged};
 ghost use Rattle.vm_types.specs.declared.command.Command.TheVariants.{Merge};
 
 use crate::change_list::make_changes;
@@ -10,7 +11,7 @@ use vm_disk::Disk;
 use vm_types::{Answer, Key, Name, Refusal, Side};
 
 impl<D: Disk> Store<D> {
-    ghost use Rattle.vm_store.specs.Store.{has_failed, entries_of, Carries, Holds, IsHonest, GoesOn, EarlyKeeps, FirstReads};
+    ghost use Rattle.vm_store.specs.Store.{has_failed, entries_of, Carries, Holds, IsHonest, GoesOn, EarlyKeeps, FirstReads, FullLeavesSpare, KeepsFree, ReadsAlone, ReadsFew};
 
     /// Changes the alternative's records to those of the merge, and makes the parent's records its
     /// base. Everything that takes memory comes before a marking and before the first write.
@@ -21,31 +22,43 @@ impl<D: Disk> Store<D> {
         ensures never { result ≢ Err Refusal.Failed }
         ensures same { OnErr result (entries_of self.new ≡ entries_of self.old) }
         ensures unchanged { EarlyKeeps result self.old self.new }
+        ensures marked { IsHonest self.new → FullLeavesSpare result self.old self.new }
         ensures reads { IsHonest self.new → FirstReads result self.old self.new }
+        ensures alike { IsHonest self.new
+            → result ≡ Ok (Merged 0)
+            → ReadsAlone self.old self.new }
+        ensures few { ReadsFew (Merge alt.now settled.now) result self.old self.new }
+        ensures free { KeepsFree (Merge alt.now settled.now) result self.old self.new }
         ensures carried { IsHonest self.new → (s : State) (holds : Holds self.old s)
             → Carries self.old self.new s holds (Merge alt.now settled.now) result }
     {
-        let (own, parent) = self.working.pair_of(alt)?;
+        let (own, parent) = self.parts.working.pair_of(alt)?;
         let roots = ThreeRoots {
             base: own.base,
             parent: parent.current,
             own: own.current,
         };
-        let changes = changes_of_merge(self.alloc, &mut self.disk, self.blocks, roots, settled)?;
+        let changes = changes_of_merge(
+            self.alloc,
+            &mut self.disk,
+            self.parts.blocks,
+            roots,
+            settled,
+        )?;
         if !self.has_spare(changes.len())? {
             return Err(Refusal::Full);
         }
-        self.series = None;
-        self.before.take(&self.held);
+        self.parts.series = None;
+        self.parts.before.take(&self.parts.held);
         let root = make_changes(
             &mut self.disk,
-            &mut self.held,
-            &self.before,
+            &mut self.parts.held,
+            &self.parts.before,
             roots.own,
             &changes,
         )?;
-        self.working.set_current(alt, root);
-        self.working.set_base(alt, parent.current);
+        self.parts.working.set_current(alt, root);
+        self.parts.working.set_base(alt, parent.current);
         Ok(Answer::Merged(changes.len() as u32))
     }
 }

@@ -7,7 +7,7 @@ use vm_disk::Disk;
 use vm_types::{Answer, Command, Name, Refusal};
 
 impl<D: Disk> Store<D> {
-    ghost use Rattle.vm_store.specs.Store.{has_failed, entries_of, held_of, IsCarriedOut, IsHonest, GoesOn, ReadsAlone, EarlyKeeps};
+    ghost use Rattle.vm_store.specs.Store.{has_failed, entries_of, held_of, IsCarriedOut, IsHonest, GoesOn, ReadsAlone, ReadsFew, EarlyKeeps};
 
     /// Gives the parent the alternative's records, which also become the alternative's base. The
     /// parent must have no other records than that base.
@@ -20,15 +20,16 @@ impl<D: Disk> Store<D> {
         ensures held { held_of self.new ≡ held_of self.old }
         ensures unchanged { EarlyKeeps result self.old self.new }
         ensures reads { IsHonest self.new → ReadsAlone self.old self.new }
+        ensures few { ReadsFew (Command.Post alt.now) result self.old self.new }
         ensures carried { IsCarriedOut self.old self.new (Command.Post alt.now) result }
     {
-        let (own, parent) = self.working.pair_of(alt)?;
-        if !same(&mut self.disk, self.blocks, own.base, parent.current)? {
+        let (own, parent) = self.parts.working.pair_of(alt)?;
+        if !same(&mut self.disk, self.parts.blocks, own.base, parent.current)? {
             return Err(Refusal::NotMerged);
         }
-        self.working.set_current(&parent.name, own.current);
-        self.working.set_base(alt, own.current);
-        self.series = None;
+        self.parts.working.set_current(&parent.name, own.current);
+        self.parts.working.set_base(alt, own.current);
+        self.parts.series = None;
         Ok(Answer::Done)
     }
 }

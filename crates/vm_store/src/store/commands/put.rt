@@ -31,28 +31,28 @@ impl<D: Disk> Store<D> {
         ensures carried { IsHonest self.new → (s : State) (holds : Holds self.old s)
             → Carries self.old self.new s holds (Command.Put alt.now key value.now) result }
     {
-        let Some(version) = self.working.alternative(alt) else {
+        let Some(version) = self.parts.working.alternative(alt) else {
             return Err(Refusal::NoSuchAlternative);
         };
         if !self.has_spare(1)? {
             return Err(Refusal::Full);
         }
         go_on(
-            &mut self.series,
-            &mut self.changes,
-            &mut self.before,
-            &self.held,
+            &mut self.parts.series,
+            &mut self.parts.changes,
+            &mut self.parts.before,
+            &self.parts.held,
             alt,
         );
         let root = put_forgetting(
             &mut self.disk,
-            &mut self.held,
-            before_series(&self.series, &self.before),
+            &mut self.parts.held,
+            before_series(&self.parts.series, &self.parts.before),
             version.current,
             key,
             value,
         )?;
-        self.working.set_current(alt, root);
+        self.parts.working.set_current(alt, root);
         Ok(Answer::Done)
     }
 }

@@ -22,7 +22,7 @@ impl<D: Disk> Store<D> {
         ensures carried { IsCarriedOut self.old self.new Command.Reclaim result }
     {
         self.mark_all()?;
-        self.series = None;
+        self.parts.series = None;
         Ok(Answer::Done)
     }
 }

@@ -31,10 +31,10 @@ impl<D: Disk> Store<D> {
         ensures carried { IsHonest self.new → (s : State) (holds : Holds self.old s)
             → Carries self.old self.new s holds (Remove alt.now key) result }
     {
-        let Some(version) = self.working.alternative(alt) else {
+        let Some(version) = self.parts.working.alternative(alt) else {
             return Err(Refusal::NoSuchAlternative);
         };
-        if goes_on(&self.series, alt) && self.has_free(1) {
+        if goes_on(&self.parts.series, alt) && self.has_free(1) {
             return self.remove_in_series(alt, version, key, Refusal::NoSuchRecord);
         }
         self.remove_after_look(alt, version, key)
@@ -61,17 +61,17 @@ impl<D: Disk> Store<D> {
             → Carries self.old self.new s holds (Remove alt.now key) result }
     {
         let root = version.current;
-        if !has(&mut self.disk, self.blocks, root, key)? {
+        if !has(&mut self.disk, self.parts.blocks, root, key)? {
             return Err(Refusal::NoSuchRecord);
         }
         if !self.has_spare(1)? {
             return Err(Refusal::Full);
         }
         go_on(
-            &mut self.series,
-            &mut self.changes,
-            &mut self.before,
-            &self.held,
+            &mut self.parts.series,
+            &mut self.parts.changes,
+            &mut self.parts.before,
+            &self.parts.held,
             alt,
         );
         self.remove_in_series(alt, version, key, Refusal::Damaged(root.block))
@@ -106,15 +106,15 @@ impl<D: Disk> Store<D> {
     {
         let removed = remove_forgetting(
             &mut self.disk,
-            &mut self.held,
-            before_series(&self.series, &self.before),
+            &mut self.parts.held,
+            before_series(&self.parts.series, &self.parts.before),
             version.current,
             key,
         )?;
         let Some(root) = removed else {
             return Err(missing);
         };
-        self.working.set_current(alt, root);
+        self.parts.working.set_current(alt, root);
         Ok(Answer::Done)
     }
 }

@@ -17,12 +17,8 @@ impl<D: Disk> Store<D> {
         ensures back { RollsBack (Ok result) self.old self.new }
         ensures carried { IsCarriedOut self.old self.new Command.Rollback (Ok result) }
     {
-        self.blocks = self.kept;
-        self.held.truncate(self.kept);
-        self.marks.truncate(self.kept);
-        self.before.truncate(self.kept);
-        self.working.copy_from(&self.committed);
-        self.series = None;
+        self.parts.roll_back();
+        self.parts.series = None;
         Answer::Done
     }
 }

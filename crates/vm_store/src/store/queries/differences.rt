@@ -28,9 +28,9 @@ impl<D: Disk> Store<D> {
             (λ s holds. unshared_at holds.rests first.now second.now) }
     {
         self.ready()?;
-        let before = self.working.root_at(first)?;
-        let after = self.working.root_at(second)?;
-        Ok(changed(alloc, &mut self.disk, self.blocks, before, after)?)
+        let before = self.parts.working.root_at(first)?;
+        let after = self.parts.working.root_at(second)?;
+        Ok(changed(alloc, &mut self.disk, self.parts.blocks, before, after)?)
     }
 
     /// The changes from one version in the working state to another at the keys from one to
@@ -53,9 +53,17 @@ impl<D: Disk> Store<D> {
             (λ s holds. unshared_part holds.rests low high first.now second.now + 16) }
     {
         self.ready()?;
-        let from = self.working.root_at(first)?;
-        let to = self.working.root_at(second)?;
-        Ok(changed_part(alloc, &mut self.disk, self.blocks, from, to, low, high)?)
+        let from = self.parts.working.root_at(first)?;
+        let to = self.parts.working.root_at(second)?;
+        Ok(changed_part(
+            alloc,
+            &mut self.disk,
+            self.parts.blocks,
+            from,
+            to,
+            low,
+            high,
+        )?)
     }
 
     /// What changed in the working state of an alternative since its base, by rising keys.
@@ -91,12 +99,12 @@ impl<D: Disk> Store<D> {
             (λ s holds. unshared_on_sides holds.rests alt.now) }
     {
         self.ready()?;
-        let (own, parent) = self.working.pair_of(alt)?;
+        let (own, parent) = self.parts.working.pair_of(alt)?;
         let roots = ThreeRoots {
             base: own.base,
             parent: parent.current,
             own: own.current,
         };
-        conflicts_of(alloc, &mut self.disk, self.blocks, roots)
+        conflicts_of(alloc, &mut self.disk, self.parts.blocks, roots)
     }
 }

@@ -38,8 +38,8 @@ impl<D: Disk> Store<D> {
         ensures short { IfOk result (λ value. IfSome value (λ bytes. length bytes.now ≤ longest)) }
     {
         self.ready()?;
-        let root = self.working.root_at(at)?;
-        Ok(get(&mut self.disk, self.blocks, root, key, room)?)
+        let root = self.parts.working.root_at(at)?;
+        Ok(get(&mut self.disk, self.parts.blocks, root, key, room)?)
     }
 
     /// The value of a record in the working state of an alternative, lent from this buffer, into

@@ -26,8 +26,8 @@ impl<D: Disk> Store<D> {
             (λ s holds. length (blocks_at holds.rests at.now)) }
     {
         self.ready()?;
-        let root = self.working.root_at(at)?;
-        Ok(scan(alloc, &mut self.disk, self.blocks, root)?)
+        let root = self.parts.working.root_at(at)?;
+        Ok(scan(alloc, &mut self.disk, self.parts.blocks, root)?)
     }
 
     /// The records of a version in the working state from one key to another, both included, by
@@ -48,8 +48,8 @@ impl<D: Disk> Store<D> {
             (λ s holds. length (blocks_of_part holds.rests low high at.now) + 8) }
     {
         self.ready()?;
-        let root = self.working.root_at(at)?;
-        Ok(scan_part(alloc, &mut self.disk, self.blocks, root, low, high)?)
+        let root = self.parts.working.root_at(at)?;
+        Ok(scan_part(alloc, &mut self.disk, self.parts.blocks, root, low, high)?)
     }
 
     /// The first records of a version in the working state from a key on, at most `count` of them,
@@ -70,8 +70,8 @@ impl<D: Disk> Store<D> {
             (λ s holds. length (blocks_of_page holds.rests low count at.now) + 8) }
     {
         self.ready()?;
-        let root = self.working.root_at(at)?;
-        Ok(scan_from(alloc, &mut self.disk, self.blocks, root, low, count)?)
+        let root = self.parts.working.root_at(at)?;
+        Ok(scan_from(alloc, &mut self.disk, self.parts.blocks, root, low, count)?)
     }
 
     /// All records in the working state of an alternative, by rising keys.

@@ -22,7 +22,7 @@ impl<D: Disk> Store<D> {
         ensures value { InState self.now (λ s. IfOk result (λ list. list.items ≡ shape s.working)) }
     {
         self.ready()?;
-        alternatives_among(alloc, self.working.as_slice())
+        alternatives_among(alloc, self.parts.working.as_slice())
     }
 
     /// The names of an alternative's checkpoints in the working state, in order of creation. Makes
@@ -38,9 +38,9 @@ impl<D: Disk> Store<D> {
             (λ s. IfErr result (λ r. IsDueOrMemory r (checkpoints_in s.working alt.now))) }
     {
         self.ready()?;
-        if self.working.alternative(alt).is_none() {
+        if self.parts.working.alternative(alt).is_none() {
             return Err(Refusal::NoSuchAlternative);
         }
-        checkpoints_among(alloc, self.working.as_slice(), alt)
+        checkpoints_among(alloc, self.parts.working.as_slice(), alt)
     }
 }

@@ -32,12 +32,12 @@ impl<D: Disk> Store<D> {
             (λ s holds. unshared_on_sides holds.rests alt.now) }
     {
         self.ready()?;
-        let (own, parent) = self.working.pair_of(alt)?;
+        let (own, parent) = self.parts.working.pair_of(alt)?;
         let roots = ThreeRoots {
             base: own.base,
             parent: parent.current,
             own: own.current,
         };
-        tally_of(alloc, &mut self.disk, self.blocks, roots)
+        tally_of(alloc, &mut self.disk, self.parts.blocks, roots)
     }
 }

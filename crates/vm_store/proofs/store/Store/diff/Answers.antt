@@ -8,6 +8,7 @@ use Rattle.vm_store.specs.Sizes.{sizes}
 use Rattle.vm_store.specs.declared.version.Version.{Version}
 use Rattle.vm_store.proofs.AtLemmas.{at_rooted, at_there}
 use Rattle.vm_store.proofs.Listing.{list_refused, wanting}
+use Rattle.vm_store.proofs.PartsLemmas.{same_parts}
 use Rattle.vm_store.proofs.QueryLemmas.{query_failed, query_lacking, query_listed}
 use Rattle.vm_store.proofs.store.Store.diff.Goals as goal
 
@@ -18,13 +19,13 @@ returns-in_err-ready-clause-query g c =
 pub returns-in_err-before-clause-query : goal.returns-in_err-before-clause-query
 returns-in_err-before-clause-query g c =
     let is = passed_on _ c.from_residual-in_err-before.ensures.1 in
-    query_lacking _ _ _ _ c.in_ok-ready.ensures.ok (search rules) refl c.args.first.now _ c.in_err-before.ensures.root is
+    query_lacking _ _ _ _ c.in_ok-ready.ensures.ok (search (rules, same_parts)) refl c.args.first.now _ c.in_err-before.ensures.root is
     (λ s holds lacks. rw is (inr (ap (λ (m : Result Map Refusal). delta_between m (map_at s.working c.args.second.now)) lacks)))
 
 pub returns-in_err-after-clause-query : goal.returns-in_err-after-clause-query
 returns-in_err-after-clause-query g c =
     let is = passed_on _ c.from_residual-in_err-after.ensures.1 in
-    query_lacking _ _ _ _ c.in_ok-ready.ensures.ok (search rules) refl c.args.second.now _
+    query_lacking _ _ _ _ c.in_ok-ready.ensures.ok (search (rules, same_parts)) refl c.args.second.now _
     (c.in_err-after.ensures.root ∙ ap (λ (vs : List Version). root_at vs c.args.second.now) c.in_ok-before.ensures.same) is
     (λ s holds lacks.
     let first = at_there _ _ _ _ _ _ s holds.rests c.args.first.now c.in_ok-before.before (sym c.in_ok-before.ensures.root) in
@@ -33,7 +34,7 @@ returns-in_err-after-clause-query g c =
 pub returns-in_err-changed-clause-query : goal.returns-in_err-changed-clause-query
 returns-in_err-changed-clause-query g c =
     let is = passed_on _ c.from_residual-in_err-changed.ensures.1 in
-    query_listed _ _ _ _ _ c.in_ok-ready.ensures.ok (search rules) c.in_err-changed.ensures.looks is
+    query_listed _ _ _ _ _ c.in_ok-ready.ensures.ok (search (rules, same_parts)) c.in_err-changed.ensures.looks is
     (λ honest well s holds.
     let first = at_there _ _ _ _ _ _ s holds.rests c.args.first.now c.in_ok-before.before (sym c.in_ok-before.ensures.root) in
     let second = at_there _ _ _ _ _ _ s holds.rests c.args.second.now c.in_ok-after.after (sym (c.in_ok-after.ensures.root ∙ ap (λ (vs : List Version). root_at vs c.args.second.now) c.in_ok-before.ensures.same)) in
@@ -43,7 +44,7 @@ returns-in_err-changed-clause-query g c =
 
 pub returns-clause-query : goal.returns-clause-query
 returns-clause-query g c =
-    query_listed _ _ _ _ _ c.in_ok-ready.ensures.ok (search rules) c.in_ok-changed.ensures.looks refl
+    query_listed _ _ _ _ _ c.in_ok-ready.ensures.ok (search (rules, same_parts)) c.in_ok-changed.ensures.looks refl
     (λ honest well s holds.
     let first = at_there _ _ _ _ _ _ s holds.rests c.args.first.now c.in_ok-before.before (sym c.in_ok-before.ensures.root) in
     let second = at_there _ _ _ _ _ _ s holds.rests c.args.second.now c.in_ok-after.after (sym (c.in_ok-after.ensures.root ∙ ap (λ (vs : List Version). root_at vs c.args.second.now) c.in_ok-before.ensures.same)) in

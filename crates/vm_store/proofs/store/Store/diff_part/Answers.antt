@@ -12,6 +12,7 @@ use Rattle.vm_store.specs.Sizes.{sizes}
 use Rattle.vm_store.specs.declared.version.Version.{Version}
 use Rattle.vm_store.proofs.AtLemmas.{at_chosen, at_there}
 use Rattle.vm_store.proofs.Listing.{list_refused, wanting}
+use Rattle.vm_store.proofs.PartsLemmas.{same_parts}
 use Rattle.vm_store.proofs.QueryLemmas.{query_failed, query_lacking, query_listed}
 use Rattle.vm_store.proofs.store.Store.diff_part.Goals as goal
 
@@ -22,13 +23,13 @@ returns-in_err-ready-clause-query g c =
 pub returns-in_err-from-clause-query : goal.returns-in_err-from-clause-query
 returns-in_err-from-clause-query g c =
     let is = passed_on _ c.from_residual-in_err-from.ensures.1 in
-    query_lacking _ _ _ _ c.in_ok-ready.ensures.ok (search rules) refl c.args.first.now _ c.in_err-from.ensures.root is
+    query_lacking _ _ _ _ c.in_ok-ready.ensures.ok (search (rules, same_parts)) refl c.args.first.now _ c.in_err-from.ensures.root is
     (λ s holds lacks. rw is (inr (ap (λ (m : Result Map Refusal). some_of (changes_part (place c.args.low) (place c.args.high)) (delta_between m (map_at s.working c.args.second.now))) lacks)))
 
 pub returns-in_err-to-clause-query : goal.returns-in_err-to-clause-query
 returns-in_err-to-clause-query g c =
     let is = passed_on _ c.from_residual-in_err-to.ensures.1 in
-    query_lacking _ _ _ _ c.in_ok-ready.ensures.ok (search rules) refl c.args.second.now _
+    query_lacking _ _ _ _ c.in_ok-ready.ensures.ok (search (rules, same_parts)) refl c.args.second.now _
     (c.in_err-to.ensures.root ∙ ap (λ (vs : List Version). root_at vs c.args.second.now) c.in_ok-from.ensures.same) is
     (λ s holds lacks.
     let first = at_there _ _ _ _ _ _ s holds.rests c.args.first.now c.in_ok-from.from (sym c.in_ok-from.ensures.root) in
@@ -37,7 +38,7 @@ returns-in_err-to-clause-query g c =
 pub returns-in_err-changed_part-clause-query : goal.returns-in_err-changed_part-clause-query
 returns-in_err-changed_part-clause-query g c =
     let is = passed_on _ c.from_residual-in_err-changed_part.ensures.1 in
-    query_listed _ _ _ _ _ c.in_ok-ready.ensures.ok (search rules) c.in_err-changed_part.ensures.looks is
+    query_listed _ _ _ _ _ c.in_ok-ready.ensures.ok (search (rules, same_parts)) c.in_err-changed_part.ensures.looks is
     (λ honest well s holds.
     let first = at_there _ _ _ _ _ _ s holds.rests c.args.first.now c.in_ok-from.from (sym c.in_ok-from.ensures.root) in
     let second = at_there _ _ _ _ _ _ s holds.rests c.args.second.now c.in_ok-to.to (sym (c.in_ok-to.ensures.root ∙ ap (λ (vs : List Version). root_at vs c.args.second.now) c.in_ok-from.ensures.same)) in
@@ -47,7 +48,7 @@ returns-in_err-changed_part-clause-query g c =
 
 pub returns-clause-query : goal.returns-clause-query
 returns-clause-query g c =
-    query_listed _ _ _ _ _ c.in_ok-ready.ensures.ok (search rules) c.in_ok-changed_part.ensures.looks refl
+    query_listed _ _ _ _ _ c.in_ok-ready.ensures.ok (search (rules, same_parts)) c.in_ok-changed_part.ensures.looks refl
     (λ honest well s holds.
     let first = at_there _ _ _ _ _ _ s holds.rests c.args.first.now c.in_ok-from.from (sym c.in_ok-from.ensures.root) in
     let second = at_there _ _ _ _ _ _ s holds.rests c.args.second.now c.in_ok-to.to (sym (c.in_ok-to.ensures.root ∙ ap (λ (vs : List Version). root_at vs c.args.second.now) c.in_ok-from.ensures.same)) in

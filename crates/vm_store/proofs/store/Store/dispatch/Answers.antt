@@ -5,50 +5,146 @@ use Rattle.vm_disk.proofs.GoesLemmas.{goes_nowhere}
 use Rattle.vm_store.proofs.FirstLemmas.{done_or_device}
 use Rattle.vm_store.proofs.PerformLemmas.{performs, performs_grow}
 use Rattle.vm_store.proofs.RolledLemmas.{accepted_is_no_refusal}
-use Rattle.vm_store.proofs.VersionLemmas.{entries_keep, entries_read, entries_unmarked, when_ok}
+use Rattle.vm_store.proofs.VersionLemmas.{entries_few, entries_keep, entries_read, entries_unmarked, when_ok}
 use Rattle.vm_store.proofs.store.Store.dispatch.Goals as goal
 
 pub returns-in-Put : goal.returns-in-Put
 returns-in-Put g c =
     let e = c.put_value.ensures in
     rw (c.in-Put.is, ← c.as_bytes.ensures.bytes)
-    (performs _ _ _ _ (λ grow. grow) e.carried e.never.0 (λ is. absurd (e.never.1 is)) e.any e.same e.unchanged (λ alone. absurd alone) e.marked e.reads e.free (λ is. cc) (λ is. cc))
+    (performs _ _ _ _ (λ grow. grow) (record {
+      carried = e.carried;
+      only_then = e.never.0;
+      memory = λ is. absurd (e.never.1 is);
+      goes = e.any;
+      same = e.same;
+      unchanged = e.unchanged;
+      blocks = λ alone. absurd alone;
+      marked = e.marked;
+      reads = e.reads;
+      few = tt;
+      free = e.free;
+      written = λ is. cc;
+      back = λ is. cc;
+    }))
 
 pub returns-in-Remove : goal.returns-in-Remove
 returns-in-Remove g c =
     let e = c.remove.ensures in
-    rw c.in-Remove.is (performs _ _ _ _ (λ grow. grow) e.carried e.never.0 (λ is. absurd (e.never.1 is)) e.any e.same e.unchanged (λ alone. absurd alone) e.marked e.reads e.free (λ is. cc) (λ is. cc))
+    rw c.in-Remove.is (performs _ _ _ _ (λ grow. grow) (record {
+      carried = e.carried;
+      only_then = e.never.0;
+      memory = λ is. absurd (e.never.1 is);
+      goes = e.any;
+      same = e.same;
+      unchanged = e.unchanged;
+      blocks = λ alone. absurd alone;
+      marked = e.marked;
+      reads = e.reads;
+      few = tt;
+      free = e.free;
+      written = λ is. cc;
+      back = λ is. cc;
+    }))
 
 pub returns-in-Merge : goal.returns-in-Merge
 returns-in-Merge g c =
     let e = c.merge.ensures in
     rw (c.in-Merge.is, ← c.as_slice.ensures)
-    (performs _ _ _ _ (λ grow. grow) e.carried e.never (λ is. tt) e.any e.same e.unchanged (λ alone. absurd alone) (λ honest is. absurd is) e.reads tt (λ is. cc) (λ is. cc))
+    (performs _ _ _ _ (λ grow. grow) (record {
+      carried = e.carried;
+      only_then = e.never;
+      memory = λ is. tt;
+      goes = e.any;
+      same = e.same;
+      unchanged = e.unchanged;
+      blocks = λ alone. absurd alone;
+      marked = e.marked;
+      reads = λ honest. (e.reads honest, e.alike honest);
+      few = e.few;
+      free = e.free;
+      written = λ is. cc;
+      back = λ is. cc;
+    }))
 
 pub returns-in-Post : goal.returns-in-Post
 returns-in-Post g c =
     let e = c.post.ensures in
-    rw c.in-Post.is (performs _ _ _ _ (λ grow. grow) e.carried e.never.0 (λ is. absurd (e.never.1 is)) e.any e.same e.unchanged (λ alone. absurd alone) (λ honest is. absurd is) e.reads e.held (λ is. cc) (λ is. cc))
+    rw c.in-Post.is (performs _ _ _ _ (λ grow. grow) (record {
+      carried = e.carried;
+      only_then = e.never.0;
+      memory = λ is. absurd (e.never.1 is);
+      goes = e.any;
+      same = e.same;
+      unchanged = e.unchanged;
+      blocks = λ alone. absurd alone;
+      marked = λ honest is. absurd is;
+      reads = e.reads;
+      few = e.few;
+      free = e.held;
+      written = λ is. cc;
+      back = λ is. cc;
+    }))
 
 pub returns-in-Commit : goal.returns-in-Commit
 returns-in-Commit g c =
     let e = c.commit.ensures in
     rw c.in-Commit.is
-    (performs _ _ _ _ (λ grow. grow) e.carried (search rules) (search rules) e.any e.same (search rules) (λ alone. absurd alone) (λ honest is. absurd is)
-    (λ honest. done_or_device c.commit.result c.args.self.now c.commit.new.self e.result) e.held (λ is. e.written) (λ is. cc))
+    (performs _ _ _ _ (λ grow. grow) (record {
+      carried = e.carried;
+      only_then = search rules;
+      memory = search rules;
+      goes = e.any;
+      same = e.same;
+      unchanged = search rules;
+      blocks = λ alone. absurd alone;
+      marked = λ honest is. absurd is;
+      reads = λ honest. done_or_device c.commit.result c.args.self.now c.commit.new.self e.result;
+      few = tt;
+      free = e.held;
+      written = λ is. e.written;
+      back = λ is. cc;
+    }))
 
 pub returns-in-Rollback : goal.returns-in-Rollback
 returns-in-Rollback g c =
     let e = c.rollback.ensures in
     rw c.in-Rollback.is
-    (performs _ _ Rollback _ (λ grow. grow) e.carried (accepted_is_no_refusal c.rollback.result Failed) (λ is. absurd (accepted_is_no_refusal c.rollback.result Memory is)) (goes_nowhere _ _ _ (ap g.D.Disk.state e.back.disk) (accepted_is_no_refusal c.rollback.result Device)) tt tt (λ alone. absurd alone) (λ honest is. absurd is) (λ honest. tt) tt (λ is. cc) (λ is. e.back))
+    (performs _ _ Rollback _ (λ grow. grow) (record {
+      carried = e.carried;
+      only_then = accepted_is_no_refusal c.rollback.result Failed;
+      memory = λ is. absurd (accepted_is_no_refusal c.rollback.result Memory is);
+      goes = goes_nowhere _ _ _ (ap g.D.Disk.state e.back.disk) (accepted_is_no_refusal c.rollback.result Device);
+      same = tt;
+      unchanged = tt;
+      blocks = λ alone. absurd alone;
+      marked = λ honest is. absurd is;
+      reads = λ honest. tt;
+      few = tt;
+      free = tt;
+      written = λ is. cc;
+      back = λ is. e.back;
+    }))
 
 pub returns-in-Reclaim : goal.returns-in-Reclaim
 returns-in-Reclaim g c =
     let e = c.reclaim.ensures in
     rw c.in-Reclaim.is
-    (performs _ _ _ _ (λ grow. grow) e.carried e.never.0 (λ is. absurd (e.never.1 is)) e.any (search rules) (search rules) (λ alone. absurd alone)
-    (λ honest is s holds. when_ok c.reclaim.result _ (e.exact honest s holds) is) e.reads tt (λ is. cc) (λ is. cc))
+    (performs _ _ _ _ (λ grow. grow) (record {
+      carried = e.carried;
+      only_then = e.never.0;
+      memory = λ is. absurd (e.never.1 is);
+      goes = e.any;
+      same = search rules;
+      unchanged = search rules;
+      blocks = λ alone. absurd alone;
+      marked = λ honest is s holds. when_ok c.reclaim.result _ (e.exact honest s holds) is;
+      reads = e.reads;
+      few = tt;
+      free = tt;
+      written = λ is. cc;
+      back = λ is. cc;
+    }))
 
 pub returns-in-Grow : goal.returns-in-Grow
 returns-in-Grow g c =
@@ -59,5 +155,18 @@ pub returns-in_default : goal.returns-in_default
 returns-in_default g c =
     let e = c.change_entries.ensures in
     let command = c.args.command.now in
-    performs _ _ command _ (search rules) e.carried e.never.0 (λ is. absurd (e.never.1 is)) e.any e.same e.unchanged (λ alone. (e.disk, e.held))
-    (λ honest is. absurd (entries_unmarked command c.change_entries.result (search rules) is)) (λ honest. entries_read command _ _ _ (search rules) e.disk) (entries_keep command _ _ _ (search rules)) (search rules) (search rules)
+    performs _ _ command _ (search rules) (record {
+      carried = e.carried;
+      only_then = e.never.0;
+      memory = λ is. absurd (e.never.1 is);
+      goes = e.any;
+      same = e.same;
+      unchanged = e.unchanged;
+      blocks = λ alone. (e.disk, e.held);
+      marked = λ honest is. absurd (entries_unmarked command c.change_entries.result (search rules) is);
+      reads = λ honest. entries_read command _ _ _ (search rules) e.disk;
+      few = entries_few command _ _ _ (search rules);
+      free = entries_keep command _ _ _ (search rules);
+      written = search rules;
+      back = search rules;
+    })

@@ -1,4 +1,4 @@
-use Rattle.std.proofs.Common.{rules, inl, inr, ◌∙◌, ◌≤◌, ℕ, Bool, List, length, refl, subst, sym, arith}
+use Rattle.std.proofs.Common.{rules, inl, inr, ◌∙◌, ◌≤◌, ℕ, Bool, List, length, refl, subst, sym, ap, arith}
 use Rattle.vm_types.specs.declared.command.Command.TheVariants.{Grow}
 use Rattle.vm_types.proofs.Growing.{good_size, no_more_is_bad, too_many_is_bad}
 use Rattle.vm_disk.specs.Disk.{Enlarges}
@@ -6,8 +6,9 @@ use Rattle.vm_disk.specs.Moments.{OnlyReads, Throughout}
 use Rattle.vm_disk.proofs.MomentLemmas.{started}
 use Rattle.vm_alloc.specs.Held.{IsHeld}
 use Rattle.vm_store.specs.Guarded.{IsGuarded}
-use Rattle.vm_store.specs.Rest.{HoldsWith}
-use Rattle.vm_store.proofs.LongerLemmas.{grow_is_accepted, grow_is_refused, longer_crash, longer_guarded, longer_unsynced, rests_longer, rests_renamed, still_held}
+use Rattle.vm_store.specs.Rest.{PartsStandFor}
+use Rattle.vm_store.specs.declared.store.parts.Parts.{Parts}
+use Rattle.vm_store.proofs.LongerLemmas.{grow_is_accepted, grow_is_refused, longer_crash, longer_guarded, longer_unsynced, rests_longer, still_held}
 use Rattle.vm_store.proofs.CarryLemmas.{looked, stayed}
 use Rattle.vm_store.proofs.SeriesLemmas.{holds_alone}
 use Rattle.vm_store.proofs.store.Store.grow.Goals as goal
@@ -40,7 +41,7 @@ pub returns-in_default-reserve-clause-carried : goal.returns-in_default-reserve-
 returns-in_default-reserve-clause-carried g c honest s holds =
     let self = c.args.self.now in
     let is = sym c.reserve.ensures.kept.inner in
-    let holds' = subst (λ d. HoldsWith (g.D.Disk.state d).now self.blocks self.kept self.slot_name self.held self.before self.series self.committed self.working s) is holds in
+    let holds' = subst (λ d. PartsStandFor (g.D.Disk.state d).now self.parts s) is holds in
     looked _ _ s holds (Grow c.args.blocks) _ (grow_is_accepted s c.args.blocks _ (good_size s.blocks c.args.blocks (omega (arith, c.if-blocks-self.false, holds.rests.blocks)) (omega (arith, c.if-blocks-gt-MAX_BLOCKS.false))) (inr (inl refl)))
     (subst (λ d. OnlyReads (g.D.Disk.state self.disk.inner) (g.D.Disk.state d)) is (started _ _ refl)) holds'.rests (λ _. holds')
 
@@ -52,7 +53,7 @@ returns-in_err-lengthen-clause-carried g c honest s holds =
       answers = grow_is_accepted s c.args.blocks _ (good_size s.blocks c.args.blocks (omega (arith, c.if-blocks-self.false, holds.rests.blocks)) (omega (arith, c.if-blocks-gt-MAX_BLOCKS.false))) (inl (search rules));
       state = λ fine. absurd (fine (search rules));
       crash = longer_crash _ _ longer _ _ _ _ _ s holds.rests (Grow c.args.blocks);
-      guarded = subst (λ (bits : List Bool). Throughout (g.D.Disk.state c.args.self.now.disk.inner) (g.D.Disk.state c.lengthen.new.self.disk.inner) (IsGuarded bits)) (sym c.lengthen.ensures.same.held) (longer_guarded _ _ longer _ _ _ _ _ s holds.rests c.args.self.now.held (λ n held. held));
+      guarded = subst (λ (bits : List Bool). Throughout (g.D.Disk.state c.args.self.now.disk.inner) (g.D.Disk.state c.lengthen.new.self.disk.inner) (IsGuarded bits)) (sym (ap (λ (p : Parts). p.held) c.lengthen.ensures.same.parts)) (longer_guarded _ _ longer _ _ _ _ _ s holds.rests c.args.self.now.parts.held (λ n held. held));
       unsynced = λ other. longer_unsynced _ _ longer;
     }
 
@@ -60,16 +61,19 @@ pub returns-clause-carried : goal.returns-clause-carried
 returns-clause-carried g c honest s holds =
     let old = (g.D.Disk.state c.args.self.now.disk.inner).now in
     let new = (g.D.Disk.state c.lengthen.new.self.disk.inner).now in
-    let same = c.lengthen.ensures.same in
+    let same = c.lengthen.ensures.same.parts in
     let longer : Enlarges (g.D.Disk.state c.args.self.now.disk.inner) (g.D.Disk.state c.lengthen.new.self.disk.inner) =
     subst (λ d. Enlarges (g.D.Disk.state d) (g.D.Disk.state c.lengthen.new.self.disk.inner)) c.reserve.ensures.kept.inner (c.lengthen.ensures.longer honest) in
     let whole = g.met.D.Disk.whole c.lengthen.new.self.disk.inner honest in
     let inside : c.args.blocks ≤ length new.contents = omega (arith, whole, c.in_ok-lengthen.ensures.all) in
-    let still : (n : ℕ) → IsHeld c.args.self.now.held n → IsHeld c.in-Ok.held n = λ n held. subst (λ (bits : List Bool). IsHeld bits n) (sym c.in-Ok.ensures.blocks) (still_held c.args.self.now.held _ n held) in
+    let grown = c.grow_to.ensures in
+    let bits = c.grow_to.new.self.held in
+    let still : (n : ℕ) → IsHeld c.args.self.now.parts.held n → IsHeld bits n = λ n held. subst (λ (bits : List Bool). IsHeld bits n) (sym (grown.held ∙ c.in-Ok.ensures.blocks)) (still_held c.args.self.now.parts.held _ n held) in
     record {
       answers = grow_is_accepted s c.args.blocks _ (good_size s.blocks c.args.blocks (omega (arith, c.if-blocks-self.false, holds.rests.blocks)) (omega (arith, c.if-blocks-gt-MAX_BLOCKS.false))) (inr (inr refl));
-      state = λ fine. holds_alone (same.kept ∙ holds.keeps) (rests_renamed new c.args.blocks c.args.self.now.slot_name c.lengthen.new.self.slot_name c.in-Ok.held c.args.self.now.committed c.args.self.now.working c.lengthen.new.self.committed c.lengthen.new.self.working (record s { blocks = c.args.blocks }) same.slot_name same.committed same.working (rests_longer old new longer.longer c.args.self.now.blocks c.args.blocks c.args.self.now.slot_name c.args.self.now.held c.in-Ok.held c.args.self.now.committed c.args.self.now.working s holds.rests still (omega (arith, c.if-blocks-self.false)) inside (omega (arith, c.if-blocks-gt-MAX_BLOCKS.false))));
+      state = λ fine. rw (grown.blocks, grown.kept, grown.slot_name, grown.committed, grown.working, same)
+          (holds_alone holds.keeps (rests_longer old new longer.longer c.args.self.now.parts.blocks c.args.blocks c.args.self.now.parts.slot_name c.args.self.now.parts.held bits c.args.self.now.parts.committed c.args.self.now.parts.working s holds.rests still (omega (arith, c.if-blocks-self.false)) inside (omega (arith, c.if-blocks-gt-MAX_BLOCKS.false))));
       crash = longer_crash _ _ longer _ _ _ _ _ s holds.rests (Grow c.args.blocks);
-      guarded = longer_guarded _ _ longer _ _ _ _ _ s holds.rests c.in-Ok.held still;
+      guarded = longer_guarded _ _ longer _ _ _ _ _ s holds.rests bits still;
       unsynced = λ other. longer_unsynced _ _ longer;
     }

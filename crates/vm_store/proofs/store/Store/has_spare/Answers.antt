@@ -4,7 +4,7 @@ use Rattle.vm_store.proofs.store.Store.has_spare.Goals as goal
 
 pub returns-then-has_free-clause-spare : goal.returns-then-has_free-clause-spare
 returns-then-has_free-clause-spare g c honest s holds =
-    enough c.has_free.result _ _ _ c.has_free.ensures c.if-has_free.true (free_at_most _ _ _ _ _ _ s c.args.self.now.bits holds.rests)
+    enough c.has_free.result _ _ _ c.has_free.ensures c.if-has_free.true (free_at_most _ _ _ _ _ _ s c.args.self.now.parts.bits holds.rests)
 
 pub returns-clause-spare : goal.returns-clause-spare
 returns-clause-spare g c honest s holds = told c.has_free-2.result _ _ _ c.has_free-2.ensures (c.in_ok-mark_all.ensures.exact honest s holds)

@@ -3,6 +3,7 @@ use Rattle.vm_tree.proofs.Looking.{passed_on}
 use Rattle.vm_store.specs.Sizes.{sizes}
 use Rattle.vm_store.proofs.AtLemmas.{at_rooted, at_there}
 use Rattle.vm_store.proofs.Listing.{list_refused, wanting}
+use Rattle.vm_store.proofs.PartsLemmas.{same_parts}
 use Rattle.vm_store.proofs.QueryLemmas.{query_failed, query_lacking, query_listed}
 use Rattle.vm_store.proofs.store.Store.list_at.Goals as goal
 
@@ -13,20 +14,20 @@ returns-in_err-ready-clause-query g c =
 pub returns-in_err-root-clause-query : goal.returns-in_err-root-clause-query
 returns-in_err-root-clause-query g c =
     let is = passed_on _ c.from_residual-in_err-root.ensures.1 in
-    query_lacking _ _ _ _ c.in_ok-ready.ensures.ok (search rules) refl c.args.at.now _ c.in_err-root.ensures.root is
+    query_lacking _ _ _ _ c.in_ok-ready.ensures.ok (search (rules, same_parts)) refl c.args.at.now _ c.in_err-root.ensures.root is
     (λ s holds lacks. rw is (inr lacks))
 
 pub returns-in_err-scan-clause-query : goal.returns-in_err-scan-clause-query
 returns-in_err-scan-clause-query g c =
     let is = passed_on _ c.from_residual-in_err-scan.ensures.1 in
-    query_listed _ _ _ _ _ c.in_ok-ready.ensures.ok (search rules) c.in_err-scan.ensures.looks is
+    query_listed _ _ _ _ _ c.in_ok-ready.ensures.ok (search (rules, same_parts)) c.in_err-scan.ensures.looks is
     (λ honest well s holds.
     let at = at_there _ _ _ _ _ _ s holds.rests c.args.at.now c.in_ok-root.root (sym c.in_ok-root.ensures.root) in
     rw is (wanting _ _ _ at.is (list_refused c.in_err-scan.field-0.0 _ ⊥ (c.in_err-scan.ensures.records sizes honest at.records at.stands.stands_in at.stands.rooted))))
 
 pub returns-clause-query : goal.returns-clause-query
 returns-clause-query g c =
-    query_listed _ _ _ _ _ c.in_ok-ready.ensures.ok (search rules) c.in_ok-scan.ensures.looks refl
+    query_listed _ _ _ _ _ c.in_ok-ready.ensures.ok (search (rules, same_parts)) c.in_ok-scan.ensures.looks refl
     (λ honest well s holds.
     let at = at_there _ _ _ _ _ _ s holds.rests c.args.at.now c.in_ok-root.root (sym c.in_ok-root.ensures.root) in
     at.is ∙ ap Ok (sym (c.in_ok-scan.ensures.records sizes honest at.records at.stands.stands_in at.stands.rooted)))

@@ -9,6 +9,7 @@ use Rattle.vm_store.specs.Parts.{some_of}
 use Rattle.vm_store.specs.Sizes.{sizes}
 use Rattle.vm_store.proofs.AtLemmas.{at_chosen, at_there}
 use Rattle.vm_store.proofs.Listing.{list_refused, wanting}
+use Rattle.vm_store.proofs.PartsLemmas.{same_parts}
 use Rattle.vm_store.proofs.QueryLemmas.{query_failed, query_lacking, query_listed}
 use Rattle.vm_store.proofs.store.Store.list_part.Goals as goal
 
@@ -19,13 +20,13 @@ returns-in_err-ready-clause-query g c =
 pub returns-in_err-root-clause-query : goal.returns-in_err-root-clause-query
 returns-in_err-root-clause-query g c =
     let is = passed_on _ c.from_residual-in_err-root.ensures.1 in
-    query_lacking _ _ _ _ c.in_ok-ready.ensures.ok (search rules) refl c.args.at.now _ c.in_err-root.ensures.root is
+    query_lacking _ _ _ _ c.in_ok-ready.ensures.ok (search (rules, same_parts)) refl c.args.at.now _ c.in_err-root.ensures.root is
     (λ s holds lacks. rw is (inr (ap (λ (m : Result Map Refusal). some_of (part (place c.args.low) (place c.args.high)) m) lacks)))
 
 pub returns-in_err-scan_part-clause-query : goal.returns-in_err-scan_part-clause-query
 returns-in_err-scan_part-clause-query g c =
     let is = passed_on _ c.from_residual-in_err-scan_part.ensures.1 in
-    query_listed _ _ _ _ _ c.in_ok-ready.ensures.ok (search rules) c.in_err-scan_part.ensures.looks is
+    query_listed _ _ _ _ _ c.in_ok-ready.ensures.ok (search (rules, same_parts)) c.in_err-scan_part.ensures.looks is
     (λ honest well s holds.
     let at = at_there _ _ _ _ _ _ s holds.rests c.args.at.now c.in_ok-root.root (sym c.in_ok-root.ensures.root) in
     rw is
@@ -34,7 +35,7 @@ returns-in_err-scan_part-clause-query g c =
 
 pub returns-clause-query : goal.returns-clause-query
 returns-clause-query g c =
-    query_listed _ _ _ _ _ c.in_ok-ready.ensures.ok (search rules) c.in_ok-scan_part.ensures.looks refl
+    query_listed _ _ _ _ _ c.in_ok-ready.ensures.ok (search (rules, same_parts)) c.in_ok-scan_part.ensures.looks refl
     (λ honest well s holds.
     let at = at_there _ _ _ _ _ _ s holds.rests c.args.at.now c.in_ok-root.root (sym c.in_ok-root.ensures.root) in
     ap (λ (m : Result Map Refusal). some_of (part (place c.args.low) (place c.args.high)) m) at.is

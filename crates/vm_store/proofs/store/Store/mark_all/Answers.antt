@@ -10,9 +10,9 @@ pub returns-in_err-mark_versions-clause-only : goal.returns-in_err-mark_versions
 returns-in_err-mark_versions-clause-only g c honest s holds =
     let rests = holds.rests in
     let self = c.args.self.now in
-    let reach = first_reach _ _ _ _ _ _ s rests self.marks c.clear.new.self self.mark_bits c.clear.ensures _ c.as_slice.ensures.items in
+    let reach = first_reach _ _ _ _ _ _ s rests self.parts.marks c.clear.new.self self.parts.mark_bits c.clear.ensures _ c.as_slice.ensures.items in
     rw (passed_on _ c.from_residual.ensures.1)
-    (ap refusal_of (c.in_err-mark_versions.ensures.marked honest _ reach (first_closed _ _ _ _ _ _ s rests self.marks c.clear.new.self self.mark_bits c.clear.ensures _ c.as_slice.ensures.items)))
+    (ap refusal_of (c.in_err-mark_versions.ensures.marked honest _ reach (first_closed _ _ _ _ _ _ s rests self.parts.marks c.clear.new.self self.parts.mark_bits c.clear.ensures _ c.as_slice.ensures.items)))
 
 pub returns-in_err-mark_versions-clause-state : goal.returns-in_err-mark_versions-clause-state
 returns-in_err-mark_versions-clause-state g c honest s holds = read_holds _ _ _ _ _ _ _ _ _ s (c.mark_versions.ensures.reads honest) holds
@@ -26,10 +26,10 @@ returns-in_err-mark_versions-2-clause-only g c honest s holds =
     let rests = holds.rests in
     let self = c.args.self.now in
     let read = same_medium _ _ (c.mark_versions.ensures.reads (c.in_err-mark_versions-2.ensures.any.earlier honest)) in
-    let reach = first_reach _ _ _ _ _ _ s rests self.marks c.clear.new.self self.mark_bits c.clear.ensures _ c.as_slice.ensures.items in
-    let clear = first_closed _ _ _ _ _ _ s rests self.marks c.clear.new.self self.mark_bits c.clear.ensures _ c.as_slice.ensures.items in
-    let then = second_reach _ _ _ _ _ _ s rests self.marks c.clear.new.self self.mark_bits c.clear.ensures _ c.as_slice.ensures.items c.mark_versions.new.marks _ read c.mark_versions.ensures.many _ c.as_slice-2.ensures.items in
-    let closed = second_closed _ _ _ _ _ _ s rests self.marks c.clear.new.self self.mark_bits c.clear.ensures _ c.as_slice.ensures.items c.mark_versions.new.marks _ read c.mark_versions.ensures.many _ c.as_slice-2.ensures.items (c.in_ok-mark_versions.ensures.closed (c.in_err-mark_versions-2.ensures.any.earlier honest) _ reach clear) in
+    let reach = first_reach _ _ _ _ _ _ s rests self.parts.marks c.clear.new.self self.parts.mark_bits c.clear.ensures _ c.as_slice.ensures.items in
+    let clear = first_closed _ _ _ _ _ _ s rests self.parts.marks c.clear.new.self self.parts.mark_bits c.clear.ensures _ c.as_slice.ensures.items in
+    let then = second_reach _ _ _ _ _ _ s rests self.parts.marks c.clear.new.self self.parts.mark_bits c.clear.ensures _ c.as_slice.ensures.items c.mark_versions.new.marks _ read c.mark_versions.ensures.many _ c.as_slice-2.ensures.items in
+    let closed = second_closed _ _ _ _ _ _ s rests self.parts.marks c.clear.new.self self.parts.mark_bits c.clear.ensures _ c.as_slice.ensures.items c.mark_versions.new.marks _ read c.mark_versions.ensures.many _ c.as_slice-2.ensures.items (c.in_ok-mark_versions.ensures.closed (c.in_err-mark_versions-2.ensures.any.earlier honest) _ reach clear) in
     rw (passed_on _ c.from_residual-in_err-mark_versions-2.ensures.1)
     (ap refusal_of (c.in_err-mark_versions-2.ensures.marked honest _ then closed))
 
@@ -46,25 +46,25 @@ returns-clause-exact g c honest s holds =
     let rests = holds.rests in
     let self = c.args.self.now in
     let read = same_medium _ _ (c.mark_versions.ensures.reads (c.in_ok-mark_versions-2.ensures.any.earlier honest)) in
-    let reach = first_reach _ _ _ _ _ _ s rests self.marks c.clear.new.self self.mark_bits c.clear.ensures _ c.as_slice.ensures.items in
-    let clear = first_closed _ _ _ _ _ _ s rests self.marks c.clear.new.self self.mark_bits c.clear.ensures _ c.as_slice.ensures.items in
-    let then = second_reach _ _ _ _ _ _ s rests self.marks c.clear.new.self self.mark_bits c.clear.ensures _ c.as_slice.ensures.items c.mark_versions.new.marks _ read c.mark_versions.ensures.many _ c.as_slice-2.ensures.items in
-    let closed = second_closed _ _ _ _ _ _ s rests self.marks c.clear.new.self self.mark_bits c.clear.ensures _ c.as_slice.ensures.items c.mark_versions.new.marks _ read c.mark_versions.ensures.many _ c.as_slice-2.ensures.items (c.in_ok-mark_versions.ensures.closed (c.in_ok-mark_versions-2.ensures.any.earlier honest) _ reach clear) in
-    let marked = both_marked _ _ _ _ _ _ s rests self.marks c.clear.new.self self.mark_bits c.clear.ensures _ c.as_slice.ensures.items c.mark_versions.new.marks _ read c.mark_versions.ensures.many _ c.as_slice-2.ensures.items
+    let reach = first_reach _ _ _ _ _ _ s rests self.parts.marks c.clear.new.self self.parts.mark_bits c.clear.ensures _ c.as_slice.ensures.items in
+    let clear = first_closed _ _ _ _ _ _ s rests self.parts.marks c.clear.new.self self.parts.mark_bits c.clear.ensures _ c.as_slice.ensures.items in
+    let then = second_reach _ _ _ _ _ _ s rests self.parts.marks c.clear.new.self self.parts.mark_bits c.clear.ensures _ c.as_slice.ensures.items c.mark_versions.new.marks _ read c.mark_versions.ensures.many _ c.as_slice-2.ensures.items in
+    let closed = second_closed _ _ _ _ _ _ s rests self.parts.marks c.clear.new.self self.parts.mark_bits c.clear.ensures _ c.as_slice.ensures.items c.mark_versions.new.marks _ read c.mark_versions.ensures.many _ c.as_slice-2.ensures.items (c.in_ok-mark_versions.ensures.closed (c.in_ok-mark_versions-2.ensures.any.earlier honest) _ reach clear) in
+    let marked = both_marked _ _ _ _ _ _ s rests self.parts.marks c.clear.new.self self.parts.mark_bits c.clear.ensures _ c.as_slice.ensures.items c.mark_versions.new.marks _ read c.mark_versions.ensures.many _ c.as_slice-2.ensures.items
     c.mark_versions-2.new.marks (c.in_ok-mark_versions.ensures.marked (c.in_ok-mark_versions-2.ensures.any.earlier honest) _ reach clear) (c.in_ok-mark_versions-2.ensures.marked honest _ then closed) in
-    free_exactly _ _ _ _ _ _ s self.bits rests c.mark_versions-2.new.marks marked c.replace.new.self (c.replace.ensures.count ∙ self.bits) c.replace.ensures.system c.replace.ensures.marked
+    free_exactly _ _ _ _ _ _ s self.parts.bits rests c.mark_versions-2.new.marks marked c.replace.new.self (c.replace.ensures.count ∙ self.parts.bits) c.replace.ensures.system c.replace.ensures.marked
 
 pub returns-clause-state : goal.returns-clause-state
 returns-clause-state g c honest s holds =
     let rests = holds.rests in
     let self = c.args.self.now in
     let read = same_medium _ _ (c.mark_versions.ensures.reads (c.mark_versions-2.ensures.any.earlier honest)) in
-    let reach = first_reach _ _ _ _ _ _ s rests self.marks c.clear.new.self self.mark_bits c.clear.ensures _ c.as_slice.ensures.items in
-    let clear = first_closed _ _ _ _ _ _ s rests self.marks c.clear.new.self self.mark_bits c.clear.ensures _ c.as_slice.ensures.items in
-    let then = second_reach _ _ _ _ _ _ s rests self.marks c.clear.new.self self.mark_bits c.clear.ensures _ c.as_slice.ensures.items c.mark_versions.new.marks _ read c.mark_versions.ensures.many _ c.as_slice-2.ensures.items in
-    let closed = second_closed _ _ _ _ _ _ s rests self.marks c.clear.new.self self.mark_bits c.clear.ensures _ c.as_slice.ensures.items c.mark_versions.new.marks _ read c.mark_versions.ensures.many _ c.as_slice-2.ensures.items (c.in_ok-mark_versions.ensures.closed (c.mark_versions-2.ensures.any.earlier honest) _ reach clear) in
-    let marked = both_marked _ _ _ _ _ _ s rests self.marks c.clear.new.self self.mark_bits c.clear.ensures _ c.as_slice.ensures.items c.mark_versions.new.marks _ read c.mark_versions.ensures.many _ c.as_slice-2.ensures.items
+    let reach = first_reach _ _ _ _ _ _ s rests self.parts.marks c.clear.new.self self.parts.mark_bits c.clear.ensures _ c.as_slice.ensures.items in
+    let clear = first_closed _ _ _ _ _ _ s rests self.parts.marks c.clear.new.self self.parts.mark_bits c.clear.ensures _ c.as_slice.ensures.items in
+    let then = second_reach _ _ _ _ _ _ s rests self.parts.marks c.clear.new.self self.parts.mark_bits c.clear.ensures _ c.as_slice.ensures.items c.mark_versions.new.marks _ read c.mark_versions.ensures.many _ c.as_slice-2.ensures.items in
+    let closed = second_closed _ _ _ _ _ _ s rests self.parts.marks c.clear.new.self self.parts.mark_bits c.clear.ensures _ c.as_slice.ensures.items c.mark_versions.new.marks _ read c.mark_versions.ensures.many _ c.as_slice-2.ensures.items (c.in_ok-mark_versions.ensures.closed (c.mark_versions-2.ensures.any.earlier honest) _ reach clear) in
+    let marked = both_marked _ _ _ _ _ _ s rests self.parts.marks c.clear.new.self self.parts.mark_bits c.clear.ensures _ c.as_slice.ensures.items c.mark_versions.new.marks _ read c.mark_versions.ensures.many _ c.as_slice-2.ensures.items
     c.mark_versions-2.new.marks (c.in_ok-mark_versions.ensures.marked (c.mark_versions-2.ensures.any.earlier honest) _ reach clear) (c.in_ok-mark_versions-2.ensures.marked honest _ then closed) in
     let read-all = same_medium _ _ (reads_then _ _ _ (c.mark_versions.ensures.reads (c.mark_versions-2.ensures.any.earlier honest)) (c.mark_versions-2.ensures.reads honest)) in
-    holds_marked _ _ _ _ _ self.before c.replace.new.self c.keep_held.new.self _ _ _ s read-all (c.replace.ensures.count ∙ self.bits ∙ sym (c.keep_held.ensures.count ∙ self.before_bits)) c.keep_held.ensures.kept
-    (rests_marked _ _ _ _ _ _ s self.bits rests c.mark_versions-2.new.marks marked c.replace.new.self (c.replace.ensures.count ∙ self.bits) c.replace.ensures.system c.replace.ensures.marked) holds
+    holds_marked _ _ _ _ _ self.parts.before c.replace.new.self c.keep_held.new.self _ _ _ s read-all (c.replace.ensures.count ∙ self.parts.bits ∙ sym (c.keep_held.ensures.count ∙ self.parts.before_bits)) c.keep_held.ensures.kept
+    (rests_marked _ _ _ _ _ _ s self.parts.bits rests c.mark_versions-2.new.marks marked c.replace.new.self (c.replace.ensures.count ∙ self.parts.bits) c.replace.ensures.system c.replace.ensures.marked) holds

@@ -1,4 +1,4 @@
-use Rattle.std.proofs.Common.{inl, Err, refl, ap, sym, ◌∙◌}
+use Rattle.std.proofs.Common.{inl, Err, refl, ap, arith, sym, ◌∙◌}
 use Rattle.vm_types.specs.declared.command.Command.TheVariants.{Post}
 use Rattle.vm_types.specs.Firsts.{change_first}
 use Rattle.vm_tree.specs.Faults.{refusal_of}
@@ -9,6 +9,7 @@ use Rattle.vm_store.specs.Versions.{is_alternative_of, with_base}
 use Rattle.vm_store.proofs.CarryLemmas.{looked, stayed}
 use Rattle.vm_store.proofs.PairLemmas.{lacking, own_there, parent_there, post_step, post_refused, post_rests, told_equal, told_other}
 use Rattle.vm_store.proofs.RestingLemmas.{read_rests, rests_as}
+use Rattle.vm_store.proofs.SharedLemmas.{base_rooted, current_rooted, pair_counts}
 use Rattle.vm_store.proofs.SidesLemmas.{rooted_map}
 use Rattle.vm_store.proofs.VersionLemmas.{answers_refused, answers_done}
 use Rattle.vm_store.proofs.SeriesLemmas.{holds_alone, read_holds}
@@ -66,3 +67,27 @@ returns-clause-carried g c honest s holds =
     read (read_rests _ _ _ _ _ _ _ s read rests)
     (λ _. holds_alone holds.keeps (read_rests _ _ _ _ _ _ _ _ (c.in_ok-same.ensures.looks.reads honest)
     (rests_as _ _ _ _ _ _ _ _ (sym both) (post_rests _ _ _ _ _ _ s rests alt pair is same))))
+
+pub returns-then-not-branch-clause-few : goal.returns-then-not-branch-clause-few
+returns-then-not-branch-clause-few g c honest s holds =
+    let pair : Version × Version = (c.in_ok-own.own, c.in_ok-own.parent) in
+    let is = c.in_ok-own.ensures.found in
+    let base = base_rooted _ _ _ _ _ _ s holds.rests c.args.alt.now c.in_ok-own.own is.own in
+    let parent = current_rooted _ _ _ _ _ _ s holds.rests c.in_ok-own.parent.name c.in_ok-own.parent is.parent in
+    omega (arith, c.in_ok-same.ensures.bound honest sizes base.0 parent.0 _ _ base.1 parent.1, pair_counts _ _ _ _ _ _ s holds.rests c.args.alt.now pair is)
+
+pub returns-in_err-same-clause-few : goal.returns-in_err-same-clause-few
+returns-in_err-same-clause-few g c honest s holds =
+    let pair : Version × Version = (c.in_ok-own.own, c.in_ok-own.parent) in
+    let is = c.in_ok-own.ensures.found in
+    let base = base_rooted _ _ _ _ _ _ s holds.rests c.args.alt.now c.in_ok-own.own is.own in
+    let parent = current_rooted _ _ _ _ _ _ s holds.rests c.in_ok-own.parent.name c.in_ok-own.parent is.parent in
+    omega (arith, c.in_err-same.ensures.bound honest sizes base.0 parent.0 _ _ base.1 parent.1, pair_counts _ _ _ _ _ _ s holds.rests c.args.alt.now pair is)
+
+pub returns-clause-few : goal.returns-clause-few
+returns-clause-few g c honest s holds =
+    let pair : Version × Version = (c.in_ok-own.own, c.in_ok-own.parent) in
+    let is = c.in_ok-own.ensures.found in
+    let base = base_rooted _ _ _ _ _ _ s holds.rests c.args.alt.now c.in_ok-own.own is.own in
+    let parent = current_rooted _ _ _ _ _ _ s holds.rests c.in_ok-own.parent.name c.in_ok-own.parent is.parent in
+    omega (arith, c.in_ok-same.ensures.bound honest sizes base.0 parent.0 _ _ base.1 parent.1, pair_counts _ _ _ _ _ _ s holds.rests c.args.alt.now pair is)

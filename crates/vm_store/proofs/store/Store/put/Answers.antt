@@ -9,5 +9,19 @@ returns-clause-done g c sound =
     let mid = c.put_value-answer.new.self in
     let answer = c.put_value-answer.result in
     let e = c.put_value-answer.ensures in
-    carries_out old mid c.is_device-self.result _ _ _ _ _ _ _ _ _ command answer sound c.is_device-self.ensures
-    (performs old mid command answer (λ grow. grow) e.carried e.never.0 (λ is. absurd (e.never.1 is)) e.any e.same e.unchanged (λ alone. absurd alone) e.marked e.reads e.free (λ is. cc) (λ is. cc))
+    carries_out old mid c.is_device-self.result _ command answer sound c.is_device-self.ensures
+    (performs old mid command answer (λ grow. grow) (record {
+      carried = e.carried;
+      only_then = e.never.0;
+      memory = λ is. absurd (e.never.1 is);
+      goes = e.any;
+      same = e.same;
+      unchanged = e.unchanged;
+      blocks = λ alone. absurd alone;
+      marked = e.marked;
+      reads = e.reads;
+      few = tt;
+      free = e.free;
+      written = λ is. cc;
+      back = λ is. cc;
+    }))

@@ -46,10 +46,10 @@ returns-clause-carried g c honest s holds =
     let is = ap (λ p. find (is_alternative_of c.args.alt.now) p.1) c.has_spare.ensures.same ∙ sym c.in-Some.ensures in
     let found = found_entry _ _ _ _ _ _ s rests' c.args.alt.now e is in
     let current = found.stands.current in
-    let put = c.in_ok-root.ensures.put honest found.filed.current current.stands_in (rooted_of _ _ _ e.current _ _ mid.bits current.rooted) in
-    let grown = grown_of _ _ _ _ c.in_ok-root.root _ mid.bits (put.0 current.each) in
-    let on = went_on _ _ _ _ _ _ _ s c.args.alt.now mid.before mid.series _ c.go_on.ensures.series c.go_on.ensures.before holds' in
-    let stays = ap (λ o. before_of o mid.held) c.before_series.ensures in
+    let put = c.in_ok-root.ensures.put honest found.filed.current current.stands_in (rooted_of _ _ _ e.current _ _ mid.parts.bits current.rooted) in
+    let grown = grown_of _ _ _ _ c.in_ok-root.root _ mid.parts.bits (put.0 current.each) in
+    let on = went_on _ _ _ _ _ _ _ s c.args.alt.now mid.parts.before mid.parts.series _ c.go_on.ensures.series c.go_on.ensures.before holds' in
+    let stays = ap (λ o. before_of o mid.parts.held) c.before_series.ensures in
     let series = in_series _ _ _ _ _ _ _ s c.args.alt.now _ _ c.go_on.ensures.series stays on in
     changed _ _ s holds (Put c.args.alt.now c.args.key c.args.value.now) _ (answers_done _ _ _ _ _ _ s rests c.args.alt.now c.args.key c.args.value.now _ (sym c.in-Some.ensures) _ _ (room_for _ _ _ (c.in_ok-has_spare.ensures.spare marked s holds) c.if-not-branch.false)
     (λ deep. put.1 (lacks_over _ e.current _ _ (deep_here _ _ _ _ _ _ s rests' c.args.alt.now c.args.key c.args.value.now e is (g.D.Disk.state mid.disk.inner).now.contents
@@ -58,7 +58,7 @@ returns-clause-carried g c honest s holds =
     _ (c.has_spare.ensures.reads marked) series (c.in_ok-root.ensures.moments honest series.wider) (c.in_ok-root.ensures.unsynced honest) c.in_ok-root.ensures.still
     (λ _. holds_as refl c.set_current.ensures
     (holds_then c.args.alt.now _ _ c.go_on.ensures.series stays
-    (put_holds _ _ _ _ _ _ _ s rests' c.args.alt.now e is series _ c.put_forgetting.new.held c.in_ok-root.root (omega (arith, c.in_ok-root.ensures.block, c.in_ok-root.ensures.still.same_length, mid.bits, mid.most))
+    (put_holds _ _ _ _ _ _ _ s rests' c.args.alt.now e is series _ c.put_forgetting.new.held c.in_ok-root.root (omega (arith, c.in_ok-root.ensures.block, c.in_ok-root.ensures.still.same_length, mid.parts.bits, mid.parts.most))
     (at_end _ _ _ (c.in_ok-root.ensures.moments honest series.wider)) c.in_ok-root.ensures.still c.args.key holds'.keeps c.args.value.now grown)))
 
 pub returns-in_err-root-clause-carried : goal.returns-in_err-root-clause-carried
@@ -73,9 +73,9 @@ returns-in_err-root-clause-carried g c honest s holds =
     let is = ap (λ p. find (is_alternative_of c.args.alt.now) p.1) c.has_spare.ensures.same ∙ sym c.in-Some.ensures in
     let found = found_entry _ _ _ _ _ _ s rests' c.args.alt.now e is in
     let current = found.stands.current in
-    let put = c.in_err-root.ensures.put honest found.filed.current current.stands_in (rooted_of _ _ _ e.current _ _ mid.bits current.rooted) in
-    let on = went_on _ _ _ _ _ _ _ s c.args.alt.now mid.before mid.series _ c.go_on.ensures.series c.go_on.ensures.before holds' in
-    let stays = ap (λ o. before_of o mid.held) c.before_series.ensures in
+    let put = c.in_err-root.ensures.put honest found.filed.current current.stands_in (rooted_of _ _ _ e.current _ _ mid.parts.bits current.rooted) in
+    let on = went_on _ _ _ _ _ _ _ s c.args.alt.now mid.parts.before mid.parts.series _ c.go_on.ensures.series c.go_on.ensures.before holds' in
+    let stays = ap (λ o. before_of o mid.parts.held) c.before_series.ensures in
     let series = in_series _ _ _ _ _ _ _ s c.args.alt.now _ _ c.go_on.ensures.series stays on in
     rw (passed_on _ c.from_residual-in_err-root.ensures.1)
     (changed _ _ s holds (Put c.args.alt.now c.args.key c.args.value.now) _ (answers_fault _ _ _ _ _ _ s rests c.args.alt.now c.args.key c.args.value.now _ (sym c.in-Some.ensures) _ _ _ c.in_err-root.field-0.0 _ (room_for _ _ _ (c.in_ok-has_spare.ensures.spare marked s holds) c.if-not-branch.false)

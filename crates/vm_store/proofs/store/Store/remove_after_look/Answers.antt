@@ -67,8 +67,8 @@ returns-clause-carried g c honest s holds =
     let read = c.in_ok-has.ensures.looks.reads (c.has_spare.ensures.any.earlier marked) in
     let mid = c.has_spare.new.self in
     let holds' = c.has_spare.ensures.state marked s (read_holds _ _ _ _ _ _ _ _ _ s read holds) in
-    let between = went_on _ _ _ _ _ _ _ s c.args.alt.now mid.before mid.series _ c.go_on.ensures.series c.go_on.ensures.before holds' in
-    let enough = no_fewer _ _ (omega (arith, c.in_ok-has_spare.ensures.free, free_at_most _ _ _ _ _ _ s mid.bits between.rests)) in
+    let between = went_on _ _ _ _ _ _ _ s c.args.alt.now mid.parts.before mid.parts.series _ c.go_on.ensures.series c.go_on.ensures.before holds' in
+    let enough = no_fewer _ _ (omega (arith, c.in_ok-has_spare.ensures.free, free_at_most _ _ _ _ _ _ s mid.parts.bits between.rests)) in
     let room = room_for _ _ _ (spare_after _ _ _ _ _ _ _ _ _ s _ _ (c.in_ok-has.ensures.looks.reads (c.in_ok-has_spare.ensures.any.earlier marked)) (c.in_ok-has_spare.ensures.spare marked) holds) c.if-not-branch-2.false in
     let carried = c.remove_in_series.ensures.carried honest s between (inr (λ missing. let clash = there ∙ missing in cc)) in
     read_carried _ _ _ s holds between (Remove c.args.alt.now c.args.key) _ (reads_then _ _ _ read (c.has_spare.ensures.reads marked)) (removes_alike s c.args.alt.now c.args.key _ _ _ _ enough room carried.answers) carried

@@ -11,6 +11,7 @@ use Rattle.vm_store.specs.Rest.{before_of, spare_of}
 use Rattle.vm_store.proofs.CarryLemmas.{changed, wrote}
 use Rattle.vm_store.proofs.FirstLemmas.{fault_takes, late_fault}
 use Rattle.vm_store.proofs.MarkedLemmas.{free_at_most}
+use Rattle.vm_store.proofs.PartsLemmas.{same_parts}
 use Rattle.vm_store.proofs.Removing.{removes_missing, removes_done, removes_device, removed_root, removed_none, removed_there, some_value, for_reason}
 use Rattle.vm_store.proofs.RestingLemmas.{found_entry, value_found}
 use Rattle.vm_store.proofs.SeriesLemmas.{in_series, holds_as, holds_more, holds_then, remove_holds}
@@ -26,19 +27,19 @@ returns-clause-carried g c honest s holds reason =
     let e = c.args.version in
     let is = c.requires.found in
     let found = found_entry _ _ _ _ _ _ s rests alt e is in
-    let before = grown_of _ _ _ _ e.current _ (sym self.bits) found.stands.current in
+    let before = grown_of _ _ _ _ e.current _ (sym self.parts.bits) found.stands.current in
     let removed = c.in_ok-removed.ensures.remove honest found.filed.current before.stands_in before.rooted in
-    let grown = grown_of _ _ _ _ c.in-Some.root _ self.bits (removed_root _ _ _ _ c.in-Some.is removed before.each) in
+    let grown = grown_of _ _ _ _ c.in-Some.root _ self.parts.bits (removed_root _ _ _ _ c.in-Some.is removed before.each) in
     let value = some_value _ (removed_there _ _ _ _ c.in-Some.is removed) in
     let there = value_found _ _ _ _ _ _ s rests alt e is c.args.key (Some value.0) (sym value.1) in
-    let room = no_fewer _ _ (omega (arith, c.requires.room, free_at_most _ _ _ _ _ _ s self.bits rests)) in
-    let stays = ap (λ o. before_of o self.held) c.before_series.ensures in
+    let room = no_fewer _ _ (omega (arith, c.requires.room, free_at_most _ _ _ _ _ _ s self.parts.bits rests)) in
+    let stays = ap (λ o. before_of o self.parts.held) c.before_series.ensures in
     let series = in_series _ _ _ _ _ _ _ s alt _ _ c.requires.series stays holds in
     changed _ _ s holds (Remove alt c.args.key) _ (removes_done s alt c.args.key _ _ value.0 there room (λ deep. deep))
     _ (started _ _ refl) series (c.in_ok-removed.ensures.moments honest series.wider) (c.in_ok-removed.ensures.unsynced honest) c.in_ok-removed.ensures.still
     (λ _. holds_as refl c.set_current.ensures
     (holds_then alt _ _ c.requires.series stays
-    (remove_holds _ _ _ _ _ _ _ s rests alt e is series _ c.remove_forgetting.new.held c.in-Some.root (grown_small _ _ _ _ _ self.most grown)
+    (remove_holds _ _ _ _ _ _ _ s rests alt e is series _ c.remove_forgetting.new.held c.in-Some.root (grown_small _ _ _ _ _ self.parts.most grown)
     (at_end _ _ _ (c.in_ok-removed.ensures.moments honest series.wider)) c.in_ok-removed.ensures.still c.args.key holds.keeps value.0 there grown)))
 
 pub returns-in_default-clause-carried : goal.returns-in_default-clause-carried
@@ -49,10 +50,10 @@ returns-in_default-clause-carried g c honest s holds reason =
     let e = c.args.version in
     let is = c.requires.found in
     let found = found_entry _ _ _ _ _ _ s rests alt e is in
-    let before = grown_of _ _ _ _ e.current _ (sym self.bits) found.stands.current in
+    let before = grown_of _ _ _ _ e.current _ (sym self.parts.bits) found.stands.current in
     let removed = c.in_ok-removed.ensures.remove honest found.filed.current before.stands_in before.rooted in
     let missing = value_found _ _ _ _ _ _ s rests alt e is c.args.key None (sym (removed_none _ _ _ c.in_default.is removed)) in
-    let moments = reads_keep _ _ _ (c.remove_forgetting.ensures.kept.reads honest (c.in_ok-removed.was ∙ ap Ok c.in_default.is)) (touches_nothing (is_free self.held) _) in
+    let moments = reads_keep _ _ _ (c.remove_forgetting.ensures.kept.reads honest (c.in_ok-removed.was ∙ ap Ok c.in_default.is)) (touches_nothing (is_free self.parts.held) _) in
     let answers : (r : Refusal) → r ≡ NoSuchRecord → IsAnswer s (spare_of rests) ⊥ (Remove alt c.args.key) (Err r) = λ r same.
     subst (λ (r : Refusal). IsAnswer s (spare_of rests) ⊥ (Remove alt c.args.key) (Err r)) (sym same) (removes_missing s alt c.args.key _ _ missing) in
     wrote _ _ s holds (Remove alt c.args.key) _ (answers c.args.missing (for_reason reason (λ there. there (sym missing))))
@@ -65,7 +66,7 @@ returns-in_err-removed-clause-carried g c honest s holds reason =
     let alt = c.args.alt.now in
     let e = c.args.version in
     let found = found_entry _ _ _ _ _ _ s rests alt e c.requires.found in
-    let before = grown_of _ _ _ _ e.current _ (sym self.bits) found.stands.current in
+    let before = grown_of _ _ _ _ e.current _ (sym self.parts.bits) found.stands.current in
     let removed = c.in_err-removed.ensures.remove honest found.filed.current before.stands_in before.rooted in
     let moments = c.in_err-removed.ensures.failed honest in
     rw (passed_on _ c.from_residual.ensures.1)
@@ -89,3 +90,8 @@ returns-in_err-removed-clause-free g c =
       λ enough. fault_takes 8 _ _ c.in_err-removed.ensures.taken c.in_err-removed.field-0.0 (λ b is. (c.in_err-removed.ensures.looks b).kept (ap Err is)),
       λ honest few. absurd (omega (arith, c.requires.room, few)),
     )
+
+pub returns-in_default-clause-unchanged : goal.returns-in_default-clause-unchanged
+returns-in_default-clause-unchanged g c early =
+    let same = c.remove_forgetting.ensures.kept.kept (c.in_ok-removed.was ∙ ap Ok c.in_default.is) in
+    record { alloc = refl; parts = same_parts _ _ refl refl refl refl refl refl same refl refl refl refl; failed = refl }

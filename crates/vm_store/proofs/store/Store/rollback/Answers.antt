@@ -1,4 +1,4 @@
-use Rattle.std.proofs.Common.{Ok, List, refl, ap}
+use Rattle.std.proofs.Common.{Ok, List, refl, ap₂}
 use Rattle.vm_types.specs.declared.answer.Answer.TheVariants.{Done}
 use Rattle.vm_types.specs.declared.command.Command.TheVariants.{Rollback}
 use Rattle.vm_types.specs.State.{next}
@@ -16,9 +16,9 @@ pub returns-clause-back : goal.returns-clause-back
 returns-clause-back g c = record {
   accepted = refl;
   disk = refl;
-  entries = ap (λ (es : List Version). (c.args.self.now.committed, es)) c.copy_from.ensures;
-  blocks = refl;
-  held = c.truncate.ensures.blocks;
+  entries = ap₂ (λ (es fs : List Version). (es, fs)) c.roll_back.ensures.committed c.roll_back.ensures.working;
+  blocks = c.roll_back.ensures.blocks;
+  held = c.roll_back.ensures.held;
   series = refl;
 }
 
@@ -26,7 +26,9 @@ pub returns-clause-carried : goal.returns-clause-carried
 returns-clause-carried g c honest s holds =
     let self = c.args.self.now in
     let disk = g.D.Disk.state self.disk.inner in
-    let rests = rests_rolled disk.now self.blocks self.kept self.slot_name self.held c.truncate.new.self self.committed self.working c.copy_from.new.self s Done holds.rests holds.keeps
-    (λ n low held. held_first self.kept n self.held c.truncate.new.self c.truncate.ensures.blocks low held) c.copy_from.ensures in
+    let new = c.roll_back.new.self in
+    let rolled = c.roll_back.ensures in
+    let rests = rests_rolled disk.now self.parts.blocks self.parts.kept self.parts.slot_name self.parts.held new.held self.parts.committed self.parts.working new.working s Done holds.rests holds.keeps
+    (λ n low held. held_first self.parts.kept n self.parts.held new.held rolled.held low held) rolled.working in
     spared _ _ s holds Rollback (Ok Done) (answers_done s _ ⊥ Rollback s.working refl (λ never. never) refl)
-    disk (started _ _ refl) (next s Rollback (Ok Done)) refl rests (started _ _ (touches_nothing _ _)) (reads_unsynced _ _ (started _ _ refl)) (holds_same _) (λ _. holds_alone holds.keeps rests)
+    disk (started _ _ refl) (next s Rollback (Ok Done)) refl rests (started _ _ (touches_nothing _ _)) (reads_unsynced _ _ (started _ _ refl)) (holds_same _) (λ _. rw (rolled.blocks, rolled.kept, rolled.slot_name, rolled.committed) (holds_alone holds.keeps rests))

@@ -6,6 +6,7 @@ use Rattle.vm_store.specs.declared.version.Version.{Version}
 use Rattle.vm_store.specs.Copies.{HasVersions, HoldsVersions, IsCopying, IsOfCopy, IsOfFill, IsOfTarget, in_blocks}
 use Rattle.vm_store.proofs.CopyingLemmas.{both_after, both_target, fill_blank, fill_late, held_reads, refused_so, versions_held, versions_kept}
 use Rattle.vm_store.proofs.FormattingLemmas.{none_synced, not_true, still_there}
+use Rattle.vm_store.proofs.PartsLemmas.{same_parts}
 use Rattle.vm_store.proofs.store.copies.copy_to.Goals as goal
 
 pub returns-in-Err-clause-was_there : goal.returns-in-Err-clause-was_there
@@ -22,12 +23,15 @@ returns-in-Err-clause-moments g c source s holds honest =
 pub returns-clause-both : goal.returns-clause-both
 returns-clause-both g c = both_after c.has_header.ensures.any c.fill.ensures.both (λ is. is)
 
+pub returns-clause-same : goal.returns-clause-same
+returns-clause-same g c = record { alloc = refl; parts = same_parts _ _ refl refl refl refl refl refl refl refl refl refl refl; failed = refl }
+
 pub returns-clause-late : goal.returns-clause-late
 returns-clause-late g c = refused_so _ IsOfFill _ fill_late c.fill.ensures.refusals
 
 pub returns-clause-sound : goal.returns-clause-sound
 returns-clause-sound g c source s holds =
-    refused_so _ IsOfTarget IsOfCopy (λ r is. inr (inr (inr (inr is)))) (c.fill.ensures.sound source s.committed (subst (λ (vs : List Version). HasVersions s.committed c.args.source.now.kept vs (g.S.Disk.state (disk_of c.args.source.now)).now.contents) (sym c.as_slice.ensures.items) (versions_kept _ _ _ _ _ _ _ s holds.keeps holds.rests)))
+    refused_so _ IsOfTarget IsOfCopy (λ r is. inr (inr (inr (inr is)))) (c.fill.ensures.sound source s.committed (subst (λ (vs : List Version). HasVersions s.committed c.args.source.now.parts.kept vs (g.S.Disk.state (disk_of c.args.source.now)).now.contents) (sym c.as_slice.ensures.items) (versions_kept _ _ _ _ _ _ _ s holds.keeps holds.rests)))
 
 pub returns-clause-already : goal.returns-clause-already
 returns-clause-already g c honest is = absurd (fill_blank _ c.fill.ensures.refusals is)
@@ -38,7 +42,7 @@ returns-clause-was_there g c honest header =
 
 pub returns-clause-copied : goal.returns-clause-copied
 returns-clause-copied g c source s holds honest =
-    c.fill.ensures.filled source s.committed (subst (λ (vs : List Version). HasVersions s.committed c.args.source.now.kept vs (g.S.Disk.state (disk_of c.args.source.now)).now.contents) (sym c.as_slice.ensures.items) (versions_kept _ _ _ _ _ _ _ s holds.keeps holds.rests)) honest
+    c.fill.ensures.filled source s.committed (subst (λ (vs : List Version). HasVersions s.committed c.args.source.now.parts.kept vs (g.S.Disk.state (disk_of c.args.source.now)).now.contents) (sym c.as_slice.ensures.items) (versions_kept _ _ _ _ _ _ _ s holds.keeps holds.rests)) honest
 
 pub returns-clause-moments : goal.returns-clause-moments
 returns-clause-moments g c source s holds honest =
@@ -47,16 +51,16 @@ returns-clause-moments g c source s holds honest =
     let synced = c.in-Ok-false.ensures.synced before (λ e. cc) in
     let none = not_true _ c.in-Ok-false.field-0-test (c.in-Ok-false.ensures.header before) in
     let P = IsCopying (in_blocks s c.args.blocks) old in
-    let has = subst (λ (vs : List Version). HasVersions s.committed c.args.source.now.kept vs (g.S.Disk.state (disk_of c.args.source.now)).now.contents) (sym c.as_slice.ensures.items) (versions_kept _ _ _ _ _ _ _ s holds.keeps holds.rests) in
+    let has = subst (λ (vs : List Version). HasVersions s.committed c.args.source.now.parts.kept vs (g.S.Disk.state (disk_of c.args.source.now)).now.contents) (sym c.as_slice.ensures.items) (versions_kept _ _ _ _ _ _ _ s holds.keeps holds.rests) in
     let looked = weaken _ _ _ P (λ m so_far. inl so_far) (c.has_header.ensures.moments before) in
     let filled = weaken _ _ _ P (λ m leaves. inr (none, leaves)) (c.fill.ensures.moments source s.committed has honest (synced.clean 0) (none_synced _ _ synced none)) in
     and_then _ _ _ P looked filled
 
 pub returns-clause-held : goal.returns-clause-held
 returns-clause-held g c source s holds =
-    held_reads _ _ _ _ _ _ c.fill.result (c.fill.ensures.held source c.args.source.now.held (subst (λ (vs : List Version). HoldsVersions c.args.source.now.held c.args.source.now.kept vs (g.S.Disk.state (disk_of c.args.source.now)).now.contents) (sym c.as_slice.ensures.items) (versions_held _ _ _ _ _ _ _ s holds.keeps holds.rests))) c.args.source.now.bits
+    held_reads _ _ _ _ _ _ c.fill.result (c.fill.ensures.held source c.args.source.now.parts.held (subst (λ (vs : List Version). HoldsVersions c.args.source.now.parts.held c.args.source.now.parts.kept vs (g.S.Disk.state (disk_of c.args.source.now)).now.contents) (sym c.as_slice.ensures.items) (versions_held _ _ _ _ _ _ _ s holds.keeps holds.rests))) c.args.source.now.parts.bits
 
 pub returns-clause-full : goal.returns-clause-full
 returns-clause-full g c source s holds is =
-    let held = c.fill.ensures.held source c.args.source.now.held (subst (λ (vs : List Version). HoldsVersions c.args.source.now.held c.args.source.now.kept vs (g.S.Disk.state (disk_of c.args.source.now)).now.contents) (sym c.as_slice.ensures.items) (versions_held _ _ _ _ _ _ _ s holds.keeps holds.rests)) in
-    omega (arith, held.lacks is, c.args.source.now.bits)
+    let held = c.fill.ensures.held source c.args.source.now.parts.held (subst (λ (vs : List Version). HoldsVersions c.args.source.now.parts.held c.args.source.now.parts.kept vs (g.S.Disk.state (disk_of c.args.source.now)).now.contents) (sym c.as_slice.ensures.items) (versions_held _ _ _ _ _ _ _ s holds.keeps holds.rests)) in
+    omega (arith, held.lacks is, c.args.source.now.parts.bits)

@@ -3,7 +3,6 @@ use Rattle.vm_disk.specs.Disk.{Contents}
 use Rattle.vm_store.specs.Refused.{IsRefused}
 use Rattle.vm_store.specs.Shown.{Shows, ShowsNothing}
 use Rattle.vm_store.proofs.OpeningLemmas.{refused_none}
-use Rattle.vm_store.proofs.SeriesLemmas.{holds_alone}
 use Rattle.vm_store.proofs.store.recovery.open.Goals as goal
 
 pub returns-in-Ok-clause-opened : goal.returns-in-Ok-clause-opened
@@ -12,8 +11,8 @@ returns-in-Ok-clause-opened g c honest =
     record {
       seen = found.seen;
       shown = subst (λ (x : Contents). Shows x found.seen) ((c.in-Ok.ensures.synced honest (λ e. cc)).same ∙ ap (λ d. (g.D.Disk.state d).now.contents) c.new-disk.ensures.inner) found.shown;
-      holds = holds_alone found.holds.blocks found.holds;
-      free = λ s holds. found.free s holds.rests;
+      holds = found.holds;
+      free = found.free;
     }
 
 pub returns-in-Err-clause-none : goal.returns-in-Err-clause-none

@@ -20,6 +20,7 @@ use Rattle.vm_store.proofs.StandingLemmas.{standing_in}
 use Rattle.vm_store.specs.Shown.{Shows}
 use Rattle.vm_store.proofs.AddedLemmas.{roots_count}
 use Rattle.vm_store.proofs.OpeningLemmas.{freed, freed_on, found_as_named, found_here, found_alike, trees_here, rests_named, shows_found, rests_found, fault_refused}
+use Rattle.vm_store.proofs.SeriesLemmas.{holds_alone}
 use Rattle.vm_store.proofs.store.recovery.read_maps.Goals as goal
 
 pub versions_twice-requires-clause-roots : goal.versions_twice-requires-clause-roots
@@ -32,6 +33,8 @@ invariant_of-result g c =
     record {
       least = head.least;
       most = head.most;
+      kept_least = head.least;
+      kept_most = omega arith;
       bits = c.replace.ensures.count ∙ c.in-Some-Ok-Ok-Ok.ensures'.count;
       mark_bits = c.in_ok-roots.ensures.count;
       before_bits = ap length c.in-Some-Ok-Ok-Ok.ensures'' ∙ length-replicate c.args.slot.blocks false;
@@ -62,11 +65,11 @@ returns-clause-holds g c honest before_clean before_store before_in_use before_s
       seen = seen;
       shown = subst (λ (n : Medium). Shows n.contents seen) (sym read) (shows_found m c.args.slot.format limit c.args.slot_name c.args.slot.entries.items clean store in_use slot inside _ found.filed found.same
           (standing_in (λ n. IsMarked c.in_ok-roots.marks n × SuitsAt (has_long c.args.slot.format) m.contents n) (SuitsAt (has_long c.args.slot.format) m.contents) m.contents m.contents limit (λ n is. refl) (λ n is. is.1) _ found.filed found.stands));
-      holds = subst (λ (n : Medium). Rests n limit c.args.slot_name c.replace.new.self c.in-Some.committed c.in-Some.working (opened seen)) (sym read)
-          (rests_named m limit c.args.slot_name c.replace.new.self _ c.in-Some.committed c.in-Some.working (opened seen) (are.0 ∙ alike) (are.1 ∙ alike) rests);
-      free = freed_on m _ limit c.args.slot_name c.replace.new.self c.in-Some.committed c.in-Some.working read
+      holds = holds_alone refl (subst (λ (n : Medium). Rests n limit c.args.slot_name c.replace.new.self c.in-Some.committed c.in-Some.working (opened seen)) (sym read)
+          (rests_named m limit c.args.slot_name c.replace.new.self _ c.in-Some.committed c.in-Some.working (opened seen) (are.0 ∙ alike) (are.1 ∙ alike) rests));
+      free = λ s holds. freed_on m _ limit c.args.slot_name c.replace.new.self c.in-Some.committed c.in-Some.working read
           (freed (has_long c.args.slot.format) m limit c.args.slot_name c.replace.new.self c.in-Some.committed c.in-Some.working c.args.slot.entries.items c.in_ok-roots.roots.items c.in_ok-roots.marks (are.0 ∙ alike) (are.1 ∙ alike)
-          (found_as_named (has_long c.args.slot.format) _ _ _ _ _ _ _ _ c.deref-2.ensures.value c.in-Some-Ok-Ok-Ok.ensures c.deref.ensures.value told) (c.replace.ensures.count ∙ c.in-Some-Ok-Ok-Ok.ensures'.count) c.replace.ensures.system c.replace.ensures.marked);
+          (found_as_named (has_long c.args.slot.format) _ _ _ _ _ _ _ _ c.deref-2.ensures.value c.in-Some-Ok-Ok-Ok.ensures c.deref.ensures.value told) (c.replace.ensures.count ∙ c.in-Some-Ok-Ok-Ok.ensures'.count) c.replace.ensures.system c.replace.ensures.marked) s holds.rests;
     }
 
 pub returns-in_err-roots-clause-refused : goal.returns-in_err-roots-clause-refused
