@@ -1,5 +1,5 @@
 -- Commands that a store carried out one after another.
-use Rattle.std.proofs.Common.{◌≡◌, ◌⊎◌, inl, inr, ℕ, zero, suc, true, false, List, [], ◌∷◌, None, Result, Ok, Err, refl, sym, ap, subst, ◌∙◌, ◌<◌, ◌≤◌, arith}
+use Rattle.std.proofs.Common.{◌≡◌, ◌⊎◌, inl, inr, ℕ, zero, suc, true, false, List, [], ◌∷◌, None, Result, Ok, Err, refl, sym, ap, subst, ◌∙◌, ◌<◌, ◌≤◌}
 use Rattle.vm_types.specs.declared.answer.Answer.{Answer}
 use Rattle.vm_types.specs.declared.command.Command.{Command}
 use Rattle.vm_types.specs.declared.command.Command.TheVariants.{Grow}
@@ -11,7 +11,7 @@ use Rattle.vm_store.specs.Store.{Holds, blocks_of, disk_of, has_failed}
 use Rattle.vm_store.specs.declared.store.Store.{Store}
 use Rattle.vm_store.proofs.QueryLemmas.{still_holds}
 use Rattle.vm_cli.specs.Feeds.{TriesSome}
-use Rattle.vm_cli.specs.Talk.{FailsInLast, Failing, GrowsFirst, Passes, Tries, after_each, answer_text, error_text, larger}
+use Rattle.vm_cli.specs.Talk.{FailsInLast, GrowsFirst, Passes, Tries, after_each, answer_text, error_text, larger}
 use Rattle.vm_cli.proofs.PassLemmas.{failed_or, grows_any, grows_both, grows_none, never_both, passes_none}
 
 -- the number that was given is the one that is counted
@@ -117,15 +117,6 @@ module _ {D : Type 0} {members : _} where
   pub tries_no_more : (left growths most : ℕ) → growths ≡ suc left → (command : Command) (old new : Store D members) (grow : Command) (answer : Result Answer Refusal) (refusal : Refusal) (text : List ℕ)
       → GrowsFirst most command old new command grow answer (Err refusal) → text ≡ error_text refusal → TriesSome growths most command old new text
   tries_no_more left growths most is command old new grow answer refusal text first says = rw is ((command, answer) ∷ ((grow, Err refusal) ∷ []), (first, says))
-
-  -- a device call failed in the second of two commands
-  pub fails_then : (old mid new : Store D members) (command next : Command) (answer : Result Answer Refusal) (refusal : Refusal) → CarriesOut old mid command answer → CarriesOut mid new next (Err refusal)
-      → has_failed new ≡ true → Failing old new
-  fails_then old mid new command next answer refusal first second failed =
-      let device = second.failed.0 failed in
-      let rises = first.performs.goes.rising in
-      let more = second.performs.goes.fault device in
-      omega (arith, rises, more)
 
   -- a store whose command was answered Full has not failed
   pub full_sound : (old new : Store D members) (command : Command) (answer : Result Answer Refusal) → CarriesOut old new command answer → answer ≡ Err Full → has_failed new ≡ false

@@ -124,10 +124,10 @@ module _ {D : Type 0} {members : _} (store : Store D members) (s : State) (holds
   few =
       let counted : entry_count (with_filed [] holds.rests.new) ≡ entry_count [] + length holds.rests.new = count_grown [] holds.rests.new order in
       let none : entry_count [] ≡ 0 = refl in
-      let long : length holds.rests.new ≡ length store.working =
-      standing_length _ _ _ store.working holds.rests.new holds.rests.stands in
+      let long : length holds.rests.new ≡ length store.parts.working =
+      standing_length _ _ _ store.parts.working holds.rests.new holds.rests.stands in
       let same : entry_count (with_filed [] holds.rests.new) ≡ entry_count s.working = ap entry_count holds.rests.gives_new in
-      let entries : length store.working ≤ 511 = subst (λ n. n ≤ 511) (slot-length store.working) holds.rests.fits.head.few in
+      let entries : length store.parts.working ≤ 511 = subst (λ n. n ≤ 511) (slot-length store.parts.working) holds.rests.fits.head.few in
       let among = few_among s.working in
       omega arith
 

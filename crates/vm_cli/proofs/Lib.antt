@@ -27,6 +27,8 @@ pub mod OthersLemmas
 pub mod VerbLemmas
 pub mod WritesLemmas
 pub mod FeedLemmas
+pub mod EndLemmas
+pub mod GrowthLemmas
 pub mod ServeLemmas
 pub mod ReadOnlyLemmas
 pub mod ExitLemmas

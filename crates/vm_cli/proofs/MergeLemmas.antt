@@ -1,5 +1,5 @@
 -- Merges with a side for all conflicts.
-use Rattle.std.proofs.Common.{◌≡◌, ◌≢◌, inl, inr, ℕ, Bool, true, false, List, Option, Some, None, Result, Ok, Err, IsOk, refl, sym, ap, subst, ◌∙◌, arith}
+use Rattle.std.proofs.Common.{◌≡◌, ◌≢◌, inl, inr, ℕ, Bool, true, false, List, Option, Some, None, Result, Ok, Err, IsOk, refl, sym, ap, subst, ◌∙◌}
 use Rattle.vm_types.specs.Queries.{IsListing, conflicts_in}
 use Rattle.vm_types.specs.State.{State}
 use Rattle.vm_types.specs.declared.change.Conflict.{Conflict}
@@ -10,18 +10,19 @@ use Rattle.vm_types.specs.declared.key.Key.{Key}
 use Rattle.vm_types.specs.declared.refusal.Refusal.{Refusal}
 use Rattle.vm_types.specs.declared.refusal.Refusal.TheVariants.{Failed, Memory}
 use Rattle.vm_store.specs.Queries.{Queries}
-use Rattle.vm_store.specs.Store.{GrowsOn, Holds, has_failed}
+use Rattle.vm_store.specs.Store.{Holds, has_failed}
 use Rattle.vm_store.specs.declared.store.Store.{Store}
 use Rattle.vm_cli.specs.Asking.{Request}
-use Rattle.vm_cli.specs.Feeds.{AnswersBy, AsksBy, HandlesRequest}
+use Rattle.vm_cli.specs.Feeds.{AsksBy, HandlesRequest}
 use Rattle.vm_cli.specs.Replies.{ends_talk, reply_text}
 use Rattle.vm_cli.specs.Requests.{asked_in, limit_of}
 use Rattle.vm_cli.specs.Settlements.{for_all}
-use Rattle.vm_cli.specs.Talk.{AnsweredRequest, AnswersWithin, Done, FailsByDevice, Failing, Meets, Passes, RefusesMerge, Stood, after_line, error_text}
+use Rattle.vm_cli.specs.Talk.{AnsweredRequest, AnswersWithin, Done, Meets, Passes, RefusesMerge, Stood, after_line, error_text}
 use Rattle.vm_cli.specs.declared.answers.reply.Reply.{Reply}
 use Rattle.vm_cli.specs.declared.answers.reply.Reply.TheVariants as reply
 use Rattle.vm_cli.specs.declared.talk.OnCommand.{OnCommand}
 use Rattle.vm_cli.specs.declared.talk.OnCommand.TheVariants.{CarryOut, GrowIfFull, Refuse}
+use Rattle.vm_cli.proofs.EndLemmas.{ends_after}
 use Rattle.vm_cli.proofs.HandledLemmas.{refusal_handled, request_as, told}
 use Rattle.vm_cli.proofs.PassLemmas.{goes_any, grows_both, never_both, passes_command, passes_reads}
 use Rattle.vm_cli.proofs.TalkLemmas.{was_sound}
@@ -50,10 +51,12 @@ module _ {D : Type 0} {members : _} (on : OnCommand) (not : on ≢ Refuse) (alt 
   -- it is refused before it begins
   refused_by : (reply : Reply) → ((s : State) → HandlesRequest old mid s asked (reply_text reply) (ends_talk reply)) → (has_failed old ≡ false → ends_talk reply ≡ has_failed mid) → AsksBy (asked_in on (Request.MergeAll None alt side settled)) reply old mid
   refused_by reply handled last = record {
-    goes = asks.goes;
-    last = last;
-    failing = λ sound failed. absurd (never_both _ (same ∙ sound) failed);
-    left = left;
+    store = record {
+      goes = asks.goes;
+      last = last;
+      failing = λ sound failed. absurd (never_both _ (same ∙ sound) failed);
+      left = left;
+    };
     answers = λ s. request_as old mid s _ asked (all_in on alt side settled not) _ _ (handled s);
   }
 
@@ -98,18 +101,11 @@ module _ {D : Type 0} {members : _} (on : OnCommand) (not : on ≢ Refuse) (alt 
         either (inl (fine, last, meets)) = go last handled.done refl (within mid new s command on text handled.done not meets)
         either (inr (failed, left, none, says)) = absurd (never_both _ (same ∙ sound) failed)
 
-    merged_by : (reply : Reply) → GrowsOn ⊥ mid new → (has_failed mid ≡ false → ends_talk reply ≡ has_failed new) → FailsByDevice mid new → AnswersBy (asked_in on (Request.Command command)) reply mid new
-        → AsksBy (asked_in on (Request.MergeAll None alt side settled)) reply old new
-    merged_by reply goes last failing answers = record {
-      goes = grows_both _ _ _ asks.goes goes;
-      last = λ was. last (same ∙ was);
-      failing = λ was failed. rises (failing (same ∙ was) failed);
-      left = λ failed. absurd (never_both _ sound failed);
-      answers = λ s. request_as old new s _ asked (all_in on alt side settled not) _ _ (merged s (reply_text reply) (ends_talk reply) (answers s));
+    merged_by : (reply : Reply) → AsksBy (asked_in on (Request.Command command)) reply mid new → AsksBy (asked_in on (Request.MergeAll None alt side settled)) reply old new
+    merged_by reply by = record {
+      store = ends_after old mid new asks.goes sound (same ∙ sound) (Ok reply) by.store;
+      answers = λ s. request_as old new s _ asked (all_in on alt side settled not) _ _ (merged s (reply_text reply) (ends_talk reply) (by.answers s));
     }
-      where
-        rises : Failing mid new → Failing old new
-        rises more = omega (arith, asks.goes.rising, more)
 
 -- a merge by what a query for the conflicts answered
 module _ {D : Type 0} {members : _} (on : OnCommand) (not : on ≢ Refuse) (alt : List ℕ) (side : Side) (settled : List (Key × Side)) (old mid : Store D members) (answer : Result (List Conflict) Refusal)
@@ -151,6 +147,6 @@ module _ {D : Type 0} {members : _} (on : OnCommand) (not : on ≢ Refuse) (alt 
           due = λ stood. inl (subst (λ (r : Result (List Conflict) Refusal). IsOk r) (sym (listed s stood)) refl, inr refl);
         })
 
-    pub all_merged : (new : Store D members) (reply : Reply) → GrowsOn ⊥ mid new → (has_failed mid ≡ false → ends_talk reply ≡ has_failed new) → FailsByDevice mid new
-        → AnswersBy (asked_in on (Request.Command (Merge alt (for_all side settled conflicts)))) reply mid new → AsksBy (asked_in on (Request.MergeAll None alt side settled)) reply old new
+    pub all_merged : (new : Store D members) (reply : Reply) → AsksBy (asked_in on (Request.Command (Merge alt (for_all side settled conflicts)))) reply mid new
+        → AsksBy (asked_in on (Request.MergeAll None alt side settled)) reply old new
     all_merged new = merged_by on not alt side settled old mid asked_for said.failed said.no_calls stands new conflicts listed sound

@@ -11,6 +11,7 @@ use Rattle.vm_store.specs.Growth.{Grows}
 use Rattle.vm_store.specs.Store.{GoesOn, GrowsOn, IsSameButDisk, has_failed, disk_of}
 use Rattle.vm_store.specs.declared.store.Store.{Store}
 use Rattle.vm_store.proofs.LongerLemmas.{goes_grow}
+use Rattle.vm_store.proofs.QueryLemmas.{same_store}
 use Rattle.vm_cli.specs.Talk.{Passes}
 
 -- a store has failed or it hasn't
@@ -49,24 +50,6 @@ grows_both old mid new first second = record {
 }
 
 module _ {D : Type 0} {members : _} where
-  -- a store is as it was
-  same_store : (store : Store D members) → IsSameButDisk store store
-  same_store store = record {
-    alloc = refl;
-    blocks = refl;
-    kept = refl;
-    slot_name = refl;
-    entries = refl;
-    committed = refl;
-    working = refl;
-    held = refl;
-    marks = refl;
-    before = refl;
-    series = refl;
-    changes = refl;
-    failed = refl;
-  }
-
   -- a store passes into itself
   pub passes_none : (store : Store D members) → Passes store store None
   passes_none store = record {

@@ -32,17 +32,7 @@ module _ {D : Type 0} {members : _} where
   same_again : (old mid new : Store D members) → IsSameButDisk old mid → IsSameButDisk mid new → IsSameButDisk old new
   same_again old mid new first second = record {
     alloc = second.alloc ∙ first.alloc;
-    blocks = second.blocks ∙ first.blocks;
-    kept = second.kept ∙ first.kept;
-    slot_name = second.slot_name ∙ first.slot_name;
-    entries = second.entries ∙ first.entries;
-    committed = second.committed ∙ first.committed;
-    working = second.working ∙ first.working;
-    held = second.held ∙ first.held;
-    marks = second.marks ∙ first.marks;
-    before = second.before ∙ first.before;
-    series = second.series ∙ first.series;
-    changes = second.changes ∙ first.changes;
+    parts = second.parts ∙ first.parts;
     failed = second.failed ∙ first.failed;
   }
 

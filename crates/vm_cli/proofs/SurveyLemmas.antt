@@ -27,17 +27,7 @@ module _ {D : Type 0} {members : _} where
         let a = first.unchanged e in
         let b = second.unchanged e in record {
           alloc = b.alloc ∙ a.alloc;
-          blocks = b.blocks ∙ a.blocks;
-          kept = b.kept ∙ a.kept;
-          slot_name = b.slot_name ∙ a.slot_name;
-          entries = b.entries ∙ a.entries;
-          committed = b.committed ∙ a.committed;
-          working = b.working ∙ a.working;
-          held = b.held ∙ a.held;
-          marks = b.marks ∙ a.marks;
-          before = b.before ∙ a.before;
-          series = b.series ∙ a.series;
-          changes = b.changes ∙ a.changes;
+          parts = b.parts ∙ a.parts;
           failed = b.failed ∙ a.failed;
         };
   }
@@ -46,8 +36,7 @@ module _ {D : Type 0} {members : _} where
   pub still_holds : (old new : Store D members) → Passes old new None → (members.state (disk_of new)).honest ≡ true → (s : State) → Holds old s → Holds new s
   still_holds old new passes honest s holds =
       let same = passes.unchanged refl in
-      let medium = same_medium _ _ (passes.reads honest refl) in
-      rw (medium, same.blocks, same.kept, same.slot_name, same.held, same.before, same.series, same.committed, same.working) holds
+      rw (same_medium _ _ (passes.reads honest refl), same.parts) holds
 
 module _ {D : Type 0} {members : _} (store : Store D members) (s : State) (holds : Holds store s) (listed : List (List ℕ × Option (List ℕ))) (is : listed ≡ shape s.working) where
   -- all are drawn

@@ -89,7 +89,7 @@ module _ {D : Type 0} {members : _} where
 
   -- before a command a crash shows what is committed
   stands_show : (store : Store D members) (s : State) → Holds store s → ShowsCommitted s (members.state (disk_of store)).now
-  stands_show store s holds = rests_show (members.state (disk_of store)).now store.blocks store.slot_name store.held store.committed store.working s holds.rests
+  stands_show store s holds = rests_show (members.state (disk_of store)).now store.parts.blocks store.parts.slot_name store.parts.held store.parts.committed store.parts.working s holds.rests
 
   module _ (start : DiskState) (s : State) where
     -- the lines so far, up to this store

@@ -1,6 +1,6 @@
 -- How a talk goes on inside: answers that are written in part, and bytes that are fed to it.
-use Rattle.std.specs.Prelude.{◌≡◌, ◌≢◌, ◌⊎◌, ◌+◌, ◌≤◌, ℕ, Bool, true, false, List, [], ◌++◌, Option, None, Result, Ok, Err, IfOk, OnErr, OnOk, flat_map, length}
-use Rattle.std.specs.Io.KnownBytes.{Appends}
+use Rattle.std.specs.Prelude.{◌≡◌, ◌≢◌, ◌⊎◌, ◌+◌, ◌≤◌, ℕ, Bool, true, false, List, [], ◌++◌, Option, None, Result, Ok, Err, IfErr, IfOk, OnErr, OnOk, flat_map, length}
+use Rattle.std.specs.Io.KnownBytes.{Appends, IsAtEnd}
 use Rattle.vm_types.specs.State.{State}
 use Rattle.vm_types.specs.declared.answer.Answer.{Answer}
 use Rattle.vm_types.specs.declared.command.Command.{Command}
@@ -11,10 +11,10 @@ use Rattle.vm_cli.specs.declared.answers.text.TheConstants.Text.{MAX_LEN}
 use Rattle.vm_cli.specs.Carried.{WritesStart, Carries}
 use Rattle.vm_cli.specs.Lines.{lines_of}
 use Rattle.vm_cli.specs.Replies.{ends_talk, is_error, reply_text}
-use Rattle.vm_store.specs.Store.{GrowsOn, has_failed}
+use Rattle.vm_store.specs.Store.{GoesOn, GrowsOn, has_failed}
 use Rattle.vm_cli.specs.Input.{HoldsLine}
 use Rattle.vm_cli.specs.Requests.{asked_in, request_of}
-use Rattle.vm_cli.specs.Talk.{AnsweredRequest, Done, FailsByDevice, Handled, HandlesLine, HasTalked, Serves, ServesLines, Tries, error_text}
+use Rattle.vm_cli.specs.Talk.{AnsweredRequest, Done, EndsBy, FailsByDevice, Handled, HandlesLine, HasTalked, Serves, ServesLines, StoreFails, Tries, error_text}
 use Rattle.vm_cli.specs.declared.lines.line.Line.{Line}
 use Rattle.vm_cli.specs.declared.answers.reply.Reply.{Reply}
 use Rattle.vm_cli.specs.declared.answers.reply.Reply.TheVariants.{End}
@@ -23,6 +23,7 @@ use Rattle.vm_cli.specs.declared.talk.Manner.{Manner}
 use Rattle.vm_cli.specs.declared.talk.OnCommand.{OnCommand}
 use Rattle.vm_cli.specs.declared.talk.OnRefusal.TheVariants.{Stop}
 use Rattle.vm_cli.specs.declared.talk.ServeFault.{ServeFault}
+use Rattle.vm_cli.specs.declared.talk.Session.{Session}
 use Rattle.vm_cli.specs.declared.talk.ServeFault.TheVariants as fault
 use Rattle.vm_cli.specs.declared.answers.output.WriteFault.{WriteFault}
 
@@ -111,13 +112,17 @@ module _ {D : Type 0} {members : _} where
   AnswersWith request reply text old new =
       (s : State) → HandlesRequest old new s request (text ++ reply_text reply) (ends_talk reply) × (is_error (text ++ reply_text reply) ≡ is_error (reply_text reply))
 
-  -- a request is handled, and this reply is the answer. On any disk it ends the talk just where the store fails in it, as a
-  -- device call did; a store that had failed is left as it was
-  pub record AsksBy (request : Request) (reply : Reply) (old new : Store D members) : Type 0 where
+  -- on any disk the reply ends the talk exactly if the store fails in it, which only a failed device call brings about; a store
+  -- that had failed is left as it was
+  pub record EndsIfFailed (result : Result Reply WriteFault) (old new : Store D members) : Type 0 where
     pub goes : GrowsOn ⊥ old new
-    pub last : has_failed old ≡ false → ends_talk reply ≡ has_failed new
+    pub last : has_failed old ≡ false → IfOk result (λ reply. ends_talk reply ≡ has_failed new)
     pub failing : FailsByDevice old new
     pub left : has_failed old ≡ true → new ≡ old
+
+  -- a request is handled, and this reply is the answer
+  pub record AsksBy (request : Request) (reply : Reply) (old new : Store D members) : Type 0 where
+    pub store : EndsIfFailed (Ok reply) old new
     pub answers : AnswersBy request reply old new
 
   -- so is what the words of a line ask for
@@ -128,9 +133,44 @@ module _ {D : Type 0} {members : _} where
   abbrev pub HandlesIn : OnCommand → List (List ℕ) → Reply → Store D members → Store D members → Type 0
   HandlesIn on words reply old new = AsksBy (asked_in on (request_of words)) reply old new
 
-  -- a reply ends the talk just where the store, which had not failed, failed in it
-  abbrev pub EndsIfFailed : Result Reply WriteFault → Store D members → Store D members → Type 0
-  EndsIfFailed result old new = has_failed old ≡ false → IfOk result (λ reply. ends_talk reply ≡ has_failed new)
+  -- a command is carried out, for which the store may grow so often; one that had failed answers Failed
+  pub record TriesBy (left most : ℕ) (command : Command) (reply : Reply) (old new : Store D members) : Type 0 where
+    pub store : EndsIfFailed (Ok reply) old new
+    pub refused : has_failed old ≡ true → (reply_text reply ≡ error_text Failed) × (ends_talk reply ≡ true)
+    pub tried : has_failed old ≡ false → TriesSome left most command old new (reply_text reply)
+
+  -- on any disk the reply to a query ends no talk, and the store fails in none; one that had failed is left as it was
+  pub record NeverEnds (reply : Reply) (old new : Store D members) : Type 0 where
+    pub goes : GoesOn ⊥ old new
+    pub failed : has_failed new ≡ has_failed old
+    pub last : has_failed old ≡ false → ends_talk reply ≡ false
+    pub left : has_failed old ≡ true → new ≡ old
+
+  -- a query is handled, and this reply is the answer
+  pub record QueriesBy (request : Request) (reply : Reply) (old new : Store D members) : Type 0 where
+    pub store : NeverEnds reply old new
+    pub answers : AnswersBy request reply old new
+
+  -- a query is handled, and its answer is what the text has, which has room for a last line, and this reply
+  pub record QueriesWith (request : Request) (reply : Reply) (text : List ℕ) (old new : Store D members) : Type 0 where
+    pub room : length text + 1024 ≤ MAX_LEN
+    pub store : NeverEnds reply old new
+    pub answers : AnswersWith request reply text old new
+
+  -- on any disk bytes of a talk end it with Store only if the store failed in them, as a device call did; one that had failed is
+  -- left as it was
+  pub record TalksOn (result : Result Bool ServeFault) (old new : Store D members) : Type 0 where
+    pub goes : GrowsOn ⊥ old new
+    pub ok : has_failed old ≡ false → OnOk result (has_failed new ≡ false)
+    pub err : has_failed old ≡ false → IfErr result (EndsBy old new)
+    pub left : has_failed old ≡ true → new ≡ old
+
+  -- so does a whole talk, which may also end since the reader failed
+  pub record ServesOn (result : Result Bool ServeFault) (old new : Store D members) : Type 0 where
+    pub goes : GrowsOn ⊥ old new
+    pub ok : has_failed old ≡ false → OnOk result (has_failed new ≡ false)
+    pub err : has_failed old ≡ false → IfErr result (StoreFails old new)
+    pub left : has_failed old ≡ true → new ≡ old
 
 -- a reply ends no talk where a command was answered neither that the device failed nor that the store had
 abbrev pub TalkGoesOn : Result Answer Refusal → Reply → Type 0
@@ -138,50 +178,61 @@ TalkGoesOn answer reply = answer ≢ Err Device → answer ≢ Err Failed → en
 
 -- for each state, and the bytes of a line so far
 module _ {D W : Type 0} {members : _} (contents : W → Option (List ℕ)) where
-  -- the line is handled, and its answer written
-  abbrev pub AnswersLine : Manner → Line → Result Bool ServeFault → Store D members → Store D members → W → W → Type 0
-  AnswersLine on line result old new writer writer' =
-      (s : State) → (part : List ℕ) → HoldsLine line part → Writes on (HandlesLine old new s on part) result (contents writer) (contents writer')
-
-  -- the line is handled, and of its answer the rest is still to be written
-  abbrev pub RepliesToLine : Manner → Line → Result Reply WriteFault → Store D members → Store D members → W → W → List ℕ → Type 0
-  RepliesToLine on line result old new writer writer' rest =
-      (s : State) → (part : List ℕ) → HoldsLine line part → Replies (HandlesLine old new s on part) result (contents writer) (contents writer') rest
-
-  -- so is a request
-  abbrev pub RepliesToRequest : Request → Result Reply WriteFault → Store D members → Store D members → W → W → List ℕ → Type 0
-  RepliesToRequest request result old new writer writer' rest =
-      (s : State) → Replies (HandlesOrWants old new s request) result (contents writer) (contents writer') rest
-
-  -- a request is handled, and of its answer the rest, behind which there is room for a last line, is still to be written.
-  -- On any disk the talk ends with it just where the store fails in it, as a device call did; a store that had failed is left as it was
+  -- a request is handled, and of its answer the rest, after which there is room for a last line, is still to be written
   pub record AsksInto (request : Request) (result : Result Reply WriteFault) (old new : Store D members) (writer writer' : W) (rest : List ℕ) : Type 0 where
     pub room : OnOk result (length rest + 1024 ≤ MAX_LEN)
-    pub goes : GrowsOn ⊥ old new
-    pub last : EndsIfFailed result old new
-    pub failing : FailsByDevice old new
-    pub left : has_failed old ≡ true → new ≡ old
-    pub answers : RepliesToRequest request result old new writer writer' rest
+    pub store : EndsIfFailed result old new
+    pub answers : (s : State) → Replies (HandlesOrWants old new s request) result (contents writer) (contents writer') rest
 
   -- so is what the words of a line ask for
   abbrev pub HandlesInto : List (List ℕ) → Result Reply WriteFault → Store D members → Store D members → W → W → List ℕ → Type 0
   HandlesInto words result old new writer writer' rest = AsksInto (request_of words) result old new writer writer' rest
 
-  -- these bytes are answered, up to those of another line
-  abbrev pub FeedsLine : Manner → List ℕ → Line → Line → Result Bool ServeFault → Store D members → Store D members → W → W → Type 0
-  FeedsLine on bytes line line' result old new writer writer' =
-      (s : State) → (from : List ℕ) → HoldsLine line from
-      → IfOk result (λ refused. (to : List ℕ) × HoldsLine line' to × Fed old new s on refused bytes from to (contents writer) (contents writer'))
-
-  -- a talk over these bytes and any more ends among these
-  abbrev pub EndsAmong : Manner → List ℕ → Line → Result Bool ServeFault → Store D members → Store D members → W → W → Type 0
-  EndsAmong on bytes line result old new writer writer' =
-      (s : State) → (from : List ℕ) → HoldsLine line from → (more : List ℕ)
-      → OnErr result (ServesLines old new s on result (contents writer) (contents writer') (lines_of (from ++ (bytes ++ more))))
-
   -- a talk over what the reader has to give
   abbrev pub ServesEach : Manner → Result Bool ServeFault → Store D members → Store D members → Option (List ℕ) → W → W → Type 0
   ServesEach on result old new known writer writer' = (s : State) → Serves old new s on result (contents writer) (contents writer') known
+
+-- a session goes on with the same store, writer and manner
+abbrev pub Stays : {D W : Type 0} {members : _} → Session W D members → Session W D members → Type 0
+Stays old new = (new.store.ghost_name ≡ old.store.ghost_name) × (new.writer.ghost_name ≡ old.writer.ghost_name) × (new.manner ≡ old.manner)
+
+-- what a session did in a call, for each state, and the bytes of a line so far
+module _ {D W : Type 0} {members : _} (contents : W → Option (List ℕ)) where
+  -- a request is handled
+  pub record Asks (request : Request) (result : Result Reply WriteFault) (old new : Session W D members) : Type 0 where
+    pub same : Stays old new
+    pub asks : AsksInto contents request result old.store.now new.store.now old.writer.now new.writer.now new.text
+
+  -- the line is handled, and of its answer the rest, after which there is room for a last line, is still to be written
+  pub record RepliesToLine (on : Manner) (line : Line) (result : Result Reply WriteFault) (old new : Session W D members) : Type 0 where
+    pub same : Stays old new
+    pub room : OnOk result (length new.text + 1024 ≤ MAX_LEN)
+    pub store : EndsIfFailed result old.store.now new.store.now
+    pub answer : (s : State) → (part : List ℕ) → HoldsLine line part
+        → Replies (HandlesLine old.store.now new.store.now s on part) result (contents old.writer.now) (contents new.writer.now) new.text
+
+  -- the line is handled, and its answer written
+  pub record AnswersLine (on : Manner) (line : Line) (result : Result Bool ServeFault) (old new : Session W D members) : Type 0 where
+    pub same : Stays old new
+    pub store : TalksOn result old.store.now new.store.now
+    pub answer : (s : State) → (part : List ℕ) → HoldsLine line part
+        → Writes on (HandlesLine old.store.now new.store.now s on part) result (contents old.writer.now) (contents new.writer.now)
+
+  -- these bytes are answered, up to those of another line; or a talk over them and any more ends among them
+  pub record FeedsLine (on : Manner) (bytes : List ℕ) (line line' : Line) (result : Result Bool ServeFault) (old new : Session W D members) : Type 0 where
+    pub same : Stays old new
+    pub store : TalksOn result old.store.now new.store.now
+    pub fed : (s : State) → (from : List ℕ) → HoldsLine line from
+        → IfOk result (λ refused. (to : List ℕ) × HoldsLine line' to × Fed old.store.now new.store.now s on refused bytes from to (contents old.writer.now) (contents new.writer.now))
+    pub ended : (s : State) → (from : List ℕ) → HoldsLine line from → (more : List ℕ)
+        → OnErr result (ServesLines old.store.now new.store.now s on result (contents old.writer.now) (contents new.writer.now) (lines_of (from ++ (bytes ++ more))))
+
+  -- the lines of the input are answered, as far as the talk goes on: what the reader had to give, and has left, are these
+  pub record RunsToEnd (on : Manner) (result : Result Bool ServeFault) (old new : Session W D members) (known rest : Option (List ℕ)) : Type 0 where
+    pub same : Stays old new
+    pub end : OnOk result (IsAtEnd rest)
+    pub store : ServesOn result old.store.now new.store.now
+    pub answers : ServesEach contents on result old.store.now new.store.now known old.writer.now new.writer.now
 
 -- a list is answered so, to a writer
 abbrev pub RepliesWithList : {T W : Type 0} → (T → List (List ℕ)) → (W → Option (List ℕ)) → Result T Refusal → Result Reply WriteFault → W → W → List ℕ → Type 0

@@ -8,12 +8,12 @@ pub mod queries;
 ghost use Rattle.std.specs.Prelude.{◌≡◌, ◌+◌, ◌≤◌, ◌++◌, ◌∷◌, [], length, true, false, None, IfErr, OnErr, OnOk};
 ghost use Rattle.std.specs.Io.KnownBytes.{IsAtEnd};
 ghost use Rattle.vm_cli.specs.Carried.{Begins, Gains};
-ghost use Rattle.vm_cli.specs.Feeds.{AnswersLine, EndsAmong, EndsIfFailed, FeedsLine, AsksInto, RepliesToLine, RepliesToRequest, ServesEach};
+ghost use Rattle.vm_cli.specs.Feeds.{ServesEach};
 ghost use Rattle.vm_cli.specs.Lines.{IsPart};
 ghost use Rattle.vm_cli.specs.Replies.{reply_text};
 ghost use Rattle.vm_cli.specs.Requests.{asked_in, request_of};
 ghost use Rattle.vm_cli.specs.Spaces.{words_of};
-ghost use Rattle.vm_cli.specs.Talk.{EndsBy, FailsByDevice, Passes, StoreFails};
+ghost use Rattle.vm_cli.specs.Talk.{Passes, StoreFails};
 ghost use Rattle.vm_store.specs.Store.{has_failed, GrowsOn};
 
 use crate::answers::output::{WriteFault, flush, put_all};
@@ -122,129 +122,186 @@ pub fn serve<R: Read, W: Write, D: Disk>(
     // is left as it was.
     ensures reads { manner.on_command ≡ OnCommand.Refuse → Passes store.old store.new None }
 {
-    let mut line = Line::new(alloc);
-    let mut text = Text::new();
+    let mut session = Session {
+        alloc,
+        manner,
+        text: Text::new(),
+        room: [0; 4096],
+        writer,
+        store,
+    };
+    session.run(reader)
+}
+
+/// A session: the store that its lines are about, where their answers go, and what they share.
+#[derive(Drop)]
+struct Session<'a, W, D: Disk> {
+    alloc: Global,
+    manner: Manner,
+    // Answers are composed in it. Nothing is kept in it from line to line.
+    text: Text,
     // Values are read into this buffer, and nothing is kept in it. All lines share it, so that none
     // has to fill it with zeros.
-    let mut room = [0; 4096];
-    let mut chunk = [0; 8192];
-    let mut refused = false;
-    for _ in 0..u64::MAX {
-        match reader.read(&mut chunk) {
-            Ok(0) => {
-                if line.is_empty {
-                    return Ok(refused);
+    room: [u8; 4096],
+    writer: &'a mut W,
+    store: &'a mut Store<D>,
+}
+
+impl<'a, W: Write, D: Disk> Session<'a, W, D> {
+    ghost use Rattle.vm_cli.specs.Feeds.{AnswersLine, Asks, FeedsLine, RepliesToLine, RunsToEnd};
+
+    /// Reads lines to the end of the input, and answers each in order.
+    fn run<R: Read>(&mut self, reader: &mut R) -> Result<bool, ServeFault>
+        ensures { RunsToEnd W.contents self.old.manner result self.old self.new
+            (R.remaining reader.old) (R.remaining reader.new) }
+    {
+        let mut line = Line::new(self.alloc);
+        let mut chunk = [0; 8192];
+        let mut refused = false;
+        for _ in 0..u64::MAX {
+            match reader.read(&mut chunk) {
+                Ok(0) => {
+                    if line.is_empty {
+                        return Ok(refused);
+                    }
+                    let last = self.answer(&line)?;
+                    return Ok(refused | last);
                 }
-                let last = answer(alloc, &line, &mut text, &mut room, writer, store, manner)?;
-                return Ok(refused | last);
+                Ok(count) => {
+                    let bytes = &chunk[..count];
+                    refused |= self.feed(bytes, &mut line)?;
+                }
+                Err(_) => return Err(ServeFault::Read),
             }
-            Ok(count) => {
-                let bytes = &chunk[..count];
-                refused |= feed(
-                    alloc, bytes, &mut line, &mut text, &mut room, writer, store, manner,
-                )?;
+        }
+        Err(ServeFault::Read)
+    }
+
+    /// Takes more bytes of the input, and answers each line that ends in them. An `Ok` says whether
+    /// any was refused.
+    fn feed(&mut self, bytes: &[u8], line: &mut Line) -> Result<bool, ServeFault>
+        ensures { FeedsLine W.contents self.old.manner bytes.now line.old line.new result
+            self.old self.new }
+    {
+        let mut rest = bytes;
+        let mut refused = false;
+        while let Some(end) = memchr(b'\n', rest) {
+            refused |= self.feed_line(&rest[..end], line)?;
+            rest = &rest[end + 1..];
+        }
+        line.extend(rest);
+        Ok(refused)
+    }
+
+    /// Takes the last bytes of a line, without its line feed, and answers it. An `Ok` says whether
+    /// it was refused.
+    fn feed_line(&mut self, bytes: &[u8], line: &mut Line) -> Result<bool, ServeFault>
+        requires { IsPart bytes.now }
+        ensures { FeedsLine W.contents self.old.manner (bytes.now ++ 10 ∷ []) line.old line.new result
+            self.old self.new }
+    {
+        line.extend(bytes);
+        let refused = self.answer(line)?;
+        line.clear();
+        Ok(refused)
+    }
+
+    /// Carries out a line and writes its answer. An `Ok` says whether the line was refused.
+    fn answer(&mut self, line: &Line) -> Result<bool, ServeFault>
+        ensures { AnswersLine W.contents self.old.manner line.now result self.old self.new }
+    {
+        self.text.clear();
+        let Ok(reply) = self.reply_to(line) else {
+            return Err(ServeFault::Write);
+        };
+        let Ok(()) = send(reply, &mut self.text, self.writer) else {
+            return Err(ServeFault::Write);
+        };
+        if reply.is_last() {
+            return Err(ServeFault::Store);
+        }
+        if reply.is_refusal() {
+            match self.manner.on_refusal {
+                OnRefusal::Ignore => return Ok(true),
+                OnRefusal::Tell => return Ok(true),
+                OnRefusal::Stop => return Err(ServeFault::Refused),
             }
-            Err(_) => return Err(ServeFault::Read),
+        }
+        Ok(false)
+    }
+
+    /// Carries out a line. The text takes the lines of a list except the last one, and what does
+    /// not fit is written. The last line of the answer is returned.
+    fn reply_to(&mut self, line: &Line) -> Result<Reply, WriteFault>
+        requires { self.old.text ≡ [] }
+        ensures { RepliesToLine W.contents self.old.manner line.now result self.old self.new }
+    {
+        match line.kind {
+            LineKind::Long => Ok(Reply::LongLine),
+            LineKind::NoMemory => Ok(Reply::Refused(Refusal::Memory)),
+            LineKind::Kept => self.reply_to_words(line.text()),
         }
     }
-    Err(ServeFault::Read)
-}
 
-/// Takes more bytes of the input, and answers each line that ends in them. An `Ok` says whether any
-/// was refused.
-fn feed<W: Write, D: Disk>(
-    alloc: Global,
-    bytes: &[u8],
-    line: &mut Line,
-    text: &mut Text,
-    room: &mut [u8; 4096],
-    writer: &mut W,
-    store: &mut Store<D>,
-    manner: Manner,
-) -> Result<bool, ServeFault>
-    ensures goes { GrowsOn ⊥ store.old store.new }
-    ensures ok { has_failed store.old ≡ false → OnOk result (has_failed store.new ≡ false) }
-    ensures err { has_failed store.old ≡ false → IfErr result (EndsBy store.old store.new) }
-    ensures left { has_failed store.old ≡ true → store.new ≡ store.old }
-    ensures fed { FeedsLine W.contents manner bytes.now line.old line.new result
-        store.old store.new writer.old writer.new }
-    ensures ended { EndsAmong W.contents manner bytes.now line.old result
-        store.old store.new writer.old writer.new }
-{
-    let mut rest = bytes;
-    let mut refused = false;
-    while let Some(end) = memchr(b'\n', rest) {
-        refused |= feed_line(alloc, &rest[..end], line, text, room, writer, store, manner)?;
-        rest = &rest[end + 1..];
+    /// Carries out a line whose bytes are held.
+    fn reply_to_words(&mut self, line: &[u8]) -> Result<Reply, WriteFault>
+        requires { self.old.text ≡ [] }
+        ensures { Asks W.contents (asked_in self.old.manner.on_command (request_of (words_of line.now)))
+            result self.old self.new }
+    {
+        let Some((verb, rest)) = first_word(line) else {
+            return Ok(Reply::Nothing);
+        };
+        self.reply_to_verb(verb, rest)
     }
-    line.extend(rest);
-    Ok(refused)
-}
 
-/// Takes the last bytes of a line, without its line feed, and answers it. An `Ok` says whether it
-/// was refused.
-fn feed_line<W: Write, D: Disk>(
-    alloc: Global,
-    bytes: &[u8],
-    line: &mut Line,
-    text: &mut Text,
-    room: &mut [u8; 4096],
-    writer: &mut W,
-    store: &mut Store<D>,
-    manner: Manner,
-) -> Result<bool, ServeFault>
-    requires { IsPart bytes.now }
-    ensures goes { GrowsOn ⊥ store.old store.new }
-    ensures ok { has_failed store.old ≡ false → OnOk result (has_failed store.new ≡ false) }
-    ensures err { has_failed store.old ≡ false → IfErr result (EndsBy store.old store.new) }
-    ensures left { has_failed store.old ≡ true → store.new ≡ store.old }
-    ensures fed { FeedsLine W.contents manner (bytes.now ++ 10 ∷ []) line.old line.new result
-        store.old store.new writer.old writer.new }
-    ensures ended { EndsAmong W.contents manner (bytes.now ++ 10 ∷ []) line.old result
-        store.old store.new writer.old writer.new }
-{
-    line.extend(bytes);
-    let refused = answer(alloc, line, text, room, writer, store, manner)?;
-    line.clear();
-    Ok(refused)
-}
-
-/// Carries out a line and writes its answer. The answer is composed in the text, of which nothing
-/// is kept. An `Ok` says whether the line was refused.
-fn answer<W: Write, D: Disk>(
-    alloc: Global,
-    line: &Line,
-    text: &mut Text,
-    room: &mut [u8; 4096],
-    writer: &mut W,
-    store: &mut Store<D>,
-    manner: Manner,
-) -> Result<bool, ServeFault>
-    ensures goes { GrowsOn ⊥ store.old store.new }
-    ensures ok { has_failed store.old ≡ false → OnOk result (has_failed store.new ≡ false) }
-    ensures err { has_failed store.old ≡ false → IfErr result (EndsBy store.old store.new) }
-    ensures left { has_failed store.old ≡ true → store.new ≡ store.old }
-    ensures answer { AnswersLine W.contents manner line.now result
-        store.old store.new writer.old writer.new }
-{
-    text.clear();
-    let Ok(reply) = reply_to(alloc, line, text, room, writer, store, manner) else {
-        return Err(ServeFault::Write);
-    };
-    let Ok(()) = send(reply, text, writer) else {
-        return Err(ServeFault::Write);
-    };
-    if reply.is_last() {
-        return Err(ServeFault::Store);
-    }
-    if reply.is_refusal() {
-        match manner.on_refusal {
-            OnRefusal::Ignore => return Ok(true),
-            OnRefusal::Tell => return Ok(true),
-            OnRefusal::Stop => return Err(ServeFault::Refused),
+    /// Carries out a line by its first word, given the words after it. Each kind of line has a stack
+    /// frame of its own, since a command has room for a value. So the session's own frame stays
+    /// small.
+    fn reply_to_verb(&mut self, verb: &[u8], rest: &[u8]) -> Result<Reply, WriteFault>
+        requires { self.old.text ≡ [] }
+        ensures { Asks W.contents (asked_in self.old.manner.on_command (request_of (verb.now ∷ words_of rest.now)))
+            result self.old self.new }
+    {
+        let alloc = self.alloc;
+        let on = self.manner.on_command;
+        let text = &mut self.text;
+        let out = &mut *self.writer;
+        let store = &mut *self.store;
+        match verb {
+            _ if verb == b"get".as_slice() => Ok(reply_to_get(rest, text, &mut self.room, store)),
+            _ if verb == b"put".as_slice() => Ok(reply_to_put(rest, on, store)),
+            _ if verb == b"remove".as_slice() => Ok(reply_to_remove(rest, on, store)),
+            _ if verb == b"new".as_slice() => Ok(reply_to_new(rest, on, store)),
+            _ if verb == b"drop".as_slice() => Ok(reply_to_drop(rest, on, store)),
+            _ if verb == b"post".as_slice() => Ok(reply_to_post(rest, on, store)),
+            _ if verb == b"merge".as_slice() => match reply_to_merge(alloc, rest, on, store) {
+                Ok(reply) => Ok(reply),
+                Err(AllocError) => Ok(Reply::Refused(Refusal::Memory)),
+            },
+            _ if verb == b"commit".as_slice() => Ok(reply_to_commit(rest, on, store)),
+            _ if verb == b"rollback".as_slice() => Ok(reply_to_rollback(rest, on, store)),
+            _ if verb == b"checkpoint".as_slice() => Ok(reply_to_checkpoint(rest, on, store)),
+            _ if verb == b"uncheck".as_slice() => Ok(reply_to_uncheck(rest, on, store)),
+            _ if verb == b"back".as_slice() => Ok(reply_to_back(rest, on, store)),
+            _ if verb == b"reclaim".as_slice() => Ok(reply_to_reclaim(rest, on, store)),
+            _ if verb == b"grow".as_slice() => Ok(reply_to_grow(rest, on, store)),
+            _ if verb == b"list".as_slice() => reply_to_list(alloc, rest, text, out, store),
+            _ if verb == b"alts".as_slice() => reply_to_alts(alloc, rest, text, out, store),
+            _ if verb == b"checks".as_slice() => reply_to_checks(alloc, rest, text, out, store),
+            _ if verb == b"changes".as_slice() => reply_to_changes(alloc, rest, text, out, store),
+            _ if verb == b"conflicts".as_slice() => reply_to_conflicts(
+                alloc, rest, text, out, store,
+            ),
+            _ if verb == b"free".as_slice() => Ok(reply_to_free(rest, store)),
+            _ if verb == b"diff".as_slice() => reply_to_diff(alloc, rest, text, out, store),
+            _ if verb == b"tally".as_slice() => Ok(reply_to_tally(alloc, rest, store)),
+            _ if verb == b"blocks".as_slice() => Ok(reply_to_blocks(rest, store)),
+            _ if verb == b"next".as_slice() => reply_to_next(alloc, rest, text, out, store),
+            _ if verb.first() == Some(&b'#') => Ok(Reply::Nothing),
+            _ => Ok(Reply::BadLine),
         }
     }
-    Ok(false)
 }
 
 /// Writes what is left of an answer, with its last line.
@@ -256,115 +313,4 @@ fn send<W: Write>(reply: Reply, text: &mut Text, writer: &mut W) -> Result<(), W
     reply.push_onto(text);
     put_all(writer, text.as_bytes())?;
     flush(writer)
-}
-
-/// Carries out a line. The text takes the lines of a list except the last one, and what does not
-/// fit is written. The last line of the answer is returned.
-fn reply_to<W: Write, D: Disk>(
-    alloc: Global,
-    line: &Line,
-    text: &mut Text,
-    room: &mut [u8; 4096],
-    writer: &mut W,
-    store: &mut Store<D>,
-    manner: Manner,
-) -> Result<Reply, WriteFault>
-    requires { text.old ≡ [] }
-    ensures room { OnOk result (length text.new + 1024 ≤ Text.MAX_LEN) }
-    ensures goes { GrowsOn ⊥ store.old store.new }
-    ensures last { EndsIfFailed result store.old store.new }
-    ensures failing { FailsByDevice store.old store.new }
-    ensures left { has_failed store.old ≡ true → store.new ≡ store.old }
-    ensures answer { RepliesToLine W.contents manner line.now result
-        store.old store.new writer.old writer.new text.new }
-{
-    match line.kind {
-        LineKind::Long => Ok(Reply::LongLine),
-        LineKind::NoMemory => Ok(Reply::Refused(Refusal::Memory)),
-        LineKind::Kept => reply_to_words(
-            alloc,
-            line.text(),
-            text,
-            room,
-            writer,
-            store,
-            manner.on_command,
-        ),
-    }
-}
-
-/// Carries out a line whose bytes are held.
-fn reply_to_words<W: Write, D: Disk>(
-    alloc: Global,
-    line: &[u8],
-    text: &mut Text,
-    room: &mut [u8; 4096],
-    writer: &mut W,
-    store: &mut Store<D>,
-    on_command: OnCommand,
-) -> Result<Reply, WriteFault>
-    requires { text.old ≡ [] }
-    ensures room { OnOk result (length text.new + 1024 ≤ Text.MAX_LEN) }
-    ensures goes { GrowsOn ⊥ store.old store.new }
-    ensures last { EndsIfFailed result store.old store.new }
-    ensures failing { FailsByDevice store.old store.new }
-    ensures left { has_failed store.old ≡ true → store.new ≡ store.old }
-    ensures answer { RepliesToRequest W.contents (asked_in on_command (request_of (words_of line.now))) result
-        store.old store.new writer.old writer.new text.new }
-{
-    let Some((verb, rest)) = first_word(line) else {
-        return Ok(Reply::Nothing);
-    };
-    reply_to_verb(alloc, verb, rest, text, room, writer, store, on_command)
-}
-
-/// Carries out a line by its first word, given the words after it. Each kind of line has a stack
-/// frame of its own, since a command has room for a value. So the session's own frame stays small.
-fn reply_to_verb<W: Write, D: Disk>(
-    alloc: Global,
-    verb: &[u8],
-    rest: &[u8],
-    text: &mut Text,
-    room: &mut [u8; 4096],
-    writer: &mut W,
-    store: &mut Store<D>,
-    on_command: OnCommand,
-) -> Result<Reply, WriteFault>
-    requires { text.old ≡ [] }
-    ensures { AsksInto W.contents (asked_in on_command (request_of (verb.now ∷ words_of rest.now))) result
-        store.old store.new writer.old writer.new text.new }
-{
-    match verb {
-        _ if verb == b"get".as_slice() => Ok(reply_to_get(rest, text, room, store)),
-        _ if verb == b"put".as_slice() => Ok(reply_to_put(rest, on_command, store)),
-        _ if verb == b"remove".as_slice() => Ok(reply_to_remove(rest, on_command, store)),
-        _ if verb == b"new".as_slice() => Ok(reply_to_new(rest, on_command, store)),
-        _ if verb == b"drop".as_slice() => Ok(reply_to_drop(rest, on_command, store)),
-        _ if verb == b"post".as_slice() => Ok(reply_to_post(rest, on_command, store)),
-        _ if verb == b"merge".as_slice() => match reply_to_merge(alloc, rest, on_command, store) {
-            Ok(reply) => Ok(reply),
-            Err(AllocError) => Ok(Reply::Refused(Refusal::Memory)),
-        },
-        _ if verb == b"commit".as_slice() => Ok(reply_to_commit(rest, on_command, store)),
-        _ if verb == b"rollback".as_slice() => Ok(reply_to_rollback(rest, on_command, store)),
-        _ if verb == b"checkpoint".as_slice() => Ok(reply_to_checkpoint(rest, on_command, store)),
-        _ if verb == b"uncheck".as_slice() => Ok(reply_to_uncheck(rest, on_command, store)),
-        _ if verb == b"back".as_slice() => Ok(reply_to_back(rest, on_command, store)),
-        _ if verb == b"reclaim".as_slice() => Ok(reply_to_reclaim(rest, on_command, store)),
-        _ if verb == b"grow".as_slice() => Ok(reply_to_grow(rest, on_command, store)),
-        _ if verb == b"list".as_slice() => reply_to_list(alloc, rest, text, writer, store),
-        _ if verb == b"alts".as_slice() => reply_to_alts(alloc, rest, text, writer, store),
-        _ if verb == b"checks".as_slice() => reply_to_checks(alloc, rest, text, writer, store),
-        _ if verb == b"changes".as_slice() => reply_to_changes(alloc, rest, text, writer, store),
-        _ if verb == b"conflicts".as_slice() => reply_to_conflicts(
-            alloc, rest, text, writer, store,
-        ),
-        _ if verb == b"free".as_slice() => Ok(reply_to_free(rest, store)),
-        _ if verb == b"diff".as_slice() => reply_to_diff(alloc, rest, text, writer, store),
-        _ if verb == b"tally".as_slice() => Ok(reply_to_tally(alloc, rest, store)),
-        _ if verb == b"blocks".as_slice() => Ok(reply_to_blocks(rest, store)),
-        _ if verb == b"next".as_slice() => reply_to_next(alloc, rest, text, writer, store),
-        _ if verb.first() == Some(&b'#') => Ok(Reply::Nothing),
-        _ => Ok(Reply::BadLine),
-    }
 }

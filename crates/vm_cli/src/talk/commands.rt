@@ -1,12 +1,11 @@
 //! Lines that are commands, except put.
-ghost use Rattle.std.specs.Prelude.{◌≡◌, ◌∷◌, codes, true, false, Err, IfOk, None, OnErr};
+ghost use Rattle.std.specs.Prelude.{◌≡◌, ◌∷◌, codes, true, Err, IfOk, None, OnErr};
 ghost use Rattle.vm_cli.specs.Asking.{Request};
-ghost use Rattle.vm_cli.specs.Feeds.{AnswersBy, AsksBy, HandlesIn, TalkGoesOn};
+ghost use Rattle.vm_cli.specs.Feeds.{AsksBy, HandlesIn, TalkGoesOn};
 ghost use Rattle.vm_cli.specs.Replies.{ends_talk, reply_text};
 ghost use Rattle.vm_cli.specs.Requests.{IsLongMerge, asked_in};
 ghost use Rattle.vm_cli.specs.Spaces.{words_of};
-ghost use Rattle.vm_cli.specs.Talk.{FailsByDevice, answer_text};
-ghost use Rattle.vm_store.specs.Store.{has_failed, GrowsOn};
+ghost use Rattle.vm_cli.specs.Talk.{answer_text};
 
 use crate::answers::reply::Reply;
 use crate::lines::arguments::{blocks, ends, name, new_names, one_name, record, two_names};
@@ -262,12 +261,7 @@ fn reply_to_command<D: Disk>(
     on_command: OnCommand,
     store: &mut Store<D>,
 ) -> Reply
-    ensures goes { GrowsOn ⊥ store.old store.new }
-    ensures last { has_failed store.old ≡ false → ends_talk result ≡ has_failed store.new }
-    ensures failing { FailsByDevice store.old store.new }
-    ensures left { has_failed store.old ≡ true → store.new ≡ store.old }
-    ensures answer { AnswersBy (asked_in on_command (Request.Command command.now)) result
-        store.old store.new }
+    ensures { AsksBy (asked_in on_command (Request.Command command.now)) result store.old store.new }
 {
     match on_command {
         OnCommand::Refuse => Reply::ReadOnly,

@@ -1,10 +1,8 @@
 //! Commands that the store grows for.
-ghost use Rattle.std.specs.Prelude.{◌≡◌, ◌↔◌, true, false, IsTrue};
+ghost use Rattle.std.specs.Prelude.{◌≡◌, ◌↔◌, IsTrue};
 ghost use Rattle.vm_cli.specs.Asking.{Request};
-ghost use Rattle.vm_cli.specs.Feeds.{AnswersBy, TriesSome};
-ghost use Rattle.vm_cli.specs.Replies.{ends_talk, reply_text};
-ghost use Rattle.vm_cli.specs.Talk.{FailsByDevice, error_text, larger as larger_of};
-ghost use Rattle.vm_store.specs.Store.{has_failed, GrowsOn};
+ghost use Rattle.vm_cli.specs.Feeds.{AsksBy, TriesBy};
+ghost use Rattle.vm_cli.specs.Talk.{larger as larger_of};
 
 use crate::answers::reply::Reply;
 use crate::talk::commands::answered;
@@ -21,25 +19,14 @@ pub const GROWTHS: u32 = 20;
 /// answer is why not.
 #[inline(never)]
 pub(crate) fn reply_growing<D: Disk>(command: &Command, most: u32, store: &mut Store<D>) -> Reply
-    ensures goes { GrowsOn ⊥ store.old store.new }
-    ensures last { has_failed store.old ≡ false → ends_talk result ≡ has_failed store.new }
-    ensures failing { FailsByDevice store.old store.new }
-    ensures left { has_failed store.old ≡ true → store.new ≡ store.old }
-    ensures answer { AnswersBy (Request.Growing most command.now) result store.old store.new }
+    ensures { AsksBy (Request.Growing most command.now) result store.old store.new }
 {
     carry_out(command, most, GROWTHS, store)
 }
 
 /// Carries out a command. The store may grow `growths` times for it.
 fn carry_out<D: Disk>(command: &Command, most: u32, growths: u32, store: &mut Store<D>) -> Reply
-    ensures goes { GrowsOn ⊥ store.old store.new }
-    ensures last { has_failed store.old ≡ false → ends_talk result ≡ has_failed store.new }
-    ensures failing { FailsByDevice store.old store.new }
-    ensures left { has_failed store.old ≡ true → store.new ≡ store.old }
-    ensures refused { has_failed store.old ≡ true
-        → (reply_text result ≡ error_text Refusal.Failed) × (ends_talk result ≡ true) }
-    ensures tried { has_failed store.old ≡ false
-        → TriesSome growths most command.now store.old store.new (reply_text result) }
+    ensures { TriesBy growths most command.now result store.old store.new }
 {
     let answer = store.apply(command);
     if !is_full(&answer) {

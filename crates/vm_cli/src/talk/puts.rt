@@ -1,13 +1,10 @@
 //! Lines that put a record.
-ghost use Rattle.std.specs.Prelude.{◌≡◌, ◌≤◌, ◌∷◌, codes, length, true, false};
+ghost use Rattle.std.specs.Prelude.{◌≤◌, ◌∷◌, codes, length};
 ghost use Rattle.vm_cli.specs.Asking.{Request};
 ghost use Rattle.vm_cli.specs.Escapes.{value_of};
-ghost use Rattle.vm_cli.specs.Feeds.{AnswersBy, HandlesIn};
-ghost use Rattle.vm_cli.specs.Replies.{ends_talk};
+ghost use Rattle.vm_cli.specs.Feeds.{AsksBy, HandlesIn};
 ghost use Rattle.vm_cli.specs.Requests.{asked_in, put_asked};
 ghost use Rattle.vm_cli.specs.Spaces.{words_of};
-ghost use Rattle.vm_cli.specs.Talk.{FailsByDevice};
-ghost use Rattle.vm_store.specs.Store.{has_failed, GrowsOn};
 ghost use Rattle.vm_types.specs.Bytes.{longest};
 ghost use Rattle.vm_types.specs.declared.command.Command.TheVariants.{Put};
 
@@ -44,12 +41,7 @@ fn reply_to_spelled<D: Disk>(
     on_command: OnCommand,
     store: &mut Store<D>,
 ) -> Reply
-    ensures goes { GrowsOn ⊥ store.old store.new }
-    ensures last { has_failed store.old ≡ false → ends_talk result ≡ has_failed store.new }
-    ensures failing { FailsByDevice store.old store.new }
-    ensures left { has_failed store.old ≡ true → store.new ≡ store.old }
-    ensures answer { AnswersBy (asked_in on_command (put_asked asked.0 asked.1 (value_of word.now))) result
-        store.old store.new }
+    ensures { AsksBy (asked_in on_command (put_asked asked.0 asked.1 (value_of word.now))) result store.old store.new }
 {
     let (alt, key) = asked;
     match plain(word) {
@@ -67,12 +59,7 @@ fn reply_to_escaped<D: Disk>(
     on_command: OnCommand,
     store: &mut Store<D>,
 ) -> Reply
-    ensures goes { GrowsOn ⊥ store.old store.new }
-    ensures last { has_failed store.old ≡ false → ends_talk result ≡ has_failed store.new }
-    ensures failing { FailsByDevice store.old store.new }
-    ensures left { has_failed store.old ≡ true → store.new ≡ store.old }
-    ensures answer { AnswersBy (asked_in on_command (put_asked alt.now key (value_of word.now))) result
-        store.old store.new }
+    ensures { AsksBy (asked_in on_command (put_asked alt.now key (value_of word.now))) result store.old store.new }
 {
     match value(word) {
         Some(value) => reply_to_value(alt, key, value.as_bytes(), on_command, store),
@@ -90,12 +77,7 @@ fn reply_to_value<D: Disk>(
     store: &mut Store<D>,
 ) -> Reply
     requires short { length value.now ≤ longest }
-    ensures goes { GrowsOn ⊥ store.old store.new }
-    ensures last { has_failed store.old ≡ false → ends_talk result ≡ has_failed store.new }
-    ensures failing { FailsByDevice store.old store.new }
-    ensures left { has_failed store.old ≡ true → store.new ≡ store.old }
-    ensures answer { AnswersBy (asked_in on_command (Request.Command (Put alt.now key value.now))) result
-        store.old store.new }
+    ensures { AsksBy (asked_in on_command (Request.Command (Put alt.now key value.now))) result store.old store.new }
 {
     match on_command {
         OnCommand::Refuse => Reply::ReadOnly,
@@ -114,12 +96,7 @@ fn reply_growing_with<D: Disk>(
     store: &mut Store<D>,
 ) -> Reply
     requires short { length value.now ≤ longest }
-    ensures goes { GrowsOn ⊥ store.old store.new }
-    ensures last { has_failed store.old ≡ false → ends_talk result ≡ has_failed store.new }
-    ensures failing { FailsByDevice store.old store.new }
-    ensures left { has_failed store.old ≡ true → store.new ≡ store.old }
-    ensures answer { AnswersBy (Request.Growing most (Put alt.now key value.now)) result
-        store.old store.new }
+    ensures { AsksBy (Request.Growing most (Put alt.now key value.now)) result store.old store.new }
 {
     let Some(value) = Value::new(value) else {
         unreachable!();

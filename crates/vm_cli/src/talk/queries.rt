@@ -1,12 +1,10 @@
 //! Lines that are queries. The text takes an answer, or the lines of a list except the last one.
 //! What does not fit is written, and the last line of the answer is returned.
-ghost use Rattle.std.specs.Prelude.{◌≡◌, ◌+◌, ◌≤◌, ◌∷◌, [], codes, length, true, false};
+ghost use Rattle.std.specs.Prelude.{◌≡◌, ◌∷◌, [], codes};
 ghost use Rattle.vm_cli.specs.Asking.{Request};
-ghost use Rattle.vm_cli.specs.Feeds.{AnswersBy, AnswersWith, HandlesBy, HandlesInto};
-ghost use Rattle.vm_cli.specs.Replies.{ends_talk};
+ghost use Rattle.vm_cli.specs.Feeds.{HandlesBy, HandlesInto, QueriesBy, QueriesWith};
 ghost use Rattle.vm_cli.specs.Requests.{request_of};
 ghost use Rattle.vm_cli.specs.Spaces.{words_of};
-ghost use Rattle.vm_store.specs.Store.{has_failed, GoesOn};
 
 use crate::answers::lists::reply_with_list;
 use crate::answers::output::WriteFault;
@@ -30,12 +28,7 @@ pub(crate) fn reply_to_get<D: Disk>(
     store: &mut Store<D>,
 ) -> Reply
     requires { text.old ≡ [] }
-    ensures room { length text.new + 1024 ≤ Text.MAX_LEN }
-    ensures goes { GoesOn ⊥ store.old store.new }
-    ensures failed { has_failed store.new ≡ has_failed store.old }
-    ensures last { has_failed store.old ≡ false → ends_talk result ≡ false }
-    ensures left { has_failed store.old ≡ true → store.new ≡ store.old }
-    ensures answer { AnswersWith (request_of (codes "get" ∷ words_of rest.now)) result text.new
+    ensures { QueriesWith (request_of (codes "get" ∷ words_of rest.now)) result text.new
         store.old store.new }
 {
     match record_at(rest) {
@@ -53,12 +46,7 @@ fn get<D: Disk>(
     store: &mut Store<D>,
 ) -> Reply
     requires { text.old ≡ [] }
-    ensures room { length text.new + 1024 ≤ Text.MAX_LEN }
-    ensures goes { GoesOn ⊥ store.old store.new }
-    ensures failed { has_failed store.new ≡ has_failed store.old }
-    ensures last { has_failed store.old ≡ false → ends_talk result ≡ false }
-    ensures left { has_failed store.old ≡ true → store.new ≡ store.old }
-    ensures answer { AnswersWith (Request.Get at.now key) result text.new store.old store.new }
+    ensures { QueriesWith (Request.Get at.now key) result text.new store.old store.new }
 {
     match store.look_at(at, key, room) {
         Ok(found) => {
@@ -231,11 +219,7 @@ pub(crate) fn reply_to_tally<D: Disk>(alloc: Global, rest: &[u8], store: &mut St
 
 /// Answers a query for the numbers of an alternative.
 fn tally<D: Disk>(alloc: Global, alt: &Name, store: &mut Store<D>) -> Reply
-    ensures goes { GoesOn ⊥ store.old store.new }
-    ensures failed { has_failed store.new ≡ has_failed store.old }
-    ensures last { has_failed store.old ≡ false → ends_talk result ≡ false }
-    ensures left { has_failed store.old ≡ true → store.new ≡ store.old }
-    ensures answer { AnswersBy (Request.Tally alt.now) result store.old store.new }
+    ensures { QueriesBy (Request.Tally alt.now) result store.old store.new }
 {
     match store.tally(alloc, alt) {
         Ok(numbers) => Reply::Tally(numbers),
@@ -255,8 +239,7 @@ pub(crate) fn reply_to_free<D: Disk>(rest: &[u8], store: &Store<D>) -> Reply
 
 /// Answers a query for the number of free blocks.
 fn free<D: Disk>(store: &Store<D>) -> Reply
-    ensures last { has_failed store.now ≡ false → ends_talk result ≡ false }
-    ensures answer { AnswersBy Request.Free result store.now store.now }
+    ensures { QueriesBy Request.Free result store.now store.now }
 {
     match store.free() {
         Ok(count) => Reply::Free(count),
@@ -276,8 +259,7 @@ pub(crate) fn reply_to_blocks<D: Disk>(rest: &[u8], store: &Store<D>) -> Reply
 
 /// Answers a query for the number of blocks.
 fn blocks<D: Disk>(store: &Store<D>) -> Reply
-    ensures last { has_failed store.now ≡ false → ends_talk result ≡ false }
-    ensures answer { AnswersBy Request.Blocks result store.now store.now }
+    ensures { QueriesBy Request.Blocks result store.now store.now }
 {
     match store.blocks() {
         Ok(count) => Reply::Blocks(count),

@@ -1,36 +1,21 @@
-use Rattle.std.proofs.Common.{◌≡◌, false, ap}
-use Rattle.vm_store.specs.Store.{has_failed}
+use Rattle.std.proofs.Common.{ap}
 use Rattle.vm_cli.specs.Asking.{Request}
-use Rattle.vm_cli.specs.Replies.{ends_talk, reply_text}
 use Rattle.vm_cli.specs.Requests.{asked_in}
-use Rattle.vm_cli.proofs.HandledLemmas.{Applied, applied_fails, applied_goes, carried, forbidden_handled, request_as}
-use Rattle.vm_cli.proofs.TalkLemmas.{last-is}
+use Rattle.vm_cli.proofs.VerbLemmas.{asked_as, carried_by, forbidden_by}
 use Rattle.vm_cli.proofs.talk.commands.reply_to_command.Goals as goal
 
-pub returns-in-Refuse-clause-answer : goal.returns-in-Refuse-clause-answer
-returns-in-Refuse-clause-answer g c s =
+pub returns-in-Refuse : goal.returns-in-Refuse
+returns-in-Refuse g c =
     let store = c.args.store.now in
-    request_as store store s _ Request.Forbidden (ap (λ on. asked_in on (Request.Command c.args.command.now)) c.in-Refuse.is) _ _ (forbidden_handled store s)
+    asked_as store store _ Request.Forbidden (ap (λ on. asked_in on (Request.Command c.args.command.now)) c.in-Refuse.is) _ (forbidden_by store)
 
 pub returns-in-CarryOut : goal.returns-in-CarryOut
 returns-in-CarryOut g c =
-    let old = c.args.store.now in
-    let new = c.apply.new.self in
-    let command = c.args.command.now in
     let said = c.apply.ensures in
-    let ends = ends_talk c.answered.result in
-    let applied : Applied old new command c.apply.result = record { refused = said.refused; done = said.done } in
-    let last : has_failed old ≡ false → ends ≡ has_failed new = λ sound. last-is ends (has_failed new) c.apply.result (said.done sound).failed (said.done sound).performs.only_then c.answered.ensures.device c.answered.ensures.last in
-    record {
-      goes = applied_goes old new command c.apply.result applied;
-      last = last;
-      failing = applied_fails old new command c.apply.result applied;
-      left = λ failed. (said.refused failed).1;
-      answer = λ s.
-          request_as old new s _ (Request.Command command) (ap (λ on. asked_in on (Request.Command command)) c.in-CarryOut.is) _ _
-          (carried old new s command c.apply.result applied (reply_text c.answered.result) ends c.answered.ensures.text last c.answered.ensures.failed);
-    }
+    let answered = c.answered.ensures in
+    asked_as c.args.store.now c.apply.new.self _ (Request.Command c.args.command.now) (ap (λ on. asked_in on (Request.Command c.args.command.now)) c.in-CarryOut.is) _
+    (carried_by c.args.store.now c.apply.new.self c.args.command.now c.apply.result (record { refused = said.refused; done = said.done }) c.answered.result answered.text answered.last answered.device answered.failed)
 
-pub returns-in-GrowIfFull-clause-answer : goal.returns-in-GrowIfFull-clause-answer
-returns-in-GrowIfFull-clause-answer g c s =
-    request_as c.args.store.now c.reply_growing.new.store s _ (Request.Growing c.in-GrowIfFull.most c.args.command.now) (ap (λ on. asked_in on (Request.Command c.args.command.now)) c.in-GrowIfFull.is) _ _ (c.reply_growing.ensures.answer s)
+pub returns-in-GrowIfFull : goal.returns-in-GrowIfFull
+returns-in-GrowIfFull g c =
+    asked_as c.args.store.now c.reply_growing.new.store _ (Request.Growing c.in-GrowIfFull.most c.args.command.now) (ap (λ on. asked_in on (Request.Command c.args.command.now)) c.in-GrowIfFull.is) _ c.reply_growing.ensures

@@ -3,7 +3,7 @@ use Rattle.vm_types.specs.declared.command.Command.TheVariants.{Merge}
 use Rattle.vm_types.specs.declared.command.Side.{Side}
 use Rattle.vm_types.specs.declared.key.Key.{Key}
 use Rattle.vm_cli.specs.Asking.{Request}
-use Rattle.vm_cli.specs.Feeds.{AnswersBy}
+use Rattle.vm_cli.specs.Feeds.{AsksBy}
 use Rattle.vm_cli.specs.Requests.{asked_in}
 use Rattle.vm_cli.proofs.MergeLemmas.{all_merged, memory_refused, query_refused}
 use Rattle.vm_cli.proofs.talk.commands.reply_to_merge_all.Goals as goal
@@ -21,6 +21,6 @@ returns-in_default-for_all g c =
 pub returns : goal.returns
 returns g c =
     all_merged c.args.on_command c.in_default.not-Refuse c.args.alt.now c.args.side c.args.settled c.args.store.now c.conflicts.new.self c.conflicts.result c.conflicts.ensures.query
-    c.in-Ok.conflicts c.in-Ok.is c.reply_to_command.new.store c.reply_to_command.result c.reply_to_command.ensures.goes c.reply_to_command.ensures.last c.reply_to_command.ensures.failing
-    (subst (λ (all : List (Key × Side)). AnswersBy (asked_in c.args.on_command (Request.Command (Merge c.args.alt.now all))) c.reply_to_command.result c.conflicts.new.self c.reply_to_command.new.store)
-    c.in-Ok-for_all.ensures c.reply_to_command.ensures.answer)
+    c.in-Ok.conflicts c.in-Ok.is c.reply_to_command.new.store c.reply_to_command.result
+    (subst (λ (all : List (Key × Side)). AsksBy (asked_in c.args.on_command (Request.Command (Merge c.args.alt.now all))) c.reply_to_command.result c.conflicts.new.self c.reply_to_command.new.store)
+    c.in-Ok-for_all.ensures c.reply_to_command.ensures)

@@ -6,9 +6,8 @@ use Rattle.vm_cli.proofs.talk.commands.reply_to_uncheck.Goals as goal
 
 pub returns-in-Some : goal.returns-in-Some
 returns-in-Some g c =
-    let said = c.reply_to_command.ensures in
     asked_in_by c.args.on_command c.args.store.now c.reply_to_command.new.store (codes "uncheck" ∷ words_of c.args.rest.now) _ (uncheck_asks (words_of c.args.rest.now) _ c.in-Some.ensures)
-    c.reply_to_command.result said.goes said.last said.failing said.left said.answer
+    c.reply_to_command.result c.reply_to_command.ensures
 
 pub returns-in-None : goal.returns-in-None
 returns-in-None g c = bad_in c.args.on_command c.args.store.now (codes "uncheck" ∷ words_of c.args.rest.now) (rw (← c.in-None.ensures) refl)

@@ -20,11 +20,13 @@ returns-in-Ok g c =
     let sound = was_sound (has_failed old) c.in-Ok.found said.refused in
     record {
       room = omega (arith, none, c.push_found.ensures.short);
-      goes = goes_any _ _ _ said.any;
-      failed = said.failed;
-      last = λ sound. refl;
-      left = said.no_calls;
-      answer = λ s. (
+      store = record {
+        goes = goes_any _ _ _ said.any;
+        failed = said.failed;
+        last = λ sound. refl;
+        left = said.no_calls;
+      };
+      answers = λ s. (
         told old new s (Request.Get c.args.at.now c.args.key) (passes_reads old new (goes_any _ _ _ said.any) said.reads said.unchanged) said.failed said.no_calls (λ stood. said.state stood.honest s stood.holds)
             (text ++ []) sound (
               refl,
@@ -51,11 +53,13 @@ returns-in-Err g c =
     let none : length c.args.text.now ≡ 0 = rw c.requires refl in
     record {
       room = omega (arith, none);
-      goes = goes_any _ _ _ said.any;
-      failed = said.failed;
-      last = λ sound. c.from_refusal.ensures.last (λ is. said.only_then sound (ap Err is));
-      left = said.no_calls;
-      answer = λ s.
+      store = record {
+        goes = goes_any _ _ _ said.any;
+        failed = said.failed;
+        last = λ sound. c.from_refusal.ensures.last (λ is. said.only_then sound (ap Err is));
+        left = said.no_calls;
+      };
+      answers = λ s.
           with_nothing (HandlesRequest old new s (Request.Get c.args.at.now c.args.key)) c.from_refusal.result c.args.text.now c.requires
           (refusal_handled old new s (Request.Get c.args.at.now c.args.key) (passes_reads old new (goes_any _ _ _ said.any) said.reads said.unchanged) said.failed said.no_calls (λ stood. said.state stood.honest s stood.holds)
           refusal c.from_refusal.result c.from_refusal.ensures.text c.from_refusal.ensures.last c.from_refusal.ensures.failed (λ failed. let e = said.refused failed in cc) (λ sound is. said.only_then sound (ap Err is))

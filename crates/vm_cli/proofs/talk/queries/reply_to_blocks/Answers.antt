@@ -1,15 +1,13 @@
-use Rattle.std.proofs.Common.{◌∷◌, codes, refl, sym, ◌∙◌}
+use Rattle.std.proofs.Common.{◌∷◌, codes, refl}
 use Rattle.vm_cli.specs.Asking.{Request}
 use Rattle.vm_cli.specs.Spaces.{words_of}
-use Rattle.vm_cli.proofs.PassLemmas.{grows_none, never_both}
 use Rattle.vm_cli.proofs.VerbLemmas.{asked_by, bad_by}
 use Rattle.vm_cli.proofs.talk.queries.reply_to_blocks.Goals as goal
 
 pub returns-in-Some : goal.returns-in-Some
 returns-in-Some g c =
     let store = c.args.store.now in
-    asked_by store store (codes "blocks" ∷ words_of c.args.rest.now) Request.Blocks (rw c.in-Some.ensures refl) c.blocks-in-Some.result (grows_none _)
-    (λ sound. c.blocks-in-Some.ensures.last sound ∙ sym sound) (λ sound failed. absurd (never_both _ sound failed)) (λ failed. refl) c.blocks-in-Some.ensures.answer
+    asked_by store store (codes "blocks" ∷ words_of c.args.rest.now) Request.Blocks (rw c.in-Some.ensures refl) c.blocks-in-Some.result c.blocks-in-Some.ensures
 
 pub returns-in-None : goal.returns-in-None
 returns-in-None g c = bad_by c.args.store.now (codes "blocks" ∷ words_of c.args.rest.now) (rw c.in-None.ensures.2 refl)

@@ -14,11 +14,13 @@ returns-in-Ok g c =
     let said = c.in-Ok.ensures.query in
     let sound = was_sound (has_failed old) c.in-Ok.numbers said.refused in
     record {
-      goes = goes_any _ _ _ said.any;
-      failed = said.failed;
-      last = λ sound. refl;
-      left = said.no_calls;
-      answer = λ s.
+      store = record {
+        goes = goes_any _ _ _ said.any;
+        failed = said.failed;
+        last = λ sound. refl;
+        left = said.no_calls;
+      };
+      answers = λ s.
           told old new s (Request.Tally c.args.alt.now) (passes_reads old new (goes_any _ _ _ said.any) said.reads said.unchanged) said.failed said.no_calls (λ stood. said.state stood.honest s stood.holds)
           _ sound (
             refl,
@@ -41,11 +43,13 @@ returns-in-Err g c =
     let said = c.in-Err.ensures.query in
     let refusal = c.in-Err.refusal in
     record {
-      goes = goes_any _ _ _ said.any;
-      failed = said.failed;
-      last = λ sound. c.from_refusal.ensures.last (λ is. said.only_then sound (ap Err is));
-      left = said.no_calls;
-      answer = λ s.
+      store = record {
+        goes = goes_any _ _ _ said.any;
+        failed = said.failed;
+        last = λ sound. c.from_refusal.ensures.last (λ is. said.only_then sound (ap Err is));
+        left = said.no_calls;
+      };
+      answers = λ s.
           refusal_handled old new s (Request.Tally c.args.alt.now) (passes_reads old new (goes_any _ _ _ said.any) said.reads said.unchanged) said.failed said.no_calls (λ stood. said.state stood.honest s stood.holds)
           refusal c.from_refusal.result c.from_refusal.ensures.text c.from_refusal.ensures.last c.from_refusal.ensures.failed (λ failed. let e = said.refused failed in cc) (λ sound is. said.only_then sound (ap Err is))
           (λ text ends is last. (is, last))
