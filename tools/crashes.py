@@ -30,7 +30,7 @@ from compare import BLOCK, FIRST, LEAST, Editor, Refused, Store, read, started
 from kill import Failure, Program, unlike
 from preloaded import PROGRAM, build_program, compiled, preloaded
 
-OPTIONS = [["--buffer", "0"], ["--buffer", "2"], ["--buffer", "64"], []]
+OPTIONS = [["--buffer", "0"], ["--buffer", "1"], ["--buffer", "2"], ["--buffer", "64"], []]
 # So often a session is begun anew over what a crash left, and so many lines are run each time.
 ROUNDS, LINES = 3, 150
 COMMITS = 0.1

@@ -157,7 +157,7 @@ def main():
             build_program()
             library = compiled("fail_calls", folder)
             faults = [(fails_on, torn) for fails_on in (0, 1) for torn in (0, BLOCK // 2, BLOCK)]
-            options = [[], ["--buffer", "2"], ["--buffer", "64"]]
+            options = [[], ["--buffer", "1"], ["--buffer", "2"], ["--buffer", "64"]]
             stops = sum(try_calls(folder, library, *fault, given) for given in options for fault in faults)
             blocks = try_blocks(folder, library)
             copies = sum(try_copy_calls(folder, library, *fault) for fault in faults) + try_copy_blocks(folder, library)

@@ -20,6 +20,8 @@ from typing import NamedTuple
 BLOCKS = 256
 MOST_NEW = 40
 LONGEST_LIFE = 0.2
+# How many blocks may wait: as many as usual, or so many.
+OPTIONS = [[], ["--buffer", "1"], ["--buffer", "2"], ["--buffer", "64"]]
 NAMES = ["a", "b", "c", "d", "e", "f", "g", "h"]
 CHECKPOINTS = ["before", "between", "after"]
 TABLES = range(3)
@@ -505,7 +507,7 @@ def kill_often(altctl, store, kills, seed, count):
     merges = program.ask("merge top") == ["error 6 IsTop"]
     program.end(0)
     for number in range(kills):
-        program = Program(altctl, store)
+        program = Program(altctl, store, OPTIONS[number % len(OPTIONS)])
         try:
             allowed = live(program, allowed, random.Random(f"{seed} {number}"), merges, count)
             program.end(-signal.SIGKILL)

@@ -108,13 +108,13 @@ fail() {
     exit 1
 }
 
-# Starts the program on a copy of the empty store, and refuses it the allocation of this number: none, where
-# it is 0.
+# Starts the program on a copy of the empty store, where as many blocks may wait as the session says, and refuses it the
+# allocation of this number: none, where it is 0.
 start() {
     cp "$room/empty" "$room/store"
     rm -f "$room/refused"
     timeout 60 env LD_PRELOAD="$room/refuse.so" REFUSE="$1" REFUSED="$room/refused" \
-        "$program" run "$room/store" <"$room/lines" >"$room/answers" 2>"$room/faults" &
+        "$program" run ${buffer:+--buffer "$buffer"} "$room/store" <"$room/lines" >"$room/answers" 2>"$room/faults" &
     pid=$!
     exec 3>"$room/lines" 4<"$room/answers"
 }
@@ -210,9 +210,11 @@ check_end() {
     esac
 }
 
-# Runs a session over a new store of so many blocks, with each of its allocations refused.
+# Runs a session over a new store of so many blocks, of which so many may wait, or as many as usual, with each of its
+# allocations refused.
 run_session() {
     alt=$1
+    buffer=$3
     rm -f "$room/empty"
     "$program" create "$room/empty" "$2" >/dev/null
     free="free $(($2 - 34))"
@@ -391,14 +393,16 @@ mkfifo "$room/lines" "$room/answers"
 : >"$room/wanting"
 refusals=0
 run_all_commands
-run_session a 256
+run_session a 256 ''
 run_checks 1
 run_copies 300
 run_trees <<'END'
       1        0         0  yes  `- a
                                     * before
 END
-run_session x 64
+for waiting in 1 2 64; do
+    run_session x 64 "$waiting"
+done
 run_checks 0
 run_copies 80
 echo '      0        2         0   no  `- x' | run_trees
