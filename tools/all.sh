@@ -16,7 +16,7 @@ names=
 quick=
 [ "${1-}" != --quick ] || quick=yes
 
-# Runs a script with its words, for so many seconds at most.
+# Runs a script with its words. The seconds are there for one that hangs: ten times what it takes on a machine of its own.
 try() {
     seconds=$1
     script=$2
@@ -33,22 +33,22 @@ try() {
 
 # The program is there before the time of a script is taken.
 "$tools/../altctl" --help >/dev/null || { echo 'all: altctl could not be built'; exit 1; }
-try 120 uncited.py
-try 60 trusted.py
-try 60 promises.py --check
-try 60 pictures.py --check
-try 300 documents.py
-try 300 session.sh
-try 120 ../clients/python/test_altctl.py
-try 300 progress.py
-try 120 copy_beside.py
+try 600 uncited.py
+try 300 trusted.py
+try 300 promises.py --check
+try 300 pictures.py --check
+try 900 documents.py
+try 900 session.sh
+try 600 ../clients/python/test_altctl.py
+try 900 progress.py
+try 600 copy_beside.py
 if [ -n "$quick" ]; then
     # Behind the gate: the program that it has built is the one that dist/ carries.
-    try 60 dist.sh --check
-    try 120 ../clients/c/test.sh --quick
-    try 60 compare.py -n 8
-    try 60 kill.py "$tools/../altctl" 8
-    try 60 crashes.py -n 1
+    try 300 dist.sh --check
+    try 600 ../clients/c/test.sh --quick
+    try 600 compare.py -n 8
+    try 600 kill.py "$tools/../altctl" 8
+    try 600 crashes.py -n 1
 else
     # Over the libraries that are proved for the program. Without it the tests of the store in memory are skipped.
     (cd "$tools/../crates/altstore" && timeout 1800 rt lib >/dev/null) || echo 'all: libaltstore could not be built'

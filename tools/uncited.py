@@ -7,9 +7,11 @@ text and outside a line of imports: in another item, in a contract, or in an ans
 that are computed (Rows.antt). It prints a line for each item that is left, and ends with status 1 where there
 is one.
 """
+import os
 import pathlib
 import re
 import sys
+from collections import Counter
 
 ROOT = pathlib.Path(__file__).resolve().parent.parent
 # Answers to goals, and the sessions of the model that are computed by its definitions.
@@ -60,41 +62,38 @@ def in_module(lines, number, indent):
 
 
 def words_of(lines):
-    """The words of lines that are no imports and no comments."""
-    found = set()
+    """How often each word stands in lines that are no imports and no comments."""
+    found = Counter()
     for line in lines:
-        bare = line.strip()
-        if bare.startswith(("use ", "ghost use ", "pub use ", "--", "//")):
-            continue
-        found.update(WORD.findall(line))
+        if not line.lstrip().startswith(("use ", "ghost use ", "pub use ", "--", "//")):
+            found.update(WORD.findall(line))
     return found
 
 
+def sources():
+    """The files of code and proofs of the crates, without what is built: out/ may be large, and is not walked."""
+    for folder, below, names in os.walk(ROOT / "crates"):
+        below[:] = sorted(name for name in below if name != "out")
+        for name in sorted(names):
+            if name.endswith((".rt", ".antt")):
+                yield pathlib.Path(folder, name)
+
+
 def main():
-    files = [
-        path
-        for path in sorted(ROOT.glob("crates/*/**/*"))
-        if path.suffix in (".rt", ".antt") and "out" not in path.relative_to(ROOT).parts
-    ]
-    texts = {path: path.read_text().split("\n") for path in files}
-    words = {path: words_of(lines) for path, lines in texts.items()}
-    imports = {
-        path: "\n".join(line for line in lines if re.match(r"\s*(ghost |pub )?use ", line))
-        for path, lines in texts.items()
-    }
+    files = list(sources())
+    texts = {path: path.read_text() for path in files}
+    words = {path: words_of(text.split("\n")) for path, text in texts.items()}
+    # The crates that a file names, in an import or in a path.
+    crates = {path: set(re.findall(r"Rattle\.(\w+)\.", text)) for path, text in texts.items()}
     left = 0
     for path in files:
-        parts = path.relative_to(ROOT).parts
+        crate = path.relative_to(ROOT).parts[1]
         if path.suffix != ".antt" or path.name in LEFT_OUT:
             continue
-        crate = parts[1]
-        for name, first, last in items("\n".join(texts[path])):
-            own = texts[path][:first] + texts[path][last:]
-            cited = name in words_of(own) or any(
-                name in words[other]
-                and (f"Rattle.{crate}." in imports[other] or f"Rattle.{crate}." in "\n".join(texts[other]))
-                for other in files
-                if other != path
+        lines = texts[path].split("\n")
+        for name, first, last in items(texts[path]):
+            cited = words[path][name] > words_of(lines[first:last])[name] or any(
+                name in words[other] and crate in crates[other] for other in files if other != path
             )
             if not cited:
                 print(f"{path.relative_to(ROOT)}:{first + 1}: {name}")
