@@ -6,7 +6,7 @@ use Rattle.vm_types.specs.declared.command.Command.TheVariants.{Back, Checkpoint
 use Rattle.vm_types.specs.declared.refusal.Refusal.{Refusal}
 use Rattle.vm_types.specs.declared.refusal.Refusal.TheVariants.{Device, Failed, Memory}
 use Rattle.vm_store.specs.Answers.{ChangesEntriesAlone, IsEarly, IsGrow, TakesMemory}
-use Rattle.vm_store.specs.Commands.{CarriesOut, Performs}
+use Rattle.vm_store.specs.Commands.{CarriesOut, GrowsAsAsked, Performs}
 use Rattle.vm_store.specs.Store.{EarlyKeeps, EarlyLeavesDisk, GoesOn, GrowsOn, IsCarriedOut, IsHonest, IsNoLonger, KeepsFree, LeavesBlocks, MarksAll, NewAreFree, ReadsFew, ReadsOnly, RollsBack, WritesCommit, disk_of, entries_of, has_failed}
 use Rattle.vm_store.specs.declared.store.Store.{Store}
 use Rattle.vm_store.proofs.LongerLemmas.{goes_grow}
@@ -21,41 +21,13 @@ never_early : (a : Result Answer Refusal) (refusal : Refusal) → a ≡ Err refu
 never_early a refusal is device early = let same : refusal ≡ Device = cc (is, device) in subst IsEarly same early
 
 module _ {D : Type 0} {members : _} where
-  -- what the function of a command that is no Grow promises
-  pub record Promises (old new : Store D members) (c : Command) (a : Result Answer Refusal) : Type 0 where
-    pub carried : IsCarriedOut old new c a
-    pub only_then : a ≢ Err Failed
-    pub memory : a ≡ Err Memory → TakesMemory c
-    pub goes : GoesOn (a ≡ Err Device) old new
-    pub same : OnErr a (entries_of new ≡ entries_of old)
-    pub unchanged : EarlyKeeps a old new
-    pub blocks : ChangesEntriesAlone c → LeavesBlocks old new
-    pub marked : IsHonest new → MarksAll a old new c
-    pub reads : IsHonest new → ReadsOnly c a old new
-    pub few : ReadsFew c a old new
-    pub free : KeepsFree c a old new
-    pub written : c ≡ Commit → WritesCommit a old new
-    pub back : c ≡ Rollback → RollsBack a old new
-
-  pub performs : (old new : Store D members) (c : Command) (a : Result Answer Refusal) → (IsGrow c → ⊥) → Promises old new c a → Performs old new c a
-  performs old new c a fixed its = record {
-    carried = its.carried;
-    only_then = its.only_then;
-    memory = its.memory;
-    goes = goes_grow _ _ _ its.goes;
-    as_long = λ no. its.goes.same_blocks;
+  -- a command that is no Grow
+  pub not_grown : (old new : Store D members) (c : Command) (a : Result Answer Refusal) → (IsGrow c → ⊥) → GoesOn (a ≡ Err Device) old new → GrowsAsAsked old new c a
+  not_grown old new c a fixed goes = record {
+    as_long = λ no. goes.same_blocks;
     no_more = λ blocks is. absurd (fixed (subst IsGrow (sym is) tt));
     untouched = λ is. absurd (fixed is);
-    same = its.same;
-    unchanged = its.unchanged;
-    blocks = its.blocks;
-    marked = its.marked;
-    reads = its.reads;
-    few = its.few;
-    free = its.free;
-    written = its.written;
     grown = λ blocks is. absurd (fixed (subst IsGrow (sym is) tt));
-    back = its.back;
   }
 
   -- a Grow
@@ -66,9 +38,12 @@ module _ {D : Type 0} {members : _} where
     only_then = only_then;
     memory = λ is. tt;
     goes = goes;
-    as_long = λ no. absurd (no tt);
-    no_more = λ n is. subst (λ (b : ℕ). IsNoLonger old new b) (same_grow blocks n is) no_more;
-    untouched = λ is. untouched;
+    size = record {
+      as_long = λ no. absurd (no tt);
+      no_more = λ n is. subst (λ (b : ℕ). IsNoLonger old new b) (same_grow blocks n is) no_more;
+      untouched = λ is. untouched;
+      grown = λ n is. subst (λ (b : ℕ). NewAreFree a old new b) (same_grow blocks n is) grown;
+    };
     same = in_err a same;
     unchanged = unchanged;
     blocks = λ alone. absurd alone;
@@ -77,7 +52,6 @@ module _ {D : Type 0} {members : _} where
     few = tt;
     free = tt;
     written = λ is. cc;
-    grown = λ n is. subst (λ (b : ℕ). NewAreFree a old new b) (same_grow blocks n is) grown;
     back = λ is. cc;
   }
     where
@@ -149,9 +123,7 @@ module _ {D : Type 0} {members : _} (old mid : Store D members) (failed : Bool) 
       only_then = did.only_then;
       memory = did.memory;
       goes = did.goes;
-      as_long = did.as_long;
-      no_more = did.no_more;
-      untouched = did.untouched;
+      size = record { as_long = did.size.as_long; no_more = did.size.no_more; untouched = did.size.untouched; grown = did.size.grown };
       same = did.same;
       unchanged = early_on a sound noted.0 did.unchanged;
       blocks = did.blocks;
@@ -160,7 +132,6 @@ module _ {D : Type 0} {members : _} (old mid : Store D members) (failed : Bool) 
       few = few_on a c did.few;
       free = keeps_on a old mid new (λ honest. honest) refl c did.free;
       written = did.written;
-      grown = did.grown;
       back = λ is.
           let was = did.back is in record {
             accepted = was.accepted;

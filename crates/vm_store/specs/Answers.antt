@@ -117,8 +117,8 @@ ComesAfterMarking (Err Full) = Unit {0}
 ComesAfterMarking (Err Deep) = Unit {0}
 ComesAfterMarking (Err refusal) = ⊥
 
--- where so many blocks are free before a Merge and after it, and so many are spare: if enough are free for all its changes, it takes no
--- more than those; if too few are, blocks are marked first, and all that were spare but so many are free after it
+-- a Merge before which and after which so many blocks are free, and so many spare: if enough were free for all its changes, it takes no
+-- more of them than its changes may; if too few were, blocks are marked first, which makes the spare ones free, and it takes no more of those
 abbrev pub TakesForChanges : ℕ → Result Answer Refusal → (before after spare : ℕ) → Type 0
 TakesForChanges changes answer before after spare =
     (blocks_a_change * changes ≤ before → before ≤ after + taken_by_changes changes answer)

@@ -22,6 +22,16 @@ abbrev pub answered : List Command → List (Result Answer Refusal) → List Com
 answered commands answers = take (length answers) commands
 
 module _ {D : Type 0} {members : _} where
+  -- how a command changes the number of blocks
+  pub record GrowsAsAsked (old new : Store D members) (command : Command) (answer : Result Answer Refusal) : Type 0 where
+    -- no command but a Grow gives the disk more blocks, and a Grow no more than it asks for
+    pub as_long : (IsGrow command → ⊥) → IsAsLong old new
+    pub no_more : GrowsNoMore old new command
+    -- a Grow that is refused early makes no device call
+    pub untouched : IsGrow command → EarlyLeavesDisk answer old new
+    -- after a Grow the new blocks are free, too
+    pub grown : GrowsFree answer old new command
+
   -- what a command does to a store, but for the note that the device failed
   pub record Performs (old new : Store D members) (command : Command) (answer : Result Answer Refusal) : Type 0 where
     -- on an honest disk it does what it is to do to each state that the store stood for
@@ -31,10 +41,8 @@ module _ {D : Type 0} {members : _} where
     pub memory : answer ≡ Err Memory → TakesMemory command
     -- it is Device only where a device call failed
     pub goes : GrowsOn (answer ≡ Err Device) old new
-    -- no command but a Grow gives the disk more blocks, a Grow no more than it asks for, and one that is refused early makes no device call
-    pub as_long : (IsGrow command → ⊥) → IsAsLong old new
-    pub no_more : GrowsNoMore old new command
-    pub untouched : IsGrow command → EarlyLeavesDisk answer old new
+    -- it gives the disk new blocks only as it was asked to
+    pub size : GrowsAsAsked old new command answer
     -- a refusal leaves the entries as they were
     pub same : OnErr answer (entries_of new ≡ entries_of old)
     -- one that comes before blocks are marked, taken or written leaves all but the disk as it was, so as many blocks are free
@@ -46,15 +54,13 @@ module _ {D : Type 0} {members : _} where
     -- a Post and a Reclaim only read, and so do a Merge that changes nothing and each other command but a Grow that is refused before it takes
     -- a block
     pub reads : IsHonest new → ReadsOnly command answer old new
-    -- a Post and a Merge that makes no change look only at blocks that trees do not share
+    -- a Post and a Merge that makes no change read no more blocks than the compared trees do not share
     pub few : ReadsFew command answer old new
     -- of the free blocks, or of the spare ones after a marking, a Put takes 16 at most, a Remove 8, and a Merge 16 for each change; a Post and
     -- a Commit take none
     pub free : KeepsFree command answer old new
     -- a Commit writes the other slot, in format 2, and the selector, byte by byte, and no other block
     pub written : command ≡ Commit → WritesCommit answer old new
-    -- after a Grow the new blocks are free, too
-    pub grown : GrowsFree answer old new command
     -- a Rollback is always accepted, makes no device call, and takes no block
     pub back : command ≡ Rollback → RollsBack answer old new
 

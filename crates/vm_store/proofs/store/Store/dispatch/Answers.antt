@@ -3,7 +3,8 @@ use Rattle.vm_types.specs.declared.command.Command.TheVariants.{Rollback}
 use Rattle.vm_types.specs.declared.refusal.Refusal.TheVariants.{Device, Failed, Memory}
 use Rattle.vm_disk.proofs.GoesLemmas.{goes_nowhere}
 use Rattle.vm_store.proofs.FirstLemmas.{done_or_device}
-use Rattle.vm_store.proofs.PerformLemmas.{performs, performs_grow}
+use Rattle.vm_store.proofs.LongerLemmas.{goes_grow}
+use Rattle.vm_store.proofs.PerformLemmas.{not_grown, performs_grow}
 use Rattle.vm_store.proofs.RolledLemmas.{accepted_is_no_refusal}
 use Rattle.vm_store.proofs.VersionLemmas.{entries_few, entries_keep, entries_read, entries_unmarked, when_ok}
 use Rattle.vm_store.proofs.store.Store.dispatch.Goals as goal
@@ -12,11 +13,12 @@ pub returns-in-Put : goal.returns-in-Put
 returns-in-Put g c =
     let e = c.put_value.ensures in
     rw (c.in-Put.is, ← c.as_bytes.ensures.bytes)
-    (performs _ _ _ _ (λ grow. grow) (record {
+    (record {
       carried = e.carried;
       only_then = e.never.0;
       memory = λ is. absurd (e.never.1 is);
-      goes = e.any;
+      goes = goes_grow _ _ _ e.any;
+      size = not_grown _ _ _ _ (λ grow. grow) e.any;
       same = e.same;
       unchanged = e.unchanged;
       blocks = λ alone. absurd alone;
@@ -26,16 +28,17 @@ returns-in-Put g c =
       free = e.free;
       written = λ is. cc;
       back = λ is. cc;
-    }))
+    })
 
 pub returns-in-Remove : goal.returns-in-Remove
 returns-in-Remove g c =
     let e = c.remove.ensures in
-    rw c.in-Remove.is (performs _ _ _ _ (λ grow. grow) (record {
+    rw c.in-Remove.is (record {
       carried = e.carried;
       only_then = e.never.0;
       memory = λ is. absurd (e.never.1 is);
-      goes = e.any;
+      goes = goes_grow _ _ _ e.any;
+      size = not_grown _ _ _ _ (λ grow. grow) e.any;
       same = e.same;
       unchanged = e.unchanged;
       blocks = λ alone. absurd alone;
@@ -45,17 +48,18 @@ returns-in-Remove g c =
       free = e.free;
       written = λ is. cc;
       back = λ is. cc;
-    }))
+    })
 
 pub returns-in-Merge : goal.returns-in-Merge
 returns-in-Merge g c =
     let e = c.merge.ensures in
     rw (c.in-Merge.is, ← c.as_slice.ensures)
-    (performs _ _ _ _ (λ grow. grow) (record {
+    (record {
       carried = e.carried;
       only_then = e.never;
       memory = λ is. tt;
-      goes = e.any;
+      goes = goes_grow _ _ _ e.any;
+      size = not_grown _ _ _ _ (λ grow. grow) e.any;
       same = e.same;
       unchanged = e.unchanged;
       blocks = λ alone. absurd alone;
@@ -65,16 +69,17 @@ returns-in-Merge g c =
       free = e.free;
       written = λ is. cc;
       back = λ is. cc;
-    }))
+    })
 
 pub returns-in-Post : goal.returns-in-Post
 returns-in-Post g c =
     let e = c.post.ensures in
-    rw c.in-Post.is (performs _ _ _ _ (λ grow. grow) (record {
+    rw c.in-Post.is (record {
       carried = e.carried;
       only_then = e.never.0;
       memory = λ is. absurd (e.never.1 is);
-      goes = e.any;
+      goes = goes_grow _ _ _ e.any;
+      size = not_grown _ _ _ _ (λ grow. grow) e.any;
       same = e.same;
       unchanged = e.unchanged;
       blocks = λ alone. absurd alone;
@@ -84,17 +89,17 @@ returns-in-Post g c =
       free = e.held;
       written = λ is. cc;
       back = λ is. cc;
-    }))
+    })
 
 pub returns-in-Commit : goal.returns-in-Commit
 returns-in-Commit g c =
     let e = c.commit.ensures in
-    rw c.in-Commit.is
-    (performs _ _ _ _ (λ grow. grow) (record {
+    rw c.in-Commit.is (record {
       carried = e.carried;
       only_then = search rules;
       memory = search rules;
-      goes = e.any;
+      goes = goes_grow _ _ _ e.any;
+      size = not_grown _ _ _ _ (λ grow. grow) e.any;
       same = e.same;
       unchanged = search rules;
       blocks = λ alone. absurd alone;
@@ -104,17 +109,18 @@ returns-in-Commit g c =
       free = e.held;
       written = λ is. e.written;
       back = λ is. cc;
-    }))
+    })
 
 pub returns-in-Rollback : goal.returns-in-Rollback
 returns-in-Rollback g c =
     let e = c.rollback.ensures in
-    rw c.in-Rollback.is
-    (performs _ _ Rollback _ (λ grow. grow) (record {
+    let nowhere = goes_nowhere _ _ _ (ap g.D.Disk.state e.back.disk) (accepted_is_no_refusal c.rollback.result Device) in
+    rw c.in-Rollback.is (record {
       carried = e.carried;
       only_then = accepted_is_no_refusal c.rollback.result Failed;
       memory = λ is. absurd (accepted_is_no_refusal c.rollback.result Memory is);
-      goes = goes_nowhere _ _ _ (ap g.D.Disk.state e.back.disk) (accepted_is_no_refusal c.rollback.result Device);
+      goes = goes_grow _ _ _ nowhere;
+      size = not_grown _ _ Rollback _ (λ grow. grow) nowhere;
       same = tt;
       unchanged = tt;
       blocks = λ alone. absurd alone;
@@ -124,17 +130,17 @@ returns-in-Rollback g c =
       free = tt;
       written = λ is. cc;
       back = λ is. e.back;
-    }))
+    })
 
 pub returns-in-Reclaim : goal.returns-in-Reclaim
 returns-in-Reclaim g c =
     let e = c.reclaim.ensures in
-    rw c.in-Reclaim.is
-    (performs _ _ _ _ (λ grow. grow) (record {
+    rw c.in-Reclaim.is (record {
       carried = e.carried;
       only_then = e.never.0;
       memory = λ is. absurd (e.never.1 is);
-      goes = e.any;
+      goes = goes_grow _ _ _ e.any;
+      size = not_grown _ _ _ _ (λ grow. grow) e.any;
       same = search rules;
       unchanged = search rules;
       blocks = λ alone. absurd alone;
@@ -144,7 +150,7 @@ returns-in-Reclaim g c =
       free = tt;
       written = λ is. cc;
       back = λ is. cc;
-    }))
+    })
 
 pub returns-in-Grow : goal.returns-in-Grow
 returns-in-Grow g c =
@@ -155,11 +161,12 @@ pub returns-in_default : goal.returns-in_default
 returns-in_default g c =
     let e = c.change_entries.ensures in
     let command = c.args.command.now in
-    performs _ _ command _ (search rules) (record {
+    record {
       carried = e.carried;
       only_then = e.never.0;
       memory = λ is. absurd (e.never.1 is);
-      goes = e.any;
+      goes = goes_grow _ _ _ e.any;
+      size = not_grown _ _ command _ (search rules) e.any;
       same = e.same;
       unchanged = e.unchanged;
       blocks = λ alone. (e.disk, e.held);
@@ -169,4 +176,4 @@ returns-in_default g c =
       free = entries_keep command _ _ _ (search rules);
       written = search rules;
       back = search rules;
-    })
+    }
