@@ -7,6 +7,7 @@ use crate::script::Case;
 use crate::step::Step;
 use anyhow::{Context, Result, bail};
 use std::alloc::Global;
+use std::fmt::Write;
 use vm_cli::{InMemory, Job, Manner, OnCommand, OnRefusal, buffer_for, job, run_words, serve};
 use vm_disk::{FuseDisk, MemDisk};
 use vm_store::{Store, format, open};
@@ -28,9 +29,23 @@ pub fn play(alloc: Global, mut case: Case<'_>) -> Result<String> {
     }
     let mut text = String::new(alloc);
     for step in &case.steps {
-        push_differences(step, &mut text)?;
+        if case.differs {
+            look_for_differences(alloc, step, &mut text)?;
+        } else {
+            push_differences(step, &mut text)?;
+        }
     }
     Ok(text)
+}
+
+/// Appends that a step gave just what was expected, though it should have differed.
+fn look_for_differences(alloc: Global, step: &Step, text: &mut String) -> Result<()> {
+    let mut differences = String::new(alloc);
+    push_differences(step, &mut differences)?;
+    if differences.is_empty() {
+        writeln!(text, "    the step of line {} does not differ", step.number)?;
+    }
+    Ok(())
 }
 
 /// Plays a step that is not a session.

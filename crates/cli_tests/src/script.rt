@@ -20,6 +20,9 @@ pub struct Case<'a> {
     pub title: &'a str,
     /// After how many calls the device of the store fails, once.
     pub store: Option<u32>,
+    /// Each step has to give something other than what stands there, which shows that a difference
+    /// is seen.
+    pub differs: bool,
     pub steps: Vec<Step>,
 }
 
@@ -27,6 +30,7 @@ impl Case<'_> {
     /// Takes a line. It begins a step or belongs to the last one.
     fn take(&mut self, alloc: Global, line: &Line<'_>) -> Result<()> {
         match self.steps.last_mut() {
+            None if line.whole == "@ differs" => self.differs = true,
             None if line.mark == "@" => self.store = Some(device_calls(line.rest)?),
             None if line.mark == "$" => self.steps.push(Step::new(alloc, line, "")?)?,
             None => bail!("this line belongs to no step"),
@@ -76,6 +80,7 @@ fn take<'a>(alloc: Global, cases: &mut Vec<Case<'a>>, line: &Line<'a>) -> Result
         _ if line.mark == "#" => cases.push(Case {
             title: line.rest,
             store: None,
+            differs: false,
             steps: Vec::new(alloc),
         })?,
         Some(case) => case.take(alloc, line)?,
