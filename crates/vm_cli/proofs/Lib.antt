@@ -20,11 +20,10 @@ mod SurveyLemmas
 pub mod TalkLemmas
 pub mod ChainLemmas
 pub mod HandledLemmas
-pub mod RequestLemmas
 pub mod ListedLemmas
 pub mod MergeLemmas
 pub mod OthersLemmas
-pub mod VerbLemmas
+pub mod RequestLemmas
 pub mod WritesLemmas
 pub mod FeedLemmas
 pub mod EndLemmas

@@ -18,7 +18,7 @@ use Rattle.vm_cli.specs.declared.talk.OnCommand.TheVariants.{Refuse}
 use Rattle.vm_cli.specs.declared.talk.ServeFault.{ServeFault}
 use Rattle.vm_cli.specs.declared.talk.ServeFault.TheVariants as fault
 use Rattle.vm_cli.proofs.PassLemmas.{grows_both, passes_left}
-use Rattle.vm_cli.proofs.VerbLemmas.{is_reading}
+use Rattle.vm_cli.proofs.RequestLemmas.{is_reading}
 
 -- what is asked for there is no command
 refused_reads : (on : OnCommand) (request : Request) → on ≡ Refuse → is_reading (asked_in on request) ≡ true

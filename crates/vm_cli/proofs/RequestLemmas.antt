@@ -1,47 +1,160 @@
--- What words ask for.
-use Rattle.std.proofs.Common.{◌≡◌, ◌∷◌, ℕ, List, Option, Some, None, codes, option_map, refl}
-use Rattle.vm_types.specs.declared.at.At.{At}
-use Rattle.vm_types.specs.declared.command.Command.TheVariants.{Back, Checkpoint, New, NewAt, Put, Remove, Uncheck}
-use Rattle.vm_types.specs.declared.key.Key.{Key}
-use Rattle.vm_cli.specs.Requests.{names_of, new_command, new_of, put_asked, put_of, record_at_of, record_of, request_of}
+-- How a request is handled.
+use Rattle.std.proofs.Common.{◌≡◌, ◌≤◌, ◌+◌, ◌++◌, ℕ, Bool, List, [], Option, None, Result, Err, Ok, IfOk, OnOk, true, false, length, map, refl, sym, subst, ◌∙◌, arith}
+use Rattle.vm_types.specs.State.{State}
+use Rattle.vm_types.specs.declared.answer.Answer.{Answer}
+use Rattle.vm_types.specs.declared.command.Command.{Command}
+use Rattle.vm_types.specs.declared.refusal.Refusal.{Refusal}
+use Rattle.vm_types.specs.declared.refusal.Refusal.TheVariants.{Device, Failed, Memory}
+use Rattle.vm_types.specs.Queries.{IsListing}
+use Rattle.vm_store.specs.Queries.{Queries}
+use Rattle.vm_store.specs.Store.{has_failed}
+use Rattle.vm_store.specs.declared.store.Store.{Store}
 use Rattle.vm_cli.specs.Asking.{Request}
+use Rattle.vm_cli.specs.Feeds.{Asks, AsksBy, AsksInto, HandlesRequest, HandlesOrWants, ListReplied, QueriesBy, QueriesWith, Replies, Stays, TalkGoesOn}
+use Rattle.vm_cli.specs.Replies.{ends_talk, is_error, reply_text}
+use Rattle.vm_cli.specs.Requested.{list_for}
+use Rattle.vm_cli.specs.Requests.{asked_in}
+use Rattle.vm_cli.specs.Talk.{Failing, Meets, Passes, SaysAnswer, SaysFailed, Stood, answer_text, error_text, list_lines}
+use Rattle.vm_cli.specs.declared.lines.list_query.ListQuery.{ListQuery}
+use Rattle.vm_cli.specs.declared.lines.list_query.ListQuery.TheVariants as listed
+use Rattle.vm_cli.specs.declared.talk.OnCommand.{OnCommand}
+use Rattle.vm_cli.specs.declared.talk.OnCommand.TheVariants.{CarryOut, GrowIfFull, Refuse}
+use Rattle.vm_cli.specs.declared.talk.Session.{Session}
+use Rattle.vm_cli.specs.declared.answers.reply.Reply.{Reply}
+use Rattle.vm_cli.specs.declared.answers.reply.Reply.TheVariants as reply
+use Rattle.vm_cli.specs.declared.answers.output.WriteFault.{WriteFault}
+use Rattle.vm_cli.proofs.EndLemmas.{applied_ends, nothing_asked, query_ends}
+use Rattle.vm_cli.proofs.HandledLemmas.{Applied, asked_replied, bad_handled, carried, forbidden_handled, memory_told, nothing_handled, replied_whole, replied_with}
+use Rattle.vm_cli.proofs.ListedLemmas.{list_goes_on, list_handled}
+use Rattle.vm_cli.proofs.PassLemmas.{goes_any, never_both, passes_reads}
 
--- words that ask for a record, or for nothing
-pub get_asks : (words : List (List ℕ)) (asked : At × Key) → Some asked ≡ record_at_of words → request_of (codes "get" ∷ words) ≡ Request.Get asked.0 asked.1
-get_asks words asked is = rw (← is) refl
+-- what is asked for is no command
+abbrev pub is_reading : Request → Bool
+is_reading (Request.Command command) = false
+is_reading (Request.Growing most command) = false
+is_reading (Request.MergeAll limit alt side settled) = false
+is_reading request = true
 
-pub get_is_bad : (words : List (List ℕ)) → None ≡ record_at_of words → request_of (codes "get" ∷ words) ≡ Request.Bad
-get_is_bad words is = rw (← is) refl
+-- and so it is the same in each talk
+pub reads_alone : (on : OnCommand) (request : Request) → is_reading request ≡ true → asked_in on request ≡ request
+reads_alone Refuse (Request.Command command) reads = cc
+reads_alone Refuse (Request.Growing most command) reads = cc
+reads_alone Refuse (Request.MergeAll limit alt side settled) reads = cc
+reads_alone (GrowIfFull most) (Request.MergeAll limit alt side settled) reads = cc
+reads_alone (GrowIfFull most) (Request.Command command) reads = cc
+reads_alone CarryOut request reads = refl
+reads_alone Refuse request reads = refl
+reads_alone (GrowIfFull most) request reads = refl
 
--- a put, by what its last word spells
-pub put_spelled : (words : List (List ℕ)) (alt : List ℕ) (key : Key) (value : Option (List ℕ)) → put_of words ≡ option_map (λ v. Put alt key v) value → request_of (codes "put" ∷ words) ≡ put_asked alt key value
-put_spelled words alt key None is = rw is refl
-put_spelled words alt key (Some v) is = rw is refl
+-- a query for a list is none
+pub list_reads : (query : ListQuery) → is_reading (list_for query) ≡ true
+list_reads (listed.Records at) = refl
+list_reads (listed.Part at low high) = refl
+list_reads (listed.Page at low count) = refl
+list_reads (listed.Diff first second) = refl
+list_reads (listed.DiffPart first second low high) = refl
+list_reads listed.Alternatives = refl
+list_reads (listed.Checkpoints alt) = refl
+list_reads (listed.Changes alt) = refl
+list_reads (listed.Conflicts alt) = refl
 
-pub put_is_bad : (words : List (List ℕ)) → None ≡ put_of words → request_of (codes "put" ∷ words) ≡ Request.Bad
-put_is_bad words is = rw (← is) refl
+module _ {D : Type 0} {members : _} where
+  -- a query
+  pub query_by : (old new : Store D members) (query : Request) (reply : Reply) → QueriesBy query reply old new → AsksBy query reply old new
+  query_by old new query reply by = record { store = query_ends old new reply by.store; answers = by.answers }
 
--- words that ask for a command
-pub remove_asks : (words : List (List ℕ)) (asked : List ℕ × Key) → Some asked ≡ record_of words → request_of (codes "remove" ∷ words) ≡ Request.Command (Remove asked.0 asked.1)
-remove_asks words asked is = rw (← is) refl
+  -- what is asked for is this
+  pub asked_as : (old new : Store D members) (asked query : Request) → asked ≡ query → (reply : Reply) → AsksBy query reply old new → AsksBy asked reply old new
+  asked_as old new asked query is reply by = subst (λ (request : Request). AsksBy request reply old new) (sym is) by
 
-pub checkpoint_asks : (words : List (List ℕ)) (asked : List ℕ × List ℕ) → Some asked ≡ names_of words → request_of (codes "checkpoint" ∷ words) ≡ Request.Command (Checkpoint asked.0 asked.1)
-checkpoint_asks words asked is = rw (← is) refl
+  -- a command, where the store is only read
+  pub forbidden_by : (store : Store D members) → AsksBy Request.Forbidden reply.ReadOnly store store
+  forbidden_by store = record { store = nothing_asked store reply.ReadOnly refl; answers = λ s. forbidden_handled store s }
 
-pub uncheck_asks : (words : List (List ℕ)) (asked : List ℕ × List ℕ) → Some asked ≡ names_of words → request_of (codes "uncheck" ∷ words) ≡ Request.Command (Uncheck asked.0 asked.1)
-uncheck_asks words asked is = rw (← is) refl
+  -- a command that was carried out
+  pub carried_by : (old new : Store D members) (command : Command) (answer : Result Answer Refusal) → Applied old new command answer → (reply : Reply) → reply_text reply ≡ answer_text answer
+      → TalkGoesOn answer reply → (answer ≡ Err Device → ends_talk reply ≡ true) → (answer ≡ Err Failed → ends_talk reply ≡ true) → AsksBy (Request.Command command) reply old new
+  carried_by old new command answer applied reply text goes_on device failed =
+      let by = applied_ends old new command answer applied reply goes_on device in
+      record { store = by; answers = λ s. carried old new s command answer applied (reply_text reply) (ends_talk reply) text by.last failed }
 
-pub back_asks : (words : List (List ℕ)) (asked : List ℕ × List ℕ) → Some asked ≡ names_of words → request_of (codes "back" ∷ words) ≡ Request.Command (Back asked.0 asked.1)
-back_asks words asked is = rw (← is) refl
+  -- a line that asks for nothing that there is
+  pub bad_asked : (store : Store D members) → AsksBy Request.Bad reply.BadLine store store
+  bad_asked store = record { store = nothing_asked store reply.BadLine refl; answers = λ s. bad_handled store s }
 
--- two names, and three
-pub new_asks : (words : List (List ℕ)) (asked : List ℕ × List ℕ × Option (List ℕ)) → option_map new_command (Some asked) ≡ new_of words → asked.2 ≡ None → request_of (codes "new" ∷ words) ≡ Request.Command (New asked.0 asked.1)
-new_asks words (name, parent, None) is none = rw (← is) refl
-new_asks words (name, parent, Some other) is none = let bad : ⊥ = cc in absurd bad
+  -- a request that has no answer
+  pub nothing_by : (store : Store D members) (asked : Request) → asked ≡ Request.Nothing → AsksBy asked reply.Nothing store store
+  nothing_by store asked nothing =
+      asked_as store store asked Request.Nothing nothing reply.Nothing (record { store = nothing_asked store reply.Nothing refl; answers = λ s. nothing_handled store s })
 
-pub new_at_asks : (words : List (List ℕ)) (asked : List ℕ × List ℕ × Option (List ℕ)) (checkpoint : List ℕ) → option_map new_command (Some asked) ≡ new_of words → asked.2 ≡ Some checkpoint
-    → request_of (codes "new" ∷ words) ≡ Request.Command (NewAt asked.0 asked.1 checkpoint)
-new_at_asks words (name, parent, None) checkpoint is some = let bad : ⊥ = cc in absurd bad
-new_at_asks words (name, parent, Some other) checkpoint is some =
-    let same : other ≡ checkpoint = cc in
-    rw (← is, same) refl
+module _ {D W : Type 0} {members : _} (contents : W → Option (List ℕ)) where
+  -- a request that a session handled
+  pub in_session : (request : Request) (result : Result Reply WriteFault) (old new : Session W D members) → Stays old new → AsksInto contents request result old.store.now new.store.now old.writer.now new.writer.now new.text
+      → Asks contents request result old new
+  in_session request result old new same asks = record { same = same; asks = asks }
+
+  -- a reply alone
+  pub reply_into : (old new : Store D members) (request : Request) (reply : Reply) (writer : W) (text : List ℕ) → text ≡ [] → AsksBy request reply old new
+      → AsksInto contents request (Ok reply) old new writer writer text
+  reply_into old new request reply writer text none by =
+      let short : length text ≡ 0 = rw none refl in
+      record {
+        room = omega (arith, short);
+        store = by.store;
+        answers = λ s. asked_replied old new s request (Ok reply) _ _ text (replied_whole (HandlesRequest old new s request) reply _ text none (by.answers s));
+      }
+
+  -- a query whose answer the text has
+  pub query_with : (old new : Store D members) (query : Request) (reply : Reply) (writer : W) (text : List ℕ) → QueriesWith query reply text old new → AsksInto contents query (Ok reply) old new writer writer text
+  query_with old new query reply writer text by = record {
+    room = by.room;
+    store = query_ends old new reply by.store;
+    answers = λ s. asked_replied old new s query (Ok reply) _ _ text (replied_with (HandlesRequest old new s query) reply _ text (by.answers s));
+  }
+
+  -- a request for which there was no memory
+  pub memory_into : (store : Store D members) (request : Request) (writer : W) (text : List ℕ) → text ≡ [] → AsksInto contents request (Ok (reply.Refused Memory)) store store writer writer text
+  memory_into store request writer text none =
+      let short : length text ≡ 0 = rw none refl in
+      record {
+        room = omega (arith, short);
+        store = nothing_asked store (reply.Refused Memory) refl;
+        answers = λ s. replied_whole (HandlesOrWants store store s request) (reply.Refused Memory) _ text none (memory_told store s request);
+      }
+
+  -- a request that only reads, in a talk where this is done with commands
+  pub reads_in : (on : OnCommand) (old new : Store D members) (request : Request) → is_reading request ≡ true → (r : Result Reply WriteFault) (writer writer' : W) (text : List ℕ) → AsksInto contents request r old new writer writer' text
+      → AsksInto contents (asked_in on request) r old new writer writer' text
+  reads_in on old new request reads r writer writer' text into =
+      subst (λ (asked : Request). AsksInto contents asked r old new writer writer' text) (sym (reads_alone on request reads)) into
+
+  -- a query that only reads, with an answer that may be written in part
+  pub query_into : (old new : Store D members) (query : Request) → Passes old new None → has_failed new ≡ has_failed old → (has_failed old ≡ true → new ≡ old)
+      → (r : Result Reply WriteFault) (writer writer' : W) (text : List ℕ) → OnOk r (length text + 1024 ≤ 65536) → (has_failed old ≡ false → IfOk r (λ reply. ends_talk reply ≡ has_failed new))
+      → ((s : State) → Replies (HandlesRequest old new s query) r (contents writer) (contents writer') text) → AsksInto contents query r old new writer writer' text
+  query_into old new query passes same left r writer writer' text room last replies = record {
+    room = room;
+    store = record {
+      goes = passes.goes;
+      last = last;
+      failing = λ sound failed. absurd (never_both _ (same ∙ sound) failed);
+      left = left;
+    };
+    answers = λ s. asked_replied old new s query r _ _ text (replies s);
+  }
+
+  -- one whose answer is a list that the store read
+  pub listed_into : {X : Type 0} (old new : Store D members) (query : Request) (line : X → List ℕ) (due : State → Result (List X) Refusal) (answer : Result (List X) Refusal) → Queries old new answer (λ s. IsListing answer (due s))
+      → ((x : X) (rest : List ℕ) → is_error (line x ++ rest) ≡ false)
+      → ((s : State) (text : List ℕ) → has_failed new ≡ false → SaysAnswer (Failing old new) (list_lines line) (λ answer. Stood old new s → IsListing answer (due s)) text → Meets old new s query text None)
+      → ((text : List ℕ) (ends : Bool) → text ≡ error_text Failed → ends ≡ true → SaysFailed query text ends)
+      → (r : Result Reply WriteFault) (writer writer' : W) (text : List ℕ) → OnOk r (length text + 1024 ≤ 65536) → ListReplied (λ list. map line list) answer r (contents writer) (contents writer') text
+      → AsksInto contents query r old new writer writer' text
+  listed_into old new query line due answer said plain meets fails r writer writer' text room list =
+      let passes = passes_reads old new (goes_any _ _ _ said.any) said.reads said.unchanged in
+      query_into old new query passes said.failed said.no_calls r writer writer' text room
+      (λ sound. list_goes_on _ answer r _ _ _ _ (said.failed ∙ sound) (said.only_then sound) list)
+      (λ s.
+      list_handled old new s query passes said.failed said.no_calls (λ stood. said.state stood.honest s stood.holds)
+      (Stood old new s) (Failing old new) line (λ list. list) (due s) plain (λ text sound says. meets s text (said.failed ∙ sound) says) fails
+      answer (λ sound. said.any.fault) said.refused said.only_then (λ sound stood. said.value stood.honest sound s stood.holds) r _ _ text list)

@@ -13,14 +13,12 @@ use Rattle.vm_cli.specs.Lines.{lines_of}
 use Rattle.vm_cli.specs.Replies.{ends_talk, is_error, reply_text}
 use Rattle.vm_store.specs.Store.{GoesOn, GrowsOn, has_failed}
 use Rattle.vm_cli.specs.Input.{HoldsLine}
-use Rattle.vm_cli.specs.Requests.{asked_in, request_of}
 use Rattle.vm_cli.specs.Talk.{AnsweredRequest, Done, EndsBy, FailsByDevice, Handled, HandlesLine, HasTalked, Serves, ServesLines, StoreFails, Tries, error_text}
 use Rattle.vm_cli.specs.declared.lines.line.Line.{Line}
 use Rattle.vm_cli.specs.declared.answers.reply.Reply.{Reply}
 use Rattle.vm_cli.specs.declared.answers.reply.Reply.TheVariants.{End}
 use Rattle.vm_cli.specs.Asking.{Request}
 use Rattle.vm_cli.specs.declared.talk.Manner.{Manner}
-use Rattle.vm_cli.specs.declared.talk.OnCommand.{OnCommand}
 use Rattle.vm_cli.specs.declared.talk.OnRefusal.TheVariants.{Stop}
 use Rattle.vm_cli.specs.declared.talk.ServeFault.{ServeFault}
 use Rattle.vm_cli.specs.declared.talk.Session.{Session}
@@ -125,14 +123,6 @@ module _ {D : Type 0} {members : _} where
     pub store : EndsIfFailed (Ok reply) old new
     pub answers : AnswersBy request reply old new
 
-  -- so is what the words of a line ask for
-  abbrev pub HandlesBy : List (List ℕ) → Reply → Store D members → Store D members → Type 0
-  HandlesBy words reply old new = AsksBy (request_of words) reply old new
-
-  -- so is what they ask for in a talk where this is done with commands
-  abbrev pub HandlesIn : OnCommand → List (List ℕ) → Reply → Store D members → Store D members → Type 0
-  HandlesIn on words reply old new = AsksBy (asked_in on (request_of words)) reply old new
-
   -- a command is carried out, for which the store may grow so often; one that had failed answers Failed
   pub record TriesBy (left most : ℕ) (command : Command) (reply : Reply) (old new : Store D members) : Type 0 where
     pub store : EndsIfFailed (Ok reply) old new
@@ -183,10 +173,6 @@ module _ {D W : Type 0} {members : _} (contents : W → Option (List ℕ)) where
     pub room : OnOk result (length rest + 1024 ≤ MAX_LEN)
     pub store : EndsIfFailed result old new
     pub answers : (s : State) → Replies (HandlesOrWants old new s request) result (contents writer) (contents writer') rest
-
-  -- so is what the words of a line ask for
-  abbrev pub HandlesInto : List (List ℕ) → Result Reply WriteFault → Store D members → Store D members → W → W → List ℕ → Type 0
-  HandlesInto words result old new writer writer' rest = AsksInto (request_of words) result old new writer writer' rest
 
   -- a talk over what the reader has to give
   abbrev pub ServesEach : Manner → Result Bool ServeFault → Store D members → Store D members → Option (List ℕ) → W → W → Type 0

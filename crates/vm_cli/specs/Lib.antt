@@ -6,6 +6,7 @@ pub mod Numbers
 pub mod Pieces
 pub mod Asking
 pub mod Requests
+pub mod Requested
 pub mod Spaces
 pub mod Given
 pub mod Words

@@ -95,11 +95,6 @@ page_of (at ∷ table ∷ number ∷ count ∷ []) =
     option_and_then (λ a. option_and_then (λ k. option_map (λ n. (a, k, n)) (number_of 4294967295 count)) (key_of table number)) (at_of at)
 page_of _ = None
 
--- the command of two names, or of three
-abbrev pub new_command : List ℕ × List ℕ × Option (List ℕ) → Command
-new_command (name, parent, None) = New name parent
-new_command (name, parent, Some checkpoint) = NewAt name parent checkpoint
-
 -- `new NAME PARENT`, or `new NAME PARENT CHECKPOINT`
 abbrev pub new_of : List (List ℕ) → Option Command
 new_of (name ∷ parent ∷ []) = option_and_then (λ n. option_map (λ p. New n p) (name_of parent)) (name_of name)
@@ -107,30 +102,35 @@ new_of (name ∷ parent ∷ checkpoint ∷ []) =
     option_and_then (λ n. option_and_then (λ p. option_map (λ c. NewAt n p c) (name_of checkpoint)) (name_of parent)) (name_of name)
 new_of _ = None
 
--- `put ALT TABLE NUMBER VALUE`
-abbrev pub put_of : List (List ℕ) → Option Command
-put_of (alt ∷ table ∷ number ∷ value ∷ []) =
-    option_and_then (λ a. option_and_then (λ k. option_map (λ v. Put a k v) (value_of value)) (key_of table number)) (name_of alt)
-put_of _ = None
-
 -- what a put asks for, where its last word spells this value, or none
 abbrev pub put_asked : List ℕ → Key → Option (List ℕ) → Request
 put_asked alt key None = Request.Bad
 put_asked alt key (Some value) = Request.Command (Put alt key value)
+
+-- `put ALT TABLE NUMBER VALUE`
+abbrev pub put_of : List (List ℕ) → Option Request
+put_of (alt ∷ table ∷ number ∷ value ∷ []) =
+    option_and_then (λ a. option_map (λ k. put_asked a k (value_of value)) (key_of table number)) (name_of alt)
+put_of _ = None
 
 -- `grow BLOCKS`: a number that 32 bits hold
 abbrev pub grow_of : List (List ℕ) → Option Command
 grow_of (blocks ∷ []) = option_map Grow (number_of 4294967295 blocks)
 grow_of _ = None
 
+-- a merge of this alternative with these settlements, and with a side for each other conflict, or without
+abbrev pub merge_asked : List ℕ → Option Side → List (Key × Side) → Request
+merge_asked alt None settled = Request.Command (Merge alt settled)
+merge_asked alt (Some side) settled = Request.MergeAll None alt side settled
+
 -- a merge of this alternative, where its first settlement is for all conflicts, or is not
 abbrev pub merge_by : List ℕ → Option Side → List ℕ → List (List ℕ) → Option Request
-merge_by alt (Some side) word words = option_map (λ settled. Request.MergeAll None alt side settled) (settled_of words)
-merge_by alt None word words = option_map (λ settled. Request.Command (Merge alt settled)) (settled_of (word ∷ words))
+merge_by alt (Some side) word words = option_map (merge_asked alt (Some side)) (settled_of words)
+merge_by alt None word words = option_map (merge_asked alt None) (settled_of (word ∷ words))
 
 -- a merge of this alternative, with the settlements that these words say
 abbrev pub merge_with : List ℕ → List (List ℕ) → Option Request
-merge_with alt [] = Some (Request.Command (Merge alt []))
+merge_with alt [] = Some (merge_asked alt None [])
 merge_with alt (word ∷ words) = merge_by alt (side_for_all word) word words
 
 -- `merge ALT` and settlements, the first of which may be `all=SIDE`
@@ -143,11 +143,10 @@ abbrev pub alone : {X : Type 0} → X → List (List ℕ) → Option X
 alone x [] = Some x
 alone x _ = None
 
--- the command that the words after the first complete, but for a merge
+-- the command that the words after the first complete, but for a put and a merge
 abbrev pub command_of : List ℕ → List (List ℕ) → Option Command
 command_of verb words =
-    if bytes_eq verb (codes "put") then put_of words
-    else (if bytes_eq verb (codes "remove") then option_map (λ r. Remove r.0 r.1) (record_of words)
+    if bytes_eq verb (codes "remove") then option_map (λ r. Remove r.0 r.1) (record_of words)
     else (if bytes_eq verb (codes "commit") then alone Commit words
     else (if bytes_eq verb (codes "rollback") then alone Rollback words
     else (if bytes_eq verb (codes "reclaim") then alone Reclaim words
@@ -157,22 +156,26 @@ command_of verb words =
     else (if bytes_eq verb (codes "new") then new_of words
     else (if bytes_eq verb (codes "checkpoint") then option_map (λ names. Checkpoint names.0 names.1) (names_of words)
     else (if bytes_eq verb (codes "uncheck") then option_map (λ names. Uncheck names.0 names.1) (names_of words)
-    else (if bytes_eq verb (codes "back") then option_map (λ names. Back names.0 names.1) (names_of words) else None)))))))))))
+    else (if bytes_eq verb (codes "back") then option_map (λ names. Back names.0 names.1) (names_of words) else None))))))))))
+
+-- the query for a list that the words after the first complete
+abbrev pub list_of : List ℕ → List (List ℕ) → Option Request
+list_of verb words =
+    if bytes_eq verb (codes "list") then option_map list_asked (at_part_of words)
+    else (if bytes_eq verb (codes "next") then option_map (λ p. Request.Page p.0 p.1 p.2) (page_of words)
+    else (if bytes_eq verb (codes "diff") then option_map diff_asked (ats_part_of words)
+    else (if bytes_eq verb (codes "alts") then alone Request.Alternatives words
+    else (if bytes_eq verb (codes "checks") then option_map Request.Checkpoints (named_of words)
+    else (if bytes_eq verb (codes "changes") then option_map Request.Changes (named_of words)
+    else (if bytes_eq verb (codes "conflicts") then option_map Request.Conflicts (named_of words) else None))))))
 
 -- the query that the words after the first complete
 abbrev pub query_of : List ℕ → List (List ℕ) → Option Request
 query_of verb words =
     if bytes_eq verb (codes "get") then option_map (λ r. Request.Get r.0 r.1) (record_at_of words)
-    else (if bytes_eq verb (codes "list") then option_map list_asked (at_part_of words)
-    else (if bytes_eq verb (codes "checks") then option_map Request.Checkpoints (named_of words)
-    else (if bytes_eq verb (codes "changes") then option_map Request.Changes (named_of words)
-    else (if bytes_eq verb (codes "conflicts") then option_map Request.Conflicts (named_of words)
-    else (if bytes_eq verb (codes "alts") then alone Request.Alternatives words
-    else (if bytes_eq verb (codes "free") then alone Request.Free words
-    else (if bytes_eq verb (codes "diff") then option_map diff_asked (ats_part_of words)
     else (if bytes_eq verb (codes "tally") then option_map Request.Tally (named_of words)
-    else (if bytes_eq verb (codes "blocks") then alone Request.Blocks words
-    else (if bytes_eq verb (codes "next") then option_map (λ p. Request.Page p.0 p.1 p.2) (page_of words) else None))))))))))
+    else (if bytes_eq verb (codes "free") then alone Request.Free words
+    else (if bytes_eq verb (codes "blocks") then alone Request.Blocks words else list_of verb words)))
 
 -- a command, or else a query
 abbrev pub command_or : Option Command → Option Request → Option Request
@@ -182,8 +185,9 @@ command_or None query = query
 -- what the words after the first ask for
 abbrev pub asked_by : List ℕ → List (List ℕ) → Option Request
 asked_by verb words =
-    if bytes_eq verb (codes "merge") then merge_of words
-    else command_or (command_of verb words) (query_of verb words)
+    if bytes_eq verb (codes "put") then put_of words
+    else (if bytes_eq verb (codes "merge") then merge_of words
+    else command_or (command_of verb words) (query_of verb words))
 
 -- a merge with further words after its alternative: to read a line takes memory only where it is one
 abbrev pub IsLongMerge : List (List ℕ) → Type 0

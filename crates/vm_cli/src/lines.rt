@@ -3,7 +3,10 @@
 pub mod arguments;
 pub mod escape;
 pub mod line;
+pub mod list_query;
 pub mod number;
 pub mod pieces;
+pub mod request;
 pub mod settlement;
+pub mod small_command;
 pub mod versions;

@@ -11,6 +11,7 @@ ghost use Rattle.vm_cli.specs.Carried.{Begins, Gains};
 ghost use Rattle.vm_cli.specs.Feeds.{ServesEach};
 ghost use Rattle.vm_cli.specs.Lines.{IsPart};
 ghost use Rattle.vm_cli.specs.Replies.{reply_text};
+ghost use Rattle.vm_cli.specs.Requested.{asks_for};
 ghost use Rattle.vm_cli.specs.Requests.{asked_in, request_of};
 ghost use Rattle.vm_cli.specs.Spaces.{words_of};
 ghost use Rattle.vm_cli.specs.Talk.{Passes, StoreFails};
@@ -20,18 +21,11 @@ use crate::answers::output::{WriteFault, flush, put_all};
 use crate::answers::reply::Reply;
 use crate::answers::text::Text;
 use crate::lines::line::{Line, LineKind};
-use crate::lines::pieces::first_word;
-use commands::{
-    reply_to_back, reply_to_checkpoint, reply_to_commit, reply_to_drop, reply_to_grow,
-    reply_to_merge, reply_to_new, reply_to_post, reply_to_reclaim, reply_to_remove,
-    reply_to_rollback, reply_to_uncheck,
-};
+use crate::lines::request::{Request, parse_request};
+use commands::{reply_to_merge, reply_to_small};
 use memchr::memchr;
 use puts::reply_to_put;
-use queries::{
-    reply_to_alts, reply_to_blocks, reply_to_changes, reply_to_checks, reply_to_conflicts,
-    reply_to_diff, reply_to_free, reply_to_get, reply_to_list, reply_to_next, reply_to_tally,
-};
+use queries::{blocks, free, get, reply_to_list, tally};
 use std::alloc::{AllocError, Global};
 use std::io::{Read, Write};
 use thiserror::Error;
@@ -249,57 +243,36 @@ impl<'a, W: Write, D: Disk> Session<'a, W, D> {
         ensures { Asks W.contents (asked_in self.old.manner.on_command (request_of (words_of line.now)))
             result self.old self.new }
     {
-        let Some((verb, rest)) = first_word(line) else {
-            return Ok(Reply::Nothing);
-        };
-        self.reply_to_verb(verb, rest)
+        match parse_request(self.alloc, line) {
+            Ok(request) => self.reply_to_request(request),
+            Err(AllocError) => Ok(Reply::Refused(Refusal::Memory)),
+        }
     }
 
-    /// Carries out a line by its first word, given the words after it. Each kind of line has a stack
-    /// frame of its own, since a command has room for a value. So the session's own frame stays
-    /// small.
-    fn reply_to_verb(&mut self, verb: &[u8], rest: &[u8]) -> Result<Reply, WriteFault>
+    /// Does what a line asks for. What has room for a value has a stack frame of its own, so that
+    /// the session's stays small.
+    fn reply_to_request(&mut self, request: Request<'_>) -> Result<Reply, WriteFault>
         requires { self.old.text ≡ [] }
-        ensures { Asks W.contents (asked_in self.old.manner.on_command (request_of (verb.now ∷ words_of rest.now)))
+        ensures { Asks W.contents (asked_in self.old.manner.on_command (asks_for request.entry))
             result self.old self.new }
     {
         let alloc = self.alloc;
         let on = self.manner.on_command;
         let text = &mut self.text;
-        let out = &mut *self.writer;
         let store = &mut *self.store;
-        match verb {
-            _ if verb == b"get".as_slice() => Ok(reply_to_get(rest, text, &mut self.room, store)),
-            _ if verb == b"put".as_slice() => Ok(reply_to_put(rest, on, store)),
-            _ if verb == b"remove".as_slice() => Ok(reply_to_remove(rest, on, store)),
-            _ if verb == b"new".as_slice() => Ok(reply_to_new(rest, on, store)),
-            _ if verb == b"drop".as_slice() => Ok(reply_to_drop(rest, on, store)),
-            _ if verb == b"post".as_slice() => Ok(reply_to_post(rest, on, store)),
-            _ if verb == b"merge".as_slice() => match reply_to_merge(alloc, rest, on, store) {
-                Ok(reply) => Ok(reply),
-                Err(AllocError) => Ok(Reply::Refused(Refusal::Memory)),
-            },
-            _ if verb == b"commit".as_slice() => Ok(reply_to_commit(rest, on, store)),
-            _ if verb == b"rollback".as_slice() => Ok(reply_to_rollback(rest, on, store)),
-            _ if verb == b"checkpoint".as_slice() => Ok(reply_to_checkpoint(rest, on, store)),
-            _ if verb == b"uncheck".as_slice() => Ok(reply_to_uncheck(rest, on, store)),
-            _ if verb == b"back".as_slice() => Ok(reply_to_back(rest, on, store)),
-            _ if verb == b"reclaim".as_slice() => Ok(reply_to_reclaim(rest, on, store)),
-            _ if verb == b"grow".as_slice() => Ok(reply_to_grow(rest, on, store)),
-            _ if verb == b"list".as_slice() => reply_to_list(alloc, rest, text, out, store),
-            _ if verb == b"alts".as_slice() => reply_to_alts(alloc, rest, text, out, store),
-            _ if verb == b"checks".as_slice() => reply_to_checks(alloc, rest, text, out, store),
-            _ if verb == b"changes".as_slice() => reply_to_changes(alloc, rest, text, out, store),
-            _ if verb == b"conflicts".as_slice() => reply_to_conflicts(
-                alloc, rest, text, out, store,
-            ),
-            _ if verb == b"free".as_slice() => Ok(reply_to_free(rest, store)),
-            _ if verb == b"diff".as_slice() => reply_to_diff(alloc, rest, text, out, store),
-            _ if verb == b"tally".as_slice() => Ok(reply_to_tally(alloc, rest, store)),
-            _ if verb == b"blocks".as_slice() => Ok(reply_to_blocks(rest, store)),
-            _ if verb == b"next".as_slice() => reply_to_next(alloc, rest, text, out, store),
-            _ if verb.first() == Some(&b'#') => Ok(Reply::Nothing),
-            _ => Ok(Reply::BadLine),
+        match request {
+            Request::Nothing => Ok(Reply::Nothing),
+            Request::Bad => Ok(Reply::BadLine),
+            Request::Put { alt, key, word } => Ok(reply_to_put(&alt, key, word, on, store)),
+            Request::Merge { alt, side, settled } => {
+                Ok(reply_to_merge(alloc, alt, side, settled, on, store))
+            }
+            Request::Small(command) => Ok(reply_to_small(command, on, store)),
+            Request::Get(at, key) => Ok(get(&at, key, text, &mut self.room, store)),
+            Request::Tally(alt) => Ok(tally(alloc, &alt, store)),
+            Request::Free => Ok(free(store)),
+            Request::Blocks => Ok(blocks(store)),
+            Request::List(query) => reply_to_list(&query, alloc, text, &mut *self.writer, store),
         }
     }
 }

@@ -1,57 +1,12 @@
 //! What follows the first word of a line.
-ghost use Rattle.std.specs.Prelude.{◌≡◌, ◌∷◌, [], None, option_map, MatchOption};
-ghost use Rattle.vm_types.specs.declared.command.Command.TheVariants.{Grow, Put};
-ghost use Rattle.vm_cli.specs.Escapes.{value_of};
-ghost use Rattle.vm_cli.specs.Requests.{grow_of, name_of, named_of, names_of, new_command, new_of, put_of, record_of};
+ghost use Rattle.std.specs.Prelude.{◌≡◌, [], option_map, MatchOption};
+ghost use Rattle.vm_types.specs.declared.command.Command.TheVariants.{Grow};
+ghost use Rattle.vm_cli.specs.Requests.{grow_of, name_of, named_of, names_of, record_of};
 ghost use Rattle.vm_cli.specs.Spaces.{HasWord, words_of};
 
 use crate::lines::number::{key, number};
 use crate::lines::pieces::first_word;
 use vm_types::{Key, Name};
-
-/// The record that a put names, and the word that spells its value. No record if the words name
-/// none, or are too few or too many.
-pub(crate) fn put_words(rest: &[u8]) -> (Option<(Name, Key)>, &[u8])
-    ensures { MatchOption result.0 (put_of (words_of rest.now) ≡ None) (λ p. put_of (words_of rest.now)
-        ≡ option_map (λ value. Put p.0 p.1 value) (value_of result.1.now)) }
-{
-    let none = (None, rest);
-    let Some((alt, rest)) = first_word(rest) else {
-        return none;
-    };
-    let Some((table, rest)) = first_word(rest) else {
-        return none;
-    };
-    let Some((number, rest)) = first_word(rest) else {
-        return none;
-    };
-    let Some((word, rest)) = first_word(rest) else {
-        return none;
-    };
-    if first_word(rest).is_some() {
-        return none;
-    }
-    let (Some(alt), Some(key)) = (name(alt), key(table, number)) else {
-        return none;
-    };
-    (Some((alt, key)), word)
-}
-
-/// `NAME PARENT`, or `NAME PARENT CHECKPOINT`
-pub(crate) fn new_names(rest: &[u8]) -> Option<(Name, Name, Option<Name>)>
-    ensures { option_map new_command result ≡ new_of (words_of rest.now) }
-{
-    let (first, rest) = first_word(rest)?;
-    let (second, rest) = first_word(rest)?;
-    let child = name(first)?;
-    let parent = name(second)?;
-    let Some((third, rest)) = first_word(rest) else {
-        return Some((child, parent, None));
-    };
-    ends(rest)?;
-    let checkpoint = name(third)?;
-    Some((child, parent, Some(checkpoint)))
-}
 
 /// `BLOCKS`
 pub(crate) fn blocks(rest: &[u8]) -> Option<u32>

@@ -1,15 +1,13 @@
-//! Lines that put a record.
-ghost use Rattle.std.specs.Prelude.{◌≤◌, ◌∷◌, codes, length};
+//! Puts.
+ghost use Rattle.std.specs.Prelude.{◌≤◌, length};
 ghost use Rattle.vm_cli.specs.Asking.{Request};
 ghost use Rattle.vm_cli.specs.Escapes.{value_of};
-ghost use Rattle.vm_cli.specs.Feeds.{AsksBy, HandlesIn};
+ghost use Rattle.vm_cli.specs.Feeds.{AsksBy};
 ghost use Rattle.vm_cli.specs.Requests.{asked_in, put_asked};
-ghost use Rattle.vm_cli.specs.Spaces.{words_of};
 ghost use Rattle.vm_types.specs.Bytes.{longest};
 ghost use Rattle.vm_types.specs.declared.command.Command.TheVariants.{Put};
 
 use crate::answers::reply::Reply;
-use crate::lines::arguments::put_words;
 use crate::lines::escape::{plain, value};
 use crate::talk::OnCommand;
 use crate::talk::commands::answered;
@@ -18,35 +16,20 @@ use vm_disk::Disk;
 use vm_store::Store;
 use vm_types::{Command, Key, Name, Value};
 
-/// Carries out a put, given the words after the first.
+/// Puts the value that a word spells. Most words are their values, and those are not copied.
 #[inline(never)]
 pub(crate) fn reply_to_put<D: Disk>(
-    rest: &[u8],
-    on_command: OnCommand,
-    store: &mut Store<D>,
-) -> Reply
-    ensures { HandlesIn on_command (codes "put" ∷ words_of rest.now) result store.old store.new }
-{
-    let (record, word) = put_words(rest);
-    match record {
-        Some(asked) => reply_to_spelled(asked, word, on_command, store),
-        None => Reply::BadLine,
-    }
-}
-
-/// Puts the value that a word spells. Most words are their values, and those are not copied.
-fn reply_to_spelled<D: Disk>(
-    asked: (Name, Key),
+    alt: &Name,
+    key: Key,
     word: &[u8],
     on_command: OnCommand,
     store: &mut Store<D>,
 ) -> Reply
-    ensures { AsksBy (asked_in on_command (put_asked asked.0 asked.1 (value_of word.now))) result store.old store.new }
+    ensures { AsksBy (asked_in on_command (put_asked alt.now key (value_of word.now))) result store.old store.new }
 {
-    let (alt, key) = asked;
     match plain(word) {
-        Some(value) => reply_to_value(&alt, key, value, on_command, store),
-        None => reply_to_escaped(&alt, key, word, on_command, store),
+        Some(value) => reply_to_value(alt, key, value, on_command, store),
+        None => reply_to_escaped(alt, key, word, on_command, store),
     }
 }
 

@@ -1,7 +1,7 @@
 use Rattle.std.proofs.Common.{ap}
 use Rattle.vm_cli.specs.Asking.{Request}
 use Rattle.vm_cli.specs.Requests.{asked_in}
-use Rattle.vm_cli.proofs.VerbLemmas.{asked_as, carried_by, forbidden_by}
+use Rattle.vm_cli.proofs.RequestLemmas.{asked_as, carried_by, forbidden_by}
 use Rattle.vm_cli.proofs.talk.commands.reply_to_command.Goals as goal
 
 pub returns-in-Refuse : goal.returns-in-Refuse

@@ -1,7 +1,7 @@
 use Rattle.std.proofs.Common.{ap, refl, sym, ◌∙◌}
 use Rattle.vm_cli.specs.Asking.{Request}
 use Rattle.vm_cli.specs.Requests.{asked_in, put_asked}
-use Rattle.vm_cli.proofs.VerbLemmas.{asked_as, bad_asked, reads_alone}
+use Rattle.vm_cli.proofs.RequestLemmas.{asked_as, bad_asked, reads_alone}
 use Rattle.vm_cli.proofs.talk.puts.reply_to_escaped.Goals as goal
 
 pub returns-in-Some : goal.returns-in-Some

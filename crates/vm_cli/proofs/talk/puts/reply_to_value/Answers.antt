@@ -3,7 +3,7 @@ use Rattle.vm_types.specs.declared.command.Command.{Command}
 use Rattle.vm_types.specs.declared.command.Command.TheVariants.{Put}
 use Rattle.vm_cli.specs.Asking.{Request}
 use Rattle.vm_cli.specs.Requests.{asked_in}
-use Rattle.vm_cli.proofs.VerbLemmas.{asked_as, carried_by, forbidden_by}
+use Rattle.vm_cli.proofs.RequestLemmas.{asked_as, carried_by, forbidden_by}
 use Rattle.vm_cli.proofs.talk.puts.reply_to_value.Goals as goal
 
 pub returns-in-Refuse : goal.returns-in-Refuse

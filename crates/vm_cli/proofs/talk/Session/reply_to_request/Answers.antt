@@ -1,0 +1,105 @@
+use Rattle.std.proofs.Common.{Ok, refl}
+use Rattle.vm_cli.specs.Asking.{Request}
+use Rattle.vm_cli.specs.Escapes.{value_of}
+use Rattle.vm_cli.specs.Requested.{command_for, list_for}
+use Rattle.vm_cli.specs.Requests.{asked_in, merge_asked, put_asked}
+use Rattle.vm_cli.specs.declared.answers.reply.Reply.TheVariants as reply
+use Rattle.vm_cli.proofs.RequestLemmas.{asked_as, bad_asked, in_session, list_reads, nothing_by, query_by, query_with, reads_alone, reads_in, reply_into}
+use Rattle.vm_cli.proofs.talk.Session.reply_to_request.Goals as goal
+
+pub returns-in-Nothing : goal.returns-in-Nothing
+returns-in-Nothing g c =
+    let self = c.args.self.now in
+    let store = self.store.now in
+    let on = self.manner.on_command in
+    let asked = asked_in on Request.Nothing in
+    rw c.in-Nothing.is
+    (in_session g.W.Write.contents asked _ self _ (refl, refl, refl)
+    (reply_into g.W.Write.contents store store asked reply.Nothing self.writer.now self.text c.requires (nothing_by store asked (reads_alone on Request.Nothing refl))))
+
+pub returns-in-Bad : goal.returns-in-Bad
+returns-in-Bad g c =
+    let self = c.args.self.now in
+    let store = self.store.now in
+    let on = self.manner.on_command in
+    let asked = asked_in on Request.Bad in
+    rw c.in-Bad.is
+    (in_session g.W.Write.contents asked _ self _ (refl, refl, refl)
+    (reply_into g.W.Write.contents store store asked reply.BadLine self.writer.now self.text c.requires (asked_as store store asked Request.Bad (reads_alone on Request.Bad refl) reply.BadLine (bad_asked store))))
+
+pub returns-in-Put : goal.returns-in-Put
+returns-in-Put g c =
+    let self = c.args.self.now in
+    let asked = asked_in self.manner.on_command (put_asked c.in-Put.alt c.in-Put.key (value_of c.in-Put.word.now)) in
+    rw c.in-Put.is
+    (in_session g.W.Write.contents asked _ self _ (refl, refl, refl)
+    (reply_into g.W.Write.contents self.store.now c.reply_to_put.new.store asked c.reply_to_put.result self.writer.now self.text c.requires c.reply_to_put.ensures))
+
+pub returns-in-Merge : goal.returns-in-Merge
+returns-in-Merge g c =
+    let self = c.args.self.now in
+    let asked = asked_in self.manner.on_command (merge_asked c.in-Merge.alt c.in-Merge.side c.in-Merge.settled) in
+    rw c.in-Merge.is
+    (in_session g.W.Write.contents asked _ self _ (refl, refl, refl)
+    (reply_into g.W.Write.contents self.store.now c.reply_to_merge.new.store asked c.reply_to_merge.result self.writer.now self.text c.requires c.reply_to_merge.ensures))
+
+pub returns-in-Small : goal.returns-in-Small
+returns-in-Small g c =
+    let self = c.args.self.now in
+    let asked = asked_in self.manner.on_command (Request.Command (command_for c.in-Small.command)) in
+    rw c.in-Small.is
+    (in_session g.W.Write.contents asked _ self _ (refl, refl, refl)
+    (reply_into g.W.Write.contents self.store.now c.reply_to_small.new.store asked c.reply_to_small.result self.writer.now self.text c.requires c.reply_to_small.ensures))
+
+pub returns-in-Get : goal.returns-in-Get
+returns-in-Get g c =
+    let self = c.args.self.now in
+    let old = self.store.now in
+    let new = c.get.new.store in
+    let on = self.manner.on_command in
+    let query = Request.Get c.in-Get.at c.in-Get.key in
+    rw c.in-Get.is
+    (in_session g.W.Write.contents (asked_in on query) _ self _ (refl, refl, refl)
+    (reads_in g.W.Write.contents on old new query refl (Ok c.get.result) self.writer.now self.writer.now c.get.new.text
+    (query_with g.W.Write.contents old new query c.get.result self.writer.now c.get.new.text c.get.ensures)))
+
+pub returns-in-Tally : goal.returns-in-Tally
+returns-in-Tally g c =
+    let self = c.args.self.now in
+    let old = self.store.now in
+    let new = c.tally.new.store in
+    let on = self.manner.on_command in
+    let query = Request.Tally c.in-Tally.alt in
+    rw c.in-Tally.is
+    (in_session g.W.Write.contents (asked_in on query) _ self _ (refl, refl, refl)
+    (reads_in g.W.Write.contents on old new query refl (Ok c.tally.result) self.writer.now self.writer.now self.text
+    (reply_into g.W.Write.contents old new query c.tally.result self.writer.now self.text c.requires (query_by old new query c.tally.result c.tally.ensures))))
+
+pub returns-in-Free : goal.returns-in-Free
+returns-in-Free g c =
+    let self = c.args.self.now in
+    let store = self.store.now in
+    let on = self.manner.on_command in
+    rw c.in-Free.is
+    (in_session g.W.Write.contents (asked_in on Request.Free) _ self _ (refl, refl, refl)
+    (reads_in g.W.Write.contents on store store Request.Free refl (Ok c.free.result) self.writer.now self.writer.now self.text
+    (reply_into g.W.Write.contents store store Request.Free c.free.result self.writer.now self.text c.requires (query_by store store Request.Free c.free.result c.free.ensures))))
+
+pub returns-in-Blocks : goal.returns-in-Blocks
+returns-in-Blocks g c =
+    let self = c.args.self.now in
+    let store = self.store.now in
+    let on = self.manner.on_command in
+    rw c.in-Blocks.is
+    (in_session g.W.Write.contents (asked_in on Request.Blocks) _ self _ (refl, refl, refl)
+    (reads_in g.W.Write.contents on store store Request.Blocks refl (Ok c.blocks-in-Blocks.result) self.writer.now self.writer.now self.text
+    (reply_into g.W.Write.contents store store Request.Blocks c.blocks-in-Blocks.result self.writer.now self.text c.requires (query_by store store Request.Blocks c.blocks-in-Blocks.result c.blocks-in-Blocks.ensures))))
+
+pub returns-in-List : goal.returns-in-List
+returns-in-List g c =
+    let self = c.args.self.now in
+    let on = self.manner.on_command in
+    let query = list_for c.in-List.query in
+    rw c.in-List.is
+    (in_session g.W.Write.contents (asked_in on query) _ self _ (refl, refl, refl)
+    (reads_in g.W.Write.contents on self.store.now c.reply_to_list.new.store query (list_reads c.in-List.query) c.reply_to_list.result self.writer.now c.reply_to_list.new.writer c.reply_to_list.new.text c.reply_to_list.ensures))

@@ -1,0 +1,128 @@
+//! What a line asks for.
+ghost use Rattle.std.specs.Prelude.{◌≡◌, ◌∷◌, codes, IfOk, OnErr, option_map};
+ghost use Rattle.vm_cli.specs.Requested.{asks_for};
+ghost use Rattle.vm_cli.specs.Requests.{IsLongMerge, merge_of, put_of, query_of, request_of};
+ghost use Rattle.vm_cli.specs.Spaces.{words_of};
+
+use crate::lines::arguments::{ends, name, one_name};
+use crate::lines::list_query::{ListQuery, list_query};
+use crate::lines::number::key;
+use crate::lines::pieces::first_word;
+use crate::lines::settlement::{first_side, settled};
+use crate::lines::small_command::{SmallCommand, small_command};
+use crate::lines::versions::record_at;
+use std::alloc::{AllocError, Global};
+use vm_types::{At, Key, Name, Settled, Side};
+
+/// What a line asks for.
+#[derive(Drop)]
+pub(crate) enum Request<'a> {
+    /// The line has no words, or is a comment.
+    Nothing,
+    /// The line is none of those that there are.
+    Bad,
+    /// A put of the value that the word spells. If it spells none, the line is bad.
+    Put {
+        alt: Name,
+        key: Key,
+        word: &'a [u8],
+    },
+    /// A merge with these settlements, and with this side, if there is one, for each other conflict.
+    Merge {
+        alt: Name,
+        side: Option<Side>,
+        settled: Settled,
+    },
+    /// Any other command.
+    Small(SmallCommand),
+    /// The value of a record of a version.
+    Get(At, Key),
+    /// How far an alternative has gone from its base and from its parent.
+    Tally(Name),
+    /// The number of free blocks.
+    Free,
+    /// The number of blocks.
+    Blocks,
+    /// A query that is answered line by line.
+    List(ListQuery),
+}
+
+/// What a line asks for. Only the settlements of a merge take memory.
+pub(crate) fn parse_request(alloc: Global, line: &[u8]) -> Result<Request<'_>, AllocError>
+    ensures asked { IfOk result (λ request. asks_for request ≡ request_of (words_of line.now)) }
+    ensures memory { OnErr result (IsLongMerge (words_of line.now)) }
+{
+    let Some((verb, rest)) = first_word(line) else {
+        return Ok(Request::Nothing);
+    };
+    if verb.first() == Some(&b'#') {
+        return Ok(Request::Nothing);
+    }
+    let asked = if verb == b"put".as_slice() {
+        put(rest)
+    } else if verb == b"merge".as_slice() {
+        merge(alloc, rest)?
+    } else if let Some(command) = small_command(verb, rest) {
+        Some(Request::Small(command))
+    } else {
+        query(verb, rest)
+    };
+    Ok(asked.unwrap_or(Request::Bad))
+}
+
+/// `ALT TABLE NUMBER VALUE`
+fn put(rest: &[u8]) -> Option<Request<'_>>
+    ensures { option_map asks_for result ≡ put_of (words_of rest.now) }
+{
+    let (alt, rest) = first_word(rest)?;
+    let (table, rest) = first_word(rest)?;
+    let (number, rest) = first_word(rest)?;
+    let (word, rest) = first_word(rest)?;
+    ends(rest)?;
+    let alt = name(alt)?;
+    let key = key(table, number)?;
+    Some(Request::Put { alt, key, word })
+}
+
+/// `ALT` and settlements, which take memory, the first of which may be for all conflicts.
+fn merge(alloc: Global, rest: &[u8]) -> Result<Option<Request<'_>>, AllocError>
+    ensures asked { IfOk result (λ merge. option_map asks_for merge ≡ merge_of (words_of rest.now)) }
+    ensures memory { OnErr result (IsLongMerge (codes "merge" ∷ words_of rest.now)) }
+{
+    let Some((word, rest)) = first_word(rest) else {
+        return Ok(None);
+    };
+    let Some(alt) = name(word) else {
+        return Ok(None);
+    };
+    let (side, rest) = match first_side(rest) {
+        Some((side, rest)) => (Some(side), rest),
+        None => (None, rest),
+    };
+    match settled(alloc, rest)? {
+        Some(settled) => Ok(Some(Request::Merge { alt, side, settled })),
+        None => Ok(None),
+    }
+}
+
+/// The query that the words after the first complete.
+fn query<'a>(verb: &[u8], rest: &'a [u8]) -> Option<Request<'a>>
+    ensures { option_map asks_for result ≡ query_of verb.now (words_of rest.now) }
+{
+    match verb {
+        _ if verb == b"get".as_slice() => {
+            let (at, key) = record_at(rest)?;
+            Some(Request::Get(at, key))
+        }
+        _ if verb == b"tally".as_slice() => Some(Request::Tally(one_name(rest)?)),
+        _ if verb == b"free".as_slice() => {
+            ends(rest)?;
+            Some(Request::Free)
+        }
+        _ if verb == b"blocks".as_slice() => {
+            ends(rest)?;
+            Some(Request::Blocks)
+        }
+        _ => Some(Request::List(list_query(verb, rest)?)),
+    }
+}
