@@ -271,9 +271,9 @@ class Batches:
         return b"ok %d %.3f" % (size, time.monotonic() - begun)
 
     def _copy(self, part):
-        """Copies by the program if it can, else the file as it is, which holds nothing uncommitted."""
+        """Copies by the program if it can, under the lock that is held here, else the file as it is, which holds nothing uncommitted."""
         if self.has_copy:
-            status = quietly([self.altctl, "copy", "--", self.file, part])
+            status = quietly([self.altctl, "copy", "--no-lock", "--", self.file, part])
             self.has_copy = status != 2
             if status == 0:
                 return
