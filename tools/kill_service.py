@@ -87,9 +87,15 @@ class Planner:
         if kind < 0.85:
             keys = self.chance.sample(range(1, 64), self.chance.randrange(1, 9))
             return tag, [stamp, *(f"put {self.name} 1 {key} {self.chance.choice(kill.VALUES)}" for key in keys)]
-        lines = [stamp, *(kill.change(self.chance, state, True) for _ in range(self.chance.randrange(1, 3)))]
+        lines = [stamp, *(self.change(state) for _ in range(self.chance.randrange(1, 3)))]
         self.chance.shuffle(lines)
         return tag, lines
+
+    def change(self, state):
+        """A change at random, but no `rollback`: to the service that ends a batch and drops it."""
+        while (line := kill.change(self.chance, state, True)) == "rollback":
+            pass
+        return line
 
     def work(self, path, is_over, state):
         connection = None
