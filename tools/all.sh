@@ -49,6 +49,8 @@ if [ -n "$quick" ]; then
     try 600 compare.py -n 8
     try 600 kill.py "$tools/../altctl" 8
     try 600 crashes.py -n 1
+    try 600 ../desk/test_altserve.py StoreTests
+    try 600 kill_service.py "$tools/../altctl" 2
 else
     # Over the libraries that are proved for the program. Without it the tests of the store in memory are skipped.
     (cd "$tools/../crates/altstore" && timeout 1800 rt lib >/dev/null) || echo 'all: libaltstore could not be built'
