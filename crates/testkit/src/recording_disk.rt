@@ -1,7 +1,7 @@
 //! A disk in memory that remembers what was done to it: what its blocks held at the last successful
 //! sync and what was last written to them, which block was written last, and how often each one was
 //! read.
-ghost use Rattle.std.specs.Prelude.{◌≡◌, ◌<◌, true};
+ghost use Rattle.std.specs.Prelude.{◌≡◌, ◌<◌, ℕ, length, replicate, slice_index_or, true, IfOk};
 
 use crate::wrong::Wrong;
 use std::alloc::Global;
@@ -65,29 +65,43 @@ impl RecordingDisk {
     }
 
     /// The same, except that a forgotten block keeps its bytes.
-    pub fn keeping(alloc: Global, inner: MemDisk) -> Result<RecordingDisk, Wrong> {
+    pub fn keeping(alloc: Global, inner: MemDisk) -> Result<RecordingDisk, Wrong>
+        ensures { IfOk result (λ disk. disk.keeps ≡ true) }
+    {
         let mut disk = RecordingDisk::new(alloc, inner)?;
         disk.keeps = true;
         Ok(disk)
     }
 
     /// The disk itself, given back.
-    pub fn into_inner(self) -> MemDisk {
+    pub fn into_inner(self) -> MemDisk
+        ensures { result ≡ self.inner }
+    {
         self.inner
     }
 
     /// The disk itself, to look at.
-    pub fn inner(&self) -> &MemDisk {
+    pub fn inner(&self) -> &MemDisk
+        ensures { result.now ≡ self.now.inner }
+    {
         &self.inner
     }
 
     /// The number of the block that was written last, or 0 if there is none.
-    pub fn last(&self) -> u32 {
+    pub fn last(&self) -> u32
+        ensures { result ≡ self.now.last }
+    {
         self.last
     }
 
     /// What such a crash leaves in a block that is not synced.
-    pub fn bytes_in(&self, n: BlockNumber, fill: Fill) -> Block {
+    pub fn bytes_in(&self, n: BlockNumber, fill: Fill) -> Block
+        ensures synced { fill ≡ Fill.Synced → n < length self.now.synced.items
+            → result ≡ slice_index_or self.now.synced.items n (replicate 4096 0) }
+        ensures written { fill ≡ Fill.Written → n < length self.now.written.items
+            → result ≡ slice_index_or self.now.written.items n (replicate 4096 0) }
+        ensures byte { (byte : ℕ) → fill ≡ Fill.Byte byte → result ≡ replicate 4096 byte }
+    {
         let at = n as usize;
         match fill {
             Fill::Synced if at < self.synced.len() => self.synced[at],
@@ -109,7 +123,10 @@ impl RecordingDisk {
     }
 
     /// Starts counting reads anew.
-    pub fn start(&mut self) {
+    pub fn start(&mut self)
+        ensures inner { self.new.inner ≡ self.old.inner }
+        ensures none { (n : ℕ) → slice_index_or self.new.reads.items n 0 ≡ 0 }
+    {
         self.reads.fill(0);
     }
 

@@ -1,9 +1,13 @@
 //! What the words of a script mean.
+ghost use Rattle.std.specs.Prelude.{◌≡◌, codes, IfOk};
+
 use crate::wrong::Wrong;
 use vm_types::{Key, Name, Value};
 
 /// The name of the first alternative.
-pub fn top() -> Name {
+pub fn top() -> Name
+    ensures { result ≡ codes "top" }
+{
     let Some(name) = Name::new(b"top") else {
         unreachable!();
     };
@@ -19,7 +23,10 @@ pub fn byte(word: &str) -> Result<u8, Wrong> {
     Ok(u8::from_str_radix(word, 16)?)
 }
 
-pub fn name(word: &str) -> Result<Name, Wrong> {
+/// The name that a word is.
+pub fn name(word: &str) -> Result<Name, Wrong>
+    ensures { IfOk result (λ name. name ≡ word.now) }
+{
     Name::new(word.as_bytes()).ok_or(Wrong::Unreadable)
 }
 
