@@ -20,7 +20,7 @@ from typing import NamedTuple
 BLOCKS = 256
 MOST_NEW = 40
 LONGEST_LIFE = 0.2
-# How many blocks may wait: as many as usual, or so many.
+# How many blocks may wait: as many as usual, or this many.
 OPTIONS = [[], ["--buffer", "1"], ["--buffer", "2"], ["--buffer", "64"]]
 NAMES = ["a", "b", "c", "d", "e", "f", "g", "h"]
 CHECKPOINTS = ["before", "between", "after"]

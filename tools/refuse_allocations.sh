@@ -210,8 +210,8 @@ check_end() {
     esac
 }
 
-# Runs a session over a new store of so many blocks, of which so many may wait, or as many as usual, with each of its
-# allocations refused.
+# Runs a session over a new store, with each of its allocations refused: of an alternative, in a store of that many blocks,
+# of which as many may wait as the third word says, or as usual if it is empty.
 run_session() {
     alt=$1
     buffer=$3

@@ -52,7 +52,7 @@ pub put_is_late : (f : PutFault) → IsEarly (refusal_of_put f) → ⊥
 put_is_late (put.Tree f) early = fault_is_late f early
 put_is_late put.Deep early = early
 
--- so many blocks may be taken where changes end in such a fault
+-- how many blocks may be taken if changes end in this fault
 pub taken_at_fault : (changes : ℕ) (f : PutFault) (deep : Type 0) → (f ≡ put.Tree fault.Device) ⊎ ((f ≡ put.Deep) × deep) → taken_by_changes changes (Err (refusal_of_put f)) ≡ 16 * changes
 taken_at_fault changes f deep (inl device) = ap (λ (f : PutFault). taken_by_changes changes (Err (refusal_of_put f))) device
 taken_at_fault changes f deep (inr full) = ap (λ (f : PutFault). taken_by_changes changes (Err (refusal_of_put f))) full.0

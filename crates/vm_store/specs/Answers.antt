@@ -103,7 +103,7 @@ most_taken most (Ok answer) = most
 most_taken most (Err Device) = most
 most_taken most (Err refusal) = 0
 
--- how many blocks a Merge takes at most that makes so many changes: 16 for each, and none where it is refused before the first of them
+-- how many blocks a Merge with this many changes takes at most: 16 for each, and none if it is refused before the first of them
 abbrev pub taken_by_changes : ℕ → Result Answer Refusal → ℕ
 taken_by_changes changes (Ok answer) = 16 * changes
 taken_by_changes changes (Err Deep) = 16 * changes
@@ -117,8 +117,8 @@ ComesAfterMarking (Err Full) = Unit {0}
 ComesAfterMarking (Err Deep) = Unit {0}
 ComesAfterMarking (Err refusal) = ⊥
 
--- a Merge before which and after which so many blocks are free, and so many spare: if enough were free for all its changes, it takes no
--- more of them than its changes may; if too few were, blocks are marked first, which makes the spare ones free, and it takes no more of those
+-- what a Merge leaves of the blocks that were free before it: if they were enough for all its changes, it takes at most what its changes
+-- may take; if they were too few, blocks are marked first, which makes all spare ones free, and it takes at most as many of those
 abbrev pub TakesForChanges : ℕ → Result Answer Refusal → (before after spare : ℕ) → Type 0
 TakesForChanges changes answer before after spare =
     (blocks_a_change * changes ≤ before → before ≤ after + taken_by_changes changes answer)

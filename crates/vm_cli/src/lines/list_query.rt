@@ -15,7 +15,7 @@ pub(crate) enum ListQuery {
     Records(At),
     /// Those from one key to another, both included.
     Part(At, Key, Key),
-    /// The first ones from a key on, at most so many.
+    /// The first ones from a key on, at most this many.
     Page(At, Key, u32),
     /// The changes from one version to another.
     Diff(At, At),

@@ -8,7 +8,8 @@ use crate::lines::arguments::{blocks, ends, name, one_name, record, two_names};
 use crate::lines::pieces::first_word;
 use vm_types::{Command, Key, Name};
 
-/// A command that is neither a put nor a merge. It has no room for a value.
+/// A command that is neither a put nor a merge. Unlike a `Command` it has no room for a value, so a
+/// request stays small.
 #[derive(Clone, Copy)]
 pub(crate) enum SmallCommand {
     New {
