@@ -112,7 +112,7 @@ if has g++; then
         diff '$folder/due' '$folder/came'" || :
 fi
 # The store in memory, if its archive is built.
-if "$top/tools/altstore.sh" "$folder/altstore" >"$folder/output"; then
+if "$top/tools/release/altstore.sh" "$folder/altstore" >"$folder/output"; then
     for compiler in gcc clang; do
         if [ -n "$quick" ] && [ "$compiler" = clang ]; then
             break

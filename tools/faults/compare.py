@@ -1,0 +1,1035 @@
+#!/usr/bin/env python3
+"""Runs random sessions of `altctl` over real files beside a model of its own, and compares all answers, and the file
+after each session: `tools/faults/compare.py [-n FILES] [-s SEED] [--short] [ALTCTL]`.
+
+Of the file every byte is compared where no written block waits (half of the files), and else those of header, slots and
+each block that a committed version reaches, since blocks that nobody needs are not written then. Between sessions some
+slots are made such of format 1. Now and then the file is copied to another size, after a session or between two of its
+lines, and each byte of the copy is compared. At the end it spoils bytes of the file, and compares what opening it is
+answered. The model goes by docs/MODEL.md and docs/FORMATS.md, and shares nothing with the store. It stands beside the
+gate."""
+import argparse
+import os
+import random
+import struct
+import subprocess
+import sys
+import tempfile
+import time
+from typing import NamedTuple
+
+BLOCK, FIRST = 4096, 34
+LEAST, MOST = 64, 1 << 20
+# A leaf has rows of 252 bytes. A value of more than 240 bytes stands in a block of its own, and has 4,000 at most.
+ROW, SHORT, LONGEST = 252, 240, 4000
+# So many blocks have to be spare for each record that is changed.
+MARGIN = 17
+LETTERS = {*b"ABCDEFGHIJKLMNOPQRSTUVWXYZabcdefghijklmnopqrstuvwxyz0123456789_-."}
+NAMES = "NoSuchAlternative AlternativeExists NoSuchCheckpoint CheckpointExists NoSuchRecord IsTop HasChildren NotMerged Unsettled"
+NAMES = [None, *NAMES.split(), "NotInConflict", "SettledTwice", "TooMany", "Full", "Deep", "Device", "Memory", "Failed"]
+NAMES += ["Damaged", "NotAStore", "AlreadyAStore", "BadSize"]
+
+
+class Refused(Exception):
+    def __init__(self, code, detail=""):
+        self.text = f"error {code} {NAMES[code]}{detail}"
+
+
+class Link(NamedTuple):
+    """What a leaf has of a long value: its length, and the block that has it."""
+
+    size: int
+    block: int
+
+
+def stored_in(field, size):
+    """What the 240 bytes behind the length in a row stand for: a value, or a link to one."""
+    return Link(size, *struct.unpack_from("<I", field)) if size > SHORT else field[:size]
+
+
+def row_of(key, stored):
+    """The bytes of a row."""
+    size, field = (stored.size, struct.pack("<I", stored.block)) if isinstance(stored, Link) else (len(stored), stored)
+    return struct.pack("<HQH", *key, size) + field.ljust(SHORT, b"\0")
+
+
+def has_links(items):
+    return any(isinstance(stored, Link) for _, stored in items)
+
+
+class Alternative:
+    """An entry of the slot, with its owner: the parent, or the alternative of a checkpoint. Maps are numbers of roots."""
+
+    def __init__(self, tag, name, owner, current, base):
+        self.tag, self.name, self.owner, self.current, self.base = tag, name, owner, current, base
+
+    def copy(self):
+        return Alternative(self.tag, self.name, self.owner, self.current, self.base)
+
+    def encoded(self):
+        name, owner = self.name.encode(), self.owner.encode()
+        text = self.tag + bytes([len(name)]) + name.ljust(32, b"\0") + bytes([len(owner)]) + owner.ljust(32, b"\0")
+        return (text + struct.pack("<II", self.current, self.base)).ljust(128, b"\0")
+
+
+class Store:
+    """A file: blocks are bytes, and trees are decoded from them anew for each use. The file may have more blocks than the store,
+    which has as many as the last commit said, and in a session those of its growths."""
+
+    def __init__(self, blocks):
+        self.disk, self.kept, self.blocks = [bytes(BLOCK)] * blocks, blocks, blocks
+        self.disk[2] = self.slot_blocks([Alternative(b"A", "top", "", 0, 0)])[0]
+        self.disk[0] = (b"ALTSTORE" + struct.pack("<II", 1, BLOCK)).ljust(BLOCK, b"\0")
+
+    # --- the slots
+
+    def slot_blocks(self, entries):
+        head = b"SLOT" + struct.pack("<III", 2, self.blocks, len(entries))
+        text = head.ljust(128, b"\0") + b"".join(it.encoded() for it in entries)
+        text = text.ljust((len(entries) + 32) // 32 * BLOCK, b"\0")
+        return [text[at : at + BLOCK] for at in range(0, len(text), BLOCK)]
+
+    def open(self):
+        """What a session begins with."""
+        slot = 18 if self.disk[1][0] & 1 else 2
+        self.kept, count = struct.unpack_from("<II", self.disk[slot], 8)
+        self.blocks = self.kept
+        text = b"".join(self.disk[slot : slot + 16])
+        self.working = []
+        for at in range(128, 128 * (count + 1), 128):
+            name = text[at + 2 : at + 2 + text[at + 1]].decode()
+            owner = text[at + 35 : at + 35 + text[at + 34]].decode()
+            self.working.append(Alternative(text[at : at + 1], name, owner, *struct.unpack_from("<II", text, at + 67)))
+        self.committed = [it.copy() for it in self.working]
+        self.held = self.reached(self.committed)
+
+    def commit(self):
+        slot = 2 if self.disk[1][0] & 1 else 18
+        for at, block in enumerate(self.slot_blocks(self.working)):
+            self.disk[slot + at] = block
+        self.disk[1] = bytes([1 if slot == 18 else 0]).ljust(BLOCK, b"\0")
+        self.committed, self.kept = [it.copy() for it in self.working], self.blocks
+
+    def rollback(self):
+        """Blocks that came by a growth since the last commit are no blocks of the store any more, whether held or free."""
+        self.working, self.blocks = [it.copy() for it in self.committed], self.kept
+        self.held = {it for it in self.held if it < self.kept}
+
+    # --- trees
+
+    def decoded(self, block):
+        """The level of a block, and its children or, of a leaf, its rows: keys with a value, or a link to one."""
+        text = self.disk[block]
+        level, count = struct.unpack_from("<II", text, 4)
+        if text[:4] in (b"LEAF", b"LEF2"):
+            found = []
+            for at in range(16, 16 + ROW * count, ROW):
+                table, number, size = struct.unpack_from("<HQH", text, at)
+                found.append(((table, number), stored_in(text[at + 12 : at + ROW], size)))
+            assert has_links(found) == (text[:4] == b"LEF2")
+            return 0, found
+        assert text[:4] == b"NODE" and level > 0
+        words = [struct.unpack_from("<HQI", text, at) for at in range(16, 16 + 14 * count, 14)]
+        return level, [((table, number), child) for table, number, child in words]
+
+    def value_of(self, stored):
+        return self.disk[stored.block][26 : 26 + stored.size] if isinstance(stored, Link) else stored
+
+    def take(self):
+        """The lowest block that isn't held, which is held from then on."""
+        block = next(it for it in range(FIRST, self.blocks) if it not in self.held)
+        self.held.add(block)
+        return block
+
+    def stored(self, key, value):
+        """What a leaf is to have of a value. A long one is written into a block of its own."""
+        if len(value) <= SHORT:
+            return value
+        block = self.take()
+        head = b"LONG" + struct.pack("<IIIHQ", 0, len(value), 0, *key)
+        self.disk[block] = (head + value).ljust(BLOCK, b"\0")
+        return Link(len(value), block)
+
+    def write(self, level, items):
+        """Writes items into the lowest block that isn't held, and gives their first key, and the block."""
+        block = self.take()
+        if level == 0:
+            letters, body = b"LEF2" if has_links(items) else b"LEAF", b"".join(row_of(*it) for it in items)
+        else:
+            letters, body = b"NODE", b"".join(struct.pack("<HQI", *key, child) for key, child in items)
+        head = letters + struct.pack("<III", level, len(items), 0)
+        self.disk[block] = (head + body).ljust(BLOCK, b"\0")
+        return items[0][0], block
+
+    def write_split(self, level, items):
+        if len(items) <= (256 if level else 16):
+            return [self.write(level, items)]
+        half = (len(items) + 1) // 2
+        return [self.write(level, items[:half]), self.write(level, items[half:])]
+
+    def blocks_under(self, root, found):
+        if root and root not in found:
+            found.add(root)
+            level, items = self.decoded(root)
+            for _, it in items:
+                if level:
+                    self.blocks_under(it, found)
+                elif isinstance(it, Link):
+                    found.add(it.block)
+        return found
+
+    def reached(self, entries):
+        found = set()
+        for it in entries:
+            self.blocks_under(it.current, found)
+            self.blocks_under(it.base, found)
+        return found
+
+    def records(self, root):
+        if not root:
+            return {}
+        level, items = self.decoded(root)
+        if level == 0:
+            return {key: self.value_of(stored) for key, stored in items}
+        found = {}
+        for _, child in items:
+            found.update(self.records(child))
+        return found
+
+    @staticmethod
+    def chosen(items, key):
+        return max((at for at, it in enumerate(items) if it[0] <= key), default=0)
+
+    def put_below(self, block, key, stored):
+        level, items = self.decoded(block)
+        if level == 0:
+            return 0, self.write_split(0, sorted({**dict(items), key: stored}.items()))
+        at = self.chosen(items, key)
+        _, now = self.put_below(items[at][1], key, stored)
+        return level, self.write_split(level, [*items[:at], *now, *items[at + 1 :]])
+
+    def put(self, root, key, value):
+        stored = self.stored(key, value)
+        if not root:
+            return self.write(0, [(key, stored)])[1]
+        level, now = self.put_below(root, key, stored)
+        return now[0][1] if len(now) == 1 else self.write(level + 1, now)[1]
+
+    def remove_below(self, block, key):
+        """What stands for the block in the one above it: nothing, or a block that was written."""
+        level, items = self.decoded(block)
+        if level == 0:
+            rest = [it for it in items if it[0] != key]
+        else:
+            at = self.chosen(items, key)
+            rest = [*items[:at], *self.remove_below(items[at][1], key), *items[at + 1 :]]
+        return [self.write(level, rest)] if rest else []
+
+    def is_dropped(self, block, key):
+        """Whether nothing is left of the block without the key."""
+        level, items = self.decoded(block)
+        return len(items) == 1 and (level == 0 or self.is_dropped(items[0][1], key))
+
+    def remove(self, root, key):
+        level, items = self.decoded(root)
+        if level and len(items) == 2:
+            at = self.chosen(items, key)
+            if self.is_dropped(items[at][1], key):
+                rest = items[1 - at][1]
+                while True:
+                    level, items = self.decoded(rest)
+                    if level == 0 or len(items) > 1:
+                        return rest
+                    rest = items[0][1]
+        now = self.remove_below(root, key)
+        return now[0][1] if now else 0
+
+    # --- copies
+
+    def copied(self, blocks):
+        """The store that a copy of what was committed is. Each block that a version reaches gets the next number: the versions in
+        order, the current records before the base, and each block after those that it names."""
+        copy, numbers = Store(blocks), {}
+        copy.working, copy.held = [it.copy() for it in self.committed], set()
+        for it in copy.working:
+            it.current = self.copy_under(it.current, copy, numbers)
+            it.base = self.copy_under(it.base, copy, numbers)
+        for at, block in enumerate(copy.slot_blocks(copy.working), 2):
+            copy.disk[at] = block
+        return copy
+
+    def copy_under(self, root, copy, numbers):
+        """Copies what lies under a root, each block once, and gives the number that the root has there."""
+        if root and root not in numbers:
+            level, items = self.decoded(root)
+            if level:
+                items = [(key, self.copy_under(child, copy, numbers)) for key, child in items]
+            else:
+                items = [(key, self.copy_value(key, stored, copy, numbers)) for key, stored in items]
+            numbers[root] = copy.write(level, items)[1]
+        return numbers[root] if root else 0
+
+    def copy_value(self, key, stored, copy, numbers):
+        """What a leaf of the copy has of a value."""
+        if not isinstance(stored, Link):
+            return stored
+        if stored.block not in numbers:
+            numbers[stored.block] = copy.stored(key, self.value_of(stored)).block
+        return Link(stored.size, numbers[stored.block])
+
+    # --- space
+
+    def free(self):
+        return self.blocks - FIRST - len(self.held)
+
+    def grow(self, blocks):
+        """Blocks that the file lacks are zeros; others keep the bytes that they have."""
+        if not self.blocks < blocks <= 1 << 20:
+            raise Refused(21)
+        self.disk += [bytes(BLOCK)] * (blocks - len(self.disk))
+        self.blocks = blocks
+
+    def demand(self, changes):
+        if self.free() < MARGIN * changes:
+            self.held = self.reached(self.committed) | self.reached(self.working)
+            if self.free() < MARGIN * changes:
+                raise Refused(13)
+
+    # --- commands
+
+    def find(self, name):
+        for it in self.working:
+            if it.tag == b"A" and it.name == name:
+                return it
+        raise Refused(1)
+
+    def checkpoint_of(self, alt, name):
+        return next((it for it in self.working if it.tag == b"C" and (it.owner, it.name) == (alt, name)), None)
+
+    def sides(self, alt):
+        it = self.find(alt)
+        if alt == "top":
+            raise Refused(6)
+        parent = self.find(it.owner)
+        return it, parent, self.records(it.base), self.records(parent.current), self.records(it.current)
+
+    @staticmethod
+    def in_conflict(base, parent, own):
+        keys = sorted({*base, *parent, *own})
+        values = [(key, base.get(key), parent.get(key), own.get(key)) for key in keys]
+        return [it for it in values if it[1] != it[2] and it[1] != it[3] and it[2] != it[3]]
+
+    def merge(self, alt, settled, side=None):
+        """A merge with these settlements, and with this side, if one is given, for each conflict that has none of them."""
+        it, parent, base, theirs, own = self.sides(alt)
+        conflicts = {key for key, *_ in self.in_conflict(base, theirs, own)}
+        keys = [key for key, _ in settled]
+        for at, key in enumerate(keys):
+            if key in keys[:at]:
+                raise Refused(11, f" {key[0]}:{key[1]}")
+        for key in keys:
+            if key not in conflicts:
+                raise Refused(10, f" {key[0]}:{key[1]}")
+        if conflicts - {*keys} and not side:
+            raise Refused(9, f" {len(conflicts - {*keys})}")
+        sides, changes = {**dict.fromkeys(conflicts, side), **dict(settled)}, []
+        for key in sorted({*base, *theirs}):
+            now = theirs.get(key)
+            if now != base.get(key) and now != own.get(key) and sides.get(key) != "mine":
+                changes.append((key, now))
+        if changes:
+            self.demand(len(changes))
+        for key, value in changes:
+            it.current = self.remove(it.current, key) if value is None else self.put(it.current, key, value)
+        it.base = parent.current
+        return f"ok {len(changes)}"
+
+    def apply(self, words):
+        """Carries out a command or a query, and gives its answer."""
+        verb, *rest = words
+        if verb == "new":
+            parent = self.find(rest[1])
+            if any(it.tag == b"A" and it.name == rest[0] for it in self.working):
+                raise Refused(2)
+            shown = self.checkpoint_of(rest[1], rest[2]) if rest[2:] else parent
+            if not shown:
+                raise Refused(3)
+            self.add(b"A", rest[0], rest[1], shown.current, shown.current)
+        elif verb == "drop":
+            it = self.find(rest[0])
+            if rest[0] == "top":
+                raise Refused(6)
+            if any(other.tag == b"A" and other.owner == rest[0] for other in self.working):
+                raise Refused(7)
+            self.working = [other for other in self.working if other is not it and (other.tag, other.owner) != (b"C", rest[0])]
+        elif verb == "put":
+            it = self.find(rest[0])
+            self.demand(1)
+            it.current = self.put(it.current, rest[1], rest[2])
+        elif verb == "remove":
+            it = self.find(rest[0])
+            if rest[1] not in self.records(it.current):
+                raise Refused(5)
+            self.demand(1)
+            it.current = self.remove(it.current, rest[1])
+        elif verb == "checkpoint":
+            it = self.find(rest[0])
+            if self.checkpoint_of(*rest):
+                raise Refused(4)
+            self.add(b"C", rest[1], rest[0], it.current, it.base)
+        elif verb in ("uncheck", "back"):
+            it = self.find(rest[0])
+            found = self.checkpoint_of(*rest)
+            if not found:
+                raise Refused(3)
+            if verb == "uncheck":
+                self.working.remove(found)
+            else:
+                it.current, it.base = found.current, found.base
+        elif verb == "merge":
+            return self.merge(*rest)
+        elif verb == "post":
+            it, parent, base, theirs, _ = self.sides(rest[0])
+            if base != theirs:
+                raise Refused(8)
+            parent.current = it.base = it.current
+        elif verb == "commit":
+            self.commit()
+        elif verb == "rollback":
+            self.rollback()
+        elif verb == "reclaim":
+            self.held = self.reached(self.committed) | self.reached(self.working)
+        elif verb == "grow":
+            self.grow(rest[0])
+        else:
+            return self.asked(verb, rest)
+        return "ok"
+
+    def add(self, tag, name, owner, current, base):
+        if len(self.working) == 511:
+            raise Refused(12)
+        self.working.append(Alternative(tag, name, owner, current, base))
+
+    def version(self, word):
+        """The records that a word means: those of an alternative, of its base, or of a checkpoint of it."""
+        name, mark, behind = word.partition("@")
+        it = self.find(name)
+        if behind:
+            it = self.checkpoint_of(name, behind)
+            if not it:
+                raise Refused(3)
+        return self.records(it.base if mark and not behind else it.current)
+
+    @staticmethod
+    def changed(old, new):
+        """The keys at which maps differ, in order."""
+        return sorted(key for key in {*old, *new} if old.get(key) != new.get(key))
+
+    def differing(self, old, new, part=()):
+        keys = within(part, self.changed(old, new))
+        return listed(f"change {k[0]} {k[1]} {spelled(old.get(k))} {spelled(new.get(k))}" for k in keys)
+
+    def asked(self, verb, rest):
+        if verb == "free":
+            return f"free {self.free()}"
+        if verb == "blocks":
+            return f"blocks {self.blocks}"
+        if verb == "alts":
+            return listed(f"alternative {it.name} {it.owner or '~'}" for it in self.working if it.tag == b"A")
+        if verb == "get":
+            found = self.version(rest[0]).get(rest[1])
+            return "none" if found is None else f"value {spelled(found)}"
+        if verb in ("list", "next"):
+            found = self.version(rest[0])
+            keys = within(rest[1:], sorted(found)) if verb == "list" else first_of(*rest[1:], sorted(found))
+            return listed(f"record {k[0]} {k[1]} {spelled(found[k])}" for k in keys)
+        if verb == "diff":
+            return self.differing(self.version(rest[0]), self.version(rest[1]), rest[2:])
+        it = self.find(rest[0])
+        if verb == "checks":
+            return listed(f"checkpoint {c.name}" for c in self.working if c.tag == b"C" and c.owner == rest[0])
+        if verb == "changes":
+            return self.differing(self.records(it.base), self.records(it.current))
+        if verb == "tally":
+            _, _, base, theirs, own = self.sides(rest[0])
+            numbers = self.changed(base, own), self.changed(base, theirs), self.in_conflict(base, theirs, own)
+            return f"tally {' '.join(str(len(it)) for it in numbers)} {'yes' if base == theirs else 'no'}"
+        assert verb == "conflicts"
+        found = self.in_conflict(*self.sides(rest[0])[2:])
+        return listed(f"conflict {k[0]} {k[1]} {spelled(b)} {spelled(p)} {spelled(o)}" for k, b, p, o in found)
+
+
+def within(part, keys):
+    """Those of the keys that are in a part: a table, a table with its first number and its last one, or all without words."""
+    table, low, high = (*part, 0, 2**64 - 1)[:3] if part else (None, 0, 0)
+    return [it for it in keys if table is None or it[0] == table and low <= it[1] <= high]
+
+
+def first_of(table, number, count, keys):
+    """The first ones of the keys, which rise, from a table and a number on."""
+    return [it for it in keys if it >= (table, number)][:count]
+
+
+def listed(lines):
+    lines = list(lines)
+    return "\n".join([*lines, f"end {len(lines)}"])
+
+
+def spelled(value):
+    """How a value is written."""
+    if value is None:
+        return "~"
+    if value == b"-":
+        return "%2D"
+    return "".join(chr(b) if 0x21 <= b <= 0x7D and b != 0x25 else f"%{b:02X}" for b in value) or "-"
+
+
+# --- files that are opened
+
+
+class Damaged(Exception):
+    pass
+
+
+def name_in(text, size, least):
+    """A name of `least` to 32 bytes, in 32 bytes that are zero behind it. None where they are not so."""
+    if not least <= size <= 32 or any(text[size:]) or not {*text[:size]} <= LETTERS:
+        return None
+    return text[:size].decode()
+
+
+def slot_in(disk, slot):
+    """The format, the number of blocks and the entries of a slot, where it is one."""
+    head = disk[slot][:128]
+    form, blocks, count = struct.unpack_from("<III", head, 4)
+    if head[:4] != b"SLOT" or form not in (1, 2) or any(head[16:]):
+        raise Damaged(slot)
+    if not 64 <= blocks <= 1 << 20 or not 1 <= count <= 511:
+        raise Damaged(slot)
+    text, entries = b"".join(disk[slot : slot + (count + 32) // 32]), []
+    for at in range(128, 128 * (count + 1), 128):
+        it, is_top = text[at : at + 128], at == 128
+        name, owner = name_in(it[2:34], it[1], 1), name_in(it[35:67], it[34], 0 if is_top else 1)
+        current, base = struct.unpack_from("<II", it, 67)
+        same = [e for e in entries if e.tag == it[:1] and e.name == name and (e.tag == b"A" or e.owner == owner)]
+        owned = is_top or any(e.tag == b"A" and e.name == owner for e in entries)
+        if it[:1] not in (b"A", b"C") or name is None or owner is None or any(it[75:]) or same or not owned:
+            raise Damaged(slot)
+        if is_top and (it[:1], name, owner) != (b"A", "top", "") or base and (is_top or it[:1] == b"C" and owner == "top"):
+            raise Damaged(slot)
+        entries.append(Alternative(it[:1], name, owner, current, base))
+    return form, blocks, entries
+
+
+def row_in(text):
+    """What a row of a leaf has of its value, where it is a row."""
+    size = struct.unpack_from("<H", text, 10)[0]
+    if size > LONGEST or any(text[12 + (4 if size > SHORT else size) :]):
+        return None
+    return stored_in(text[12:], size)
+
+
+def long_in(text):
+    """The key and the length of the value in a block of a long value, where it is one."""
+    zero, size, other, *key = struct.unpack_from("<IIIHQ", text, 4)
+    if text[:4] != b"LONG" or zero or other or not SHORT < size <= LONGEST or any(text[26 + size :]):
+        return None
+    return tuple(key), size
+
+
+class Walk:
+    """A walk through the trees under roots, each block once. Of each block that was met it keeps the level, and the lowest
+    and the highest key under it, or what `long_in` tells of it."""
+
+    LONG = "long"
+
+    def __init__(self, disk, form, blocks):
+        self.disk, self.form, self.blocks, self.met = disk, form, blocks, {}
+
+    def items(self, block):
+        """The level and the items of a block: what a leaf has of its values, or children."""
+        text = self.disk[block]
+        level, count, zero = struct.unpack_from("<III", text, 4)
+        letters = [b"LEAF", b"LEF2"] if self.form == 2 else [b"LEAF"]
+        is_leaf = text[:4] in letters and level == 0 and 1 <= count <= 16
+        is_node = text[:4] == b"NODE" and 1 <= level <= 7 and 1 <= count <= 256
+        size = ROW if is_leaf else 14
+        if not is_leaf and not is_node or zero or any(text[16 + size * count :]):
+            raise Damaged(block)
+        items = []
+        for at in range(16, 16 + size * count, size):
+            table, number, child = struct.unpack_from("<HQI", text, at)
+            it = row_in(text[at : at + ROW]) if is_leaf else child
+            if it is None or items and items[-1][0] >= (table, number):
+                raise Damaged(block)
+            items.append(((table, number), it))
+        if is_leaf and has_links(items) != (text[:4] == b"LEF2"):
+            raise Damaged(block)
+        return level, items
+
+    def visit_long(self, key, link):
+        """A block to which a leaf links. One that was met before has to be one of this key and length, too."""
+        block = link.block
+        if not FIRST <= block < self.blocks:
+            raise Damaged(block)
+        if block not in self.met:
+            self.met[block] = self.LONG, long_in(self.disk[block])
+        if self.met[block] != (self.LONG, (key, link.size)):
+            raise Damaged(block)
+
+    def visit(self, block, expected):
+        """The lowest and the highest key under a block."""
+        if not FIRST <= block < self.blocks:
+            raise Damaged(block)
+        if block not in self.met:
+            level, items = self.items(block)
+            if expected not in (None, level):
+                raise Damaged(block)
+            self.met[block] = level, None
+            low, high = items[0][0], items[-1][0]
+            for key, stored in items:
+                if isinstance(stored, Link):
+                    self.visit_long(key, stored)
+            for at, (key, child) in enumerate(items if level else []):
+                least, high = self.visit(child, level - 1)
+                if least != key or at + 1 < len(items) and high >= items[at + 1][0]:
+                    raise Damaged(child)
+            self.met[block] = level, (low, high)
+        level, keys = self.met[block]
+        if level == self.LONG or expected not in (None, level):
+            raise Damaged(block)
+        return keys
+
+
+def refusal(disk):
+    """What opening a file of these blocks is answered, if it is refused."""
+    if len(disk) < 64 or disk[0] != Store(64).disk[0]:
+        return "19 NotAStore"
+    try:
+        form, blocks, entries = slot_in(disk, 18 if disk[1][0] & 1 else 2)
+        if blocks > len(disk):
+            return "21 BadSize"
+        walk = Walk(disk, form, blocks)
+        for it in entries:
+            for root in (it.current, it.base):
+                if root:
+                    walk.visit(root, None)
+    except Damaged as damaged:
+        return f"18 Damaged {damaged.args[0]}"
+    return None
+
+
+def count_in(text, most):
+    """The count in the head of a block, or a length, where it is no more than it may be."""
+    return max(1, min(most, struct.unpack_from("<I", text, 8)[0]))
+
+
+def spoiled(rng, disk):
+    """The blocks with some bytes changed where they count, or cut off."""
+    disk = list(disk)
+    if rng.random() < 0.05:
+        return disk[: rng.choice([20, 63, len(disk) - 1])]
+    used = [0, 1, 2, 2, 18, 18, *(it for it in range(FIRST, len(disk)) if any(disk[it]))]
+    for _ in range(rng.choice([1, 1, 2])):
+        block = rng.choice(used)
+        text = bytearray(disk[block])
+        at = rng.choice([rng.randrange(16), rng.randrange(128, 256), rng.randrange(300), rng.randrange(BLOCK)])
+        if block >= FIRST and rng.random() < 0.3:
+            text = bytearray(disk[rng.choice(used)])
+        elif text[:4] == b"NODE" and rng.random() < 0.6:
+            at = 16 + 14 * rng.randrange(count_in(text, 256)) + rng.choice([2, 10, 10, 11])
+            text[at] = rng.choice([0, 1, 33, 34, 35, rng.randrange(256)])
+        elif text[:4] == b"LEF2" and rng.random() < 0.6:
+            at = 16 + ROW * rng.randrange(count_in(text, 16)) + rng.choice([2, 10, 11, 12, 12, 12, 13, 16, 251])
+            text[at] = rng.choice([0, 1, 33, 34, 35, rng.choice(used) & 255, rng.randrange(256)])
+        elif text[:4] == b"LONG" and rng.random() < 0.6:
+            size = count_in(text, LONGEST)
+            at = rng.choice([3, 4, 8, 9, 12, 16, 17, 18, 25, 26, 25 + size, min(26 + size, BLOCK - 1), BLOCK - 1])
+            text[at] = rng.choice([0, 1, 14, 15, 16, 255, text[at] ^ 1, rng.randrange(256)])
+        elif block in (2, 18) and rng.random() < 0.2:
+            text[4] = rng.choice([0, 1, 1, 1, 3, 255])
+        elif block in (2, 18) and rng.random() < 0.4:
+            at = 128 * rng.randrange(1, 6) + rng.choice([0, 1, 2, 34, 35, 67, 67, 71, 71])
+            text[at] = rng.choice([0, 1, 0x41, 0x43, 34, 35, rng.randrange(256)])
+        else:
+            text[at] = rng.choice([0, 1, 255, text[at] ^ 1, rng.randrange(256)])
+        disk[block] = bytes(text)
+    return disk
+
+
+def opened(altctl, rng, file, disk):
+    """Opens spoiled files, and says what differs from the model."""
+    for _ in range(12):
+        blocks = spoiled(rng, disk)
+        with open(file, "wb") as it:
+            it.write(b"".join(blocks))
+        ran = subprocess.run([altctl, "run", file], input=b"alts\nlist top\nfree\n", stdout=subprocess.PIPE, stderr=subprocess.PIPE)
+        why, answers = refusal(blocks), ""
+        if why is None:
+            store = Store(64)
+            store.disk = blocks
+            store.open()
+            answers = "".join(store.apply(words) + "\n" for words in (["alts"], ["list", "top"], ["free"]))
+        wanted = (1, b"", f"altctl: {why}\n".encode()) if why else (0, answers.encode(), b"")
+        if (ran.returncode, ran.stdout, ran.stderr) != wanted:
+            return f"a spoiled file, left as spoiled.alt, is answered {ran}, and not {wanted}"
+    return None
+
+
+# --- random sessions
+
+
+def checked(altctl, file, store):
+    """Checks a store, and says what differs from the model."""
+    alternatives = sum(it.tag == b"A" for it in store.committed)
+    free = store.kept - FIRST - len(store.reached(store.committed))
+    wanted = f"alternatives {alternatives}\ncheckpoints {len(store.committed) - alternatives}\nfree {free}\n"
+    came = started(altctl, "check", file)
+    return None if came == (0, wanted, "") else f"a check says {came}, and not {wanted!r}"
+
+
+class Editor:
+    """Makes random lines, each with its meaning: None for no answer, a text for an answer that never changes, or words for the store."""
+
+    def __init__(self, rng, most=LONGEST):
+        self.rng = rng
+        self.is_plain = most == SHORT
+        self.long = 0 if self.is_plain else rng.choice([0, 0.02, 0.1, 0.4])
+        self.names = ["top", "top", "a", "b", "c", "d-1", "e.f_G"]
+        self.marks = ["k", "l", "m" * 32]
+        self.width = rng.choice([3, 20, 60, 400, 3000])
+        self.growth = rng.choice([0, 0.01, 0.04])
+        self.queries = rng.choice([0.04, 0.04, 0.3])
+
+    def version(self, store):
+        """The word of a version: mostly of one that is there."""
+        if self.rng.random() < 0.2:
+            return self.rng.choice(self.names) + self.rng.choice(["", "", "@", *("@" + it for it in self.marks)])
+        it = self.rng.choice(store.working)
+        return it.name + self.rng.choice(["", "", "@"]) if it.tag == b"A" else f"{it.owner}@{it.name}"
+
+    def part(self):
+        """The words of a part: none, a table, or one with two numbers, of which the first may be above the second."""
+        table, number = self.key()
+        ends = [number, number + self.rng.choice([0, 1, 2, 15, 16, 17, 100]), 0, 2**64 - 1, self.key()[1]]
+        first, last = (min(self.rng.choice(ends), 2**64 - 1) for _ in range(2))
+        return self.rng.choice([[], [table], [self.rng.choice([0, 2, 6, 8, 65535])], *[[table, first, last]] * 4])
+
+    def page(self):
+        """The words of a page: mostly from a key that may be there."""
+        table, number = self.key()
+        table = self.rng.choice([table] * 5 + [0, 2, 6, 8, 65535])
+        return [table, self.rng.choice([number, number, 0, 2**64 - 1]), self.rng.choice([0, 1, 2, 16, 17, 100, 2**32 - 1])]
+
+    def query(self, store, name):
+        """A query of rows, or of numbers. `plain.c` has no versions and no parts."""
+        if self.is_plain:
+            return [self.rng.choice(["list", "changes", "conflicts", "checks"]), name]
+        verb = self.rng.choice(["list", "list", "next", "next", "diff", "diff", "changes", "conflicts", "tally", "checks"])
+        if verb == "list":
+            return [verb, self.version(store), *self.part()]
+        if verb == "next":
+            return [verb, self.version(store), *self.page()]
+        if verb == "diff":
+            return [verb, self.version(store), self.version(store), *self.part()]
+        return [verb, name]
+
+    def key(self):
+        if self.rng.random() < 0.02:
+            return self.rng.choice([(65535, 2**64 - 1), (0, 0), (256, 1), (255, 2**63)])
+        return self.rng.choice([1, 1, 1, 7]), self.rng.randrange(self.width)
+
+    def value(self):
+        """A value, of which some are long. Of those of many bytes half are such as may come again."""
+        is_long = self.rng.random() < self.long
+        size = self.rng.choice([241, 300, 1000, 4000] if is_long else [0, 1, 1, 1, 2, 4, 4, 10, 240])
+        if size > 10 and self.rng.random() < 0.5:
+            return bytes([self.rng.choice([0, 97])]) * size
+        return bytes(self.rng.choice([45, 97, 98, self.rng.randrange(256)]) for _ in range(size))
+
+    def typed(self, value):
+        """One of the ways to write a value."""
+        if value == b"":
+            return "-"
+        if value == b"-":
+            return self.rng.choice(["%2d", "%2D"])
+        text = ""
+        for b in value:
+            plain = 0x21 <= b <= 0x7E and b != 0x25
+            text += chr(b) if plain and self.rng.random() < 0.9 else self.rng.choice([f"%{b:02x}", f"%{b:02X}"])
+        return text
+
+    def spaced(self, words):
+        """The words of a line, and an end of it."""
+        if self.rng.random() < 0.9:
+            return " ".join(words) + "\n"
+        gap = lambda least: " " * self.rng.randrange(least, 4)
+        return gap(0) + "".join(it + gap(1) for it in words[:-1]) + words[-1] + gap(0) + self.rng.choice(["\n", "\r\n"])
+
+    def odd(self):
+        bad = ["PUT top 1 1 a", "get top x 1", "get top 65536 1", "get top 1 18446744073709551616", "commit now", "rollback now", "put top 1 1", "put top 1 1 %z1"]
+        bad += ["put top 1 1 " + self.rng.choice(["x", "%61"]) * 4001, "new a", "new a~ top", "new a top c!", "new a top c d", "new " + "n" * 33 + " top", "merge", "merge top 1:1=ours", "merge top all=ours", "merge top 1:1=mine all=mine", "merge top all=mine all=mine", "get\ttop 1 1", "free\r\r"]
+        bad += ["grow", "grow 4294967296", "grow 18446744073709551616", "grow " + "0" * 20 + "1", "grow -1", "grow +70", "grow 70 80", "grow many"]
+        bad += ["get @ 1 1", "get top@~ 1 1", "get top @ 1 1", "list top@@", "list @k", "diff", "diff top@", "diff top @k", "diff top top@ x"]
+        bad += ["list top 1 2", "list top 1 2 3 4", "list top 65536", "list top x", "list top 1 -1 2", "list top 1 0 18446744073709551616", "list"]
+        bad += ["next", "next top", "next top 1", "next top 1 2", "next top 1 2 3 4", "next top 65536 0 1", "next top 1 0 4294967296"]
+        bad += ["next top 1 0 -1", "next top 1 0 x", "next top@@ 1 0 1", "next @k 1 0 1", "next top 1 18446744073709551616 1", "NEXT top 1 0 1"]
+        bad += ["diff top top 1 2", "diff top top 1 2 3 4", "diff top top 65536", "diff top 1 2 3 x", "diff top top 1 18446744073709551616 0"]
+        bad += ["put top@ 1 1 a", "remove top@k 1 1", "changes top@", "merge top@", "tally", "tally top@", "blocks 1", "checks top@k"]
+        if self.rng.random() < 0.3:
+            return self.rng.choice(["", "# note", "   ", "  #x"]) + "\n", None
+        return self.rng.choice(bad) + "\n", "error 22 BadLine"
+
+    def grown(self, store):
+        """A growth by some blocks, or one that is refused."""
+        more = self.rng.choice([0, -1, 1, 1, 2, 5, 16, 16, 40, 300])
+        blocks = self.rng.choice([store.blocks + more] * 6 + [0, 63, 64, 1048577, 2**32 - 1])
+        typed = self.rng.choice([str(blocks), str(blocks), str(blocks).rjust(20, "0")])
+        return self.spaced(["grow", typed]), ["grow", blocks]
+
+    def line(self, store):
+        draw, name = self.rng.random(), self.rng.choice(self.names)
+        if draw < 0.02:
+            return self.odd()
+        if draw < 0.02 + self.growth:
+            return self.grown(store)
+        if self.rng.random() < self.queries:
+            words = self.query(store, name)
+            return self.spaced([str(it) for it in words]), words
+        if draw < 0.45:
+            key, value = self.key(), self.value()
+            table = self.rng.choice([str(key[0]), str(key[0]).rjust(5, "0")])
+            return self.spaced(["put", name, table, str(key[1]), self.typed(value)]), ["put", name, key, value]
+        if draw < 0.62:
+            key = self.key()
+            verb = self.rng.choice(["remove", "remove", "get"])
+            name = self.version(store) if verb == "get" and not self.is_plain else name
+            return self.spaced([verb, name, str(key[0]), str(key[1])]), [verb, name, key]
+        if draw < 0.70:
+            words = ["new", self.rng.choice(self.names), name, *self.rng.sample(self.marks, self.rng.randrange(2))]
+        elif draw < 0.72:
+            words = ["drop", name]
+        elif draw < 0.79:
+            words = [self.rng.choice(["checkpoint", "uncheck", "back"]), name, self.rng.choice(self.marks)]
+        elif draw < 0.87:
+            return self.merged(store, name)
+        elif draw < 0.91:
+            words = ["post", name]
+        else:
+            words = [self.rng.choice(["commit", "commit", "rollback", "reclaim", "free", "free", "alts", "free" if self.is_plain else "blocks"])]
+        return self.spaced(words), words
+
+    def merged(self, store, name):
+        """A merge that mostly settles what is in conflict, now and then by a side for all conflicts. `plain.c` has no such side."""
+        try:
+            found = [key for key, *_ in store.in_conflict(*store.sides(name)[2:])]
+        except Refused:
+            found = []
+        if self.rng.random() < 0.15 and found:
+            found.pop(self.rng.randrange(len(found)))
+        if self.rng.random() < 0.05:
+            found.append(self.rng.choice([*found, self.key()]))
+        if self.rng.random() < 0.3:
+            self.rng.shuffle(found)
+        side = None
+        if not self.is_plain and self.rng.random() < 0.3:
+            side = self.rng.choice(["mine", "theirs"])
+            found = found[:self.rng.randrange(len(found) + 1)]
+        settled = [(key, self.rng.choice(["mine", "theirs"])) for key in found]
+        words = [f"all={side}"] if side else []
+        words += [f"{key[0]}:{key[1]}={side_of_key}" for key, side_of_key in settled]
+        return self.spaced(["merge", name, *words]), ["merge", name, settled, side]
+
+
+def lower(rng, file, store):
+    """Has the slot in use say format 1 now and then, as that of an older store does, where no leaf has a link."""
+    reached = store.reached(store.committed)
+    if rng.random() < 0.3 and not any(store.disk[it][:4] == b"LEF2" for it in reached):
+        slot = 18 if store.disk[1][0] & 1 else 2
+        store.disk[slot] = store.disk[slot][:4] + b"\1" + store.disk[slot][5:]
+        with open(file, "r+b") as it:
+            it.seek(slot * BLOCK)
+            it.write(store.disk[slot])
+
+
+def started(altctl, *words):
+    """Runs the program, and gives its status, its output and its standard error."""
+    ran = subprocess.run([altctl, *words], stdin=subprocess.DEVNULL, stdout=subprocess.PIPE, stderr=subprocess.PIPE)
+    return ran.returncode, ran.stdout.decode(), ran.stderr.decode()
+
+
+def read(file):
+    with open(file, "rb") as it:
+        return it.read()
+
+
+def copies(altctl, rng, file, store, options):
+    """Copies a file to a random size, and says what differs from the model."""
+    to, used = f"{file}.copy", FIRST + len(store.reached(store.committed))
+    chosen = rng.choice([None, None, used - 1, used, used, used + 1, max(used, LEAST) + rng.randrange(300), 2 * store.kept, 63, 64, MOST + 1])
+    blocks, before = store.kept if chosen is None else chosen, read(file)
+    came = started(altctl, "copy", *options, file, to, *([] if chosen is None else [str(chosen)]))
+    what = f"a copy to {chosen} blocks"
+    if not LEAST <= blocks <= MOST:
+        due = 2, "", came[2]
+    elif blocks < used:
+        due = 1, "", "altctl: 13 Full\n"
+    else:
+        due = 0, f"copied {blocks}, {used} used\n", ""
+    if came != due:
+        return f"{what} is answered {came}, and not {due}"
+    if read(file) != before:
+        return f"{what} changes the file"
+    if os.path.exists(to) != (due[0] == 0):
+        return f"{what}, answered {came}: the file is there, or is not"
+    return copied_twice(altctl, to, store.copied(blocks), used, what) if due[0] == 0 else None
+
+
+def copied_twice(altctl, to, copy, used, what):
+    """Compares a copy with the one of the model, and copies it to as many blocks, which gives the same bytes."""
+    if read(to) != b"".join(copy.disk):
+        os.replace(to, "copy.alt")
+        return f"{what}, left as copy.alt, has other bytes"
+    copy.open()
+    why = checked(altctl, to, copy)
+    if why:
+        return f"{what}: {why}"
+    due = [(0, f"copied {copy.blocks}, {used} used\n", ""), (1, "", f"altctl: cannot create {to}.2\n")]
+    came = [started(altctl, "copy", to, f"{to}.2") for _ in due]
+    if came != due:
+        return f"{what}, copied again, is answered {came}, and not {due}"
+    if read(f"{to}.2") != read(to):
+        return f"{what}, copied again, has other bytes"
+    os.remove(to)
+    os.remove(f"{to}.2")
+    return None
+
+
+class Session:
+    """A process of the program on a file. Its answers go to a file, too, so no side waits for the other."""
+
+    PATIENCE = 60
+
+    def __init__(self, altctl, options, file):
+        self.answers = tempfile.TemporaryFile()
+        how = {"stdin": subprocess.PIPE, "stdout": self.answers, "stderr": subprocess.PIPE}
+        self.program = subprocess.Popen([altctl, "run", *options, file], **how)
+
+    def say(self, lines, size):
+        """Sends lines, and waits until the answers have this many bytes in all, or the program has ended."""
+        try:
+            self.program.stdin.write(lines)
+            self.program.stdin.flush()
+        except BrokenPipeError:
+            return
+        late = time.monotonic() + self.PATIENCE
+        while os.fstat(self.answers.fileno()).st_size < size and self.program.poll() is None and time.monotonic() < late:
+            time.sleep(0.001)
+
+    def end(self):
+        """Ends the input, and gives the status, the answers and what came on the standard error."""
+        _, faults = self.program.communicate(timeout=self.PATIENCE)
+        self.answers.seek(0)
+        with self.answers:
+            return self.program.returncode, self.answers.read().decode(), faults
+
+
+def random_lines(store, editor, count):
+    """Random lines, and what the model answers."""
+    lines, answers = "", ""
+    for _ in range(count):
+        line, words = editor.line(store)
+        lines += line
+        if isinstance(words, list):
+            try:
+                words = store.apply(words)
+            except Refused as refused:
+                words = refused.text
+        if words is not None:
+            answers += words + "\n"
+    return lines, answers
+
+
+def session(altctl, rng, options, file, store, editor):
+    """Runs a session of random lines, in some of them with a copy of the file between two lines. Gives the number of lines, the
+    lines, and what differs from the model."""
+    count, talk = rng.choice([10, 100, 400]), Session(altctl, options, file)
+    first = rng.randrange(count) if not editor.is_plain and rng.random() < 0.3 else count
+    lines, answers = random_lines(store, editor, first)
+    talk.say(lines.encode("latin-1"), len(answers))
+    why = copies(altctl, rng, file, store, ["--no-lock"]) if first < count else None
+    more, due = random_lines(store, editor, count - first)
+    talk.say(more.encode("latin-1"), len(answers + due))
+    came = talk.end()
+    if came != (0, answers + due, b""):
+        why = f"the answers differ: {difference(answers + due, came)}"
+    return count, lines + more, why
+
+
+def bytes_differ(file, store, waits):
+    """What differs between the file and the model's blocks, apart from those that need not be written."""
+    found = read(file)
+    needed = {*range(FIRST), *store.reached(store.committed)} if waits else range(len(store.disk))
+    for at, block in enumerate(store.disk):
+        if at in needed and found[at * BLOCK : (at + 1) * BLOCK] != block:
+            return f"block {at} differs"
+    if len(found) != BLOCK * len(store.disk):
+        return f"the file has {len(found)} bytes, and not {BLOCK * len(store.disk)}"
+    return None
+
+
+def compared(altctl, rng, folder, waits, most):
+    """Makes a file, runs some sessions over it, and says what differs from the model."""
+    options = [] if waits else ["--buffer", "0"]
+    file, blocks = os.path.join(folder, "map.alt"), rng.choice([64, 64, 66, 100, 200, 1000])
+    made = started(altctl, "create", file, str(blocks))
+    if made[:2] != (0, f"created {blocks}\n"):
+        return f"create said {made}"
+    store, editor = Store(blocks), Editor(rng, most)
+    count = 0
+    for _ in range(rng.randrange(1, 5)):
+        store.open()
+        lower(rng, file, store)
+        more, lines, why = session(altctl, rng, options, file, store, editor)
+        count += more
+        why = why or checked(altctl, file, store) or bytes_differ(file, store, waits)
+        if not why and not editor.is_plain and rng.random() < 0.3:
+            why = copies(altctl, rng, file, store, [])
+        if why:
+            return f"{why}, after these lines:\n{lines}"
+    why = opened(altctl, rng, file, store.disk)
+    if why:
+        os.replace(file, "spoiled.alt")
+        return why
+    os.remove(file)
+    return count
+
+
+def difference(answers, came):
+    status, text, faults = came
+    given, wanted = text.split("\n"), answers.split("\n")
+    at = next((i for i, (a, b) in enumerate(zip(given, wanted)) if a != b), min(len(given), len(wanted)))
+    return f"status {status}, {faults!r}, at answer line {at + 1}: {given[at : at + 3]} and not {wanted[at : at + 3]}"
+
+
+def main():
+    words = argparse.ArgumentParser(description=__doc__)
+    words.add_argument("-n", type=int, default=200, help="so many files")
+    words.add_argument("-s", type=int, default=1, help="the first seed")
+    words.add_argument("--short", action="store_true", help="only what plain.c knows: values of up to 240 bytes, and neither versions nor parts")
+    words.add_argument("altctl", nargs="?", default=os.path.join(os.path.dirname(os.path.abspath(__file__)), "..", "..", "altctl"))
+    said = words.parse_args()
+    lines = 0
+    with tempfile.TemporaryDirectory() as folder:
+        for seed in range(said.s, said.s + said.n):
+            found = compared(said.altctl, random.Random(seed), folder, seed % 2 == 1, SHORT if said.short else LONGEST)
+            if isinstance(found, str):
+                print(f"compare: seed {seed}: {found}", file=sys.stderr)
+                return 1
+            lines += found
+    print(f"{said.n} files, {lines} lines, {12 * said.n} spoiled files: all answers, and all bytes that are due, are as the model has them")
+    return 0
+
+
+if __name__ == "__main__":
+    sys.exit(main())

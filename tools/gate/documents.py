@@ -1,0 +1,207 @@
+#!/usr/bin/env python3
+"""Runs the sessions and programs that the documents show, and compares what comes with what they say:
+`tools/gate/documents.py [ALTCTL]`. Where something differs, it says what was expected and what came, and ends with status 1.
+
+In a block `console`, a line after `$ ` is a command of the shell; the lines after `> ` below it are its input, and all
+others are what it prints. A block `sh` or `python` is a program as it stands, and the block `text` right below it is
+what it prints. A block `c` or `cpp` is the file program.c or program.cpp, which the blocks `console` below it build. The
+blocks of one document run in one folder, one after another, with the program as `altctl` and `./altctl`, the service as
+`altserve`, and the folder `clients`.
+
+A document whose programs need what is not installed is left out, and the last line says so.
+
+It also looks whether README and `altctl --version` name the toolchain that is there, whether links lead to files, also
+those of the READMEs of the crates and the desk, whether each refusal has a row of advice, whether each script has its row
+in tools/README.md, and whether a block `rust` is what a test has.
+"""
+from __future__ import annotations
+
+import contextlib
+import difflib
+import os
+import re
+import signal
+import subprocess
+import sys
+import tempfile
+from pathlib import Path
+
+TOP = Path(__file__).resolve().parents[2]
+DOCUMENTS = [TOP / "README.md", *sorted((TOP / "docs").glob("*.md"))]
+# What documents need to run, and the commands that succeed where it is there.
+NEEDS = {
+    "EMBEDDING.md": {"a compiler of C and C++": "cc --version && c++ --version"},
+    "MAPS.md": {"python3-gdal": f"{TOP}/desk/altgis --help"},
+    "PLANNERS.md": {
+        "nc -U (netcat-openbsd)": "nc -h 2>&1 | grep -q -e -U",
+        "python3-tomli": f"{sys.executable} -c 'import tomllib' || {sys.executable} -c 'import tomli'",
+    },
+}
+BLOCK = re.compile(r"^```(\w+)\n(.*?)^```$", re.M | re.S)
+LINK = re.compile(r"\]\(([^)#]+)[^)]*\)|^\[.+\]: (\S+)$|`(docs/[A-Z-]+\.md|tools/[\w/]+\.\w+|clients/[\w/]+\.\w+|desk/\w+(?:\.\w+)?)`", re.M)
+
+
+class Run:
+    """The folder of one document, and the commands that run in it."""
+
+    def __init__(self, altctl, folder):
+        self.folder, self.status, self.differences = folder, 0, 0
+        os.mkdir(f"{folder}/bin")
+        for link in (f"{folder}/bin/altctl", f"{folder}/altctl"):
+            os.symlink(altctl, link)
+        for it in ("altgis", "altserve"):
+            os.symlink(TOP / "desk" / it, f"{folder}/bin/{it}")
+        os.symlink(TOP / "clients", f"{folder}/clients")
+        path = f"{folder}/bin{os.pathsep}{os.environ['PATH']}"
+        python = {"PYTHONPATH": str(TOP / "clients" / "python"), "PYTHONDONTWRITEBYTECODE": "1"}
+        self.environment = {**os.environ, **python, "PATH": path, "LC_ALL": "C.UTF-8"}
+
+    def start(self, words, lines):
+        text = "".join(f"{it}\n" for it in lines)
+        how = {"stdout": subprocess.PIPE, "stderr": subprocess.STDOUT, "text": True, "timeout": 300}
+        ran = subprocess.run(words, input=text, cwd=self.folder, env=self.environment, **how)
+        self.status = ran.returncode
+        return ran.stdout.splitlines()
+
+    def compare(self, what, due, came):
+        if due != came:
+            self.differences += 1
+            print(f"{what}: expected (-) and came (+):")
+            print(*(f"    {it}" for it in list(difflib.unified_diff(due, came, lineterm="", n=1))[2:42]), sep="\n")
+
+    def session(self, where, text):
+        """A block `console`."""
+        commands = []
+        for line in text.splitlines():
+            if line.startswith("$ "):
+                commands.append((line[2:], [], []))
+            elif line == ">" or line.startswith("> "):
+                commands[-1][1].append(line[2:])
+            else:
+                commands[-1][2].append(line)
+        for command, lines, due in commands:
+            came = self.start(["sh", "-c", f"(exit {self.status}); {command}"], lines)
+            self.compare(f"{where}: $ {command}", due, came)
+
+    def program(self, where, kind, text, due):
+        file = f"{self.folder}/program.{kind}"
+        Path(file).write_text(text)
+        came = self.start([sys.executable if kind == "python" else "sh", file], [])
+        self.compare(where, due, came)
+
+
+def missing(document):
+    """What the sessions of a document need and is not installed, or None."""
+    how = {"shell": True, "stdout": subprocess.DEVNULL, "stderr": subprocess.DEVNULL}
+    tests = NEEDS.get(document.name, {})
+    return next((what for what, test in tests.items() if subprocess.run(test, **how).returncode), None)
+
+
+def end_service(folder):
+    """Ends a service that a document has started, if it still runs."""
+    with contextlib.suppress(FileNotFoundError, ProcessLookupError):
+        os.kill(int(Path(folder, "altserve.pid").read_text()), signal.SIGTERM)
+
+
+def run_blocks(document, altctl):
+    """Runs the blocks of a document, and gives how many there are, and how many outputs differ."""
+    text = document.read_text()
+    blocks = [(it[1], it[2], text.count("\n", 0, it.start()) + 1, it.start(), it.end()) for it in BLOCK.finditer(text)]
+    count = 0
+    with tempfile.TemporaryDirectory() as folder:
+        run = Run(altctl, folder)
+        for n, (kind, body, line, _, end) in enumerate(blocks):
+            where = f"{document.relative_to(TOP)}:{line}"
+            if kind == "console":
+                run.session(where, body)
+            elif kind in ("sh", "python"):
+                shown = n + 1 < len(blocks) and blocks[n + 1][0] == "text" and not text[end : blocks[n + 1][3]].strip()
+                run.program(where, kind, body, blocks[n + 1][1].splitlines() if shown else [])
+            elif kind in ("c", "cpp"):
+                Path(folder, f"program.{kind}").write_text(body)
+            elif kind != "text" and not (kind == "rust" and is_tested(body)):
+                run.compare(where, [f"a block that can be run, and no {kind}"], [])
+            count += kind in ("console", "sh", "python")
+        end_service(folder)
+    return count, run.differences
+
+
+def is_tested(code):
+    """Whether a test of the repository has just these lines."""
+    lines = [it for it in code.splitlines() if not it.startswith("use ")]
+    tests = (TOP / "crates/store_tests/src/tests/library.rt").read_text()
+    return "\n".join(lines).strip() in tests
+
+
+def dead_links(document):
+    for found in LINK.finditer(document.read_text()):
+        name = found[1] or found[2] or found[3]
+        file = TOP / name if found[3] else document.parent / name
+        if "://" not in name and not file.exists():
+            yield f"{document.relative_to(TOP)}: no file {name}"
+
+
+def missing_refusals():
+    """The refusals, 1 to 23, that have no row of advice in docs/OPERATING.md."""
+    rows = [it for it in (TOP / "docs" / "OPERATING.md").read_text().splitlines() if it.startswith("| `")]
+    told = {int(it) for row in rows for it in re.findall(r"`(\d+) [A-Z]\w+", row.split(" | ")[0])}
+    return [f"docs/OPERATING.md: no advice on refusal {it}" for it in range(1, 24) if it not in told]
+
+
+def scripts_in(text: str) -> set[str]:
+    """The scripts that the tables of tools/README.md name, each by its path below tools/."""
+    found, folder = set(), ""
+    for line in text.splitlines():
+        if head := re.match(r"\| (?:Here|In `(\w+)`) \|", line):
+            folder = f"{head[1]}/" if head[1] else ""
+        elif line.startswith("| `"):
+            found |= {folder + it for it in re.findall(r"`([^`]+)`", line.split(" | ")[0])}
+    return found
+
+
+def wrong_scripts(tools: Path) -> list[str]:
+    """Where the tables in the README of a folder of scripts are not what lies in it."""
+    told = scripts_in((tools / "README.md").read_text())
+    there = {str(it.relative_to(tools)) for it in tools.rglob("*.*") if it.suffix in (".py", ".sh", ".c")}
+    return [
+        *(f"tools/README.md: no row for {it}" for it in sorted(there - told)),
+        *(f"tools/README.md: a row for {it}, which is not there" for it in sorted(told - there)),
+    ]
+
+
+def wrong_versions(altctl):
+    """Where README and `altctl --version` name another toolchain than `rt version`, or another format than
+    docs/FORMATS.md."""
+    how = {"stdout": subprocess.PIPE, "text": True, "timeout": 300}
+    toolchain = subprocess.run(["rt", "version"], check=True, **how).stdout.strip()
+    if f"\nProved with: `{toolchain}`.\n" not in (TOP / "README.md").read_text():
+        yield f"README.md: it is not said that all is proved with {toolchain}"
+    number = re.search(r"`SLOT`, u32 format (\d+)", (TOP / "docs" / "FORMATS.md").read_text())[1]
+    due = [f"file format {number}", f"proved with {toolchain}"]
+    came = subprocess.run([altctl, "--version"], check=True, **how).stdout.splitlines()[1:]
+    if came != due:
+        yield f"altctl --version: {came} came, and not {due}"
+
+
+def main():
+    altctl = os.path.abspath((sys.argv[1:] or [TOP / "altctl"])[0])
+    faults = [*missing_refusals(), *wrong_scripts(TOP / "tools"), *wrong_versions(altctl)]
+    for document in [*DOCUMENTS, TOP / "desk" / "README.md", TOP / "tools" / "README.md", *sorted(TOP.glob("crates/*/README.md"))]:
+        faults += dead_links(document)
+    for it in faults:
+        print(it)
+    count = differences = 0
+    skipped = {it: what for it in DOCUMENTS if (what := missing(it))}
+    for document in DOCUMENTS:
+        here, different = (0, 0) if document in skipped else run_blocks(document, altctl)
+        count, differences = count + here, differences + different
+    if faults or differences:
+        print(f"documents: {len(faults)} faults, and {differences} differences in {count} blocks")
+        return 1
+    left_out = "".join(f"; {it.name} was skipped, as {what} is not installed" for it, what in skipped.items())
+    print(f"documents: {count} blocks ran as they are shown{left_out}")
+    return 0
+
+
+if __name__ == "__main__":
+    sys.exit(main())

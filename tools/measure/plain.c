@@ -1,0 +1,1753 @@
+/* A store in altctl's format, written by hand in C, with no proofs, for measuring beside altctl: `tools/measure/measure.sh`
+   compiles and calls it. It is what one writes straightforwardly: each block that a change makes is written at once,
+   by one call; 256 blocks are kept in memory, those that were used last; blocks are read where they lie, and of a path
+   only heads are tested. Files, lines, answers and statuses are those of docs/FORMATS.md, so each program opens the
+   files of the other, and `tools/faults/compare.py --short` tries this one, too. It has values of up to 240 bytes alone, as
+   the lines have that both are measured by: a longer one is a bad line here, and a file with one is damaged. It is
+   trusted with nothing: memory that is refused and a file that fails end it.
+
+   plain create FILE BLOCKS
+   plain run [--buffer 0] FILE     no written block waits, with the words `--buffer 0` and without
+   plain check FILE */
+#define _GNU_SOURCE
+#include <endian.h>
+#include <fcntl.h>
+#include <setjmp.h>
+#include <stdarg.h>
+#include <stdbool.h>
+#include <stdint.h>
+#include <stdio.h>
+#include <stdlib.h>
+#include <string.h>
+#include <sys/stat.h>
+#include <unistd.h>
+
+enum { BLOCK = 4096, FIRST = 34, LEAST_BLOCKS = 64, MOST_BLOCKS = 1 << 20, AT_ONCE = 16 };
+enum { SLOT_A = 2, SLOT_B = 18, SLOT_BLOCKS = 16, CELL = 128, ENTRIES = 511, NAME = 33 };
+enum { HEAD = 16, LEAF = 16, FAN = 256, LEVELS = 8, RECORD = 252, CHILD = 14, VALUE = 240 };
+enum { BLOCKS_A_CHANGE = 17, KEPT = 256, BUCKETS = 512, LINE = 1 << 20, CHUNK = 1 << 16 };
+
+typedef unsigned char byte;
+
+struct key {
+    uint16_t table;
+    uint64_t number;
+};
+
+/* The bytes of a value; none where its length is -1. */
+struct value {
+    int length;
+    byte bytes[VALUE];
+};
+
+/* --- refusals ------------------------------------------------------------------------------------ */
+
+enum {
+    NO_SUCH_ALTERNATIVE = 1, ALTERNATIVE_EXISTS, NO_SUCH_CHECKPOINT, CHECKPOINT_EXISTS, NO_SUCH_RECORD, IS_TOP,
+    HAS_CHILDREN, NOT_MERGED, UNSETTLED, NOT_IN_CONFLICT, SETTLED_TWICE, TOO_MANY, FULL, DEEP, DEVICE, MEMORY, FAILED,
+    DAMAGED, NOT_A_STORE, ALREADY_A_STORE, BAD_SIZE, BAD_LINE, LONG_LINE
+};
+
+static const char *const refusal_names[] = {
+    "", "NoSuchAlternative", "AlternativeExists", "NoSuchCheckpoint", "CheckpointExists", "NoSuchRecord", "IsTop",
+    "HasChildren", "NotMerged", "Unsettled", "NotInConflict", "SettledTwice", "TooMany", "Full", "Deep", "Device",
+    "Memory", "Failed", "Damaged", "NotAStore", "AlreadyAStore", "BadSize", "BadLine", "LongLine",
+};
+
+static jmp_buf refused;
+static int refusal;
+static char refusal_text[96];
+
+/* Ends a line, or an opening, with a refusal, and what it tells beside its name. */
+__attribute__((noreturn, format(printf, 2, 3))) static void refuse_with(int number, const char *detail, ...)
+{
+    va_list values;
+    int length = snprintf(refusal_text, sizeof refusal_text, "%d %s", number, refusal_names[number]);
+    va_start(values, detail);
+    vsnprintf(refusal_text + length, sizeof refusal_text - (size_t)length, detail, values);
+    va_end(values);
+    refusal = number;
+    longjmp(refused, 1);
+}
+
+__attribute__((noreturn)) static void refuse(int number)
+{
+    refuse_with(number, "%s", "");
+}
+
+__attribute__((noreturn)) static void damaged(uint32_t block)
+{
+    refuse_with(DAMAGED, " %u", block);
+}
+
+__attribute__((noreturn)) static void stop(void)
+{
+    fputs("altctl: stopped\n", stderr);
+    exit(3);
+}
+
+/* Memory for so many things of a size, in place of what was there. */
+static void *enlarged(void *old, size_t count, size_t size)
+{
+    void *room = reallocarray(old, count, size);
+    if (!room)
+        stop();
+    return room;
+}
+
+/* --- numbers in blocks --------------------------------------------------------------------------- */
+
+static uint16_t load16(const byte *at)
+{
+    uint16_t number;
+    memcpy(&number, at, sizeof number);
+    return le16toh(number);
+}
+
+static uint32_t load32(const byte *at)
+{
+    uint32_t number;
+    memcpy(&number, at, sizeof number);
+    return le32toh(number);
+}
+
+static uint64_t load64(const byte *at)
+{
+    uint64_t number;
+    memcpy(&number, at, sizeof number);
+    return le64toh(number);
+}
+
+static void store16(byte *at, uint16_t number)
+{
+    number = htole16(number);
+    memcpy(at, &number, sizeof number);
+}
+
+static void store32(byte *at, uint32_t number)
+{
+    number = htole32(number);
+    memcpy(at, &number, sizeof number);
+}
+
+static void store64(byte *at, uint64_t number)
+{
+    number = htole64(number);
+    memcpy(at, &number, sizeof number);
+}
+
+static bool is_zero(const byte *bytes, size_t count)
+{
+    return count == 0 || (bytes[0] == 0 && memcmp(bytes, bytes + 1, count - 1) == 0);
+}
+
+/* --- the file, and the blocks of it that are kept ------------------------------------------------ */
+
+/* A block that is kept, in the order of use and among those with the same bucket. Place 0 keeps none: it is the end
+   of both. */
+struct kept {
+    uint32_t block;
+    uint16_t newer, older, next;
+};
+
+static int file;
+static uint32_t file_blocks;
+static struct kept kept[KEPT + 1];
+static byte kept_bytes[KEPT + 1][BLOCK];
+static uint16_t buckets[BUCKETS];
+
+static void read_file(uint32_t block, byte *into)
+{
+    if (pread(file, into, BLOCK, (off_t)block * BLOCK) != BLOCK)
+        refuse(DEVICE);
+}
+
+static void write_file(uint32_t block, const byte *from, uint32_t count)
+{
+    if (pwrite(file, from, (size_t)count * BLOCK, (off_t)block * BLOCK) != (ssize_t)count * BLOCK)
+        refuse(DEVICE);
+}
+
+static void sync_file(void)
+{
+    if (fsync(file) != 0)
+        refuse(DEVICE);
+}
+
+/* Writes zero blocks behind the others, so that there are so many. */
+static void lengthen_file(uint32_t blocks)
+{
+    static const byte zeros[AT_ONCE * BLOCK];
+    while (file_blocks < blocks) {
+        uint32_t count = blocks - file_blocks < AT_ONCE ? blocks - file_blocks : AT_ONCE;
+        write_file(file_blocks, zeros, count);
+        file_blocks += count;
+    }
+}
+
+static void begin_kept(void)
+{
+    for (uint16_t place = 0; place <= KEPT; place++) {
+        kept[place].newer = place == 0 ? KEPT : (uint16_t)(place - 1);
+        kept[place].older = place == KEPT ? 0 : (uint16_t)(place + 1);
+    }
+}
+
+/* Makes a place the one that was used last. */
+static void use(uint16_t place)
+{
+    struct kept *it = &kept[place];
+    if (it->newer == 0)
+        return;
+    kept[it->newer].older = it->older;
+    kept[it->older].newer = it->newer;
+    it->newer = 0;
+    it->older = kept[0].older;
+    kept[it->older].newer = place;
+    kept[0].older = place;
+}
+
+/* The place of a block, or 0. */
+static uint16_t place_of(uint32_t block)
+{
+    uint16_t place = buckets[block % BUCKETS];
+    while (place && kept[place].block != block)
+        place = kept[place].next;
+    return place;
+}
+
+/* Has the place that was used the longest ago keep another block. */
+static uint16_t give_place(uint32_t block)
+{
+    uint16_t place = kept[0].newer, *bucket = &buckets[kept[place].block % BUCKETS];
+    if (kept[place].block) {
+        while (*bucket != place)
+            bucket = &kept[*bucket].next;
+        *bucket = kept[place].next;
+    }
+    bucket = &buckets[block % BUCKETS];
+    kept[place].block = block;
+    kept[place].next = *bucket;
+    *bucket = place;
+    return place;
+}
+
+/* The bytes of a block. They stay where they are while fewer than 256 other blocks are read or made. */
+static const byte *read_block(uint32_t block)
+{
+    uint16_t place = place_of(block);
+    if (!place) {
+        place = give_place(block);
+        read_file(block, kept_bytes[place]);
+    }
+    use(place);
+    return kept_bytes[place];
+}
+
+/* Where the bytes of a block go that is made anew. */
+static byte *make_block(uint32_t block)
+{
+    uint16_t place = place_of(block);
+    if (!place)
+        place = give_place(block);
+    use(place);
+    return kept_bytes[place];
+}
+
+/* --- what stands in the blocks of trees ---------------------------------------------------------- */
+
+/* The top of a tree: its block, 0 for the empty map, its level and its lowest key. */
+struct root {
+    uint32_t block;
+    int level;
+    struct key low;
+};
+
+static int compare(struct key one, struct key other)
+{
+    if (one.table != other.table)
+        return one.table < other.table ? -1 : 1;
+    return one.number < other.number ? -1 : one.number > other.number;
+}
+
+static int row_size(int level)
+{
+    return level == 0 ? RECORD : CHILD;
+}
+
+static int most_rows(int level)
+{
+    return level == 0 ? LEAF : FAN;
+}
+
+static int count_of(const byte *block)
+{
+    return (int)load32(block + 8);
+}
+
+static const byte *row_at(const byte *block, int level, int index)
+{
+    return block + HEAD + index * row_size(level);
+}
+
+static struct key key_of(const byte *row)
+{
+    return (struct key){load16(row), load64(row + 2)};
+}
+
+static uint32_t child_of(const byte *row)
+{
+    return load32(row + 10);
+}
+
+static void make_record(byte *row, struct key key, const struct value *value)
+{
+    store16(row, key.table);
+    store64(row + 2, key.number);
+    store16(row + 10, (uint16_t)value->length);
+    memcpy(row + 12, value->bytes, (size_t)value->length);
+    memset(row + 12 + value->length, 0, (size_t)(VALUE - value->length));
+}
+
+static void make_child(byte *row, struct root child)
+{
+    store16(row, child.low.table);
+    store64(row + 2, child.low.number);
+    store32(row + 10, child.block);
+}
+
+static void take_value(const byte *record, struct value *value)
+{
+    value->length = load16(record + 10);
+    memcpy(value->bytes, record + 12, (size_t)value->length);
+}
+
+/* The level that the head of a block tells, or -1. */
+static int level_of(const byte *block)
+{
+    uint32_t level = load32(block + 4), count = load32(block + 8);
+    if (load32(block + 12) != 0 || count == 0)
+        return -1;
+    if (memcmp(block, "LEAF", 4) == 0)
+        return level == 0 && count <= LEAF ? 0 : -1;
+    return memcmp(block, "NODE", 4) == 0 && level > 0 && level < LEVELS && count <= FAN ? (int)level : -1;
+}
+
+/* How many rows have keys that are not above a key. */
+static int rows_up_to(const byte *block, int level, struct key key)
+{
+    int low = 0, high = count_of(block);
+    while (low < high) {
+        int middle = (low + high) / 2;
+        if (compare(key_of(row_at(block, level, middle)), key) <= 0)
+            low = middle + 1;
+        else
+            high = middle;
+    }
+    return low;
+}
+
+/* The child to which a key belongs. */
+static int chosen(const byte *block, int level, struct key key)
+{
+    int count = rows_up_to(block, level, key);
+    return count > 0 ? count - 1 : 0;
+}
+
+/* The record of a key in a leaf, or NULL. */
+static const byte *record_in(const byte *leaf, struct key key)
+{
+    int count = rows_up_to(leaf, 0, key);
+    if (count == 0)
+        return NULL;
+    const byte *row = row_at(leaf, 0, count - 1);
+    return compare(key_of(row), key) == 0 ? row : NULL;
+}
+
+/* --- which blocks are held ----------------------------------------------------------------------- */
+
+static uint64_t *held, *marks;
+static uint32_t blocks, kept_blocks, free_blocks, lowest_word;
+
+static size_t words_of(uint32_t bits)
+{
+    return (bits + 63) / 64;
+}
+
+static bool is_set(const uint64_t *bits, uint32_t block)
+{
+    return bits[block / 64] >> block % 64 & 1;
+}
+
+static void set(uint64_t *bits, uint32_t block)
+{
+    bits[block / 64] |= (uint64_t)1 << block % 64;
+}
+
+static void clear(uint64_t *bits, uint32_t block)
+{
+    bits[block / 64] &= ~((uint64_t)1 << block % 64);
+}
+
+/* Holds nothing but the store's own blocks. */
+static void begin_held(uint64_t *bits)
+{
+    memset(bits, 0, words_of(blocks) * sizeof *bits);
+    bits[0] = ((uint64_t)1 << FIRST) - 1;
+    lowest_word = 0;
+}
+
+/* Holds the lowest block that was not held. */
+static uint32_t take(void)
+{
+    while (held[lowest_word] == UINT64_MAX)
+        lowest_word++;
+    uint32_t block = lowest_word * 64 + (uint32_t)__builtin_ctzll(~held[lowest_word]);
+    set(held, block);
+    free_blocks--;
+    return block;
+}
+
+/* --- trees --------------------------------------------------------------------------------------- */
+
+/* What stands in the place of a block once it was changed: no block, one or two. */
+struct parts {
+    int count;
+    struct root at[2];
+};
+
+/* The bytes of a block of a tree, whose head is tested. */
+static const byte *tree_block(uint32_t block, int level)
+{
+    if (block < FIRST || block >= blocks)
+        damaged(block);
+    const byte *bytes = read_block(block);
+    if (level_of(bytes) != level)
+        damaged(block);
+    return bytes;
+}
+
+/* Writes a block of these rows: those of three lists, one after another. */
+static struct root write_rows(int level, const byte *const rows[3], const int counts[3])
+{
+    uint32_t block = take(), size = (uint32_t)row_size(level);
+    byte *bytes = make_block(block), *to = bytes + HEAD;
+    memcpy(bytes, level == 0 ? "LEAF" : "NODE", 4);
+    store32(bytes + 4, (uint32_t)level);
+    store32(bytes + 8, (uint32_t)(counts[0] + counts[1] + counts[2]));
+    store32(bytes + 12, 0);
+    for (int i = 0; i < 3; i++) {
+        memcpy(to, rows[i], (size_t)counts[i] * size);
+        to += (size_t)counts[i] * size;
+    }
+    memset(to, 0, (size_t)(bytes + BLOCK - to));
+    write_file(block, bytes, 1);
+    return (struct root){block, level, key_of(bytes + HEAD)};
+}
+
+/* Writes a block anew, with other rows in the place of some: as two, where they are too many for one. */
+static struct parts write_changed(const byte *old, int level, int at, int less, const byte *rows, int more)
+{
+    int size = row_size(level), behind = count_of(old) - at - less, count = at + more + behind;
+    const byte *lists[] = {row_at(old, level, 0), rows, row_at(old, level, at + less)};
+    if (count <= most_rows(level))
+        return (struct parts){1, {write_rows(level, lists, (const int[]){at, more, behind})}};
+    byte all[(LEAF + 1) * RECORD];
+    memcpy(all, lists[0], (size_t)(at * size));
+    memcpy(all + at * size, rows, (size_t)(more * size));
+    memcpy(all + (at + more) * size, lists[2], (size_t)(behind * size));
+    int left = (count + 1) / 2;
+    const byte *halves[] = {all, all + left * size};
+    struct parts parts = {2, {{0}}};
+    parts.at[0] = write_rows(level, (const byte *[]){halves[0], all, all}, (const int[]){left, 0, 0});
+    parts.at[1] = write_rows(level, (const byte *[]){halves[1], all, all}, (const int[]){count - left, 0, 0});
+    return parts;
+}
+
+/* Writes an inner block anew, with these parts in the place of a child. */
+static struct parts write_parts(const byte *old, int level, int at, struct parts parts)
+{
+    byte rows[2 * CHILD];
+    for (int i = 0; i < parts.count; i++)
+        make_child(rows + i * CHILD, parts.at[i]);
+    return write_changed(old, level, at, 1, rows, parts.count);
+}
+
+/* The record of a key, or NULL. */
+static const byte *find_record(struct root root, struct key key)
+{
+    if (root.block == 0)
+        return NULL;
+    uint32_t block = root.block;
+    for (int level = root.level; level > 0; level--) {
+        const byte *bytes = tree_block(block, level);
+        block = child_of(row_at(bytes, level, chosen(bytes, level, key)));
+    }
+    return record_in(tree_block(block, 0), key);
+}
+
+static struct parts put_below(uint32_t block, int level, struct key key, const struct value *value)
+{
+    const byte *bytes = tree_block(block, level);
+    if (level == 0) {
+        byte record[RECORD];
+        int at = rows_up_to(bytes, 0, key), less = record_in(bytes, key) ? 1 : 0;
+        make_record(record, key, value);
+        return write_changed(bytes, 0, at - less, less, record, 1);
+    }
+    int at = chosen(bytes, level, key);
+    struct parts below = put_below(child_of(row_at(bytes, level, at)), level - 1, key, value);
+    return write_parts(read_block(block), level, at, below);
+}
+
+/* The tree with a value for a key. */
+static struct root put(struct root root, struct key key, const struct value *value)
+{
+    if (root.block == 0) {
+        byte record[RECORD];
+        make_record(record, key, value);
+        return write_rows(0, (const byte *[]){record, record, record}, (const int[]){1, 0, 0});
+    }
+    struct parts parts = put_below(root.block, root.level, key, value);
+    if (parts.count == 1)
+        return parts.at[0];
+    if (root.level == LEVELS - 1)
+        refuse(DEEP);
+    byte rows[2 * CHILD];
+    make_child(rows, parts.at[0]);
+    make_child(rows + CHILD, parts.at[1]);
+    return write_rows(root.level + 1, (const byte *[]){rows, rows, rows}, (const int[]){2, 0, 0});
+}
+
+/* The first block from this one down that is a leaf, or has more children than one. */
+static struct root narrowed(uint32_t block, int level)
+{
+    const byte *bytes = tree_block(block, level);
+    while (level > 0 && count_of(bytes) == 1) {
+        block = child_of(row_at(bytes, level, 0));
+        bytes = tree_block(block, --level);
+    }
+    return (struct root){block, level, key_of(row_at(bytes, level, 0))};
+}
+
+/* What is left without a record that is there: block 0, where nothing is. */
+static struct root remove_below(uint32_t block, int level, bool is_root, struct key key)
+{
+    const byte *bytes = tree_block(block, level);
+    int count = count_of(bytes);
+    if (level == 0) {
+        if (count == 1)
+            return (struct root){0};
+        return write_changed(bytes, 0, rows_up_to(bytes, 0, key) - 1, 1, bytes, 0).at[0];
+    }
+    int at = chosen(bytes, level, key);
+    bool is_alone = is_root && count == 1;
+    struct root left = remove_below(child_of(row_at(bytes, level, at)), level - 1, is_alone, key);
+    if (is_alone || (left.block == 0 && count == 1))
+        return left;
+    bytes = read_block(block);
+    if (left.block != 0)
+        return write_parts(bytes, level, at, (struct parts){1, {left}}).at[0];
+    if (is_root && count == 2)
+        return narrowed(child_of(row_at(bytes, level, 1 - at)), level - 1);
+    return write_changed(bytes, level, at, 1, bytes, 0).at[0];
+}
+
+/* --- differences of two trees -------------------------------------------------------------------- */
+
+/* A way through a tree: what comes next is all that lies under a block (height above 0: one above its level), or a
+   record (height 0). */
+struct walk {
+    struct { uint32_t block; int level, at, count; } path[LEVELS];
+    int depth, height;
+    bool ended;
+    uint32_t block;
+    struct key key;
+};
+
+static void begin_walk(struct walk *walk, struct root root)
+{
+    walk->depth = 0;
+    walk->height = root.level + 1;
+    walk->ended = root.block == 0;
+    walk->block = root.block;
+    walk->key = root.low;
+}
+
+static const byte *row_next(const struct walk *walk)
+{
+    int top = walk->depth - 1, level = walk->path[top].level;
+    return row_at(read_block(walk->path[top].block), level, walk->path[top].at);
+}
+
+static void look(struct walk *walk)
+{
+    const byte *row = row_next(walk);
+    walk->key = key_of(row);
+    walk->height = walk->path[walk->depth - 1].level;
+    if (walk->height > 0)
+        walk->block = child_of(row);
+}
+
+/* Goes into the block that comes next. */
+static void enter(struct walk *walk)
+{
+    int level = walk->height - 1, top = walk->depth++;
+    walk->path[top].block = walk->block;
+    walk->path[top].level = level;
+    walk->path[top].at = 0;
+    walk->path[top].count = count_of(tree_block(walk->block, level));
+    look(walk);
+}
+
+/* Goes past what comes next. */
+static void pass(struct walk *walk)
+{
+    while (walk->depth > 0 && ++walk->path[walk->depth - 1].at == walk->path[walk->depth - 1].count)
+        walk->depth--;
+    walk->ended = walk->depth == 0;
+    if (!walk->ended)
+        look(walk);
+}
+
+/* A key at which two maps differ, with the values of both. Of a change in the parent it is told what a merge does with
+   it, and, where it is in conflict, the change of the alternative. */
+struct change {
+    struct key key;
+    struct value before, after;
+    enum { TAKE, LEAVE, CONFLICT } fate;
+    const struct change *mine;
+};
+
+struct changes {
+    struct change *at;
+    size_t count, room;
+};
+
+/* Adds a change, with the values of two records of which one may be NULL. */
+static void add_change(struct changes *changes, struct key key, const byte *before, const byte *after)
+{
+    if (changes->count == changes->room) {
+        changes->room = 2 * changes->room + 64;
+        changes->at = enlarged(changes->at, changes->room, sizeof *changes->at);
+    }
+    struct change *it = &changes->at[changes->count++];
+    it->key = key;
+    it->before.length = it->after.length = -1;
+    if (before)
+        take_value(before, &it->before);
+    if (after)
+        take_value(after, &it->after);
+}
+
+/* Goes one step on in two walks where what comes next is not the same block in both. The way that is behind goes on;
+   where both are at one key, the blocks above records are entered first. */
+static void step(struct walk *before, struct walk *after, struct changes *changes)
+{
+    int order = before->ended ? 1 : after->ended ? -1 : compare(before->key, after->key);
+    int height = order < 0 ? before->height : order > 0 ? after->height
+        : before->height > after->height ? before->height : after->height;
+    if (height > 0) {
+        bool is_before = order < 0 || (order == 0 && before->height == height);
+        bool is_after = order > 0 || (order == 0 && after->height == height);
+        if (is_before)
+            enter(before);
+        if (is_after)
+            enter(after);
+        return;
+    }
+    const byte *one = order <= 0 ? row_next(before) : NULL, *other = order >= 0 ? row_next(after) : NULL;
+    if (!one || !other || memcmp(one, other, RECORD) != 0)
+        add_change(changes, key_of(one ? one : other), one, other);
+    if (one)
+        pass(before);
+    if (other)
+        pass(after);
+}
+
+/* The keys at which the maps of two trees differ, so many at most. Blocks that both have are not read. */
+static void differences(struct root one, struct root other, struct changes *changes, size_t most)
+{
+    struct walk before, after;
+    begin_walk(&before, one);
+    begin_walk(&after, other);
+    changes->count = 0;
+    while (changes->count < most && !(before.ended && after.ended)) {
+        if (!before.ended && !after.ended && before.height > 0 && before.height == after.height
+            && before.block == after.block) {
+            pass(&before);
+            pass(&after);
+        } else {
+            step(&before, &after, changes);
+        }
+    }
+}
+
+/* --- alternatives and checkpoints ---------------------------------------------------------------- */
+
+/* A name as it stands in a slot: its length, then its bytes, then zero. */
+struct entry {
+    byte tag, name[NAME], owner[NAME];
+    struct root current, base;
+};
+
+struct entries {
+    int count;
+    struct entry at[ENTRIES];
+};
+
+static struct entries committed, working;
+static bool in_slot_b;
+
+static bool is_name(const byte *name, int least)
+{
+    if (name[0] < least || name[0] >= NAME || !is_zero(name + 1 + name[0], (size_t)(NAME - 1 - name[0])))
+        return false;
+    for (int i = 1; i <= name[0]; i++) {
+        byte it = name[i], letter = it | 0x20;
+        if (!(letter >= 'a' && letter <= 'z') && !(it >= '0' && it <= '9') && it != '-' && it != '_' && it != '.')
+            return false;
+    }
+    return true;
+}
+
+/* The entry with a tag, an owner and a name, or NULL. The owner of an alternative is any. */
+static struct entry *find_entry(struct entries *entries, byte tag, const byte *owner, const byte *name)
+{
+    for (int i = 0; i < entries->count; i++) {
+        struct entry *it = &entries->at[i];
+        if (it->tag == tag && memcmp(it->name, name, NAME) == 0 && (tag == 'A' || memcmp(it->owner, owner, NAME) == 0))
+            return it;
+    }
+    return NULL;
+}
+
+static bool is_top(const struct entry *entry)
+{
+    return memcmp(entry->name, "\3top", 5) == 0 && entry->tag == 'A';
+}
+
+static void spell_entry(byte *cell, const struct entry *entry)
+{
+    cell[0] = entry->tag;
+    memcpy(cell + 1, entry->name, NAME);
+    memcpy(cell + 34, entry->owner, NAME);
+    store32(cell + 67, entry->current.block);
+    store32(cell + 71, entry->base.block);
+}
+
+/* Adds the entry of a cell, where it is one that may stand behind those before it. */
+static bool read_entry(const byte *cell, struct entries *entries)
+{
+    bool is_first = entries->count == 0;
+    struct entry *it = &entries->at[entries->count];
+    memcpy(it->name, cell + 1, NAME);
+    memcpy(it->owner, cell + 34, NAME);
+    it->tag = cell[0];
+    it->current = (struct root){load32(cell + 67), 0, {0}};
+    it->base = (struct root){load32(cell + 71), 0, {0}};
+    if ((it->tag != 'A' && it->tag != 'C') || !is_name(it->name, 1) || !is_name(it->owner, is_first ? 0 : 1))
+        return false;
+    if (!is_zero(cell + 75, CELL - 75) || find_entry(entries, it->tag, it->owner, it->name))
+        return false;
+    if (is_first ? !is_top(it) || it->owner[0] != 0 : !find_entry(entries, 'A', NULL, it->owner))
+        return false;
+    if (it->base.block && (is_first || (it->tag == 'C' && memcmp(it->owner, "\3top", 5) == 0)))
+        return false;
+    entries->count++;
+    return true;
+}
+
+static uint32_t slot_blocks(int entries)
+{
+    return (uint32_t)(entries + 32) / 32;
+}
+
+/* Writes the working entries into the slot that is not in use, and then has it in use. */
+static void publish(void)
+{
+    static byte slot[SLOT_BLOCKS * BLOCK], selector[BLOCK];
+    uint32_t used = slot_blocks(working.count);
+    memset(slot, 0, used * BLOCK);
+    memcpy(slot, "SLOT", 4);
+    store32(slot + 4, 2);
+    store32(slot + 8, blocks);
+    store32(slot + 12, (uint32_t)working.count);
+    for (int i = 0; i < working.count; i++)
+        spell_entry(slot + CELL * (i + 1), &working.at[i]);
+    write_file(in_slot_b ? SLOT_A : SLOT_B, slot, used);
+    sync_file();
+    selector[0] = !in_slot_b;
+    write_file(1, selector, 1);
+    sync_file();
+    in_slot_b = !in_slot_b;
+    kept_blocks = blocks;
+    committed.count = working.count;
+    memcpy(committed.at, working.at, (size_t)working.count * sizeof *working.at);
+}
+
+/* --- opening ------------------------------------------------------------------------------------- */
+
+/* What was found under a block. While it is visited only its level is known. */
+struct span {
+    uint64_t low_number, high_number;
+    uint16_t low_table, high_table;
+    uint8_t level;
+};
+
+static struct span *spans;
+
+static void make_header(byte *block)
+{
+    memset(block, 0, BLOCK);
+    memcpy(block, "ALTSTORE", 8);
+    store32(block + 8, 1);
+    store32(block + 12, BLOCK);
+}
+
+/* Whether the rows of a block have the form of those of its level, and nothing stands behind them. */
+static bool has_form(const byte *block, int level)
+{
+    int count = count_of(block);
+    const byte *end = row_at(block, level, count);
+    for (int i = 0; i < count; i++) {
+        const byte *row = row_at(block, level, i);
+        if (i > 0 && compare(key_of(row - row_size(level)), key_of(row)) >= 0)
+            return false;
+        if (level == 0 && load16(row + 10) > VALUE)
+            return false;
+        if (level == 0 && !is_zero(row + 12 + load16(row + 10), (size_t)(VALUE - load16(row + 10))))
+            return false;
+    }
+    return is_zero(end, (size_t)(block + BLOCK - end));
+}
+
+static struct span visit(uint32_t block, int least, int most);
+
+/* Visits the children of an inner block, and gives the highest key under them. */
+static struct key visit_children(const byte *bytes, int level)
+{
+    struct key high = {0};
+    byte own[BLOCK];
+    memcpy(own, bytes, BLOCK);
+    for (int i = 0, count = count_of(own); i < count; i++) {
+        const byte *row = row_at(own, level, i);
+        struct span span = visit(child_of(row), level - 1, level - 1);
+        high = (struct key){span.high_table, span.high_number};
+        if (compare((struct key){span.low_table, span.low_number}, key_of(row)) != 0
+            || (i + 1 < count && compare(high, key_of(row + CHILD)) >= 0))
+            damaged(child_of(row));
+    }
+    return high;
+}
+
+/* Visits a block whose level lies in a range, and all blocks under it, and holds them. */
+static struct span visit(uint32_t block, int least, int most)
+{
+    if (block < FIRST || block >= blocks)
+        damaged(block);
+    if (!is_set(held, block)) {
+        const byte *bytes = read_block(block);
+        int level = level_of(bytes);
+        set(held, block);
+        free_blocks--;
+        if (level < 0 || !has_form(bytes, level) || level < least || level > most)
+            damaged(block);
+        struct key low = key_of(row_at(bytes, level, 0));
+        spans[block].level = (uint8_t)level;
+        struct key high = level == 0 ? key_of(row_at(bytes, 0, count_of(bytes) - 1)) : visit_children(bytes, level);
+        spans[block] = (struct span){low.number, high.number, low.table, high.table, (uint8_t)level};
+    }
+    if (spans[block].level < least || spans[block].level > most)
+        damaged(block);
+    return spans[block];
+}
+
+static void visit_root(struct root *root)
+{
+    if (root->block == 0)
+        return;
+    struct span span = visit(root->block, 0, LEVELS - 1);
+    root->level = span.level;
+    root->low = (struct key){span.low_table, span.low_number};
+}
+
+static void read_slot(uint32_t first)
+{
+    static byte slot[SLOT_BLOCKS * BLOCK];
+    read_file(first, slot);
+    uint32_t format = load32(slot + 4), count = load32(slot + 12);
+    blocks = load32(slot + 8);
+    if (memcmp(slot, "SLOT", 4) != 0 || format < 1 || format > 2 || blocks < LEAST_BLOCKS || blocks > MOST_BLOCKS
+        || count < 1 || count > ENTRIES || !is_zero(slot + 16, CELL - 16))
+        damaged(first);
+    for (uint32_t i = 1; i < slot_blocks((int)count); i++)
+        read_file(first + i, slot + i * BLOCK);
+    working.count = 0;
+    for (uint32_t i = 1; i <= count; i++)
+        if (!read_entry(slot + CELL * i, &working))
+            damaged(first);
+    if (blocks > file_blocks)
+        refuse(BAD_SIZE);
+}
+
+/* Opens the store in the file, as it was last committed. */
+static void open_store(void)
+{
+    byte block[BLOCK], header[BLOCK];
+    sync_file();
+    if (file_blocks < LEAST_BLOCKS)
+        refuse(NOT_A_STORE);
+    read_file(0, block);
+    make_header(header);
+    if (memcmp(block, header, BLOCK) != 0)
+        refuse(NOT_A_STORE);
+    read_file(1, block);
+    in_slot_b = block[0] & 1;
+    read_slot(in_slot_b ? SLOT_B : SLOT_A);
+    held = enlarged(NULL, words_of(blocks), sizeof *held);
+    marks = enlarged(NULL, words_of(blocks), sizeof *marks);
+    begin_held(held);
+    free_blocks = blocks - FIRST;
+    spans = calloc(blocks, sizeof *spans);
+    if (!spans)
+        stop();
+    for (int i = 0; i < working.count; i++) {
+        visit_root(&working.at[i].current);
+        visit_root(&working.at[i].base);
+    }
+    free(spans);
+    kept_blocks = blocks;
+    committed.count = working.count;
+    memcpy(committed.at, working.at, (size_t)working.count * sizeof *working.at);
+}
+
+/* --- which blocks are spare ---------------------------------------------------------------------- */
+
+static void mark_below(uint32_t block, int level)
+{
+    if (block < FIRST || block >= blocks)
+        damaged(block);
+    if (is_set(marks, block))
+        return;
+    set(marks, block);
+    free_blocks--;
+    for (int i = 0, count = level == 0 ? 0 : count_of(tree_block(block, level)); i < count; i++)
+        mark_below(child_of(row_at(read_block(block), level, i)), level - 1);
+}
+
+static void mark_entries(const struct entries *entries)
+{
+    for (int i = 0; i < entries->count; i++) {
+        if (entries->at[i].current.block)
+            mark_below(entries->at[i].current.block, entries->at[i].current.level);
+        if (entries->at[i].base.block)
+            mark_below(entries->at[i].base.block, entries->at[i].base.level);
+    }
+}
+
+/* Holds just what the committed and the working entries reach. */
+static void mark(void)
+{
+    uint64_t *before = held;
+    begin_held(marks);
+    free_blocks = blocks - FIRST;
+    mark_entries(&committed);
+    mark_entries(&working);
+    held = marks;
+    marks = before;
+}
+
+/* Has as many blocks free as so many changes may take. */
+static void demand(size_t changes)
+{
+    if (free_blocks / BLOCKS_A_CHANGE >= changes)
+        return;
+    mark();
+    if (free_blocks / BLOCKS_A_CHANGE < changes)
+        refuse(FULL);
+}
+
+/* --- answers ------------------------------------------------------------------------------------- */
+
+static struct {
+    char *bytes;
+    size_t length, room;
+} answer;
+
+/* Where the next bytes of the answer go: room for so many. */
+static char *answer_room(size_t more)
+{
+    if (answer.room - answer.length < more) {
+        answer.room = 2 * answer.room + more + CHUNK;
+        answer.bytes = enlarged(answer.bytes, answer.room, 1);
+    }
+    return answer.bytes + answer.length;
+}
+
+static void say(const char *text)
+{
+    size_t length = strlen(text);
+    memcpy(answer_room(length), text, length);
+    answer.length += length;
+}
+
+static void say_number(uint64_t number)
+{
+    char digits[20], *from = digits + sizeof digits;
+    do
+        *--from = (char)('0' + number % 10);
+    while ((number /= 10) > 0);
+    size_t length = (size_t)(digits + sizeof digits - from);
+    memcpy(answer_room(length), from, length);
+    answer.length += length;
+}
+
+static void say_key(struct key key)
+{
+    say_number(key.table);
+    say(" ");
+    say_number(key.number);
+}
+
+static void say_name(const byte *name)
+{
+    memcpy(answer_room(name[0]), name + 1, name[0]);
+    answer.length += name[0];
+}
+
+static bool is_plain(byte it)
+{
+    return it >= 0x21 && it <= 0x7d && it != '%';
+}
+
+/* Writes a value after a space. */
+static void say_value(const byte *bytes, int length)
+{
+    char *to = answer_room(2 + 3 * VALUE), *begun = to;
+    bool all_plain = true;
+    for (int i = 0; i < length; i++)
+        all_plain &= is_plain(bytes[i]);
+    *to++ = ' ';
+    if (length < 0) {
+        *to++ = '~';
+    } else if (length == 0) {
+        *to++ = '-';
+    } else if (all_plain && !(length == 1 && bytes[0] == '-')) {
+        memcpy(to, bytes, (size_t)length);
+        to += length;
+    } else {
+        for (int i = 0; i < length; i++) {
+            if (is_plain(bytes[i]) && length > 1)
+                *to++ = (char)bytes[i];
+            else
+                to += sprintf(to, "%%%02X", bytes[i]);
+        }
+    }
+    answer.length += (size_t)(to - begun);
+}
+
+static void say_end(uint64_t count)
+{
+    say("end ");
+    say_number(count);
+    say("\n");
+}
+
+/* Writes the answer with one call, unless it is empty. */
+static void send_answer(void)
+{
+    for (size_t done = 0; done < answer.length;) {
+        ssize_t count = write(1, answer.bytes + done, answer.length - done);
+        if (count <= 0)
+            stop();
+        done += (size_t)count;
+    }
+    answer.length = 0;
+}
+
+/* --- merges -------------------------------------------------------------------------------------- */
+
+struct settlement {
+    struct key key;
+    size_t place;
+    bool is_theirs;
+};
+
+static struct changes theirs, mine;
+static struct settlement *settlements;
+static size_t settlement_count, settlement_room;
+
+static bool are_same(const struct value *one, const struct value *other)
+{
+    if (one->length != other->length)
+        return false;
+    return one->length < 0 || memcmp(one->bytes, other->bytes, (size_t)one->length) == 0;
+}
+
+/* Finds what changed in the parent and in the alternative since the base, and which of it is in conflict. */
+static size_t compare_sides(const struct entry *own, const struct entry *parent)
+{
+    size_t at = 0, conflicts = 0;
+    differences(own->base, parent->current, &theirs, SIZE_MAX);
+    differences(own->base, own->current, &mine, SIZE_MAX);
+    for (size_t i = 0; i < theirs.count; i++) {
+        struct change *it = &theirs.at[i];
+        while (at < mine.count && compare(mine.at[at].key, it->key) < 0)
+            at++;
+        it->fate = TAKE;
+        if (at == mine.count || compare(mine.at[at].key, it->key) != 0)
+            continue;
+        it->mine = &mine.at[at];
+        it->fate = are_same(&it->after, &it->mine->after) ? LEAVE : CONFLICT;
+        conflicts += it->fate == CONFLICT;
+    }
+    return conflicts;
+}
+
+static int compare_settlements(const void *one, const void *other)
+{
+    const struct settlement *a = one, *b = other;
+    int order = compare(a->key, b->key);
+    return order ? order : a->place < b->place ? -1 : 1;
+}
+
+/* The place in the line of the first settlement of a key that an earlier one settles, or SIZE_MAX. The settlements
+   are in order. */
+static size_t first_settled_twice(void)
+{
+    size_t first = SIZE_MAX;
+    for (size_t i = 1; i < settlement_count; i++)
+        if (compare(settlements[i - 1].key, settlements[i].key) == 0 && settlements[i].place < first)
+            first = settlements[i].place;
+    return first;
+}
+
+/* Settles conflicts, and gives the place of the first settlement whose key is not in conflict, or SIZE_MAX. */
+static size_t settle(void)
+{
+    size_t at = 0, first = SIZE_MAX;
+    for (size_t i = 0; i < settlement_count; i++) {
+        const struct settlement *it = &settlements[i];
+        while (at < theirs.count && compare(theirs.at[at].key, it->key) < 0)
+            at++;
+        if (at < theirs.count && compare(theirs.at[at].key, it->key) == 0 && theirs.at[at].fate == CONFLICT)
+            theirs.at[at].fate = it->is_theirs ? TAKE : LEAVE;
+        else if (it->place < first)
+            first = it->place;
+    }
+    return first;
+}
+
+__attribute__((noreturn)) static void refuse_settlement(int number, size_t place)
+{
+    size_t i = 0;
+    while (settlements[i].place != place)
+        i++;
+    refuse_with(number, " %u:%llu", settlements[i].key.table, (unsigned long long)settlements[i].key.number);
+}
+
+/* Brings the parent's changes into an alternative, and tells how many records that changes. */
+static size_t merge(struct entry *own, const struct entry *parent)
+{
+    size_t conflicts = compare_sides(own, parent), changes = 0;
+    if (settlement_count > 1)
+        qsort(settlements, settlement_count, sizeof *settlements, compare_settlements);
+    if (first_settled_twice() != SIZE_MAX)
+        refuse_settlement(SETTLED_TWICE, first_settled_twice());
+    size_t other = settle();
+    if (other != SIZE_MAX)
+        refuse_settlement(NOT_IN_CONFLICT, other);
+    if (conflicts > settlement_count)
+        refuse_with(UNSETTLED, " %zu", conflicts - settlement_count);
+    for (size_t i = 0; i < theirs.count; i++)
+        changes += theirs.at[i].fate == TAKE;
+    demand(changes);
+    struct root root = own->current;
+    for (size_t i = 0; i < theirs.count; i++) {
+        const struct change *it = &theirs.at[i];
+        if (it->fate == TAKE && it->after.length < 0)
+            root = remove_below(root.block, root.level, true, it->key);
+        else if (it->fate == TAKE)
+            root = put(root, it->key, &it->after);
+    }
+    own->current = root;
+    own->base = parent->current;
+    return changes;
+}
+
+/* --- what lines ask for -------------------------------------------------------------------------- */
+
+/* The words of a line that follow the first: names as they stand in slots. */
+struct words {
+    byte names[3][NAME];
+    int names_count;
+    struct key key;
+    struct value value;
+    uint64_t number;
+};
+
+static struct entry *alternative(const byte *name)
+{
+    struct entry *found = find_entry(&working, 'A', NULL, name);
+    if (!found)
+        refuse(NO_SUCH_ALTERNATIVE);
+    return found;
+}
+
+/* The parent of an alternative that is not top. */
+static struct entry *parent_of(const struct entry *entry)
+{
+    if (is_top(entry))
+        refuse(IS_TOP);
+    return alternative(entry->owner);
+}
+
+static struct entry *checkpoint(const byte *owner, const byte *name)
+{
+    struct entry *found = find_entry(&working, 'C', owner, name);
+    if (!found)
+        refuse(NO_SUCH_CHECKPOINT);
+    return found;
+}
+
+static void add_entry(byte tag, const byte *name, const byte *owner, struct root current, struct root base)
+{
+    if (working.count == ENTRIES)
+        refuse(TOO_MANY);
+    struct entry *it = &working.at[working.count++];
+    it->tag = tag;
+    memcpy(it->name, name, NAME);
+    memcpy(it->owner, owner, NAME);
+    it->current = current;
+    it->base = base;
+}
+
+static void remove_entry(struct entry *entry)
+{
+    struct entry *end = &working.at[working.count--];
+    memmove(entry, entry + 1, (size_t)((byte *)end - (byte *)(entry + 1)));
+}
+
+static void do_put(const struct words *words)
+{
+    struct entry *it = alternative(words->names[0]);
+    demand(1);
+    it->current = put(it->current, words->key, &words->value);
+}
+
+static void do_remove(const struct words *words)
+{
+    struct entry *it = alternative(words->names[0]);
+    if (!find_record(it->current, words->key))
+        refuse(NO_SUCH_RECORD);
+    demand(1);
+    it->current = remove_below(it->current.block, it->current.level, true, words->key);
+}
+
+static void do_get(const struct words *words)
+{
+    const byte *record = find_record(alternative(words->names[0])->current, words->key);
+    if (!record) {
+        say("none\n");
+        return;
+    }
+    say("value");
+    say_value(record + 12, load16(record + 10));
+    say("\n");
+}
+
+static uint64_t list_below(uint32_t block, int level)
+{
+    const byte *bytes = tree_block(block, level);
+    int count = count_of(bytes);
+    uint64_t records = 0;
+    for (int i = 0; level > 0 && i < count; i++)
+        records += list_below(child_of(row_at(read_block(block), level, i)), level - 1);
+    for (int i = 0; level == 0 && i < count; i++) {
+        const byte *record = row_at(bytes, 0, i);
+        say("record ");
+        say_key(key_of(record));
+        say_value(record + 12, load16(record + 10));
+        say("\n");
+    }
+    return level == 0 ? (uint64_t)count : records;
+}
+
+static void do_list(const struct words *words)
+{
+    struct root root = alternative(words->names[0])->current;
+    say_end(root.block ? list_below(root.block, root.level) : 0);
+}
+
+static void do_changes(const struct words *words)
+{
+    const struct entry *it = alternative(words->names[0]);
+    differences(it->base, it->current, &mine, SIZE_MAX);
+    for (size_t i = 0; i < mine.count; i++) {
+        say("change ");
+        say_key(mine.at[i].key);
+        say_value(mine.at[i].before.bytes, mine.at[i].before.length);
+        say_value(mine.at[i].after.bytes, mine.at[i].after.length);
+        say("\n");
+    }
+    say_end(mine.count);
+}
+
+static void do_conflicts(const struct words *words)
+{
+    const struct entry *own = alternative(words->names[0]), *parent = parent_of(own);
+    size_t conflicts = compare_sides(own, parent);
+    for (size_t i = 0; i < theirs.count; i++) {
+        const struct change *it = &theirs.at[i];
+        if (it->fate != CONFLICT)
+            continue;
+        say("conflict ");
+        say_key(it->key);
+        say_value(it->before.bytes, it->before.length);
+        say_value(it->after.bytes, it->after.length);
+        say_value(it->mine->after.bytes, it->mine->after.length);
+        say("\n");
+    }
+    say_end(conflicts);
+}
+
+static void do_merge(const struct words *words)
+{
+    struct entry *own = alternative(words->names[0]);
+    const struct entry *parent = parent_of(own);
+    say("ok ");
+    say_number(merge(own, parent));
+    say("\n");
+}
+
+static void do_post(const struct words *words)
+{
+    struct entry *own = alternative(words->names[0]), *parent = parent_of(own);
+    differences(own->base, parent->current, &theirs, 1);
+    if (theirs.count > 0)
+        refuse(NOT_MERGED);
+    parent->current = own->base = own->current;
+}
+
+static void do_new(const struct words *words)
+{
+    const struct entry *parent = alternative(words->names[1]);
+    if (find_entry(&working, 'A', NULL, words->names[0]))
+        refuse(ALTERNATIVE_EXISTS);
+    if (words->names_count == 3)
+        parent = checkpoint(words->names[1], words->names[2]);
+    add_entry('A', words->names[0], words->names[1], parent->current, parent->current);
+}
+
+static void do_drop(const struct words *words)
+{
+    struct entry *own = alternative(words->names[0]);
+    if (is_top(own))
+        refuse(IS_TOP);
+    for (int i = 0; i < working.count; i++)
+        if (working.at[i].tag == 'A' && memcmp(working.at[i].owner, words->names[0], NAME) == 0)
+            refuse(HAS_CHILDREN);
+    remove_entry(own);
+    for (int i = working.count - 1; i >= 0; i--)
+        if (working.at[i].tag == 'C' && memcmp(working.at[i].owner, words->names[0], NAME) == 0)
+            remove_entry(&working.at[i]);
+}
+
+static void do_checkpoint(const struct words *words)
+{
+    const struct entry *own = alternative(words->names[0]);
+    if (find_entry(&working, 'C', words->names[0], words->names[1]))
+        refuse(CHECKPOINT_EXISTS);
+    add_entry('C', words->names[1], words->names[0], own->current, own->base);
+}
+
+static void do_uncheck(const struct words *words)
+{
+    alternative(words->names[0]);
+    remove_entry(checkpoint(words->names[0], words->names[1]));
+}
+
+static void do_back(const struct words *words)
+{
+    struct entry *own = alternative(words->names[0]);
+    const struct entry *found = checkpoint(words->names[0], words->names[1]);
+    own->current = found->current;
+    own->base = found->base;
+}
+
+static void do_commit(const struct words *words)
+{
+    (void)words;
+    publish();
+}
+
+/* Goes back to what is committed. The blocks of a growth since then are no blocks of the store any more. */
+static void do_rollback(const struct words *words)
+{
+    (void)words;
+    working.count = committed.count;
+    memcpy(working.at, committed.at, (size_t)committed.count * sizeof *committed.at);
+    for (; blocks > kept_blocks; blocks--) {
+        if (is_set(held, blocks - 1))
+            clear(held, blocks - 1);
+        else
+            free_blocks--;
+    }
+    if (lowest_word > blocks / 64)
+        lowest_word = blocks / 64;
+}
+
+static void do_reclaim(const struct words *words)
+{
+    (void)words;
+    mark();
+}
+
+static void do_grow(const struct words *words)
+{
+    if (words->number <= blocks || words->number > MOST_BLOCKS)
+        refuse(BAD_SIZE);
+    uint32_t more = (uint32_t)words->number - blocks;
+    size_t before = words_of(blocks), after = words_of((uint32_t)words->number);
+    held = enlarged(held, after, sizeof *held);
+    marks = enlarged(marks, after, sizeof *marks);
+    memset(held + before, 0, (after - before) * sizeof *held);
+    lengthen_file((uint32_t)words->number);
+    blocks += more;
+    free_blocks += more;
+}
+
+static void do_free(const struct words *words)
+{
+    (void)words;
+    say("free ");
+    say_number(free_blocks);
+    say("\n");
+}
+
+static void do_alternatives(const struct words *words)
+{
+    uint64_t count = 0;
+    (void)words;
+    for (int i = 0; i < working.count; i++) {
+        const struct entry *it = &working.at[i];
+        if (it->tag != 'A')
+            continue;
+        say("alternative ");
+        say_name(it->name);
+        say(" ");
+        say_name(it->owner[0] ? it->owner : (const byte *)"\1~");
+        say("\n");
+        count++;
+    }
+    say_end(count);
+}
+
+static void do_checkpoints(const struct words *words)
+{
+    uint64_t count = 0;
+    alternative(words->names[0]);
+    for (int i = 0; i < working.count; i++) {
+        const struct entry *it = &working.at[i];
+        if (it->tag != 'C' || memcmp(it->owner, words->names[0], NAME) != 0)
+            continue;
+        say("checkpoint ");
+        say_name(it->name);
+        say("\n");
+        count++;
+    }
+    say_end(count);
+}
+
+/* --- lines --------------------------------------------------------------------------------------- */
+
+/* What is left of a line. */
+struct line {
+    const char *at, *end;
+};
+
+struct word {
+    const char *bytes;
+    size_t length;
+};
+
+/* A kind of line: its first word, the kinds of the others (`n` a name, `k` the two words of a key, `v` a value, `b` a
+   number of blocks, `s` any number of settlements, `?` a name that may be there), and what carries it out. */
+static const struct verb {
+    const char *word, *others;
+    void (*carry_out)(const struct words *words);
+} verbs[] = {
+    {"put", "nkv", do_put}, {"get", "nk", do_get}, {"remove", "nk", do_remove}, {"commit", "", do_commit},
+    {"new", "nn?", do_new}, {"drop", "n", do_drop}, {"post", "n", do_post}, {"merge", "ns", do_merge},
+    {"list", "n", do_list}, {"changes", "n", do_changes}, {"conflicts", "n", do_conflicts}, {"free", "", do_free},
+    {"alts", "", do_alternatives}, {"checks", "n", do_checkpoints}, {"checkpoint", "nn", do_checkpoint},
+    {"uncheck", "nn", do_uncheck}, {"back", "nn", do_back}, {"rollback", "", do_rollback}, {"reclaim", "", do_reclaim},
+    {"grow", "b", do_grow},
+};
+
+/* The next word of a line, of no bytes where there is none. */
+static struct word next_word(struct line *line)
+{
+    while (line->at < line->end && *line->at == ' ')
+        line->at++;
+    const char *begun = line->at;
+    while (line->at < line->end && *line->at != ' ')
+        line->at++;
+    return (struct word){begun, (size_t)(line->at - begun)};
+}
+
+static bool is(struct word word, const char *text)
+{
+    return word.length == strlen(text) && memcmp(word.bytes, text, word.length) == 0;
+}
+
+static bool read_number(struct word word, uint64_t most, uint64_t *number)
+{
+    unsigned __int128 sum = 0;
+    for (size_t i = 0; i < word.length && word.length <= 20; i++) {
+        if (word.bytes[i] < '0' || word.bytes[i] > '9')
+            return false;
+        sum = 10 * sum + (unsigned)(word.bytes[i] - '0');
+    }
+    *number = (uint64_t)sum;
+    return word.length > 0 && word.length <= 20 && sum <= most;
+}
+
+static bool read_key(struct word table, struct word number, struct key *key)
+{
+    uint64_t in_table;
+    if (!read_number(table, UINT16_MAX, &in_table) || !read_number(number, UINT64_MAX, &key->number))
+        return false;
+    key->table = (uint16_t)in_table;
+    return true;
+}
+
+static bool read_name(struct word word, byte *name)
+{
+    if (word.length == 0 || word.length >= NAME)
+        return false;
+    memset(name, 0, NAME);
+    name[0] = (byte)word.length;
+    memcpy(name + 1, word.bytes, word.length);
+    return is_name(name, 1);
+}
+
+/* What a hexadecimal digit stands for, or -1. */
+static int digit(char it)
+{
+    if (it >= '0' && it <= '9')
+        return it - '0';
+    char letter = (char)(it | 0x20);
+    return letter >= 'a' && letter <= 'f' ? letter - 'a' + 10 : -1;
+}
+
+static bool read_value(struct word word, struct value *value)
+{
+    bool is_empty = is(word, "-");
+    value->length = 0;
+    if (word.length == 0 || is_empty)
+        return is_empty;
+    if (!memchr(word.bytes, '%', word.length)) {
+        if (word.length > VALUE)
+            return false;
+        value->length = (int)word.length;
+        memcpy(value->bytes, word.bytes, word.length);
+        return true;
+    }
+    for (size_t i = 0; i < word.length; i++) {
+        int it = (byte)word.bytes[i];
+        if (it == '%') {
+            if (word.length - i < 3 || digit(word.bytes[i + 1]) < 0 || digit(word.bytes[i + 2]) < 0)
+                return false;
+            it = 16 * digit(word.bytes[i + 1]) + digit(word.bytes[i + 2]);
+            i += 2;
+        }
+        if (value->length == VALUE)
+            return false;
+        value->bytes[value->length++] = (byte)it;
+    }
+    return true;
+}
+
+/* Reads `TABLE:NUMBER=mine` or `TABLE:NUMBER=theirs`. */
+static bool read_settlement(struct word word)
+{
+    const char *colon = memchr(word.bytes, ':', word.length), *end = word.bytes + word.length;
+    const char *equal = colon ? memchr(colon, '=', (size_t)(end - colon)) : NULL;
+    if (!equal)
+        return false;
+    if (settlement_count == settlement_room) {
+        settlement_room = 2 * settlement_room + 64;
+        settlements = enlarged(settlements, settlement_room, sizeof *settlements);
+    }
+    struct settlement *it = &settlements[settlement_count];
+    struct word table = {word.bytes, (size_t)(colon - word.bytes)}, number = {colon + 1, (size_t)(equal - colon - 1)};
+    struct word side = {equal + 1, (size_t)(end - equal - 1)};
+    it->place = settlement_count++;
+    it->is_theirs = is(side, "theirs");
+    return read_key(table, number, &it->key) && (it->is_theirs || is(side, "mine"));
+}
+
+/* Reads the words after the first by their kinds. */
+static bool read_words(struct line *line, const char *kinds, struct words *words)
+{
+    words->names_count = 0;
+    settlement_count = 0;
+    for (; *kinds; kinds++) {
+        struct word word = next_word(line);
+        bool is_right = true;
+        if (*kinds == 'n' || (*kinds == '?' && word.length > 0))
+            is_right = read_name(word, words->names[words->names_count++]);
+        else if (*kinds == 'k')
+            is_right = read_key(word, next_word(line), &words->key);
+        else if (*kinds == 'v')
+            is_right = read_value(word, &words->value);
+        else if (*kinds == 'b')
+            is_right = read_number(word, UINT32_MAX, &words->number);
+        else if (*kinds == 's')
+            for (; is_right && word.length > 0; word = next_word(line))
+                is_right = read_settlement(word);
+        if (!is_right)
+            return false;
+    }
+    return next_word(line).length == 0;
+}
+
+/* Does what a line asks for, and answers it: where nothing else is said, that it was done. */
+static void carry_out(struct line line)
+{
+    static struct words words;
+    struct word first = next_word(&line);
+    if (first.length == 0 || first.bytes[0] == '#')
+        return;
+    for (size_t i = 0; i < sizeof verbs / sizeof *verbs; i++) {
+        if (!is(first, verbs[i].word))
+            continue;
+        if (!read_words(&line, verbs[i].others, &words))
+            refuse(BAD_LINE);
+        verbs[i].carry_out(&words);
+        if (answer.length == 0)
+            say("ok\n");
+        return;
+    }
+    refuse(BAD_LINE);
+}
+
+/* Answers a line, given without its line feed. The talk ends where the file failed. */
+static void answer_line(const char *bytes, size_t length)
+{
+    if (setjmp(refused) == 0) {
+        if (length > LINE)
+            refuse(LONG_LINE);
+        if (length > 0 && bytes[length - 1] == '\r')
+            length--;
+        carry_out((struct line){bytes, bytes + length});
+    } else {
+        answer.length = 0;
+        say("error ");
+        say(refusal_text);
+        say("\n");
+    }
+    send_answer();
+    if (refusal == DEVICE)
+        stop();
+}
+
+/* Answers the lines of the input. Of a line that is too long only so much is kept as tells that. */
+static void answer_lines(void)
+{
+    static char input[LINE + 1 + CHUNK];
+    size_t length = 0;
+    for (;;) {
+        ssize_t count = read(0, input + length, length > LINE ? sizeof input - LINE - 1 : CHUNK);
+        if (count < 0)
+            stop();
+        char *line = input, *from = input + length, *end = from + count, *feed;
+        while ((feed = memchr(from, '\n', (size_t)(end - from)))) {
+            answer_line(line, (size_t)(feed - line));
+            from = line = feed + 1;
+        }
+        length = (size_t)(end - line);
+        if (count == 0) {
+            if (length > 0)
+                answer_line(line, length);
+            return;
+        }
+        if (length > LINE)
+            length = LINE + 1;
+        memmove(input, line, length);
+    }
+}
+
+/* --- the program --------------------------------------------------------------------------------- */
+
+__attribute__((noreturn)) static void fail(const char *what, const char *name)
+{
+    fprintf(stderr, "altctl: cannot %s %s\n", what, name);
+    exit(1);
+}
+
+static void create(const char *name, uint32_t count)
+{
+    byte block[BLOCK] = {0};
+    file = open(name, O_RDWR | O_CREAT | O_EXCL, 0666);
+    if (file < 0 || setjmp(refused) != 0)
+        fail("create", name);
+    lengthen_file(count);
+    sync_file();
+    blocks = count;
+    in_slot_b = true;
+    add_entry('A', (const byte[NAME]){"\3top"}, (const byte[NAME]){""}, (struct root){0}, (struct root){0});
+    publish();
+    make_header(block);
+    write_file(0, block, 1);
+    sync_file();
+    printf("created %u\n", count);
+}
+
+static void open_file(const char *name, int how)
+{
+    struct stat it;
+    file = open(name, how);
+    if (file < 0 || fstat(file, &it) != 0)
+        fail("open", name);
+    file_blocks = it.st_size / BLOCK > UINT32_MAX ? UINT32_MAX : (uint32_t)(it.st_size / BLOCK);
+    begin_kept();
+    if (setjmp(refused) != 0) {
+        fprintf(stderr, "altctl: %s\n", refusal_text);
+        exit(1);
+    }
+    open_store();
+}
+
+static void check(void)
+{
+    int alternatives = 0;
+    for (int i = 0; i < working.count; i++)
+        alternatives += working.at[i].tag == 'A';
+    printf("alternatives %d\ncheckpoints %d\nfree %u\n", alternatives, working.count - alternatives, free_blocks);
+}
+
+int main(int count, char **words)
+{
+    const char *job = count > 2 ? words[1] : "", *name = words[count - 1];
+    bool has_buffer = count == 5 && strcmp(words[2], "--buffer") == 0 && strcmp(words[3], "0") == 0;
+    if (strcmp(job, "create") == 0 && count == 4) {
+        long said = strtol(words[3], NULL, 10);
+        if (said >= LEAST_BLOCKS && said <= MOST_BLOCKS) {
+            create(words[2], (uint32_t)said);
+            return 0;
+        }
+    } else if (strcmp(job, "run") == 0 && (count == 3 || has_buffer)) {
+        open_file(name, O_RDWR);
+        answer_lines();
+        return 0;
+    } else if (strcmp(job, "check") == 0 && count == 3) {
+        open_file(name, O_RDONLY);
+        check();
+        return 0;
+    }
+    fprintf(stderr, "usage: plain create FILE BLOCKS | plain run [--buffer 0] FILE | plain check FILE\n");
+    return 2;
+}
