@@ -1,6 +1,6 @@
 #!/usr/bin/env python3
-"""Tests of the module `altstore`: `test_altstore.py LIBRARY [PROGRAM]`, with the shared library that `tools/release/altstore.sh` makes
-and the program altctl, by default the one that `./altctl` at the top starts."""
+"""Tests of the module `altstore`: `test_altstore.py LIBRARY [PROGRAM]`, with the shared library that
+`tools/release/altstore.sh` makes and the program altctl, by default the one that `./altctl` at the top starts."""
 import os
 import subprocess
 import sys

@@ -1,12 +1,12 @@
 #!/usr/bin/env python3
-"""Copies stores that are in use: `tools/faults/copy_beside.py [ALTCTL]`. If a copy is not what was committed, it says so and ends with
-status 1.
+"""Copies stores that are in use: `tools/faults/copy_beside.py [ALTCTL]`. If a copy is not what was committed, it says
+so and ends with status 1.
 
-A session puts 50,000 records that no commit follows, first so that they wait in memory, then so that they are in the file. A copy
-beside it, between two lines, must be what was committed before, byte for byte, and after a commit what was committed then.
-Without `--no-lock` the copy is refused; beside sessions that only read it is made, and with `--wait` it waits. Then a store of
-511 alternatives and checkpoints that share long values is copied to several sizes. The model of `tools/faults/compare.py` says what a
-copy must be. It stands beside the gate.
+A session puts 50,000 records that no commit follows, first so that they wait in memory, then so that they are in the
+file. A copy beside it, between two lines, must be what was committed before, byte for byte, and after a commit what was
+committed then. Without `--no-lock` the copy is refused; beside sessions that only read it is made, and with `--wait` it
+waits. Then a store of 511 alternatives and checkpoints that share long values is copied to several sizes. The model of
+`tools/faults/compare.py` says what a copy must be. It stands beside the gate.
 """
 import os
 import random

@@ -1,6 +1,6 @@
 #!/usr/bin/env python3
-"""Tries what a crash of the machine may leave of the program's writes: `tools/faults/crashes.py [-n SESSIONS] [-s SEED] [-i IMAGES]`.
-Where something is lost, it says so and ends with status 1.
+"""Tries what a crash of the machine may leave of the program's writes: `tools/faults/crashes.py [-n SESSIONS] [-s SEED]
+[-i IMAGES]`. Where something is lost, it says so and ends with status 1.
 
 A session is random lines, given one at a time, and each call that changes the file, or makes it last, is recorded. For each
 moment, before, in and after each of these calls, files are made as a crash then may leave them: with all that was synced, any

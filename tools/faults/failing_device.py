@@ -1,6 +1,6 @@
 #!/usr/bin/env python3
-"""Fails device calls of the program over real files: `tools/faults/failing_device.py`. Where something is lost, it says so and ends with
-status 1.
+"""Fails device calls of the program over real files: `tools/faults/failing_device.py`. Where something is lost, it says
+so and ends with status 1.
 
 One list of lines is run over a store, which grows in it, and one of its reads, writes and syncs fails, the first, the second
 and so on; or that one and all after it. So it is where written blocks wait in memory, too, up to two or to 64. A write that
@@ -9,7 +9,8 @@ the lines ends as usual. And each block of a store with a tree of two levels can
 is answered with `error 15 Device`, and everything else as usual. Each call of a copy fails, too, on the store or on the new
 file: the store stays as it was, and before the header's write the new file is no store.
 
-It needs a C compiler, and a program that is linked against glibc. It stands beside the gate, as `tools/faults/space.py` does.
+It needs a C compiler, and a program that is linked against glibc. It stands beside the gate, as `tools/faults/space.py`
+does.
 """
 import os
 import sys

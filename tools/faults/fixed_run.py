@@ -1,5 +1,6 @@
-"""One list of lines, run by the program over a file, and what the file shows then. `tools/faults/space.py` and `tools/faults/failing_device.py`
-stop it in many ways. Whatever stops it, what was acknowledged is shown, and the file has got no shorter."""
+"""One list of lines, run by the program over a file, and what the file shows then. `tools/faults/space.py` and
+`tools/faults/failing_device.py` stop it in many ways. Whatever stops it, what was acknowledged is shown, and the file
+has got no shorter."""
 import os
 import subprocess
 

@@ -1,10 +1,11 @@
 #!/usr/bin/env python3
-"""Has the program make, open, list, check, copy and grow a store over a device that is slow: `tools/faults/progress.py`. On a terminal the
-standard error tells how far a job is, and nothing of that is left on the screen when it is done; anywhere else no byte is written
-there, nor on a terminal where the job is short. What is answered is the same each time. Where it isn't so, it says so and ends with
-status 1.
+"""Has the program make, open, list, check, copy and grow a store over a device that is slow:
+`tools/faults/progress.py`. On a terminal the standard error tells how far a job is, and nothing of that is left on the
+screen when it is done; anywhere else no byte is written there, nor on a terminal where the job is short. What is
+answered is the same each time. Where it isn't so, it says so and ends with status 1.
 
-It needs a C compiler, and a program that is linked against glibc. It stands beside the gate, as `tools/faults/space.py` does.
+It needs a C compiler, and a program that is linked against glibc. It stands beside the gate, as `tools/faults/space.py`
+does.
 """
 import os
 import pty

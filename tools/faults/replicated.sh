@@ -1,8 +1,8 @@
 #!/bin/sh
 # Runs the program over a file that GlusterFS keeps three times, and takes copies away while it writes:
-# `tools/faults/replicated.sh [ALTCTL]`. Each commit that was acknowledged has to be there afterwards, with one of three bricks
-# killed; with two gone no commit may be answered `ok`; after healing all three hold the same bytes. The same over a loop
-# device on the volume. If something is not installed or not allowed, it says so and ends with status 0.
+# `tools/faults/replicated.sh [ALTCTL]`. Each commit that was acknowledged has to be there afterwards, with one of three
+# bricks killed; with two gone no commit may be answered `ok`; after healing all three hold the same bytes. The same
+# over a loop device on the volume. If something is not installed or not allowed, it says so and ends with status 0.
 #
 # It makes namespaces of its own for network, mounts and processes: nothing of it is left when it ends.
 set -eu

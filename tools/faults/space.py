@@ -1,6 +1,6 @@
 #!/usr/bin/env python3
-"""Tries what the program does where there is no room for a file: `tools/faults/space.py [ALTCTL]`. Where something is lost, it says so and
-ends with status 1.
+"""Tries what the program does where there is no room for a file: `tools/faults/space.py [ALTCTL]`. Where something is
+lost, it says so and ends with status 1.
 
 Room is wanting in two ways: by a limit on the size of a file, for each number of blocks; and in a small file system of its own,
 in memory, that has each number of blocks left. Each time one list of lines is run over a store, which grows in it. It may stop

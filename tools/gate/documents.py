@@ -1,6 +1,7 @@
 #!/usr/bin/env python3
 """Runs the sessions and programs that the documents show, and compares what comes with what they say:
-`tools/gate/documents.py [ALTCTL]`. Where something differs, it says what was expected and what came, and ends with status 1.
+`tools/gate/documents.py [ALTCTL]`. Where something differs, it says what was expected and what came, and ends with
+status 1.
 
 In a block `console`, a line after `$ ` is a command of the shell; the lines after `> ` below it are its input, and all
 others are what it prints. A block `sh` or `python` is a program as it stands, and the block `text` right below it is

@@ -1,6 +1,7 @@
 #!/usr/bin/env python3
-"""Draws the pictures of the documents: `tools/gate/pictures.py [--check]` writes docs/pictures/*.svg, or only looks whether
-they are what it would write. Each picture has a ground of its own, so it can be read on a light and on a dark page."""
+"""Draws the pictures of the documents: `tools/gate/pictures.py [--check]` writes docs/pictures/*.svg, or only looks
+whether they are what it would write. Each picture has a ground of its own, so it can be read on a light and on a dark
+page."""
 import pathlib
 import sys
 from xml.sax.saxutils import escape

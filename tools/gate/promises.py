@@ -1,7 +1,7 @@
 #!/usr/bin/env python3
-"""Writes the tables of promises in docs/PROMISES.md and in the README of each crate: `tools/gate/promises.py [--check]`.
-With `--check` it writes nothing, names the pages whose tables differ, and ends with status 1 if there is one.
-`--missing` lists the fields and clauses of these tables that have no sentence yet.
+"""Writes the tables of promises in docs/PROMISES.md and in the README of each crate: `tools/gate/promises.py
+[--check]`. With `--check` it writes nothing, names the pages whose tables differ, and ends with status 1 if there is
+one. `--missing` lists the fields and clauses of these tables that have no sentence yet.
 
 The sentence of a promise stands where it is proved: in the comment above a field of a record (crates/NAME/specs) or
 above a clause of a contract (crates/NAME/src). It speaks for all fields or clauses below it, up to the next comment or

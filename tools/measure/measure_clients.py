@@ -1,8 +1,9 @@
 #!/usr/bin/env python3
-"""Measures calls a second from C and from Python: `tools/measure/measure_clients.py [--divisor N] [ALTCTL]`. Beside altctl by its clients,
-one call after another and written ahead, are libaltstore, in memory, if its archive is built, SQLite, by its C API and by Python's module, and LMDB by its C API, if
-Debian's packages libsqlite3-dev and liblmdb-dev are installed. Each figure is the middle one of three runs, which take
-turns. A DIVISOR makes all of it so many times smaller. Times are looked at, never tested."""
+"""Measures calls a second from C and from Python: `tools/measure/measure_clients.py [--divisor N] [ALTCTL]`. Beside
+altctl by its clients, one call after another and written ahead, are libaltstore, in memory, if its archive is built,
+SQLite, by its C API and by Python's module, and LMDB by its C API, if Debian's packages libsqlite3-dev and liblmdb-dev
+are installed. Each figure is the middle one of three runs, which take turns. A DIVISOR makes all of it so many times
+smaller. Times are looked at, never tested."""
 import argparse
 import os
 import platform
@@ -43,7 +44,8 @@ def compile_all(folder):
         compiled["memory"] = ["-DMEMORY", "-I", str(TOP / "clients/c"), f"{folder}/libaltstore.a"]
     for name, words in compiled.items():
         program = f"{folder}/{name}"
-        command = ["cc", "-std=c99", "-O2", "-Wall", "-o", program, str(TOP / "tools/measure/measure_clients.c"), *words]
+        source = str(TOP / "tools/measure/measure_clients.c")
+        command = ["cc", "-std=c99", "-O2", "-Wall", "-o", program, source, *words]
         if subprocess.run(command, stderr=subprocess.PIPE).returncode == 0:
             made[name] = program
         else:

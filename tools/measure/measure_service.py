@@ -1,7 +1,8 @@
 #!/usr/bin/env python3
-"""Measures how many commits and gets a second the service answers to 1, 8 and 64 planners, beside PostgreSQL and SQLite with as
-many writers: `tools/measure/measure_service.py [--seconds N] [--rounds N] [--slow MICROSECONDS] [ALTCTL]`. It writes a table. With
-`--slow` each sync of all three takes that much longer, as on a slower disk. Times are looked at, never tested.
+"""Measures how many commits and gets a second the service answers to 1, 8 and 64 planners, beside PostgreSQL and SQLite
+with as many writers: `tools/measure/measure_service.py [--seconds N] [--rounds N] [--slow MICROSECONDS] [ALTCTL]`. It
+writes a table. With `--slow` each sync of all three takes that much longer, as on a slower disk. Times are looked at,
+never tested.
 
 Each commit changes one record of 10,000, and is durable before it is answered: in PostgreSQL by an UPDATE of one row with fsync
 on, in SQLite by one in WAL mode with synchronous=FULL. What is not installed is skipped, with a line that says so."""

@@ -1,4 +1,4 @@
-/* Answers the lines of a load over another store, so that `tools/measure/measure.sh --peers` can measure altctl beside it:
+/* Answers the lines of a load over another store, so that `measure.sh --peers` can measure altctl beside it:
    over LMDB where it is compiled with -DLMDB and -llmdb, and else over SQLite with -lsqlite3.
 
    peers run FILE

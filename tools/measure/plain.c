@@ -1,8 +1,8 @@
-/* A store in altctl's format, written by hand in C, with no proofs, for measuring beside altctl: `tools/measure/measure.sh`
+/* A store in altctl's format, written by hand in C, with no proofs, for measuring beside altctl: `measure.sh`
    compiles and calls it. It is what one writes straightforwardly: each block that a change makes is written at once,
    by one call; 256 blocks are kept in memory, those that were used last; blocks are read where they lie, and of a path
    only heads are tested. Files, lines, answers and statuses are those of docs/FORMATS.md, so each program opens the
-   files of the other, and `tools/faults/compare.py --short` tries this one, too. It has values of up to 240 bytes alone, as
+   files of the other, and `compare.py --short` tries this one, too. It has values of up to 240 bytes alone, as
    the lines have that both are measured by: a longer one is a bad line here, and a file with one is damaged. It is
    trusted with nothing: memory that is refused and a file that fails end it.
 

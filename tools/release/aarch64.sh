@@ -1,11 +1,13 @@
 #!/bin/sh
 # Builds for aarch64, on a machine that need not be one, with the toolchain's own compiler and linker and Debian's cross packages:
 #
-#   tools/release/aarch64.sh program        the program, from the proof of the same sources: crates/altctl/out/altctl-aarch64
+#   tools/release/aarch64.sh program        the program, from the proof of the same sources: altctl-aarch64 in
+#                                           crates/altctl/out
 #   tools/release/aarch64.sh client FOLDER  the libraries of the C client
 #
-# Where something is not installed, it says so on standard error and ends with status 1. The functions of the toolchain's C that
-# the program calls are in tools/release/aarch64.c. The program is kept until what it is made of changes; `tools/release/package.sh` takes it.
+# Where something is not installed, it says so on standard error and ends with status 1. The functions of the toolchain's
+# C that the program calls are in `aarch64.c`. The program is kept until what it is made of changes; `package.sh` takes
+# it.
 set -eu
 
 target=aarch64-unknown-linux-gnu

@@ -1,8 +1,8 @@
 #!/bin/sh
-# Puts libaltstore, the store in memory, into a folder: `tools/release/altstore.sh FOLDER`. It writes libaltstore.a, the shared library
-# of the same code, and says their names. The archive is the one that `rt lib` has proved and built in crates/altstore, with the
-# toolchain's three functions over malloc, realloc and free. Where it is not built, or what is needed is not installed, it says
-# so and ends with status 1.
+# Puts libaltstore, the store in memory, into a folder: `tools/release/altstore.sh FOLDER`. It writes libaltstore.a, the
+# shared library of the same code, and says their names. The archive is the one that `rt lib` has proved and built in
+# crates/altstore, with the toolchain's three functions over malloc, realloc and free. Where it is not built, or what is
+# needed is not installed, it says so and ends with status 1.
 set -eu
 
 [ $# -eq 1 ] || {

@@ -1,7 +1,8 @@
 #!/bin/sh
-# Builds the program and puts it below a folder, /usr/local if none is given, with its manual page, the completion for bash, the
-# clients for C and Python, and the programs of the desk: `tools/release/install.sh [PREFIX]`. With PREFIX=$HOME/.local it needs no
-# rights but one's own. It says what it put where; `tools/release/place.sh` has the list.
+# Builds the program and puts it below a folder, /usr/local if none is given, with its manual page, the completion for
+# bash, the clients for C and Python, and the programs of the desk: `tools/release/install.sh [PREFIX]`. With
+# PREFIX=$HOME/.local it needs no rights but one's own. It says what it put where; `tools/release/place.sh` has the
+# list.
 set -eu
 
 usage() {

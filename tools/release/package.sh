@@ -1,10 +1,11 @@
 #!/bin/sh
 # Makes the packages for x86-64 in a folder: `tools/release/package.sh FOLDER` writes zonegrater_VERSION_amd64.deb and
-# zonegrater-VERSION-x86_64-linux.tar.gz, and says their names. `tools/release/package.sh --arch aarch64 FOLDER` makes those for aarch64,
-# which end in _arm64.deb and -aarch64-linux.tar.gz; where what `tools/release/aarch64.sh` needs is not installed, a line on standard
-# error says so, and the status is 1. The same commit gives the same bytes wherever it lies, with the same C compiler (for aarch64,
-# the same toolchain and cross packages) and dpkg-deb: times are that of the commit, names are sorted, owners and modes fixed.
-# `tools/release/place.sh` has the list of files. `tools/release/test_package.py` tests them.
+# zonegrater-VERSION-x86_64-linux.tar.gz, and says their names. `tools/release/package.sh --arch aarch64 FOLDER` makes
+# those for aarch64, which end in _arm64.deb and -aarch64-linux.tar.gz; where what `tools/release/aarch64.sh` needs is
+# not installed, a line on standard error says so, and the status is 1. The same commit gives the same bytes wherever it
+# lies, with the same C compiler (for aarch64, the same toolchain and cross packages) and dpkg-deb: times are that of
+# the commit, names are sorted, owners and modes fixed. `tools/release/place.sh` has the list of files.
+# `tools/release/test_package.py` tests them.
 set -eu
 
 arch=x86_64 debian=amd64

@@ -1,8 +1,9 @@
 #!/bin/sh
-# Puts all that an installation has below a folder, and names each file: `tools/release/place.sh PREFIX [AS [aarch64]]`. AS is the folder
-# where PREFIX will be once it is installed, if that is another one. `tools/release/install.sh` and `tools/release/package.sh` use this script, so
-# both put the same files. Without a C compiler the libraries are left out, with a line that says so; and libaltstore is not
-# there if its archive is not built, nor for aarch64, whose program and libraries `tools/release/aarch64.sh` builds.
+# Puts all that an installation has below a folder, and names each file: `tools/release/place.sh PREFIX [AS [aarch64]]`.
+# AS is the folder where PREFIX will be once it is installed, if that is another one. `tools/release/install.sh` and
+# `tools/release/package.sh` use this script, so both put the same files. Without a C compiler the libraries are left
+# out, with a line that says so; and libaltstore is not there if its archive is not built, nor for aarch64, whose
+# program and libraries `tools/release/aarch64.sh` builds.
 set -eu
 
 # Mode, source and target of each file. Sources in `made/` are made below. The mode `link` makes a link to the source.

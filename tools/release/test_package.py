@@ -1,10 +1,10 @@
 #!/usr/bin/env python3
-"""Tests what `tools/release/package.sh` makes: `tools/release/test_package.py [ROOT]`. It builds the packages twice, in two folders and
-under other settings, and compares their bytes; it unpacks them, has the sessions of the README run with the program that was
-unpacked, and builds and runs a program in C by `pkg-config`, one in Python, the service, the completion and the wheel. Those for
-aarch64 it tries under qemu: the sessions of the README, and that the programs of both processors read each other's file. With a
-ROOT, a whole small Debian as debootstrap makes one, it installs the package in a copy of that and has the sessions run there,
-which takes the rights of root.
+"""Tests what `tools/release/package.sh` makes: `tools/release/test_package.py [ROOT]`. It builds the packages twice, in
+two folders and under other settings, and compares their bytes; it unpacks them, has the sessions of the README run with
+the program that was unpacked, and builds and runs a program in C by `pkg-config`, one in Python, the service, the
+completion and the wheel. Those for aarch64 it tries under qemu: the sessions of the README, and that the programs of
+both processors read each other's file. With a ROOT, a whole small Debian as debootstrap makes one, it installs the
+package in a copy of that and has the sessions run there, which takes the rights of root.
 
 What is not installed is skipped, with a line that says so."""
 import os
