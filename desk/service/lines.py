@@ -5,7 +5,7 @@ import re
 OWN = b".service"
 
 # Queries answered with one line, and queries answered with rows. A program that does not know one answers BadLine.
-SINGLE = {b"get", b"free", b"tally"}
+SINGLE = {b"get", b"free", b"blocks", b"tally"}
 ROWS = {b"list", b"alts", b"checks", b"changes", b"conflicts", b"diff", b"next"}
 
 # The right that each change requires.
