@@ -36,6 +36,8 @@ try 600 gate/uncited.py
 try 300 gate/trusted.py
 try 300 gate/promises.py --check
 try 300 gate/pictures.py --check
+try 300 gate/words.py --check
+try 300 gate/test_words.py
 try 900 gate/documents.py
 try 900 gate/session.sh
 try 600 ../clients/python/test_altctl.py

@@ -14,6 +14,7 @@ files() {
 644 clients/bash/altctl.bash share/bash-completion/completions/altctl
 644 clients/c/altctl.h include/altctl.h
 644 clients/python/altctl.py share/zonegrater/clients/python/altctl.py
+644 clients/lines.json share/zonegrater/clients/lines.json
 link ../../../share/zonegrater/clients/python/altctl.py lib/python3/dist-packages/altctl.py
 755 desk/altserve share/zonegrater/desk/altserve
 755 desk/altgis share/zonegrater/desk/altgis

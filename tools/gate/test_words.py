@@ -1,0 +1,132 @@
+#!/usr/bin/env python3
+"""Tests that `words.py` and `documents.py` see what a place lacks, and tests the completion for bash:
+`tools/gate/test_words.py`."""
+from __future__ import annotations
+
+import sys
+import tempfile
+import unittest
+from dataclasses import replace
+from pathlib import Path
+from unittest import mock
+
+sys.dont_write_bytecode = True
+import documents
+import words
+from lines import TOP, Line, formats_rows, read_table
+
+ALTCTL = str(TOP / "altctl")
+MADE_UP = Line("touch ALT", "query", "touch north", "touch", "alt_touch")
+
+
+class LinesTests(unittest.TestCase):
+    def setUp(self) -> None:
+        self.lines, self.setup = read_table()
+
+    def faults(self, lines: list[Line]) -> list[str]:
+        return words.faults(lines, self.setup, ALTCTL)
+
+    def test_each_place_that_lacks_a_line_is_named(self):
+        self.assertEqual(
+            [
+                "docs/FORMATS.md: no `touch ALT: query`",
+                "altctl: `touch north` is answered as error 22 BadLine, and not as query: `touch ALT`",
+                "altctl run --help: no `touch ALT`",
+                "docs/altctl.1: no `touch ALT`",
+                "clients/bash/altctl.bash: no `touch`",
+                "clients/python/altctl.py: no method touch that sends `touch`",
+                "clients/c/altctl.h: no alt_touch for `touch ALT`",
+                "desk/service: `touch ALT`, a query, is answered as error 22 BadLine",
+            ],
+            self.faults([*self.lines, MADE_UP]),
+        )
+
+    def test_each_place_that_has_more_than_the_table_is_named(self):
+        self.assertEqual(
+            [
+                "docs/FORMATS.md: `blocks: query`, which the table does not have",
+                "altctl run --help: `blocks`, which the table does not have",
+                "docs/altctl.1: `blocks`, which the table does not have",
+                "clients/bash/altctl.bash: `blocks`, which the table does not have",
+            ],
+            self.faults([it for it in self.lines if it.form != "blocks"]),
+        )
+
+    def test_a_wrong_kind_is_seen(self):
+        lines = [replace(it, kind="list") if it.form == "free" else it for it in self.lines]
+        self.assertEqual(
+            [
+                "docs/FORMATS.md: no `free: list`",
+                "docs/FORMATS.md: `free: query`, which the table does not have",
+                "altctl: `free` is answered as query, and not as list: `free`",
+                "desk/service: `free`, a list, is answered as query",
+            ],
+            self.faults(lines),
+        )
+
+    def test_the_client_has_to_send_the_line_that_is_named(self):
+        lines = [replace(it, python="checks", c="alt_changes") if it.form == "checks ALT" else it for it in self.lines]
+        self.assertEqual(
+            [
+                "clients/python/altctl.py: no method checks that sends `checks`",
+                "clients/c/altctl.c: no alt_changes that sends `checks`",
+            ],
+            self.faults(lines),
+        )
+
+    def test_a_changed_row_of_formats_changes_the_manual_page(self):
+        page, text = words.PAGE.read_text(), words.FORMATS.read_text()
+        self.assertEqual(page, words.with_lines(page, formats_rows(text)))
+        changed = text.replace("| `drop ALT` | removes an alternative |", "| `drop ALT FORCE` | takes it out |")
+        due = "\\fBdrop\\fR \\fIALT FORCE\\fR\ntakes it out: \\fBok\\fR\n"
+        self.assertIn(due, words.with_lines(page, formats_rows(changed)))
+
+
+class OptionsTests(unittest.TestCase):
+    def test_each_place_that_lacks_an_option_is_named(self):
+        due = words.options_of(ALTCTL, "check")
+        self.assertEqual({"--no-lock": False, "--wait": False}, due)
+        with mock.patch.object(words, "options_of", lambda *_: {**due, "--made-up": True}):
+            with mock.patch.object(words, "WITH_OPTIONS", ["check"]):
+                found = list(words.wrong_options(ALTCTL))
+        self.assertEqual(
+            [
+                "docs/FORMATS.md, altctl check: no `--made-up`",
+                "docs/altctl.1, altctl check: no `--made-up`",
+                "clients/bash/altctl.bash, altctl check: no `--made-up`",
+                "clients/bash/altctl.bash: the number of --made-up is taken for a file",
+            ],
+            found,
+        )
+
+    def test_the_number_behind_an_option_is_no_file(self):
+        for option in ("--cache", "--buffer", "--grow-to"):
+            for number in ([option, "5"], [option, "=", "5"], [f"{option}=5"]):
+                with self.subTest(words=number):
+                    self.assertEqual(["get"], words.offered("altctl", "do", *number, "map.alt", "ge"))
+                    self.assertEqual([], words.offered("altctl", "do", *number, "ge"))
+            for unfinished in ([option], [option, "="]):
+                with self.subTest(words=unfinished):
+                    self.assertEqual([], words.offered("altctl", "do", *unfinished, ""))
+
+    def test_words_are_completed(self):
+        self.assertEqual(["create", "copy", "check"], sorted(words.offered("altctl", "c"), reverse=True))
+        self.assertEqual(["--grow", "--grow-to"], sorted(words.offered("altctl", "do", "map.alt", "--grow")))
+        self.assertEqual(["conflicts"], words.offered("altctl", "do", "--strict", "map.alt", "commit", "'conf"))
+
+
+class ScriptsTests(unittest.TestCase):
+    def test_a_script_without_a_row_and_a_row_without_a_script_are_named(self):
+        with tempfile.TemporaryDirectory() as folder:
+            tools = Path(folder)
+            (tools / "gate").mkdir()
+            for it in ("all.sh", "gate/there.py", "gate/new.py"):
+                (tools / it).touch()
+            tables = ["| Here | |", "|---|---|", "| `all.sh` | all |", "| In `gate` | |", "| `there.py`, `gone.c` | |"]
+            (tools / "README.md").write_text("\n".join(tables))
+            due = ["no row for gate/new.py", "a row for gate/gone.c, which is not there"]
+            self.assertEqual([f"tools/README.md: {it}" for it in due], documents.wrong_scripts(tools))
+
+
+if __name__ == "__main__":
+    unittest.main()
