@@ -12,7 +12,7 @@ blocks of one document run in one folder, one after another, with the program as
 A document whose programs need what is not installed is left out, and the last line says so.
 
 It also looks whether README and `altctl --version` name the toolchain that is there, whether links lead to files, also
-those of the READMEs of the crates and the desk, whether each refusal has a row of advice, whether each script has its row
+those of the READMEs of the crates and the desk, whether each refusal is listed, whether each script has its row
 in tools/README.md, and whether a block `rust` is what a test has.
 """
 from __future__ import annotations
@@ -26,6 +26,8 @@ import subprocess
 import sys
 import tempfile
 from pathlib import Path
+
+import refusals
 
 TOP = Path(__file__).resolve().parents[2]
 DOCUMENTS = [TOP / "README.md", *sorted((TOP / "docs").glob("*.md"))]
@@ -142,13 +144,6 @@ def dead_links(document):
             yield f"{document.relative_to(TOP)}: no file {name}"
 
 
-def missing_refusals():
-    """The refusals, 1 to 23, that have no row of advice in docs/OPERATING.md."""
-    rows = [it for it in (TOP / "docs" / "OPERATING.md").read_text().splitlines() if it.startswith("| `")]
-    told = {int(it) for row in rows for it in re.findall(r"`(\d+) [A-Z]\w+", row.split(" | ")[0])}
-    return [f"docs/OPERATING.md: no advice on refusal {it}" for it in range(1, 24) if it not in told]
-
-
 def scripts_in(text: str) -> set[str]:
     """The scripts that the tables of tools/README.md name, each by its path below tools/."""
     found, folder = set(), ""
@@ -186,7 +181,7 @@ def wrong_versions(altctl):
 
 def main():
     altctl = os.path.abspath((sys.argv[1:] or [TOP / "altctl"])[0])
-    faults = [*missing_refusals(), *wrong_scripts(TOP / "tools"), *wrong_versions(altctl)]
+    faults = [*refusals.faults(refusals.of_program(), refusals.of_service()), *wrong_scripts(TOP / "tools"), *wrong_versions(altctl)]
     for document in [*DOCUMENTS, TOP / "desk" / "README.md", TOP / "tools" / "README.md", *sorted(TOP.glob("crates/*/README.md"))]:
         faults += dead_links(document)
     for it in faults:

@@ -12,6 +12,7 @@ from unittest import mock
 
 sys.dont_write_bytecode = True
 import documents
+import refusals
 import words
 from lines import TOP, Line, formats_rows, read_table
 
@@ -36,6 +37,8 @@ class LinesTests(unittest.TestCase):
                 "clients/bash/altctl.bash: no `touch`",
                 "clients/python/altctl.py: no method touch that sends `touch`",
                 "clients/c/altctl.h: no alt_touch for `touch ALT`",
+                "tools/faults/compare.py: no `touch`",
+                "crates/cli_tests/data: no `touch`",
                 "desk/service: `touch ALT`, a query, is answered as error 22 BadLine",
             ],
             self.faults([*self.lines, MADE_UP]),
@@ -113,6 +116,25 @@ class OptionsTests(unittest.TestCase):
         self.assertEqual(["create", "copy", "check"], sorted(words.offered("altctl", "c"), reverse=True))
         self.assertEqual(["--grow", "--grow-to"], sorted(words.offered("altctl", "do", "map.alt", "--grow")))
         self.assertEqual(["conflicts"], words.offered("altctl", "do", "--strict", "map.alt", "commit", "'conf"))
+
+
+class RefusalsTests(unittest.TestCase):
+    def test_each_place_that_lacks_a_refusal_is_named(self):
+        program, service = refusals.of_program(), refusals.of_service()
+        self.assertEqual((1, 24, "ReadOnly"), (min(program), max(program), program[24]))
+        self.assertEqual([], list(refusals.faults(program, service)))
+        found = list(refusals.faults({**program, 25: "MadeUp"}, {**service, 101: "SoToo"}))
+        self.assertEqual(
+            [
+                "docs/OPERATING.md: no row for `25 MadeUp`",
+                "docs/PLANNERS.md: no row for `101 SoToo`",
+                "clients/c/altctl.h: no ALT_MADE_UP = 25",
+                "clients/c/altctl.h: no ALT_SO_TOO = 101",
+            ],
+            found[:4],
+        )
+        self.assertEqual(["refusals", "service_refusals"], [it.split()[1] for it in found[4:]])
+        self.assertTrue(found[4].endswith(", ReadOnly, MadeUp") and found[5].endswith(", TooManyPlanners, SoToo"))
 
 
 class ScriptsTests(unittest.TestCase):

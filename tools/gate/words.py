@@ -3,8 +3,8 @@
 them: `tools/gate/words.py [--check] [ALTCTL]`. If a place lacks one, or has one too many, it says so and ends with
 status 1.
 
-The lines are compared with docs/FORMATS.md, the program's answers and help, the manual page, completion, both clients
-and the service; the options with docs/FORMATS.md, the manual page and completion. The lines in the manual page are
+The lines are compared with docs/FORMATS.md, the program's answers and help, the manual page, completion, both
+clients, the tests and the service; the options with docs/FORMATS.md, the manual page and completion. The lines in the manual page are
 written out of docs/FORMATS.md, or with `--check` only compared.
 """
 from __future__ import annotations
@@ -113,6 +113,20 @@ def in_c(lines: list[Line]) -> Iterator[str]:
             yield f"clients/c/altctl.c: no {it.c} that sends `{it.word}`"
 
 
+def in_tests(lines: list[Line]) -> Iterator[str]:
+    """The random sessions beside a model make each line, and the scripts of the program's tests have it."""
+    model = ast.parse((TOP / "tools/faults/compare.py").read_text())
+    texts = [it.value for it in ast.walk(model) if isinstance(it, ast.Constant) and isinstance(it.value, str)]
+    made = {it.split(" ")[0] for it in texts}
+    scripts = "".join(it.read_text() for it in sorted((TOP / "crates/cli_tests/data").glob("*.txt")))
+    tried = set(re.findall(r"^> +(\w+)", scripts, re.M))
+    for word in dict.fromkeys(it.word for it in lines):
+        if word not in made:
+            yield f"tools/faults/compare.py: no `{word}`"
+        if word not in tried:
+            yield f"crates/cli_tests/data: no `{word}`"
+
+
 class Service:
     """A service over a store of its own, and a planner who asks it."""
 
@@ -218,7 +232,8 @@ def with_lines(page: str, rows: Iterable[Row]) -> str:
 
 def faults(lines: list[Line], setup: list[str], altctl: str) -> list[str]:
     found = [*in_formats(lines), *in_program(lines, setup, altctl), *in_help(lines, altctl), *in_page(lines)]
-    return [*found, *in_completion(lines), *in_python(lines), *in_c(lines), *in_service(lines, setup, altctl)]
+    found += [*in_completion(lines), *in_python(lines), *in_c(lines), *in_tests(lines)]
+    return [*found, *in_service(lines, setup, altctl)]
 
 
 def main() -> int:
