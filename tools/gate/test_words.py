@@ -3,6 +3,7 @@
 `tools/gate/test_words.py`."""
 from __future__ import annotations
 
+import json
 import sys
 import tempfile
 import unittest
@@ -83,6 +84,22 @@ class LinesTests(unittest.TestCase):
         changed = text.replace("| `drop ALT` | removes an alternative |", "| `drop ALT FORCE` | takes it out |")
         due = "\\fBdrop\\fR \\fIALT FORCE\\fR\ntakes it out: \\fBok\\fR\n"
         self.assertIn(due, words.with_lines(page, formats_rows(changed)))
+
+
+class JournalTests(unittest.TestCase):
+    def test_a_field_that_formats_does_not_have_is_named(self):
+        page = words.FORMATS.read_text()
+        kinds = ['{"done":1}', '{"opened":"t","last":0,"next":1}']
+        fields = "batch time uid who alternatives records lines".split()
+        batch, more = (json.dumps(dict.fromkeys(it, 1)) for it in (fields, [*fields, "host"]))
+        self.assertEqual([], list(words.in_journal("\n".join([*kinds, batch]), page)))
+        self.assertEqual(
+            [
+                "docs/FORMATS.md, the journal: no `alternatives batch host lines records time uid who`",
+                "docs/FORMATS.md, the journal: `alternatives batch lines records time uid who`, which is not there",
+            ],
+            list(words.in_journal("\n".join([*kinds, more]), page)),
+        )
 
 
 class OptionsTests(unittest.TestCase):

@@ -4,12 +4,14 @@ them: `tools/gate/words.py [--check] [ALTCTL]`. If a place lacks one, or has one
 status 1.
 
 The lines are compared with docs/FORMATS.md, the program's answers and help, the manual page, completion, both
-clients, the tests and the service; the options with docs/FORMATS.md, the manual page and completion. The lines in the manual page are
-written out of docs/FORMATS.md, or with `--check` only compared.
+clients, the tests and the service; the options with docs/FORMATS.md, the manual page and completion; the fields of a
+journal that the service writes with docs/FORMATS.md. The lines in the manual page are written out of docs/FORMATS.md,
+or with `--check` only compared.
 """
 from __future__ import annotations
 
 import ast
+import json
 import os
 import re
 import socket
@@ -137,6 +139,7 @@ class Service:
         self.process = subprocess.Popen(words, stderr=subprocess.DEVNULL)
         self.socket = socket.socket(socket.AF_UNIX)
         self.socket.settimeout(20)
+        self.journal = Path(f"{file}.journal")
         late = time.monotonic() + 60
         while self.socket.connect_ex(f"{file}.sock"):
             if time.monotonic() > late or self.process.poll() is not None:
@@ -176,6 +179,16 @@ def in_service(lines: list[Line], setup: list[str], altctl: str) -> Iterator[str
             yield f"desk/service: {fault}"
         finally:
             service.end()
+        yield from in_journal(service.journal.read_text(), FORMATS.read_text())
+
+
+def in_journal(journal: str, formats: str) -> Iterator[str]:
+    """The lines of a journal have the fields that docs/FORMATS.md lists, and each kind of line is there."""
+    table = find(r"^\| Line of \| Fields \|\n\|[-|]+\|\n((?:\|.*\n)+)", formats)[1]
+    due = {" ".join(sorted(re.findall(r"`(\w+)`", row))) for row in table.splitlines()}
+    written = {" ".join(sorted(json.loads(it))) for it in journal.splitlines()}
+    yield from (f"docs/FORMATS.md, the journal: no `{it}`" for it in sorted(written - due))
+    yield from (f"docs/FORMATS.md, the journal: `{it}`, which is not there" for it in sorted(due - written))
 
 
 def options_of(altctl: str, command: str) -> dict[str, bool]:
