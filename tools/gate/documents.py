@@ -5,15 +5,16 @@ status 1.
 
 In a block `console`, a line after `$ ` is a command of the shell; the lines after `> ` below it are its input, and all
 others are what it prints. A block `sh` or `python` is a program as it stands, and the block `text` right below it is
-what it prints. A block `c` or `cpp` is the file program.c or program.cpp, which the blocks `console` below it build. The
-blocks of one document run in one folder, one after another, with the program as `altctl` and `./altctl`, the service as
-`altserve`, and the folder `clients`.
+what it prints. A block `c` or `cpp` is the file program.c or program.cpp, which the blocks `console` below it build.
+The blocks of one document run in one folder, one after another, which has `altctl`, `desk` and `clients` as a clone has
+them. README begins as its reader does, and a command that sets PATH sets it for those after it; the other documents
+begin with the PATH that README has at its end.
 
 A document whose programs need what is not installed is left out, and the last line says so.
 
-It also looks whether README and `altctl --version` name the toolchain that is there, whether links lead to files, also
-those of the READMEs of the crates and the desk, whether each refusal is listed, whether each script has its row
-in tools/README.md, and whether a block `rust` is what a test has.
+It also looks whether README and `altctl --version` name the toolchain that is there and the last release of
+CHANGELOG, whether links lead to files, also those of the READMEs of the crates and the desk, whether each refusal is
+listed, whether each script has its row in tools/README.md, and whether a block `rust` is what a test has.
 """
 from __future__ import annotations
 
@@ -31,6 +32,8 @@ import refusals
 
 TOP = Path(__file__).resolve().parents[2]
 DOCUMENTS = [TOP / "README.md", *sorted((TOP / "docs").glob("*.md"))]
+# Pages of which only the links are looked at.
+OTHERS = [TOP / it for it in ("CONTRIBUTING.md", "CHANGELOG.md", "desk/README.md", "tools/README.md")]
 # What documents need to run, and the commands that succeed where it is there.
 NEEDS = {
     "EMBEDDING.md": {"a compiler of C and C++": "cc --version && c++ --version"},
@@ -40,31 +43,42 @@ NEEDS = {
         "python3-tomli": f"{sys.executable} -c 'import tomllib' || {sys.executable} -c 'import tomli'",
     },
 }
+# What stands for the folder of a document in a PATH.
+CLONE = "/CLONE"
 BLOCK = re.compile(r"^```(\w+)\n(.*?)^```$", re.M | re.S)
-LINK = re.compile(r"\]\(([^)#]+)[^)]*\)|^\[.+\]: (\S+)$|`(docs/[A-Z-]+\.md|tools/[\w/]+\.\w+|clients/[\w/]+\.\w+|desk/\w+(?:\.\w+)?)`", re.M)
+NAMED = r"docs/[A-Z-]+\.md|(?:clients|crates|tools)/[\w/]+\.\w+|desk/[\w/]+(?:\.\w+)?"
+LINK = re.compile(rf"\]\(([^)#]+)[^)]*\)|^\[.+\]: (\S+)$|`({NAMED})`", re.M)
 
 
 class Run:
     """The folder of one document, and the commands that run in it."""
 
-    def __init__(self, altctl, folder):
+    def __init__(self, altctl, folder, path=None):
         self.folder, self.status, self.differences = folder, 0, 0
-        os.mkdir(f"{folder}/bin")
-        for link in (f"{folder}/bin/altctl", f"{folder}/altctl"):
-            os.symlink(altctl, link)
-        for it in ("altgis", "altserve"):
-            os.symlink(TOP / "desk" / it, f"{folder}/bin/{it}")
-        os.symlink(TOP / "clients", f"{folder}/clients")
-        path = f"{folder}/bin{os.pathsep}{os.environ['PATH']}"
+        os.symlink(altctl, f"{folder}/altctl")
+        for it in ("clients", "desk"):
+            os.symlink(TOP / it, f"{folder}/{it}")
         python = {"PYTHONPATH": str(TOP / "clients" / "python"), "PYTHONDONTWRITEBYTECODE": "1"}
-        self.environment = {**os.environ, **python, "PATH": path, "LC_ALL": "C.UTF-8"}
+        self.environment = {**os.environ, **python, "LC_ALL": "C.UTF-8"}
+        self.path = path or os.environ["PATH"]
 
     def start(self, words, lines):
         text = "".join(f"{it}\n" for it in lines)
         how = {"stdout": subprocess.PIPE, "stderr": subprocess.STDOUT, "text": True, "timeout": 300}
-        ran = subprocess.run(words, input=text, cwd=self.folder, env=self.environment, **how)
+        path = self.path.replace(CLONE, self.folder)
+        ran = subprocess.run(words, input=text, cwd=self.folder, env={**self.environment, "PATH": path}, **how)
         self.status = ran.returncode
         return ran.stdout.splitlines()
+
+    def command(self, command, lines):
+        """Runs a command of a session, which finds the status of the one before, and keeps the PATH that it leaves."""
+        kept = Path(self.folder, ".path")
+        keep = f'status=$?; printf %s "$PATH" >{kept}; exit $status'
+        came = self.start(["sh", "-c", f"(exit {self.status}); {command}\n{keep}"], lines)
+        with contextlib.suppress(FileNotFoundError):
+            self.path = kept.read_text().replace(self.folder, CLONE)
+            kept.unlink()
+        return came
 
     def compare(self, what, due, came):
         if due != came:
@@ -83,7 +97,7 @@ class Run:
             else:
                 commands[-1][2].append(line)
         for command, lines, due in commands:
-            came = self.start(["sh", "-c", f"(exit {self.status}); {command}"], lines)
+            came = self.command(command, lines)
             self.compare(f"{where}: $ {command}", due, came)
 
     def program(self, where, kind, text, due):
@@ -106,13 +120,13 @@ def end_service(folder):
         os.kill(int(Path(folder, "altserve.pid").read_text()), signal.SIGTERM)
 
 
-def run_blocks(document, altctl):
-    """Runs the blocks of a document, and gives how many there are, and how many outputs differ."""
+def run_blocks(document, altctl, path=None):
+    """Runs the blocks of a document, and gives how many there are, how many outputs differ, and the PATH at the end."""
     text = document.read_text()
     blocks = [(it[1], it[2], text.count("\n", 0, it.start()) + 1, it.start(), it.end()) for it in BLOCK.finditer(text)]
     count = 0
     with tempfile.TemporaryDirectory() as folder:
-        run = Run(altctl, folder)
+        run = Run(altctl, folder, path)
         for n, (kind, body, line, _, end) in enumerate(blocks):
             where = f"{document.relative_to(TOP)}:{line}"
             if kind == "console":
@@ -126,7 +140,7 @@ def run_blocks(document, altctl):
                 run.compare(where, [f"a block that can be run, and no {kind}"], [])
             count += kind in ("console", "sh", "python")
         end_service(folder)
-    return count, run.differences
+    return count, run.differences, run.path
 
 
 def is_tested(code):
@@ -167,30 +181,35 @@ def wrong_scripts(tools: Path) -> list[str]:
 
 def wrong_versions(altctl):
     """Where README and `altctl --version` name another toolchain than `rt version`, or another format than
-    docs/FORMATS.md."""
+    docs/FORMATS.md, or where programs and clients have another number than the last release in CHANGELOG."""
     how = {"stdout": subprocess.PIPE, "text": True, "timeout": 300}
     toolchain = subprocess.run(["rt", "version"], check=True, **how).stdout.strip()
     if f"\nProved with: `{toolchain}`.\n" not in (TOP / "README.md").read_text():
         yield f"README.md: it is not said that all is proved with {toolchain}"
     number = re.search(r"`SLOT`, u32 format (\d+)", (TOP / "docs" / "FORMATS.md").read_text())[1]
-    due = [f"file format {number}", f"proved with {toolchain}"]
-    came = subprocess.run([altctl, "--version"], check=True, **how).stdout.splitlines()[1:]
+    release = re.search(r"^## ([\d.]+),", (TOP / "CHANGELOG.md").read_text(), re.M)[1]
+    due = [f"altctl {release}", f"file format {number}", f"proved with {toolchain}"]
+    came = subprocess.run([altctl, "--version"], check=True, **how).stdout.splitlines()
     if came != due:
         yield f"altctl --version: {came} came, and not {due}"
+    if f'\nversion = "{release}"\n' not in (TOP / "clients/python/pyproject.toml").read_text():
+        yield f"clients/python/pyproject.toml: the version is not {release}"
 
 
 def main():
     altctl = os.path.abspath((sys.argv[1:] or [TOP / "altctl"])[0])
-    faults = [*refusals.faults(refusals.of_program(), refusals.of_service()), *wrong_scripts(TOP / "tools"), *wrong_versions(altctl)]
-    for document in [*DOCUMENTS, TOP / "desk" / "README.md", TOP / "tools" / "README.md", *sorted(TOP.glob("crates/*/README.md"))]:
+    faults = [*refusals.faults(refusals.of_program(), refusals.of_service())]
+    faults += [*wrong_scripts(TOP / "tools"), *wrong_versions(altctl)]
+    for document in [*DOCUMENTS, *OTHERS, *sorted(TOP.glob("crates/*/README.md"))]:
         faults += dead_links(document)
     for it in faults:
         print(it)
-    count = differences = 0
+    count, differences, path = 0, 0, None
     skipped = {it: what for it in DOCUMENTS if (what := missing(it))}
     for document in DOCUMENTS:
-        here, different = (0, 0) if document in skipped else run_blocks(document, altctl)
-        count, differences = count + here, differences + different
+        if document not in skipped:
+            here, different, left = run_blocks(document, altctl, path)
+            count, differences, path = count + here, differences + different, path or left
     if faults or differences:
         print(f"documents: {len(faults)} faults, and {differences} differences in {count} blocks")
         return 1

@@ -1,5 +1,5 @@
-"""The refusals of the program and of the service, and whether each place that lists them has all of them. `documents.py`
-uses it."""
+"""The refusals of the program and of the service, and whether each place that lists them has them all, for
+`documents.py`."""
 from __future__ import annotations
 
 import re
@@ -25,7 +25,7 @@ def of_service() -> Refusals:
 
 
 def faults(program: Refusals, service: Refusals) -> Iterator[str]:
-    """What a place lacks. Each page has rows that begin with numbers and names, and the client has both by a name of C."""
+    """What a place lacks. Pages have rows that begin with numbers and names, the C client a constant for each."""
     for page, refusals in ("docs/OPERATING.md", program), ("docs/PLANNERS.md", service):
         rows = [it.split(" | ")[0] for it in (TOP / page).read_text().splitlines() if it.startswith("| `")]
         told = {(int(number), name) for row in rows for number, name in re.findall(r"`(\d+) (\w+)", row)}

@@ -3,7 +3,10 @@
 `tools/gate/test_words.py`."""
 from __future__ import annotations
 
+import contextlib
+import io
 import json
+import shutil
 import sys
 import tempfile
 import unittest
@@ -152,6 +155,39 @@ class RefusalsTests(unittest.TestCase):
         )
         self.assertEqual(["refusals", "service_refusals"], [it.split()[1] for it in found[4:]])
         self.assertTrue(found[4].endswith(", ReadOnly, MadeUp") and found[5].endswith(", TooManyPlanners, SoToo"))
+
+
+class VersionsTests(unittest.TestCase):
+    def test_a_release_that_programs_do_not_name_is_seen(self):
+        self.assertEqual([], list(documents.wrong_versions(ALTCTL)))
+        with tempfile.TemporaryDirectory() as folder:
+            top = Path(folder)
+            for it in ("README.md", "CHANGELOG.md", "docs/FORMATS.md", "clients/python/pyproject.toml"):
+                (top / it).parent.mkdir(parents=True, exist_ok=True)
+                (top / it).write_text((TOP / it).read_text())
+            log = top / "CHANGELOG.md"
+            log.write_text(log.read_text().replace("## Not released yet", "## 99.1.0, 2026-12-24"))
+            with mock.patch.object(documents, "TOP", top):
+                program, client = documents.wrong_versions(ALTCTL)
+        self.assertRegex(program, r"altctl --version: \['altctl [\d.]+', .* and not \['altctl 99\.1\.0', ")
+        self.assertEqual("clients/python/pyproject.toml: the version is not 99.1.0", client)
+
+
+class SessionsTests(unittest.TestCase):
+    def differences(self, *lines: str) -> int:
+        with tempfile.TemporaryDirectory() as folder, contextlib.redirect_stdout(io.StringIO()):
+            run = documents.Run(ALTCTL, folder)
+            run.session("here", "\n".join(lines))
+            return run.differences
+
+    def test_a_reader_has_to_be_told_how_the_program_is_found(self):
+        asks = ["$ altctl create map.alt 64", "created 64"]
+        self.assertEqual(0, self.differences("$ PATH=$PWD:$PATH", *asks))
+        if not shutil.which("altctl"):
+            self.assertEqual(1, self.differences(*asks))
+
+    def test_a_command_finds_the_status_and_the_path_of_the_one_before(self):
+        self.assertEqual(0, self.differences("$ PATH=/a:$PATH; false", "$ echo $? ${PATH%%:*}", "1 /a"))
 
 
 class ScriptsTests(unittest.TestCase):

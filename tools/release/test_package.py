@@ -107,6 +107,9 @@ class InRoot(documents.Run):
         os.mkdir(f"{root}/srv/session")
         os.symlink("/usr/bin/altctl", f"{root}/srv/session/altctl")
 
+    def command(self, command, lines):
+        return self.start(["sh", "-c", f"(exit {self.status}); {command}"], lines)
+
     def start(self, words, lines):
         words = [shutil.which("chroot"), self.root, "sh", "-c", 'cd /srv/session && exec "$@"', "sh", *words]
         text = "".join(f"{it}\n" for it in lines)
@@ -159,7 +162,7 @@ class PackageTests(unittest.TestCase):
         self.assertIn("prefix=/usr\n", said)
 
     def test_the_sessions_of_the_readme_run(self):
-        count, differences = documents.run_blocks(TOP / "README.md", str(self.prefix / "bin/altctl"))
+        count, differences, _ = documents.run_blocks(TOP / "README.md", str(self.prefix / "bin/altctl"))
         self.assertEqual((True, 0), (count > 0, differences))
 
     @unittest.skipUnless(is_there("pkg-config"), "pkg-config is not installed")
@@ -286,7 +289,7 @@ class Aarch64Tests(unittest.TestCase):
             self.assertEqual(183, int.from_bytes((self.prefix / it).read_bytes()[18:20], "little"), it)
 
     def test_the_sessions_of_the_readme_run(self):
-        count, differences = documents.run_blocks(TOP / "README.md", str(self.program))
+        count, differences, _ = documents.run_blocks(TOP / "README.md", str(self.program))
         self.assertEqual((True, 0), (count > 0, differences))
 
     def test_both_processors_read_and_write_one_file(self):
