@@ -157,6 +157,20 @@ class RefusalsTests(unittest.TestCase):
         self.assertTrue(found[4].endswith(", ReadOnly, MadeUp") and found[5].endswith(", TooManyPlanners, SoToo"))
 
 
+class LinksTests(unittest.TestCase):
+    def test_a_file_that_a_page_names_and_that_is_gone_is_named(self):
+        with tempfile.TemporaryDirectory() as folder:
+            top = Path(folder)
+            (top / "crates/low/src").mkdir(parents=True)
+            (top / "crates/low/src/lib.rt").touch()
+            page = top / "page.md"
+            page.write_text("`low/src/lib.rt` `low/src/gone.rt` [there](page.md) [not](other.md) `crates/low/src/no.rt`\n")
+            with mock.patch.object(documents, "TOP", top):
+                found = list(documents.dead_links(page))
+        gone = ("low/src/gone.rt", "other.md", "crates/low/src/no.rt")
+        self.assertEqual([f"page.md: no file {it}" for it in gone], found)
+
+
 class VersionsTests(unittest.TestCase):
     def test_a_release_that_programs_do_not_name_is_seen(self):
         self.assertEqual([], list(documents.wrong_versions(ALTCTL)))
