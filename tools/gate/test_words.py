@@ -110,8 +110,7 @@ class OptionsTests(unittest.TestCase):
         due = words.options_of(ALTCTL, "check")
         self.assertEqual({"--no-lock": False, "--wait": False}, due)
         with mock.patch.object(words, "options_of", lambda *_: {**due, "--made-up": True}):
-            with mock.patch.object(words, "WITH_OPTIONS", ["check"]):
-                found = list(words.wrong_options(ALTCTL))
+            found = list(words.wrong_options(ALTCTL, ["check"]))
         self.assertEqual(
             [
                 "docs/FORMATS.md, altctl check: no `--made-up`",
@@ -121,6 +120,12 @@ class OptionsTests(unittest.TestCase):
             ],
             found,
         )
+
+    def test_each_place_that_lacks_a_word_is_named(self):
+        commands = words.commands_of(ALTCTL)
+        self.assertEqual(["create", "run", "do", "check", "tree", "copy"], commands)
+        places = ("docs/FORMATS.md", "docs/altctl.1", "clients/bash/altctl.bash")
+        self.assertEqual([f"{it}: no `touch`" for it in places], list(words.wrong_commands([*commands, "touch"])))
 
     def test_the_number_behind_an_option_is_no_file(self):
         for option in ("--cache", "--buffer", "--grow-to"):
