@@ -146,20 +146,31 @@ class OptionsTests(unittest.TestCase):
 class RefusalsTests(unittest.TestCase):
     def test_each_place_that_lacks_a_refusal_is_named(self):
         program, service = refusals.of_program(), refusals.of_service()
-        self.assertEqual((1, 24, "ReadOnly"), (min(program), max(program), program[24]))
+        self.assertEqual(("NoSuchAlternative", "ReadOnly", "Denied"), (program[1], program[24], service[90]))
         self.assertEqual([], list(refusals.faults(program, service)))
-        found = list(refusals.faults({**program, 25: "MadeUp"}, {**service, 101: "SoToo"}))
+        more, other = max(program) + 1, max(service) + 1
+        found = list(refusals.faults({**program, more: "MadeUp"}, {**service, other: "SoToo"}))
         self.assertEqual(
             [
-                "docs/OPERATING.md: no row for `25 MadeUp`",
-                "docs/PLANNERS.md: no row for `101 SoToo`",
-                "clients/c/altctl.h: no ALT_MADE_UP = 25",
-                "clients/c/altctl.h: no ALT_SO_TOO = 101",
+                f"docs/OPERATING.md: no row for `{more} MadeUp`",
+                f"docs/PLANNERS.md: no row for `{other} SoToo`",
+                f"clients/c/altctl.h: no ALT_MADE_UP = {more}",
+                f"clients/c/altctl.h: no ALT_SO_TOO = {other}",
             ],
             found[:4],
         )
         self.assertEqual(["refusals", "service_refusals"], [it.split()[1] for it in found[4:]])
-        self.assertTrue(found[4].endswith(", ReadOnly, MadeUp") and found[5].endswith(", TooManyPlanners, SoToo"))
+        self.assertTrue(found[4].endswith(", MadeUp") and found[5].endswith(", SoToo"))
+
+    def test_two_refusals_of_one_number_are_seen(self):
+        with tempfile.TemporaryDirectory() as folder:
+            limits = Path(folder, "desk/service/limits.py")
+            limits.parent.mkdir(parents=True)
+            limits.write_text('REFUSALS = {\n    101: "One",\n    102: "Other",\n}\n')
+            with mock.patch.object(refusals, "TOP", Path(folder)):
+                self.assertEqual({101: "One", 102: "Other"}, refusals.of_service())
+                limits.write_text(limits.read_text().replace("102", "101"))
+                self.assertRaises(ValueError, refusals.of_service)
 
 
 class LinksTests(unittest.TestCase):
