@@ -108,7 +108,8 @@ class JournalTests(unittest.TestCase):
 class OptionsTests(unittest.TestCase):
     def test_each_place_that_lacks_an_option_is_named(self):
         due = words.options_of(ALTCTL, "check")
-        self.assertEqual({"--no-lock": False, "--wait": False}, due)
+        self.assertLessEqual({("--no-lock", False), ("--wait", False)}, set(due.items()))
+        self.assertTrue(words.options_of(ALTCTL, "run")["--cache"])
         with mock.patch.object(words, "options_of", lambda *_: {**due, "--made-up": True}):
             found = list(words.wrong_options(ALTCTL, ["check"]))
         self.assertEqual(
@@ -123,7 +124,8 @@ class OptionsTests(unittest.TestCase):
 
     def test_each_place_that_lacks_a_word_is_named(self):
         commands = words.commands_of(ALTCTL)
-        self.assertEqual(["create", "run", "do", "check", "tree", "copy"], commands)
+        self.assertLessEqual({"create", "run", "do", "check", "tree", "copy"}, set(commands))
+        self.assertNotIn("help", commands)
         places = ("docs/FORMATS.md", "docs/altctl.1", "clients/bash/altctl.bash")
         self.assertEqual([f"{it}: no `touch`" for it in places], list(words.wrong_commands([*commands, "touch"])))
 
