@@ -43,6 +43,7 @@ try 300 gate/promises.py --check
 try 300 gate/pictures.py --check
 try 300 gate/words.py --check
 try 300 gate/test_words.py
+try 300 gate/python.sh
 try 900 gate/documents.py
 try 900 gate/session.sh
 try 600 ../clients/python/test_altctl.py

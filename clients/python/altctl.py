@@ -7,8 +7,11 @@
         store.commit()
 
 Values are bytes, 4,000 at most, names are texts, and a key is a table and a number. What was not committed is gone at the end of
-the `with`. Several threads may use one store: each call has its own answer. docs/FORMATS.md has the lines and their answers, docs/OPERATING.md what helps where one is refused.
+the `with`. Several threads may use one store: each call has its own answer. docs/FORMATS.md has the lines and their
+answers, docs/OPERATING.md what helps where one is refused.
 """
+from __future__ import annotations
+
 import contextlib
 import errno
 import os
@@ -19,7 +22,9 @@ import tempfile
 import threading
 from collections import deque
 from operator import index
-from typing import NamedTuple, Optional
+from types import TracebackType
+from typing import Callable, Dict, Generic, Iterable, Iterator, List, NamedTuple, Optional, Sequence, Tuple, Type
+from typing import TypeVar, Union
 
 
 # How many lines are written ahead of their answers at most, and how many bytes a pipe holds at least.
@@ -29,25 +34,30 @@ PAGE, NUMBER_BITS, LAST_NUMBER, LAST_TABLE = 1000, 64, 2**64 - 1, 2**16 - 1
 # How many blocks a store has at least and at most.
 LEAST_BLOCKS, MOST_BLOCKS = 64, 2**20
 
+Row = TypeVar("Row")
+Key = Tuple[int, int]
+Value = Union[bytes, bytearray, memoryview]
+Path = Union[str, bytes, "os.PathLike[str]", "os.PathLike[bytes]"]
+
 
 class Refusal(Exception):
     """A line that was refused: `error NUMBER NAME`, and behind it a count, a block or a key, where it has one. Of several
     lines that were given at once `at` tells which one it is, 0 for the first."""
 
-    def __init__(self, number, name, detail="", at=None):
+    def __init__(self, number: int, name: str, detail: str = "", at: Optional[int] = None) -> None:
         place = "" if at is None else f" (line {at} of those given)"
         super().__init__(f"{number} {name} {detail}".rstrip() + place)
         self.number, self.name, self.detail, self.at = number, name, detail, at
 
 
-def refusal_of(words, at=None):
+def refusal_of(words: Sequence[str], at: Optional[int] = None) -> Refusal:
     return Refusal(int(words[1]), words[2], " ".join(words[3:]), at)
 
 
 class Ended(Exception):
     """The program ended before its input did, or with a status other than 0. What was committed is in the file."""
 
-    def __init__(self, status, said):
+    def __init__(self, status: int, said: str) -> None:
         super().__init__(f"altctl ended with status {status}: {said.strip()}")
         self.status, self.said = status, said
 
@@ -114,7 +124,7 @@ class Entry(NamedTuple):
 SPELLED = [chr(it) if 0x21 <= it <= 0x7D and it != 0x25 else f"%{it:02X}" for it in range(256)]
 
 
-def encode(value):
+def encode(value: Value) -> str:
     """A value as a word of a line."""
     if not isinstance(value, (bytes, bytearray, memoryview)):
         raise TypeError(f"a value is bytes, and not {type(value).__name__}")
@@ -123,10 +133,14 @@ def encode(value):
     return "".join(map(SPELLED.__getitem__, value))
 
 
-def decode(word):
+def decode(word: str) -> Optional[bytes]:
     """The value that a word of an answer spells, or None for `~`."""
-    if word in ("~", "-"):
-        return None if word == "~" else b""
+    return None if word == "~" else value_of(word)
+
+
+def value_of(word: str) -> bytes:
+    if word == "-":
+        return b""
     # Python's own escapes have \x in the place of %, and are read ten times as quickly as by a loop here.
     spelled = word.replace("\\", "\\\\").replace("%", "\\x")
     return spelled.encode("ascii").decode("unicode_escape").encode("latin-1")
@@ -145,7 +159,7 @@ def portions(lines, most):
         yield portion
 
 
-def part_words(table, first, last):
+def part_words(table: Optional[int], first: Optional[int], last: Optional[int]) -> List[int]:
     """The words of a line for a table, or for its numbers from a first to a last one. None stands for no limit."""
     if table is None:
         if first is not None or last is not None:
@@ -156,7 +170,7 @@ def part_words(table, first, last):
     return [whole(table), whole(0 if first is None else first), whole(LAST_NUMBER if last is None else last)]
 
 
-def whole(number):
+def whole(number: int) -> int:
     """A number that is one: neither a text nor a float."""
     try:
         return index(number)
@@ -164,35 +178,46 @@ def whole(number):
         raise TypeError(f"a table, a number and a count are int, and not {type(number).__name__}") from None
 
 
-def record_of(words):
-    return Record(int(words[0]), int(words[1]), decode(words[2]))
+def record_of(words: Sequence[str]) -> Record:
+    return Record(int(words[0]), int(words[1]), value_of(words[2]))
 
 
-def change_of(words):
+def change_of(words: Sequence[str]) -> Change:
     return Change(int(words[0]), int(words[1]), decode(words[2]), decode(words[3]))
 
 
-class Rows:
+def conflict_of(words: Sequence[str]) -> Conflict:
+    return Conflict(int(words[0]), int(words[1]), decode(words[2]), decode(words[3]), decode(words[4]))
+
+
+class Rows(Generic[Row]):
     """The rows of one answer. They are read as they are asked for; before the next line is written, the rest is."""
 
-    def __init__(self, read, first, make, turn):
-        self._read, self._make, self._turn, self._waiting, self._is_whole = read, make, turn, deque(), False
+    def __init__(
+        self,
+        read: Callable[[], List[str]],
+        first: List[str],
+        make: Callable[[Sequence[str]], Row],
+        turn: threading.RLock,
+    ) -> None:
+        self._read, self._make, self._turn, self._is_whole = read, make, turn, False
+        self._waiting: deque[Row] = deque()
         self._take(first)
 
-    def _take(self, words):
+    def _take(self, words: List[str]) -> None:
         if words[0] == "end":
             self._is_whole = True
         else:
             self._waiting.append(self._make(words[1:]))
 
-    def read_rest(self):
+    def read_rest(self) -> None:
         while not self._is_whole:
             self._take(self._read())
 
-    def __iter__(self):
+    def __iter__(self) -> Iterator[Row]:
         return self
 
-    def __next__(self):
+    def __next__(self) -> Row:
         with self._turn:
             if not self._waiting and not self._is_whole:
                 self._take(self._read())
@@ -285,13 +310,13 @@ class Store:
             self.close(quietly=True)
             raise
 
-    def __enter__(self):
+    def __enter__(self) -> Store:
         return self
 
-    def __exit__(self, kind, *_):
+    def __exit__(self, kind: Optional[Type[BaseException]], *_: Union[BaseException, TracebackType, None]) -> None:
         self.close(quietly=kind is not None)
 
-    def close(self, quietly=False):
+    def close(self, quietly: bool = False) -> None:
         """Ends the program. Raises Ended where its status is not 0, unless that is to be ignored."""
         if not self._is_open:
             return
@@ -389,19 +414,19 @@ class Store:
             self._rows = rows
         return rows
 
-    def put(self, alt, table, number, value):
+    def put(self, alt: str, table: int, number: int, value: Value) -> None:
         self._ask("put", alt, table, number, encode(value))
 
-    def get(self, alt, table, number):
+    def get(self, alt: str, table: int, number: int) -> Optional[bytes]:
         """The value of a record, or None. In place of an alternative stands a version of it, too: "north@" for its base,
         "north@before" for a checkpoint."""
         answer = self._ask("get", alt, table, number)
         return decode(answer[1]) if answer[0] == "value" else None
 
-    def remove(self, alt, table, number):
+    def remove(self, alt: str, table: int, number: int) -> None:
         self._ask("remove", alt, table, number)
 
-    def put_many(self, alt, records):
+    def put_many(self, alt: str, records: Iterable[Tuple[int, int, Value]]) -> None:
         """Puts each (table, number, value), in their order. Lines are written ahead of their answers. Where one is refused,
         those before it are put, and some of those behind it may be: the Refusal tells in `at` which one it was."""
         words = self._line("put", alt)
@@ -409,7 +434,7 @@ class Store:
         for _ in self._ask_many(lines, float("inf")):
             pass
 
-    def get_many(self, alt, keys):
+    def get_many(self, alt: str, keys: Iterable[Key]) -> Iterator[Optional[bytes]]:
         """The values of the records (table, number), None for none, one after another as they are asked for. Lines are
         written ahead of their answers."""
         words = self._line("get", alt)
@@ -417,22 +442,24 @@ class Store:
         for answer in self._ask_many(lines, PIPE):
             yield decode(answer[1]) if answer[0] == "value" else None
 
-    def remove_many(self, alt, keys):
+    def remove_many(self, alt: str, keys: Iterable[Key]) -> None:
         """Removes each record (table, number), as `put_many` puts them."""
         words = self._line("remove", alt)
         for _ in self._ask_many((f"{words} {table:d} {number:d}" for table, number in keys), float("inf")):
             pass
 
-    def list(self, at, table=None, first=None, last=None):
+    def list(
+        self, at: str, table: Optional[int] = None, first: Optional[int] = None, last: Optional[int] = None
+    ) -> Rows[Record]:
         """All records of an alternative or of a version of it, by table and then by number; or those of a table, or of its
         numbers from `first` to `last`, both included, where None is no limit."""
         return self._list(record_of, "list", at, *part_words(table, first, last))
 
-    def next(self, at, table, number, count):
+    def next(self, at: str, table: int, number: int, count: int) -> Rows[Record]:
         """The first `count` records at or after a key, over tables. If they are fewer, there are no more."""
         return self._list(record_of, "next", at, whole(table), whole(number), whole(count))
 
-    def scan(self, at, table=None):
+    def scan(self, at: str, table: Optional[int] = None) -> Iterator[Record]:
         """All records, or those of a table, as `list` gives them, but a thousand at a time: other lines may come in between, and
         at no time are more than these in memory. A page shows the version as it is when the page is asked for."""
         first, last = (0, LAST_TABLE) if table is None else (whole(table), whole(table))
@@ -455,41 +482,50 @@ class Store:
                 return
             rows = self._page(at, place)
 
-    def new(self, name, parent, checkpoint=None):
+    def new(self, name: str, parent: str, checkpoint: Optional[str] = None) -> None:
         """A new alternative, which shows what its parent shows, or what a checkpoint of the parent does."""
         self._ask("new", name, parent, *([] if checkpoint is None else [checkpoint]))
 
-    def drop(self, alt):
+    def drop(self, alt: str) -> None:
         self._ask("drop", alt)
 
-    def checkpoint(self, alt, name):
+    def checkpoint(self, alt: str, name: str) -> None:
         self._ask("checkpoint", alt, name)
 
-    def uncheck(self, alt, name):
+    def uncheck(self, alt: str, name: str) -> None:
         self._ask("uncheck", alt, name)
 
-    def back(self, alt, name):
+    def back(self, alt: str, name: str) -> None:
         self._ask("back", alt, name)
 
-    def changes(self, alt):
+    def changes(self, alt: str) -> Rows[Change]:
         """What the alternative has changed since its base, as Change rows."""
         return self._list(change_of, "changes", alt)
 
-    def diff(self, first, second, table=None, first_number=None, last_number=None):
+    def diff(
+        self,
+        first: str,
+        second: str,
+        table: Optional[int] = None,
+        first_number: Optional[int] = None,
+        last_number: Optional[int] = None,
+    ) -> Rows[Change]:
         """What differs from one version to another, as Change rows: everywhere, in a table, or at its numbers from `first_number`
         to `last_number`, both included."""
         return self._list(change_of, "diff", first, second, *part_words(table, first_number, last_number))
 
-    def tally(self, alt):
+    def tally(self, alt: str) -> Tally:
         """How far the alternative has gone from its base and from its parent, as a Tally."""
         answer = self._ask("tally", alt)
-        return Tally(*map(int, answer[1:4]), answer[4] == "yes")
+        return Tally(int(answer[1]), int(answer[2]), int(answer[3]), answer[4] == "yes")
 
-    def conflicts(self, alt):
+    def conflicts(self, alt: str) -> Rows[Conflict]:
         """What a merge of the alternative has to settle, as Conflict rows."""
-        return self._list(lambda words: Conflict(*map(int, words[:2]), *map(decode, words[2:])), "conflicts", alt)
+        return self._list(conflict_of, "conflicts", alt)
 
-    def merge(self, alt, settlements=None, all=None):
+    def merge(
+        self, alt: str, settlements: Optional[Dict[Key, str]] = None, all: Optional[str] = None
+    ) -> Optional[int]:
         """Brings in what changed in the parent, and gives how many records that changed, but in a batch. Settlements are a dict
         from (table, number) to "mine" or "theirs", one for each conflict; `all`, "mine" or "theirs", settles each other one."""
         words = [] if all is None else [f"all={all}"]
@@ -497,32 +533,32 @@ class Store:
         answer = self._ask("merge", alt, *words)
         return answer and int(answer[1])
 
-    def post(self, alt):
+    def post(self, alt: str) -> None:
         self._ask("post", alt)
 
-    def commit(self):
+    def commit(self) -> None:
         self._ask("commit")
 
-    def rollback(self):
+    def rollback(self) -> None:
         """Undoes everything since the last commit, also a growth. A service commits each change, so there it undoes nothing."""
         self._ask("rollback")
 
-    def reclaim(self):
+    def reclaim(self) -> None:
         self._ask("reclaim")
 
-    def grow(self, blocks):
+    def grow(self, blocks: int) -> None:
         """Gives the store so many blocks in all. It stays so large from the next commit on."""
         self._ask("grow", blocks)
 
-    def free(self):
+    def free(self) -> int:
         """The number of free blocks."""
         return int(self._ask("free")[1])
 
-    def blocks(self):
+    def blocks(self) -> int:
         """The number of blocks, free ones and others."""
         return int(self._ask("blocks")[1])
 
-    def copy(self, to, blocks=None):
+    def copy(self, to: Path, blocks: Optional[int] = None) -> Copied:
         """Copies what was committed to a new file of `blocks` blocks, or of as many as the store has, and gives that number and how
         many are in use, as Copied. Raises the Refusal 13 Full if more than `blocks` are in use; no file is made then. If it fails
         otherwise, for instance as the file exists, it raises Ended, and may leave a file that is no store.
@@ -540,18 +576,18 @@ class Store:
             self.free()
         return copied
 
-    def alternatives(self):
+    def alternatives(self) -> Rows[Alternative]:
         return self._list(lambda words: Alternative(words[0], None if words[1] == "~" else words[1]), "alts")
 
-    def checkpoints(self, alt):
+    def checkpoints(self, alt: str) -> Rows[str]:
         """The names of an alternative's checkpoints."""
         return self._list(lambda words: words[0], "checks", alt)
 
-    def whoami(self):
+    def whoami(self) -> str:
         """The name of the planner whom a service sees here."""
         return self._ask("whoami")[1]
 
-    def log(self, **filters):
+    def log(self, **filters: object) -> Rows[Entry]:
         """Who changed what, and when, as a service's journal tells it: Entry rows, the latest one last. The filters are those of
         its line `log`, for instance record="7:1" or last=10."""
         words = [f"{name}={value}" for name, value in filters.items()]

@@ -21,7 +21,10 @@ def of_program() -> Refusals:
 
 def of_service() -> Refusals:
     text = find(r"^REFUSALS = \{\n(.*?)^\}", (TOP / "desk/service/limits.py").read_text(), re.M | re.S)[1]
-    return {int(number): name for number, name in re.findall(r'(\d+): "(\w+)"', text)}
+    pairs = [(int(number), name) for number, name in re.findall(r'(\d+): "(\w+)"', text)]
+    if len(dict(pairs)) < len(pairs):
+        raise ValueError("desk/service/limits.py: two refusals have one number")
+    return dict(pairs)
 
 
 def faults(program: Refusals, service: Refusals) -> Iterator[str]:

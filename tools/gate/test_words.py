@@ -108,10 +108,10 @@ class JournalTests(unittest.TestCase):
 class OptionsTests(unittest.TestCase):
     def test_each_place_that_lacks_an_option_is_named(self):
         due = words.options_of(ALTCTL, "check")
-        self.assertEqual({"--no-lock": False, "--wait": False}, due)
+        self.assertLessEqual({("--no-lock", False), ("--wait", False)}, set(due.items()))
+        self.assertTrue(words.options_of(ALTCTL, "run")["--cache"])
         with mock.patch.object(words, "options_of", lambda *_: {**due, "--made-up": True}):
-            with mock.patch.object(words, "WITH_OPTIONS", ["check"]):
-                found = list(words.wrong_options(ALTCTL))
+            found = list(words.wrong_options(ALTCTL, ["check"]))
         self.assertEqual(
             [
                 "docs/FORMATS.md, altctl check: no `--made-up`",
@@ -121,6 +121,13 @@ class OptionsTests(unittest.TestCase):
             ],
             found,
         )
+
+    def test_each_place_that_lacks_a_word_is_named(self):
+        commands = words.commands_of(ALTCTL)
+        self.assertLessEqual({"create", "run", "do", "check", "tree", "copy"}, set(commands))
+        self.assertNotIn("help", commands)
+        places = ("docs/FORMATS.md", "docs/altctl.1", "clients/bash/altctl.bash")
+        self.assertEqual([f"{it}: no `touch`" for it in places], list(words.wrong_commands([*commands, "touch"])))
 
     def test_the_number_behind_an_option_is_no_file(self):
         for option in ("--cache", "--buffer", "--grow-to"):
@@ -141,20 +148,31 @@ class OptionsTests(unittest.TestCase):
 class RefusalsTests(unittest.TestCase):
     def test_each_place_that_lacks_a_refusal_is_named(self):
         program, service = refusals.of_program(), refusals.of_service()
-        self.assertEqual((1, 24, "ReadOnly"), (min(program), max(program), program[24]))
+        self.assertEqual(("NoSuchAlternative", "ReadOnly", "Denied"), (program[1], program[24], service[90]))
         self.assertEqual([], list(refusals.faults(program, service)))
-        found = list(refusals.faults({**program, 25: "MadeUp"}, {**service, 101: "SoToo"}))
+        more, other = max(program) + 1, max(service) + 1
+        found = list(refusals.faults({**program, more: "MadeUp"}, {**service, other: "SoToo"}))
         self.assertEqual(
             [
-                "docs/OPERATING.md: no row for `25 MadeUp`",
-                "docs/PLANNERS.md: no row for `101 SoToo`",
-                "clients/c/altctl.h: no ALT_MADE_UP = 25",
-                "clients/c/altctl.h: no ALT_SO_TOO = 101",
+                f"docs/OPERATING.md: no row for `{more} MadeUp`",
+                f"docs/PLANNERS.md: no row for `{other} SoToo`",
+                f"clients/c/altctl.h: no ALT_MADE_UP = {more}",
+                f"clients/c/altctl.h: no ALT_SO_TOO = {other}",
             ],
             found[:4],
         )
         self.assertEqual(["refusals", "service_refusals"], [it.split()[1] for it in found[4:]])
-        self.assertTrue(found[4].endswith(", ReadOnly, MadeUp") and found[5].endswith(", TooManyPlanners, SoToo"))
+        self.assertTrue(found[4].endswith(", MadeUp") and found[5].endswith(", SoToo"))
+
+    def test_two_refusals_of_one_number_are_seen(self):
+        with tempfile.TemporaryDirectory() as folder:
+            limits = Path(folder, "desk/service/limits.py")
+            limits.parent.mkdir(parents=True)
+            limits.write_text('REFUSALS = {\n    101: "One",\n    102: "Other",\n}\n')
+            with mock.patch.object(refusals, "TOP", Path(folder)):
+                self.assertEqual({101: "One", 102: "Other"}, refusals.of_service())
+                limits.write_text(limits.read_text().replace("102", "101"))
+                self.assertRaises(ValueError, refusals.of_service)
 
 
 class LinksTests(unittest.TestCase):

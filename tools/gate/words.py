@@ -1,10 +1,10 @@
 #!/usr/bin/env python3
-"""Compares the lines of `clients/lines.json`, and the options that the program's help names, with each place that lists
-them: `tools/gate/words.py [--check] [ALTCTL]`. If a place lacks one, or has one too many, it says so and ends with
-status 1.
+"""Compares the lines of `clients/lines.json`, and the words and options in the program's help, with each place that
+lists them: `tools/gate/words.py [--check] [ALTCTL]`. If a place lacks one, or has one too many, it says so and ends
+with status 1.
 
-The lines are compared with docs/FORMATS.md, the program's answers and help, the manual page, completion, both
-clients, the tests and the service; the options with docs/FORMATS.md, the manual page and completion; the fields of a
+The lines are compared with docs/FORMATS.md, the program's answers and help, the manual page, completion, both clients,
+the tests and the service; words and options with docs/FORMATS.md, the manual page and completion; the fields of a
 journal that the service writes with docs/FORMATS.md. The lines in the manual page are written out of docs/FORMATS.md,
 or with `--check` only compared.
 """
@@ -25,7 +25,6 @@ from pathlib import Path
 from lines import TOP, Line, Row, find, formats_rows, read_table
 
 FORMATS, PAGE = TOP / "docs/FORMATS.md", TOP / "docs/altctl.1"
-WITH_OPTIONS = ("run", "do", "check", "tree", "copy")
 # What bash offers in the place of the last word. File names are asked for by `compopt`, which only completion has.
 OFFERED = """. "$1"; shift
 COMP_WORDS=("$@") COMP_CWORD=$(($# - 1)); compopt() { :; }; _altctl; printf '%s\\n' "${COMPREPLY[@]}\""""
@@ -191,6 +190,19 @@ def in_journal(journal: str, formats: str) -> Iterator[str]:
     yield from (f"docs/FORMATS.md, the journal: `{it}`, which is not there" for it in sorted(due - written))
 
 
+def commands_of(altctl: str) -> list[str]:
+    """The words of the program, as its help lists them."""
+    text = find(r"^Commands:\n((?:  .*\n)+)", output(altctl, "--help"))[1]
+    return [it.split()[0] for it in text.splitlines() if it.split()[0] != "help"]
+
+
+def wrong_commands(commands: list[str]) -> Iterator[str]:
+    yield from differences("docs/FORMATS.md", commands, re.findall(r"^\| `altctl (\w+)", FORMATS.read_text(), re.M))
+    yield from differences("docs/altctl.1", commands, re.findall(r"^\.SS altctl (\w+)$", PAGE.read_text(), re.M))
+    there = [it for it in offered("altctl", "") if not it.startswith("-")]
+    yield from differences("clients/bash/altctl.bash", commands, there)
+
+
 def options_of(altctl: str, command: str) -> dict[str, bool]:
     """The options in the help of a command, and whether a value follows each."""
     text = output(altctl, command, "--help").split("\nOptions:")[1]
@@ -211,8 +223,8 @@ def options_in_page(command: str) -> list[str]:
     return re.findall(r"--[\w-]+", text.split(f".B altctl {command}\n")[1].split(".br")[0])
 
 
-def wrong_options(altctl: str) -> Iterator[str]:
-    for command in WITH_OPTIONS:
+def wrong_options(altctl: str, commands: list[str]) -> Iterator[str]:
+    for command in commands:
         due = options_of(altctl, command)
         yield from differences(f"docs/FORMATS.md, altctl {command}", due, options_in_formats(command))
         yield from differences(f"docs/altctl.1, altctl {command}", due, options_in_page(command))
@@ -257,12 +269,13 @@ def main() -> int:
     if "--check" not in sys.argv:
         PAGE.write_text(due)
     lines, setup = read_table()
-    found = [*faults(lines, setup, altctl), *wrong_options(altctl)]
+    commands = commands_of(altctl)
+    found = [*faults(lines, setup, altctl), *wrong_commands(commands), *wrong_options(altctl, commands)]
     if "--check" in sys.argv and due != page:
         found.append("docs/altctl.1: the lines are not those of docs/FORMATS.md: run tools/gate/words.py")
     for it in found:
         print(it)
-    print(f"words: {len(found)} faults" if found else f"words: each place has the {len(lines)} lines and the options")
+    print(f"words: {len(found)} faults" if found else f"words: {len(lines)} lines, words and options are everywhere")
     return 1 if found else 0
 
 

@@ -23,6 +23,7 @@ link ../../../share/zonegrater/clients/python/altctl.py lib/python3/dist-package
 link ../share/zonegrater/desk/altserve bin/altserve
 link ../share/zonegrater/desk/altgis bin/altgis
 644 README.md share/doc/zonegrater/README.md
+644 CHANGELOG.md share/doc/zonegrater/CHANGELOG.md
 END
     [ -z "$has_libraries" ] || cat <<END
 644 made/libaltctl.a lib/libaltctl.a

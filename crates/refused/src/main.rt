@@ -3,7 +3,8 @@
 //! It carries out the commands over disks in memory, by a call for each, as one list, and as lines,
 //! and prints the answers and what the store shows. When it meets a refusal, it checks whether
 //! anything was lost, asks once more, and says on its standard error what was refused. Its output
-//! is the same each time. `tools/faults/refuse_allocations.sh` refuses it one allocation after another.
+//! is the same each time. `tools/faults/refuse_allocations.sh` refuses it one allocation after
+//! another.
 #![tactic(auto)]
 
 mod calls;

@@ -1,0 +1,25 @@
+#!/bin/sh
+# Looks over Python without running it: `tools/gate/python.sh`. pyflakes reads the clients and the scripts, and mypy those
+# whose names have types. What is not installed (Debian's pyflakes3, mypy) is skipped, with a line that says so.
+set -eu
+
+cd "$(dirname -- "$0")/../.."
+status=0
+
+# Runs a checker over files, if it is installed.
+look() {
+    checker=$1
+    shift
+    if command -v "$checker" >/dev/null; then
+        "$checker" "$@" || status=1
+    else
+        echo "python: $checker is not installed: skipped"
+    fi
+}
+
+look pyflakes3 clients/python/*.py tools/*/*.py
+look mypy --python-version 3.9 --cache-dir /dev/null --no-error-summary clients/python/altctl.py clients/python/altstore.py
+look mypy --python-version 3.9 --cache-dir /dev/null --no-error-summary tools/gate/lines.py tools/gate/refusals.py \
+    tools/gate/words.py
+[ "$status" -ne 0 ] || echo 'python: nothing to mend'
+exit "$status"
