@@ -28,7 +28,7 @@ GATHER, GATHER_STEP = 0.1, 20e-6
 READ_SECONDS, LOG_SECONDS = 0.01, 0.005
 # A planner to whom that much of a log is not sent yet has to read it first.
 LOG_BYTES = 256 << 10
-# What is short of for a moment when a connection cannot be accepted.
+# A request that has its turn, and its planner.
 Taken = Tuple[Planner, Request]
 
 
