@@ -60,6 +60,7 @@ else
     try 600 crashes.py
     try 300 space.py
     try 600 failing_device.py
+    try 600 failed_sync.py
     try 1800 refuse_allocations.sh
     try 600 ../desk/test_altserve.py
     try 600 ../desk/test_altgis.py
