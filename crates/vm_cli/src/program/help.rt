@@ -49,7 +49,8 @@ not be read or an output could not be written; 4 where altctl do, or altctl run
 
 /// What `create` does.
 pub const CREATE: &str = "\
-Makes a file with an empty store, and prints the number of its blocks.";
+Makes a file with an empty store, which its owner alone can read and write, and
+prints the number of its blocks.";
 
 /// The file that `create` makes.
 pub const CREATE_FILE: &str = "The file to make, which must not exist";
@@ -156,8 +157,9 @@ share stays shared. The blocks in use lie at the beginning of TO in the order of
 the trees, so it opens quickly. If BLOCKS is less than are in use, the answer is
 13 Full, and no file is made.
 
-Until all was copied and synced, TO shows no store. If a copy fails, it
-is left: remove it.
+TO is for its owner alone to read and write. Up to its last block, the header,
+it shows no store. If a copy fails, it is left as it is: remove it, even if it
+shows one, since it may not last.
 
 A session:
 
@@ -174,7 +176,7 @@ pub const RUN_FILE: &str = "The file, as altctl create has made it";
 
 /// What `--no-lock` does.
 pub const NO_LOCK: &str = "\
-Takes no lock: for a caller that holds it";
+Takes no lock: for a caller that holds it, or where there are no locks";
 
 /// What `--wait` does.
 pub const WAIT: &str = "\
