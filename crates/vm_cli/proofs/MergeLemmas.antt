@@ -120,14 +120,14 @@ module _ {D : Type 0} {members : _} (on : OnCommand) (not : on ≢ Refuse) (alt 
   -- the device failed while they were told
   pub unlisted_merged : answer ≡ Err Device → (new : Store D members) (reply : Reply) → AsksBy (asked_in on (Request.Command (Merge alt settled))) reply mid new
       → AsksBy (asked_in on (Request.MergeAll None alt side settled)) reply old new
-  unlisted_merged is new said_of answers =
-      merged_by on not alt side settled old mid asked_for said.failed said.no_calls stands new [] (λ s. inr (said.any.fault is, refl))
-      (not_failed (has_failed old) (λ failed. let bad : ◌≡◌ {A = Result (List Conflict) Refusal} (Err Device) (Err Failed) = sym is ∙ said.refused failed in cc)) said_of
-      (subst (λ (all : List (Key × Side)). AsksBy (asked_in on (Request.Command (Merge alt all))) said_of mid new) (sym (append-nil settled)) answers)
+  unlisted_merged device later said_of answered =
+      merged_by on not alt side settled old mid asked_for said.failed said.no_calls stands later [] (λ s. inr (said.any.fault device, refl))
+      (not_failed (has_failed old) (λ failed. let bad : ◌≡◌ {A = Result (List Conflict) Refusal} (Err Device) (Err Failed) = sym device ∙ said.refused failed in cc)) said_of
+      (subst (λ (all : List (Key × Side)). AsksBy (asked_in on (Request.Command (Merge alt all))) said_of mid later) (sym (append-nil settled)) answered)
     where
       not_failed : (b : Bool) → (b ≡ true → ⊥) → b ≡ false
       not_failed true no = absurd (no refl)
-      not_failed false no = refl
+      not_failed false _ = refl
 
   pub query_refused : (refusal : Refusal) → answer ≡ Err refusal → refusal ≢ Device → (reply : Reply) → reply_text reply ≡ error_text refusal → (refusal ≢ Failed → ends_talk reply ≡ false) → (refusal ≡ Failed → ends_talk reply ≡ true)
       → AsksBy (asked_in on (Request.MergeAll None alt side settled)) reply old mid

@@ -26,6 +26,6 @@ returns-in_default-for_all g c =
 pub returns : goal.returns
 returns g c =
     all_merged c.args.on_command c.in_default.not-Refuse c.args.alt.now c.args.side c.args.settled c.args.store.now c.conflicts.new.self c.conflicts.result c.conflicts.ensures.query
-    c.in-Ok.conflicts c.in-Ok.is c.reply_to_command.new.store c.reply_to_command.result
-    (subst (λ (all : List (Key × Side)). AsksBy (asked_in c.args.on_command (Request.Command (Merge c.args.alt.now all))) c.reply_to_command.result c.conflicts.new.self c.reply_to_command.new.store)
-    c.in-Ok-for_all.ensures c.reply_to_command.ensures)
+    c.in-Ok.conflicts c.in-Ok.is c.reply_to_command-2.new.store c.reply_to_command-2.result
+    (subst (λ (all : List (Key × Side)). AsksBy (asked_in c.args.on_command (Request.Command (Merge c.args.alt.now all))) c.reply_to_command-2.result c.conflicts.new.self c.reply_to_command-2.new.store)
+    c.in-Ok-for_all.ensures c.reply_to_command-2.ensures)
