@@ -477,7 +477,7 @@ end 1
 > commit
 ok
 END
-checked_free 'check of a store whose long values went' 60
+checked_free 'check of a store whose long values went' 61
 
 # The longest line of an answer: three values of 4,000 bytes of which none stands for itself.
 create longest 64

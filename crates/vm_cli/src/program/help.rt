@@ -71,9 +71,9 @@ larger, and no line makes it smaller. How many blocks a store needs:
     of one path through its tree, from one to eight.
   - Keep a tenth of the blocks spare. Where fewer than 17 are, each change is
     refused: error 13 Full.
-  - A merge wants 17 spare blocks for each record that it changes. 60,000
-    records with 8 designs of 500 changes each, merged and posted one after
-    another, took 79,000 blocks: or let the store grow, by run --grow.
+  - A merge wants 17 spare blocks for each record that came in, or for each
+    change of its own that stays, whichever are fewer. A design without changes
+    merges for nothing. Or let the store grow, by run --grow.
 
 docs/OPERATING.md says more.
 
