@@ -115,11 +115,12 @@ class Measured:
         self.tell(what, f"{answer}: {taken:,} blocks, {1000 * seconds:,.0f} ms")
 
     def large(self) -> None:
+        """More changes than a store of the greatest size has 17 blocks for."""
         chance = random.Random(2)
         made = ["new d01 top", *changes(chance, "d01", 1, own_features("d01"))]
-        file = self.store([*made, *changes(chance, "top", 50_000, range(LOWER))])
+        file = self.store([*made, *changes(chance, "top", 62_000, range(LOWER))])
         session = Session(self.program, file)
-        self.tell_merge("a design of 1 change, after 50,000 of top", session, "d01")
+        self.tell_merge("a design of 1 change, after 62,000 of top", session, "d01")
         session.close()
 
     def twelve(self) -> None:
