@@ -1,7 +1,6 @@
 #!/usr/bin/env python3
 """Loses what a sync that failed did not bring to the device: `tools/faults/failed_sync.py [ALTCTL] [-n ROUNDS]`. If a
-power
-loss after it takes back an acknowledged commit, it says how often and ends with status 1.
+power loss after it takes back an acknowledged commit, it says how often and ends with status 1.
 
 Linux tells once that a sync failed, and from then on counts the blocks as written: the next sync succeeds, though the
 device has nothing of them, while reads still show them. In each round a sync of a session fails so. A second session

@@ -1,7 +1,7 @@
 #!/usr/bin/env python3
 """Measures what merges take: `tools/measure/measure_merges.py [--blocks N] [--part PART] ALTCTL ..` writes a table with a
-column for each
-program. PART is `large`, `twelve`, `hundred` or `year`; without it all are measured. Figures are looked at, never tested.
+column for each program. PART is `large`, `twelve`, `hundred` or `year`; without it all are measured. Figures are looked
+at, never tested.
 
 The network has 220,000 features in 440,000 records, with values of 40 and of 100 bytes. Designs change records of their own, so
 nothing is in conflict. Blocks are counted by `free`, which nothing but taking them changes between two markings, and the blocks that
@@ -116,11 +116,12 @@ class Measured:
         self.tell(what, f"{answer}: {taken:,} blocks, {1000 * seconds:,.0f} ms")
 
     def large(self) -> None:
+        """More changes than a store of the greatest size has 17 blocks for."""
         chance = random.Random(2)
         made = ["new d01 top", *changes(chance, "d01", 1, own_features("d01"))]
-        file = self.store([*made, *changes(chance, "top", 50_000, range(LOWER))])
+        file = self.store([*made, *changes(chance, "top", 62_000, range(LOWER))])
         session = Session(self.program, file)
-        self.tell_merge("a design of 1 change, after 50,000 of top", session, "d01")
+        self.tell_merge("a design of 1 change, after 62,000 of top", session, "d01")
         session.close()
 
     def twelve(self) -> None:
