@@ -126,7 +126,7 @@ module _ {D : Type 0} {members : _} (on : OnCommand) (not : on ≢ Refuse) (alt 
       (subst (λ (all : List (Key × Side)). AsksBy (asked_in on (Request.Command (Merge alt all))) said_of mid later) (sym (append-nil settled)) answered)
     where
       not_failed : (b : Bool) → (b ≡ true → ⊥) → b ≡ false
-      not_failed true no = absurd (no refl)
+      not_failed true never = absurd (never refl)
       not_failed false _ = refl
 
   pub query_refused : (refusal : Refusal) → answer ≡ Err refusal → refusal ≢ Device → (reply : Reply) → reply_text reply ≡ error_text refusal → (refusal ≢ Failed → ends_talk reply ≡ false) → (refusal ≡ Failed → ends_talk reply ≡ true)

@@ -1,4 +1,4 @@
-use Rattle.std.proofs.Common.{List, rules, subst}
+use Rattle.std.proofs.Common.{List, Err, ap, ◌∙◌, rules, subst}
 use Rattle.vm_types.specs.declared.command.Command.TheVariants.{Merge}
 use Rattle.vm_types.specs.declared.command.Side.{Side}
 use Rattle.vm_types.specs.declared.key.Key.{Key}
@@ -16,7 +16,7 @@ returns-in-Err g c =
 pub returns-in-Err-Device : goal.returns-in-Err-Device
 returns-in-Err-Device g c =
     unlisted_merged c.args.on_command c.in_default.not-Refuse c.args.alt.now c.args.side c.args.settled c.args.store.now c.conflicts.new.self c.conflicts.result c.conflicts.ensures.query
-    c.in-Err-Device.is c.reply_to_command.new.store c.reply_to_command.result c.reply_to_command.ensures
+    (c.in-Err-Device.is ∙ ap Err c.in-Err-Device.field-0-is) c.reply_to_command.new.store c.reply_to_command.result c.reply_to_command.ensures
 
 pub returns-in_default-for_all : goal.returns-in_default-for_all
 returns-in_default-for_all g c =
