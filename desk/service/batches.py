@@ -1,174 +1,115 @@
-"""Batches of lines over one store. Each takes effect as a whole or not at all, and is durable before it is answered.
-
-Between two batches the store holds nothing uncommitted. Each commit includes the number of its last batch, as the name of the
-only checkpoint of the alternative `.service`. A checkpoint takes no block, so a full store can still be emptied. The alternative
-is made anew each time, so it keeps no old version of `top` in use."""
+"""Batches of lines over one store. Each takes effect as a whole or not at all, and is durable before it is answered. Batches that
+wait together share a commit."""
 import errno
-import glob
 import os
-import subprocess
 import time
+from typing import Callable, Iterable, List, NamedTuple, Optional, Tuple
 
-from service.journal import Broken, Journal, entry, now, sync_folder
+from service.batch import Batch, refused_place
+from service.entries import Effect, Entries, saved
+from service.journal import Broken, Journal
+from service.journal_log import Filter, Log
 from service.limits import refusal
-from service.lines import OWN, printable
-from service.program import Ended, Program
+from service.lines import OWN
+from service.program import Ended
+from service.rules import Rules
+from service.store import Fatal, Store, stopped
 
-# How often a batch is tried by itself after the program ended at it, and how often a start that a signal ended is tried.
+# How often a batch is tried by itself after the program ended at it.
 TRIES = 3
+FULL = b"error 13 Full"
+DEVICE = b"error 15 Device"
 
 
-class Fatal(Exception):
-    """The store cannot be opened any more, or the journal cannot be written."""
+class Done(NamedTuple):
+    """A batch that was carried out and is not committed yet."""
+
+    number: int
+    batch: Batch
+    answers: List[bytes]
+    effect: Effect
 
 
-class Batch:
-    """Lines of one planner. In the end it has the answers to all of them, or the position and the answer of the one that was
-    refused; the position after the last line stands for `commit`."""
+class Commit(NamedTuple):
+    """A commit that was asked for."""
 
-    def __init__(self, person, lines=(), is_explicit=False):
-        self.person, self.lines, self.is_explicit = person, list(lines), is_explicit
-        self.count, self.size, self.begun = len(self.lines), sum(map(len, self.lines)), time.monotonic()
-        self.answers, self.refused = None, None
+    last: int
+    done: List[Done]
+    entries: Entries
 
-    def hold(self, line):
-        """Adds a line. If an earlier one was refused, the line is only counted."""
-        self.count += 1
-        if self.refused is None:
-            self.lines.append(line)
-            self.size += len(line)
-
-    def refuse(self, place, answer):
-        """Notes the refused line, and forgets all lines."""
-        if self.refused is None:
-            self.refused = place, answer
-            self.lines, self.size = [], 0
-
-    def take_answers(self, answers, fault):
-        """Takes the program's answers to its lines, and the refusal of the lines that the service added, if any. Returns how many
-        answers there were."""
-        place = next((n for n, it in enumerate(answers) if it.startswith(b"error ")), None)
-        if place is not None:
-            self.refuse(place, answers[place])
-        elif fault is not None:
-            self.refuse(self.count, fault)
-        else:
-            self.answers = answers
-        return len(answers)
-
-    def is_settled(self):
-        return self.answers is not None or self.refused is not None
-
-    def text(self):
-        """The answer to the planner."""
-        if self.refused is None:
-            return b"".join([b"%s\n" % it for it in self.answers or []]) + b"ok\n" * self.is_explicit
-        place, answer = self.refused
-        if not self.is_explicit:
-            return answer + b"\n"
-        others = refusal(91, place + 1)
-        return b"".join([b"%s\n" % (answer if at == place else others) for at in range(self.count + 1)])
+    def settle(self) -> None:
+        for it in self.done:
+            it.batch.answers = it.answers
 
 
 class Batches:
-    """The store of a file whose lock the service holds, with the program and the journal."""
+    """The store with its journal, and the rules in force."""
 
-    def __init__(self, file, altctl, options, lock, say):
-        self.file, self.altctl, self.lock = file, altctl, lock
-        self.words = [altctl, "run", *options, "--", file]
-        self.program, self.parents, self.kept = None, {}, 0
-        self.has_rollback, self.has_copy = False, True
-        self.backups = f"{file}.backups"
-        for it in glob.glob(f"{glob.escape(self.backups)}/.*"):
-            os.unlink(it)  # It is part of a backup, and the service was killed meanwhile.
-        self.journal = Journal(f"{file}.journal", say)
-        self._open()
-        if self.kept >= self.journal.next:
+    def __init__(self, store: Store, rules: Rules, say: Callable[[object], None]):
+        self.store, self.rules, self.say = store, rules, say
+        self.path = f"{store.file}.journal"
+        self.journal = Journal(self.path, say)
+        if store.kept >= self.journal.next:
             found = self.journal.next - 1
-            say(f"{file}.journal ends at batch {found}, and the store holds batch {self.kept}: it goes on after that")
-        self.journal.opened(self.kept)
+            say(f"{self.path} ends at batch {found}, and the store holds batch {store.kept}: it goes on after that")
+        self.journal.opened(store.kept)
+        self.log = Log(self.path, writes=True)
+        self.owners = f"{store.file}.owners"
+        self._find_makers()
+        self.changes = -1
+        # The batches that were sent last, and the commit that was asked for and has no answer yet.
+        self.sent: List[Batch] = []
+        self.asked: Optional[Commit] = None
+        # How long the last commit and a line of its batches took, for a group that is as long as its commit.
+        self.commit_seconds, self.line_seconds = 0.01, 20e-6
 
-    # --- the program ------------------------------------------------------------------------------
+    # --- who made which alternative ---------------------------------------------------------------
 
-    def _open(self):
-        """Starts the program, and finds out which batch is the last one in the store."""
-        for _ in range(TRIES):
+    def _find_makers(self) -> None:
+        """Finds out who made the alternatives and checkpoints: from the file that the last service wrote, and the journal since."""
+        number, makers = saved(self.owners)
+        entries = Entries({}, makers)
+        for text in self.log.entries(Filter(after=number), self.store.kept) if number else ():
+            for line in text.splitlines():
+                if line.startswith(b"entry "):
+                    _, _, _, who, verb, *words = line.split(b" ", 7)
+                    entries.note(verb, words, who.decode())
+        entries.parents = self.store.entries.parents
+        entries.forget_missing(self.store.checkpoints())
+        self.store.entries = entries
+
+    def save(self) -> None:
+        """Writes down who made the alternatives, if that has changed."""
+        changes = self.store.entries.changes
+        if changes != self.changes:
             try:
-                self.program = Program(self.words, self.lock)
-                self.has_rollback = self.program.ask([b"rollback"]) == [b"ok"]
-                self._look()
-                if OWN not in self.parents:
-                    self._begin()
-                return
-            except OSError as fault:
-                raise Fatal(f"{self.altctl} cannot be started: {fault}") from None
-            except Ended:
-                status = self.program.end()
-                if status >= 0:
-                    break
-        raise Fatal(f"altctl ended with status {status} at its start")
+                self.store.entries.save(self.owners, self.store.kept)
+                self.changes = changes
+            except OSError:
+                pass  # There is no space: it is tried again.
 
-    def _look(self):
-        """Reads the alternatives, and the number of the last batch."""
-        self.parents = {name: parent for _, name, parent in self.rows(b"alts")}
-        if OWN not in self.parents:
-            self.kept = 0
-            return
-        names = [name for _, name in self.rows(b"checks " + OWN)]
-        if len(names) != 1 or not names[0].isdigit():
-            raise Fatal(f"the alternative {OWN.decode()} is not one that a service has made")
-        self.kept = int(names[0])
-
-    def rows(self, line):
-        text = bytearray()
-        self.program.ask_rows(line, text.extend)
-        return [tuple(it.split(b" ")) for it in bytes(text).split(b"\n")[:-2]]
-
-    def _begin(self):
-        """Makes the service's own alternative."""
-        answers = self.program.ask([b"new %s top" % OWN, b"checkpoint %s %d" % (OWN, self.kept), b"commit"])
-        if answers != [b"ok"] * 3:
-            self.program.end()
-            raise Fatal(f"the alternative {OWN.decode()} cannot be made: {b', '.join(answers).decode()}")
-        self.parents[OWN] = b"top"
-
-    def _reopen(self):
-        """Starts the program again, which drops everything uncommitted, and journals which batches are in the store."""
-        self.program.end(kills=True)
-        self._open()
-        try:
-            self.journal.opened(self.kept)
-        except (OSError, Broken) as fault:
-            raise Fatal(f"{self.file}.journal: {fault}") from None
-
-    def _undo(self):
-        """Drops everything uncommitted."""
-        if self.has_rollback and self.program.ask([b"rollback"]) == [b"ok"]:
-            self._look()
-        else:
-            self.program.end()
-            self._open()
-
-    def end(self):
-        status = self.program.end()
+    def end(self) -> int:
+        status = self.store.end()
+        self.save()
         self.journal.close()
+        self.log.close()
         return status
 
     # --- queries ----------------------------------------------------------------------------------
 
-    def ask(self, lines):
+    def ask(self, lines: List[bytes]) -> List[bytes]:
         """The answers to queries that are answered with one line each."""
         for _ in range(TRIES):
             try:
-                return self.program.ask(lines)
+                return self.store.program.ask(lines)
             except Ended:
                 self._reopen()
-        return [refusal(99)] * len(lines)
+        return stopped(len(lines))
 
-    def ask_rows(self, line, take):
+    def ask_rows(self, line: bytes, take: Callable[[bytes], object]) -> bool:
         """Passes the answer to a query on as it comes. Returns False if the program ended in the middle of it."""
         try:
-            self.program.ask_rows(line, take)
+            self.store.program.ask_rows(line, take)
             return True
         except Ended:
             self._reopen()
@@ -176,134 +117,176 @@ class Batches:
 
     # --- batches ----------------------------------------------------------------------------------
 
-    def carry_out(self, batches):
-        """Carries out batches and commits them together. If there are several, each has one line."""
-        self._try(batches)
-        for batch in batches:
-            # If the program ended, any of them may be the reason: those not settled are tried one by one.
-            for _ in range(TRIES):
-                if not batch.is_settled():
-                    self._try([batch])
-            if not batch.is_settled():
-                batch.refuse(batch.count, refusal(99))
-
-    def _try(self, batches):
-        """Carries out batches. If the program ends, those that have no effect and no refusal stay unsettled."""
-        last = self.journal.next + len(batches) - 1
+    def carry_out(self, batches: List[Batch]) -> None:
+        """Carries out batches and commits them together. All of them are settled then, even if it raises Fatal."""
         try:
-            self._attempt(batches, last)
-        except Ended as ended:
-            is_asked = self.journal.next > last
-            self._reopen()
-            if is_asked and self.kept == last:
-                return
-            for batch in batches:
-                batch.answers = None
-            settle_failed(batches, ended.answers, is_asked)
+            for it in batches:
+                self._look_at_rights(it)
+            doubtful = [it for it in open_ones(batches) if it.is_doubtful]
+            for it in doubtful if len(batches) > 1 else ():
+                # One that is refused would have all others carried out again.
+                self._try(self._probe, [it])
+            self._try(self._attempt, open_ones(batches))
+            for batch in open_ones(batches):
+                # If the program ended, any of them may be the reason: those not settled are tried one by one.
+                for _ in range(TRIES):
+                    self._try(self._attempt, open_ones([batch]))
+                batch.refuse_if_open(refusal(99))
+        except Fatal:
+            unsure = [it.batch for it in self.asked.done] if self.asked else []
+            for it in batches:
+                it.refuse_if_open(refusal(101 if it in unsure else 99))
+            raise
 
-    def _attempt(self, batches, last):
-        lines = [line for batch in batches for line in batch.lines]
-        stamp = [b"drop " + OWN, b"new %s top" % OWN, b"checkpoint %s %d" % (OWN, last)]
-        answers = self.program.ask(lines + stamp)
-        fault = next((it for it in answers[len(lines) :] if it != b"ok"), None)
-        at = 0
-        for batch in batches:
-            at += batch.take_answers(answers[at : at + len(batch.lines)], fault)
-        done = [(number, it) for number, it in enumerate(batches, self.journal.next) if it.refused is None]
-        if done:
-            self._commit(done, last)
-        elif fault or len(lines) > len(batches):
-            # A refused line changes nothing, but earlier lines of its batch may have.
-            self._undo()
-
-    def _commit(self, done, last):
-        try:
-            time = now()
-            self.journal.write([self._entry(number, time, batch) for number, batch in done], last)
-        except Broken as fault:
-            raise Fatal(f"{self.file}.journal: {fault}") from None
-        except OSError as fault:
-            self._undo()
-            for _, batch in done:
-                batch.refuse(batch.count, refusal(97, errno.errorcode[fault.errno]))
+    def _look_at_rights(self, batch: Batch) -> None:
+        """Refuses a batch whose planner no longer has a right that it needs."""
+        if batch.rules is self.rules:
             return
-        answers = self.program.ask([b"commit"])
-        if answers != [b"ok"]:
-            raise Ended(answers)
-        self.kept = last
-        self.journal.done(last)
-
-    def _entry(self, number, time, batch):
-        """The journal line of a batch that was carried out. It also brings `parents` up to date."""
-        touched, records = set(), 0
-        for line, answer in zip(batch.lines, batch.answers):
-            verb, *words = line.split(b" ")
-            if verb in (b"put", b"remove"):
-                records += 1
-            elif verb == b"merge":
-                records += int(answer.split(b" ")[1])
-            elif verb == b"new":
-                self.parents[words[0]] = words[1]
-            elif verb == b"drop":
-                del self.parents[words[0]]
-            elif verb == b"post":
-                touched.add(self.parents[words[0]].decode())
-            if words and verb != b"grow":
-                touched.add(words[0].decode())
-        return entry(number, time, batch.person, touched, records, map(printable, batch.lines))
-
-    # --- copies -----------------------------------------------------------------------------------
-
-    def backup(self, name):
-        """Copies the store into FILE.backups. The copy gets its name only after it has been synced."""
-        part = f"{self.backups}/.{name}.{os.getpid()}"
-        begun = time.monotonic()
-        try:
-            os.makedirs(self.backups, mode=0o700, exist_ok=True)
-            self._copy(part)
-            size = synced(part)
-            os.replace(part, f"{self.backups}/{name}")
-            sync_folder(part)
-        except OSError as fault:
-            if os.path.lexists(part):
-                os.unlink(part)
-            return refusal(98, errno.errorcode.get(fault.errno, "EIO"))
-        return b"ok %d %.3f" % (size, time.monotonic() - begun)
-
-    def _copy(self, part):
-        """Copies by the program if it can, under the lock that is held here, else the file as it is, which holds nothing uncommitted."""
-        if self.has_copy:
-            status = quietly([self.altctl, "copy", "--no-lock", "--", self.file, part])
-            self.has_copy = status != 2
-            if status == 0:
+        for place, line in enumerate(batch.lines):
+            refused = self.rules.refusal_of(batch.person, line.split(b" ", 3), {})
+            if refused is not None:
+                batch.refuse(place, refused)
                 return
-        if self.has_copy or quietly(["cp", "--reflink=auto", "--", self.file, part]):
-            raise OSError(errno.EIO, "it could not be copied")
+
+    def _try(self, work: Callable[[List[Batch]], None], batches: List[Batch]) -> None:
+        """Has batches carried out. If the program ends, those that have no effect and no refusal stay open."""
+        if not batches:
+            return
+        self.asked = None
+        try:
+            work(batches)
+        except Ended as ended:
+            self._reopen()
+            asked = self.asked
+            if asked is None:
+                refuse_last(self.sent, ended.answers)
+            elif self.store.kept == asked.last:
+                self.store.entries = asked.entries
+                asked.settle()
+        self.asked = None
+
+    def _reopen(self) -> None:
+        """Starts the program again, and journals which batches are in the store."""
+        self.store.reopen()
+        try:
+            self.journal.opened(self.store.kept)
+        except (OSError, Broken) as fault:
+            raise Fatal(f"{self.path}: {fault}") from None
+
+    def _probe(self, batches: List[Batch]) -> None:
+        """Carries out one batch and takes it back, so it is refused if it would be."""
+        self.sent = batches
+        answers = self.store.program.ask(batches[0].lines)
+        self._judge(0, batches[0], answers, self.store.entries.copy(), False)
+        self.store.undo()
+
+    def _attempt(self, batches: List[Batch]) -> None:
+        """Carries out batches, until none of them is refused, and commits these."""
+        while batches:
+            begun = time.monotonic()
+            last = self.journal.next + len(batches) - 1
+            lines = [line for batch in batches for line in batch.lines]
+            stamp = [b"drop " + OWN, b"new %s top" % OWN, b"checkpoint %s %d" % (OWN, last)]
+            self.sent = batches
+            answers = self.store.program.ask(lines + stamp)
+            fault = next((it for it in answers[len(lines) :] if it != b"ok"), None)
+            entries = self.store.entries.copy()
+            done = self._judged(batches, answers, entries) if fault is None else None
+            if done:
+                self.line_seconds += 0.1 * ((time.monotonic() - begun) / (len(lines) + 3) - self.line_seconds)
+                self._commit(Commit(last, done, entries))
+                return
+            # What was refused may have had an effect, and the number of the next batch is not to be seen.
+            self.store.undo()
+            if fault is not None and len(batches) == 1:
+                batches[0].refuse(batches[0].count, fault)
+            elif fault is not None:
+                return  # They are tried one by one.
+            batches = [it for it in open_ones(batches) if not it.is_alone]
+
+    def _judged(self, batches: List[Batch], answers: List[bytes], entries: Entries) -> Optional[List[Done]]:
+        """The batches that were carried out; None if one was refused that may have had an effect, so that others have to be again."""
+        done, at = [], 0
+        for number, batch in enumerate(batches, self.journal.next):
+            its = answers[at : at + len(batch.lines)]
+            at += len(its)
+            effect, place = self._judge(number, batch, its, entries, len(batches) > 1)
+            if effect is not None and place is None:
+                done.append(Done(number, batch, its, effect))
+            elif effect is not None or len(its) > 1:
+                return None
+        return done
+
+    def _judge(self, number, batch, answers, entries, is_among_others) -> Tuple[Optional[Effect], Optional[int]]:
+        """Refuses a batch if a line of it was refused or lacks a right. Returns its effect, if it has one, and the place of that line."""
+        place, effect = refused_place(answers), None
+        if place is None:
+            effect = entries.take(batch, answers, self.rules)
+            if effect.refused is None:
+                return effect, None
+            place, refused = effect.refused
+        elif answers[place] == FULL and is_among_others:
+            # By itself it may find room: what the others give back is free only after their commit.
+            batch.is_alone = True
+            return None, place
+        else:
+            refused = answers[place]
+        batch.has_disturbed = effect is not None or len(answers) > 1
+        batch.refuse(place, refused)
+        return effect, place
+
+    def _commit(self, commit: Commit) -> None:
+        self._look_at_files()
+        try:
+            self.journal.write([(it.number, it.batch, it.effect.touched, it.effect.records) for it in commit.done], commit.last)
+        except Broken as fault:
+            refuse_all(commit.done, refusal(97, "EIO"))
+            raise Fatal(f"{self.path}: {fault}") from None
+        except OSError as fault:
+            self.store.undo()
+            refuse_all(commit.done, refusal(97, errno.errorcode[fault.errno]))
+            return
+        self.asked = commit
+        begun = time.monotonic()
+        [answer] = self.store.program.ask([b"commit"])
+        if answer == DEVICE:
+            # The system may show what the device does not have, so nothing is looked up now.
+            raise Fatal("the device failed at a commit. The next start shows what it has")
+        if answer != b"ok":
+            refuse_all(commit.done, answer)
+            self._reopen()  # The journal has batches now that the store does not have.
+            return
+        commit.settle()
+        self.store.entries, self.store.kept = commit.entries, commit.last
+        self.commit_seconds += 0.1 * (time.monotonic() - begun - self.commit_seconds)
+        self.journal.done(commit.last)
+
+    def _look_at_files(self) -> None:
+        """Nothing is committed to a file that has lost its name."""
+        for path, is_there in (self.store.file, self.store.is_in_place()), (self.path, self.journal.is_in_place()):
+            if not is_there:
+                raise Fatal(f"{path} was moved, removed or replaced while the service was at work")
 
 
-def settle_failed(batches, answers, is_asked):
-    """If the program ended after refusing a line, refuses the batch of that line, or all of them if it refused the commit."""
+def open_ones(batches: Iterable[Batch]) -> List[Batch]:
+    return [it for it in batches if not it.is_settled()]
+
+
+def refuse_all(done: Iterable[Done], answer: bytes) -> None:
+    """Refuses batches at their commit."""
+    for it in done:
+        it.batch.refuse(it.batch.count, answer)
+
+
+def refuse_last(batches: List[Batch], answers: List[bytes]) -> None:
+    """If the program ended after it refused a line, refuses the batch of that line, or all of them if the line was the service's."""
     if not answers or not answers[-1].startswith(b"error "):
         return
     place = len(answers) - 1
     for batch in batches:
-        if not is_asked and place < batch.count:
+        if place < batch.count:
             batch.refuse(place, answers[-1])
             return
         place -= batch.count
     for batch in batches:
-        batch.refuse(batch.count, answers[-1])
-
-
-def quietly(words):
-    return subprocess.run(words, stdin=subprocess.DEVNULL, stdout=subprocess.DEVNULL, stderr=subprocess.DEVNULL).returncode
-
-
-def synced(path):
-    """Syncs a file, and returns its size."""
-    file = os.open(path, os.O_RDONLY)
-    try:
-        os.fsync(file)
-        return os.fstat(file).st_size
-    finally:
-        os.close(file)
+        batch.refuse_if_open(answers[-1])

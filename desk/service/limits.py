@@ -1,4 +1,4 @@
-"""The limits and refusals of the service, as docs/PLANNERS.md lists them."""
+"""The limits and refusals of the service, as docs/PLANNERS.md lists them. One user may take a quarter of what all share."""
 
 # The longest line that the program takes.
 LINE_BYTES = 1_048_576
@@ -7,24 +7,31 @@ BATCH_LINES = 100_000
 BATCH_BYTES = 64 << 20
 # How many seconds a batch may be held.
 HELD_SECONDS = 600
-# Held and waiting lines of all planners together.
-HELD_BYTES = 512 << 20
-# Connections, and those of one user.
-PLANNERS = 256
-PLANNERS_OF_ONE = 128
+# Held and waiting lines of all planners together. Each line counts LINE_COST more than its bytes, as it does in memory.
+HELD_BYTES = 320 << 20
+LINE_COST = 64
+# Connections.
+PLANNERS = 1024
+# What is read from a connection at once. No more is read until its whole lines have been carried out.
+RECEIVED_BYTES = 32 << 10
 # Batches in one commit, and how many of them may be of one planner.
 GROUP = 1024
 GROUP_OF_ONE = 64
-# The service stops reading from a planner who has this many lines waiting.
-WAITING_LINES = 1024
-# Unread answers of a planner that are kept in memory; the rest goes to a temporary file.
+# Lines in one commit at least and at most: as many as take about as long as the commit. A batch of more lines than
+# SMALL_LINES has a commit of its own.
+GROUP_LINES = 256, 4096
+SMALL_LINES = 64
+SMALL_BYTES = 64 << 10
+# Unread answers that are kept in memory: of a planner, and of all of them. The rest goes to temporary files, up to this size.
 UNREAD_BYTES = 1 << 20
+UNREAD_BYTES_OF_ALL = 64 << 20
+UNREAD_FILES = 16 << 30
 # After so long without progress in reading answers a planner is disconnected.
 UNREAD_SECONDS = 60
-# Processes that read the journal for planners at once.
-LOGS = 4
 # How long a start waits for the lock: the program of a service that was killed ends a moment later.
 LOCK_SECONDS = 30
+# Alternatives and checkpoints of one user, unless a rule says more.
+ENTRIES = 127
 
 REFUSALS = {
     90: "Denied",
@@ -38,10 +45,17 @@ REFUSALS = {
     98: "NoBackup",
     99: "Stopped",
     100: "TooManyPlanners",
+    101: "Unsure",
+    102: "TooManyEntries",
 }
 
 
-def refusal(number, *details):
+def of_one_user(limit: int) -> int:
+    """How much of a limit one user may take."""
+    return limit // 4
+
+
+def refusal(number: int, *details: object) -> bytes:
     """The answer to a line that the service itself refuses."""
     return " ".join(["error", str(number), REFUSALS[number], *map(str, details)]).encode()
 

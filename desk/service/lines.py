@@ -1,27 +1,49 @@
 """What a line is: a query of the store, a change and the right it requires, or a word of the service."""
 import re
+from typing import List, NamedTuple, Optional
 
 # The alternative whose only checkpoint names the last batch that is in the store.
 OWN = b".service"
 
-# Queries answered with one line, and queries answered with rows. A program that does not know one answers BadLine.
-SINGLE = {b"get", b"free", b"blocks", b"tally"}
-ROWS = {b"list", b"alts", b"checks", b"changes", b"conflicts", b"diff", b"next"}
 
-# The right that each change requires.
-RIGHTS = {
-    b"put": "change",
-    b"remove": "change",
-    b"checkpoint": "change",
-    b"uncheck": "change",
-    b"back": "change",
-    b"merge": "change",
-    b"new": "change",
-    b"post": "post",
-    b"drop": "drop",
-    b"reclaim": "reclaim",
-    b"grow": "grow",
+class Line(NamedTuple):
+    """The words after the verb, whether it is a query with one line of answer, one with rows, or a change, and the right that a
+    change requires."""
+
+    words: str
+    kind: str
+    right: Optional[str] = None
+
+
+# Each line of the store that the service passes on. docs/FORMATS.md says what they do.
+LINES = {
+    b"get": Line("AT TABLE NUMBER", "query"),
+    b"free": Line("", "query"),
+    b"blocks": Line("", "query"),
+    b"tally": Line("ALT", "query"),
+    b"list": Line("AT [TABLE [FIRST LAST]]", "rows"),
+    b"next": Line("AT TABLE NUMBER COUNT", "rows"),
+    b"alts": Line("", "rows"),
+    b"checks": Line("ALT", "rows"),
+    b"changes": Line("ALT", "rows"),
+    b"conflicts": Line("ALT", "rows"),
+    b"diff": Line("AT AT [TABLE [FIRST LAST]]", "rows"),
+    b"put": Line("ALT TABLE NUMBER VALUE", "change", "change"),
+    b"remove": Line("ALT TABLE NUMBER", "change", "change"),
+    b"checkpoint": Line("ALT NAME", "change", "change"),
+    b"uncheck": Line("ALT NAME", "change", "change"),
+    b"back": Line("ALT NAME", "change", "change"),
+    b"merge": Line("ALT [SETTLEMENT ..]", "change", "change"),
+    b"new": Line("NAME PARENT [CHECKPOINT]", "change", "change"),
+    b"post": Line("ALT", "change", "post"),
+    b"drop": Line("ALT", "change", "drop"),
+    b"reclaim": Line("", "change", "reclaim"),
+    b"grow": Line("BLOCKS", "change", "grow"),
 }
+
+SINGLE = {verb for verb, line in LINES.items() if line.kind == "query"}
+ROWS = {verb for verb, line in LINES.items() if line.kind == "rows"}
+RIGHTS = {verb: line.right for verb, line in LINES.items() if line.kind == "change"}
 OF_THE_STORE = {"reclaim", "grow", "backup"}
 
 # Lines that the service itself answers.
@@ -30,25 +52,33 @@ OWN_WORDS = {b"begin", b"commit", b"abort", b"rollback", b"whoami", b"backup", b
 NAME = re.compile(rb"[A-Za-z0-9_.-]{1,32}")
 
 
-def words_of(line):
-    """The words of a line; none if the line has no answer."""
+def words_of(line: bytes) -> List[bytes]:
+    """The words of a line, as the program reads it: one CR at its end does not count, and only spaces separate words. None if the
+    line has no answer."""
     words = [it for it in line.removesuffix(b"\r").split(b" ") if it]
     return [] if words and words[0].startswith(b"#") else words
 
 
-def alternative_of(words):
+def line_of(words: List[bytes]) -> bytes:
+    """The line that the program reads as these words. A CR that belongs to the last word has another one after it."""
+    line = b" ".join(words)
+    return line + b"\r" if line.endswith(b"\r") else line
+
+
+def alternative_of(words: List[bytes]) -> Optional[bytes]:
     """The alternative that a change requires its right for: None if the right is one of the store as a whole, b"" if the line
-    does not name one."""
+    does not name one, or `new` no parent."""
     if RIGHTS[words[0]] in OF_THE_STORE:
         return None
-    return words[1] if len(words) > 1 and NAME.fullmatch(words[1]) else b""
+    names = words[1:3] if words[0] == b"new" else words[1:2]
+    return words[1] if names and all(map(NAME.fullmatch, names)) else b""
 
 
-def names_own(words):
+def names_own(words: List[bytes]) -> bool:
     """Whether a change names the service's own alternative."""
     return OWN in words[1 : 3 if words[0] == b"new" else 2]
 
 
-def printable(line):
-    """A line as text. Bytes that are not printable, which only a value can have, are written with `%`."""
-    return re.sub(rb"[^ -~]", lambda it: b"%%%02X" % it[0][0], line).decode("ascii")
+def printable(line: bytes) -> str:
+    """A line for the program as text. Bytes that are not printable, which only a value can have, are written with `%`."""
+    return re.sub(rb"[^ -~]", lambda it: b"%%%02X" % it[0][0], line.removesuffix(b"\r")).decode("ascii")

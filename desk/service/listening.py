@@ -12,7 +12,7 @@ HANDED_OVER = 3
 
 
 class Occupied(Exception):
-    """Something else has the path of the socket."""
+    """Something else has the path of the socket, or there is no such group."""
 
 
 @contextlib.contextmanager
@@ -32,7 +32,10 @@ def listening(path, group=None):
         finally:
             os.umask(before)
         if group is not None:
-            shutil.chown(path, group=group)
+            try:
+                shutil.chown(path, group=group)
+            except LookupError:
+                raise Occupied(f"{path}: there is no group {group}") from None
             os.chmod(path, 0o660)
         listener.listen(limits.PLANNERS)
         made = os.stat(path).st_ino

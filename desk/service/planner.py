@@ -1,245 +1,262 @@
-"""A connected planner: the lines that arrive, and the answers that wait to be sent."""
-import errno
+"""A connected planner: the lines that arrive, the batch that is held, and the requests that come of them."""
 import selectors
-import tempfile
+import socket
 import time
-from collections import deque
+from typing import List, Optional, Union
 
 from service import limits
-from service.batches import Batch
+from service.batch import Batch
 from service.limits import BAD_LINE, LONG_LINE, refusal
-from service.lines import OWN, OWN_WORDS, RIGHTS, ROWS, SINGLE, alternative_of, names_own, words_of
+from service.lines import OWN_WORDS, RIGHTS, ROWS, SINGLE, alternative_of, line_of, words_of
+from service.unread import Unread
 
 # How many decisions on rights are remembered for a planner.
-MOST_DENIALS = 1000
-
-# A planner waits for these, in the order of the lines: an answer that is known already (bytes), a Batch, a Query or a Word.
+MOST_ALLOWED = 1000
+# For how many batches a planner of whom one was refused is doubtful.
+DOUBT = 16
 
 
 class Query:
-    def __init__(self, line, has_rows):
+    def __init__(self, line: bytes, has_rows: bool):
         self.line, self.has_rows = line, has_rows
 
 
 class Word:
     """A line that the service itself answers."""
 
-    def __init__(self, words):
+    def __init__(self, words: List[bytes]):
         self.words = words
 
 
-class Unread:
-    """Answers that are not sent yet: the first in memory, and if there are many, the rest in a temporary file."""
+class Forgotten:
+    """The lines of a batch that was forgotten, and the line that ended it, if there was one."""
 
-    def __init__(self):
-        self.memory, self.file, self.begin, self.end = bytearray(), None, 0, 0
+    def __init__(self, count: int, answer: bytes, last: bytes):
+        self.count, self.answer, self.last = count, answer, last
 
-    def add(self, text):
-        if self.file is None and len(self.memory) + len(text) <= limits.UNREAD_BYTES:
-            self.memory += text
-            return
-        if self.file is None:
-            self.file, self.begin, self.end = tempfile.TemporaryFile(buffering=0), 0, 0
-        self.file.seek(self.end)
-        written = self.file.write(text)
-        self.end += written
-        if written < len(text):
-            raise OSError(errno.ENOSPC, "no space for unread answers")
+    def text(self) -> bytes:
+        return (self.answer + b"\n") * self.count + self.last
 
-    def send(self, connection):
-        """Sends what the other end takes now, and returns how many bytes that was."""
-        total = 0
-        while self.memory:
-            try:
-                sent = connection.send(self.memory)
-            except BlockingIOError:
-                break
-            del self.memory[:sent]
-            total += sent
-            if not self.memory and self.file is not None:
-                self._refill()
-        return total
 
-    def _refill(self):
-        self.file.seek(self.begin)
-        self.memory += self.file.read(limits.UNREAD_BYTES)
-        self.begin += len(self.memory)
-        if self.begin == self.end:
-            self.file.close()
-            self.file = None
-
-    def __bool__(self):
-        return bool(self.memory)
-
-    def close(self):
-        self.memory.clear()
-        if self.file is not None:
-            self.file.close()
+# A planner waits for one of these, or for an answer that is known already, with its line feed.
+Request = Union[bytes, Batch, Forgotten, Query, Word]
 
 
 class Planner:
-    def __init__(self, server, connection, person):
-        self.server, self.connection, self.person = server, connection, person
-        self.rest, self.skips, self.has_ended, self.is_closed = b"", False, False, False
-        self.requests, self.batch, self.denials = deque(), None, {}
-        self.unread, self.read_last = Unread(), 0.0
-        self.job, self.watched = None, 0
+    """Its lines stay as they came until they are needed: only the lines of a batch that is held are taken at once."""
 
-    def handle(self, events):
+    def __init__(self, server, connection: socket.socket, person):
+        self.server, self.connection, self.person = server, connection, person
+        # What has arrived, where the first line in it begins, and how far it was searched for the end of a line.
+        self.text, self.at, self.sought = bytearray(), 0, 0
+        # The refusal that a line gets whose bytes are not kept.
+        self.skips: Optional[bytes] = None
+        # No more lines come; all lines are taken; nobody reads the answers; all is over.
+        self.has_ended, self.has_finished, self.is_deaf, self.is_closed = False, False, False, False
+        self.first: Optional[Request] = None
+        self.batch: Optional[Batch] = None
+        self.allowed, self.allowed_by = {}, None
+        self.unread, self.read_last = Unread(server.users, person.uid), 0.0
+        self.job, self.watched, self.counted, self.doubt = None, 0, 0, 0
+
+    def handle(self, events: int) -> None:
         if events & selectors.EVENT_READ:
             self.receive()
-        if events & selectors.EVENT_WRITE or self.has_ended or len(self.requests) >= limits.WAITING_LINES:
-            self.send()
+        self.send()
 
     # --- lines that arrive ------------------------------------------------------------------------
 
-    def receive(self):
+    def receive(self) -> None:
         try:
-            came = self.connection.recv(64 << 10)
+            came = self.connection.recv(limits.RECEIVED_BYTES)
         except BlockingIOError:
             return
         except OSError:
-            self.close()
-            return
-        if not came:
-            self._end()
-            return
-        if self.skips or len(self.rest) + len(came) > limits.LINE_BYTES:
-            self._receive_long(came)
-            return
-        *lines, self.rest = (self.rest + came).split(b"\n")
-        for line in lines:
-            self._take(line)
+            came = b""  # The other end was closed with answers unread. The lines before that count.
+        self.has_ended = not came
+        del self.text[: self.at]
+        self.sought, self.at = self.sought - self.at, 0
+        if self.skips is not None:
+            end = came.find(b"\n")
+            came = came[end:] if end >= 0 else b""
+        self.text += came
+        if self.peek() is None and self.skips is None:
+            self._limit_line()
+        self._count_text()
 
-    def _receive_long(self, came):
-        """Like `receive`, if a line may be too long: nothing beyond the limit is kept."""
-        *lines, rest = came.split(b"\n")
-        for line in lines:
-            if self.skips or len(self.rest) + len(line) > limits.LINE_BYTES:
+    def _limit_line(self) -> None:
+        """Keeps nothing of an unfinished line that is too long, or too much beside all that its user has waiting."""
+        size = len(self.text) - self.at
+        is_long = size > limits.LINE_BYTES
+        if is_long or size > limits.RECEIVED_BYTES and not self.server.users.may_hold(self.person.uid, size - self.counted):
+            self.skips = LONG_LINE if is_long else refusal(94)
+            self.text, self.at, self.sought = bytearray(), 0, 0
+
+    def _count_text(self) -> None:
+        """What waits here counts if it is more than was received at once."""
+        first = self.first
+        line = first if isinstance(first, bytes) else first.line if isinstance(first, Query) else b"".join(getattr(first, "words", ()))
+        size = len(self.text) - self.at + (first.bytes if isinstance(first, Batch) and not first.is_explicit else len(line))
+        size = size if size > limits.RECEIVED_BYTES else 0
+        self.server.users.hold(self.person.uid, size - self.counted)
+        self.counted = size
+
+    def peek(self) -> Optional[Request]:
+        """The request that is next, if there is one."""
+        while self.first is None and not self.is_closed:
+            end = self.text.find(b"\n", self.sought)
+            if end < 0:
+                self.sought = len(self.text)
+                if self.has_ended and not self.has_finished:
+                    self._finish()
+                break
+            line = bytes(self.text[self.at : end])
+            self.at = self.sought = end + 1
+            if self.skips is not None:
+                skips, self.skips = self.skips, None
+                self._refuse(skips)
+            elif len(line) > limits.LINE_BYTES:
                 self._refuse(LONG_LINE)
             else:
-                self._take(self.rest + line)
-            self.rest, self.skips = b"", False
-        self.skips = self.skips or len(self.rest) + len(rest) > limits.LINE_BYTES
-        self.rest = b"" if self.skips else self.rest + rest
+                self._take(line)
+        return self.first
 
-    def _end(self):
+    def _finish(self) -> None:
         """The input has ended. An unfinished line is not carried out, as it may be the beginning of a longer one."""
-        self.has_ended = True
-        if self.rest or self.skips:
+        self.has_finished = True
+        if len(self.text) > self.at or self.skips is not None:
             self._refuse(refusal(96))
+        self.text, self.at, self.sought, self.skips = bytearray(), 0, 0, None
         if self.batch is not None:
             self._forget(refusal(92))
 
-    def _take(self, line):
+    def _take(self, line: bytes) -> None:
         words = words_of(line)
-        if not words or self.is_closed:
+        if not words:
             return
         verb = words[0]
         if self.batch is not None:
             self._hold(verb, words)
+        elif self.is_deaf and verb not in RIGHTS and words != [b"begin"]:
+            return  # It would only be answered.
         elif verb in RIGHTS:
-            self._add(self._refusal_of(words) or Batch(self.person, [b" ".join(words)]))
+            refused = self._refusal_of(words)
+            self._add(Batch(self.person, [line_of(words)], rules=self.server.rules) if refused is None else refused + b"\n")
         elif verb in SINGLE or verb in ROWS:
-            self._add(Query(b" ".join(words), verb in ROWS))
+            self._add(Query(line_of(words), verb in ROWS))
         elif words == [b"begin"]:
-            self.batch = Batch(self.person, is_explicit=True)
-            self._add(b"ok")
+            self.batch = Batch(self.person, is_explicit=True, rules=self.server.rules)
+            self._add(b"ok\n")
         elif words in ([b"commit"], [b"abort"], [b"rollback"]):
             # Each earlier line was a batch of its own, so it is committed, and nothing can be taken back.
-            self._add(b"ok")
+            self._add(b"ok\n")
         elif verb in OWN_WORDS:
             self._add(Word(words))
         else:
-            self._add(BAD_LINE)
+            self._add(BAD_LINE + b"\n")
 
-    def _hold(self, verb, words):
+    def _hold(self, verb: bytes, words: List[bytes]) -> None:
         """A line within a batch."""
-        batch, line = self.batch, b" ".join(words)
+        batch, line = self.batch, line_of(words)
+        size = len(line) + limits.LINE_COST
         if words == [b"commit"]:
             self.batch = None
-            self._count(-batch.size)
             self._add(batch)
         elif words in ([b"abort"], [b"rollback"]):
-            self._forget(refusal(92))
-            self._add(b"ok")
+            self._forget(refusal(92), b"ok\n")
+        elif batch.refused is not None:
+            self._refuse(batch.refused[1])
         elif verb not in RIGHTS:
             self._refuse(refusal(93) if verb in SINGLE or verb in ROWS or verb in OWN_WORDS else BAD_LINE)
-        elif batch.count >= limits.BATCH_LINES or batch.size + len(line) > limits.BATCH_BYTES:
+        elif batch.count >= limits.BATCH_LINES or batch.bytes + len(line) > limits.BATCH_BYTES:
+            self._refuse(refusal(94))
+        elif not self.server.users.may_hold(self.person.uid, size):
             self._refuse(refusal(94))
         else:
-            refused = self._refusal_of(words)
+            refused = self._refusal_of(words, batch)
             if refused is not None:
                 self._refuse(refused)
-            else:
-                self._count(-batch.size)
-                batch.hold(line)
-                self._count(batch.size)
+                return
+            batch.hold(line)
+            batch.held += size
+            self.server.users.hold(self.person.uid, size)
 
-    def _refuse(self, answer):
+    def _refuse(self, answer: bytes) -> None:
         """Refuses a line, and the batch that it belongs to."""
-        if self.batch is None:
-            self._add(answer)
+        batch = self.batch
+        if batch is None:
+            self._add(answer + b"\n")
             return
-        self._count(-self.batch.size)
-        self.batch.refuse(self.batch.count, answer)
-        self.batch.count += 1
-        if self.batch.count > 2 * limits.BATCH_LINES:
+        batch.refuse(batch.count, answer)
+        self._release(batch)
+        batch.count += 1
+        if batch.count > 2 * limits.BATCH_LINES:
             self.close()
 
-    def _forget(self, answer):
+    def _release(self, batch: Batch) -> None:
+        """Its lines no longer count among those that are held."""
+        self.server.users.hold(self.person.uid, -batch.held)
+        batch.held = 0
+
+    def _forget(self, answer: bytes, last: bytes = b"") -> None:
         """Forgets the batch, and answers each of its lines."""
         batch, self.batch = self.batch, None
-        self._count(-batch.size)
-        for _ in range(batch.count):
-            self._add(answer)
+        self._release(batch)
+        self._add(Forgotten(batch.count, answer, last))
 
-    def forget_if_late(self, now):
+    def forget_if_late(self, now: float) -> None:
         """Refuses a batch that has been held too long."""
         if self.batch is not None and now - self.batch.begun > limits.HELD_SECONDS:
-            self._count(-self.batch.size)
             self.batch.refuse(self.batch.count, refusal(95))
+            self._release(self.batch)
 
-    def _refusal_of(self, words):
-        """Why the service refuses a change: its form, a rule, or too much waiting. None if the program is to decide."""
-        right, alternative = RIGHTS[words[0]], alternative_of(words)
+    def _refusal_of(self, words: List[bytes], batch: Optional[Batch] = None) -> Optional[bytes]:
+        """Why the service refuses a change: its form, or a rule. None if the program is to decide."""
+        alternative = alternative_of(words)
         if alternative == b"":
             return BAD_LINE
-        if names_own(words):
-            return refusal(90, right, OWN.decode())
-        if self.server.held_bytes > limits.HELD_BYTES:
-            return refusal(94)
-        if (right, alternative) not in self.denials:
-            if len(self.denials) > MOST_DENIALS:
-                self.denials.clear()
-            denial = self.server.rules.denial(self.person, right, alternative)
-            self.denials[right, alternative] = None if denial is None else refusal(90, *denial)
-        return self.denials[right, alternative]
+        if self.allowed_by is not self.server.rules or len(self.allowed) > MOST_ALLOWED:
+            self.allowed, self.allowed_by = {}, self.server.rules
+        # Parents change, so what depends on them is not remembered.
+        key = (RIGHTS[words[0]], alternative) if words[0] not in (b"new", b"post") else None
+        if key is None or key not in self.allowed:
+            parents = self.server.batches.store.entries.parents if batch is None else {}
+            refused = self.server.rules.refusal_of(self.person, words, parents)
+            if key is None:
+                return refused
+            self.allowed[key] = refused
+        return self.allowed[key]
 
-    def _add(self, request):
-        self.requests.append(request)
-        if isinstance(request, Batch):
-            self._count(request.size)
+    def _add(self, request: Request) -> None:
+        self.first = request
         self.server.waiting[self] = None
 
-    def _count(self, size):
-        self.server.held_bytes += size
+    # --- requests that are carried out ------------------------------------------------------------
+
+    def is_ready(self) -> bool:
+        """Whether the next line can be carried out. A planner who has many answers to read has to read them first."""
+        return self.job is None and self.unread.file is None and not self.is_closed and self.peek() is not None
+
+    def next_request(self) -> Request:
+        """Takes the first request."""
+        request, self.first = self.peek(), None
+        if isinstance(request, Batch):
+            request.is_doubtful = self.doubt > 0
+            self._release(request)
+        if self.counted:
+            self._count_text()
+        return request
+
+    def settled(self, batch: Batch) -> None:
+        """A batch of this planner was carried out or refused."""
+        self.doubt = DOUBT if batch.has_disturbed else max(0, self.doubt - 1)
+        self.answer(batch.text())
 
     # --- answers ----------------------------------------------------------------------------------
 
-    def is_ready(self):
-        """Whether the next line can be carried out. A planner who has many answers to read has to read them first."""
-        return bool(self.requests) and self.job is None and self.unread.file is None and not self.is_closed
-
-    def next_request(self):
-        """Takes the first request."""
-        request = self.requests.popleft()
-        if isinstance(request, Batch):
-            self._count(-request.size)
-        return request
-
-    def answer(self, text):
-        if self.is_closed:
+    def answer(self, text: bytes) -> None:
+        self.server.touched[self] = None
+        if self.is_closed or self.is_deaf:
             return
         if not self.unread:
             self.read_last = time.monotonic()
@@ -248,44 +265,45 @@ class Planner:
         except OSError:
             # Part of an answer would be worse than none.
             self.close()
-            return
-        self.server.touched[self] = None
 
-    def send(self):
+    def send(self) -> None:
         """Sends waiting answers, as far as the other end takes them."""
-        if self.unread:
+        if self.unread and not self.is_closed:
             try:
                 if self.unread.send(self.connection):
                     self.read_last = time.monotonic()
             except OSError:
-                self.close()
-                return
+                # Nobody reads any more. What was sent before is carried out all the same.
+                self.is_deaf = True
+                self.unread.clear()
         self.watch()
 
-    def watch(self):
-        """Tells the server which events matter now: lines, if there is space for more, and answers, if some wait."""
+    def watch(self) -> None:
+        """Tells the server which events matter now: lines, if none waits, and answers, if some wait."""
+        has_line = self.peek() is not None
         if self.is_closed:
             return
-        if self.has_ended and not self.requests and self.job is None and not self.unread:
+        if self.has_finished and not has_line and self.job is None and not self.unread:
             self.close()
             return
-        has_room = len(self.requests) < limits.WAITING_LINES and self.unread.file is None
-        reads = selectors.EVENT_READ if has_room and not self.has_ended else 0
+        reads = selectors.EVENT_READ if not has_line and self.unread.file is None and not self.has_ended else 0
         self.server.watch(self, reads | (selectors.EVENT_WRITE if self.unread else 0))
 
-    def close_if_late(self, now):
+    def close_if_late(self, now: float) -> None:
         """Closes the connection if the planner does not read."""
         if self.unread and now - self.read_last > limits.UNREAD_SECONDS:
             self.close()
 
-    def close(self):
+    def close(self) -> None:
         if self.is_closed:
             return
         self.is_closed = True
         self.server.watch(self, 0)
         self.connection.close()
-        self._count(-sum(it.size for it in [*self.requests, self.batch] if isinstance(it, Batch)))
-        self.requests.clear()
-        self.batch = None
-        self.unread.close()
+        for it in (self.first, self.batch):
+            if isinstance(it, Batch):
+                self._release(it)
+        self.server.users.hold(self.person.uid, -self.counted)
+        self.first = self.batch = None
+        self.unread.clear()
         self.server.forget(self)

@@ -24,8 +24,9 @@ class Program:
 
     def __init__(self, words, lock):
         how = {"stdin": subprocess.PIPE, "stdout": subprocess.PIPE, "pass_fds": [lock], "bufsize": 0}
-        # SIGXFSZ stays ignored in it, so that exceeding a limit on file sizes fails like any other write.
-        self.process = subprocess.Popen(words, restore_signals=False, **how)
+        # SIGXFSZ stays ignored in it, so that exceeding a limit on file sizes fails like any other write. Signals to the group of
+        # the service do not reach it, so it ends only after the batch at work.
+        self.process = subprocess.Popen(words, restore_signals=False, start_new_session=True, **how)
         self.into, self.out = self.process.stdin.fileno(), self.process.stdout.fileno()
 
     def end(self, kills=False):

@@ -9,20 +9,27 @@
     [post]
     "*" = ["berta"]
 
-A rule lists users, groups (`@NAME`), or `*` for everybody. Rules for `change`, `post` and `drop` name alternatives: an exact name
-takes precedence over patterns, and otherwise one matching pattern that lists the person is enough. What no rule allows is denied.
-Without the file only the user that the service runs as may change anything."""
+    [entries]
+    anna = 200
+
+A rule lists users, groups (`@NAME`), or `*` for everybody. Rules for `change`, `new`, `post` and `drop` name alternatives: an
+exact name takes precedence over patterns, and otherwise one matching pattern that lists the person is enough. What no rule allows
+is denied. `entries` has how many alternatives and checkpoints users may have made. Without the file only the user that the service
+runs as may change anything."""
 import fnmatch
 import grp
 import os
 import pwd
 import socket
 import struct
-from typing import NamedTuple
+from typing import List, NamedTuple, Optional
 
-from service.lines import OF_THE_STORE
+from service import limits
+from service.limits import refusal
+from service.lines import OF_THE_STORE, OWN, RIGHTS, alternative_of, names_own
 
-OF_ALTERNATIVES = {"change", "post", "drop"}
+OF_ALTERNATIVES = {"change", "new", "post", "drop"}
+TOP = b"top"
 
 
 class Person(NamedTuple):
@@ -73,6 +80,10 @@ def toml_of(path):
 def checked(path, table):
     """The rules, if they are well formed."""
     for right, rule in table.items():
+        if right == "entries" and isinstance(rule, dict):
+            if not all(isinstance(it, int) and not isinstance(it, bool) and it >= 0 for it in rule.values()):
+                raise Unreadable(f"{path}: {right} has a number for each user, @group or *")
+            continue
         if right in OF_ALTERNATIVES and isinstance(rule, dict):
             lists = rule.values()
         elif right in OF_THE_STORE:
@@ -94,6 +105,9 @@ class Rules:
         """None if the person has the right; else the right, and the rule that denies it."""
         if self.table is None:
             return None if person.uid == self.owner else (right, "~")
+        if right == "new" and right not in self.table:
+            # Anybody may begin a design; below another one only who may change that.
+            return None if alternative == TOP else self.denial(person, "change", alternative)
         rule = self.table.get(right, {} if right in OF_ALTERNATIVES else [])
         if right in OF_THE_STORE:
             return None if has(person, rule) else (right,)
@@ -104,6 +118,33 @@ class Rules:
         if any(has(person, rule[it]) for it in matching):
             return None
         return right, (matching or ["~"])[0].replace(" ", "%20")
+
+    def refusal_of(self, person, words, parents) -> Optional[bytes]:
+        """Why a person may not make a change, or None. `parents` are those of the alternatives that are known."""
+        right, alternative = RIGHTS[words[0]], alternative_of(words)
+        if names_own(words):
+            return refusal(90, right, OWN.decode())
+        denial = self.denial(person, right, alternative)
+        if denial is None and words[0] == b"new" and len(words) > 2:
+            denial = self.denial(person, "new", words[2])
+        if denial is None and words[0] == b"post":
+            return self.refusal_of_post(person, alternative, parents.get(alternative))
+        return None if denial is None else refusal(90, *denial)
+
+    def refusal_of_post(self, person, alternative, parent) -> Optional[bytes]:
+        """Why a person may not post into the parent of an alternative. Who may change the parent may also post into it."""
+        if parent is None or self.denial(person, "change", parent) is None:
+            return None
+        denial = self.denial(person, "post", parent)
+        return None if denial is None else refusal(90, *denial)
+
+    def most_entries(self, person) -> Optional[int]:
+        """How many alternatives and checkpoints a person may have made; None for any number."""
+        if self.table is None:
+            return None
+        rule = self.table.get("entries", {})
+        most: List[int] = [count for who, count in rule.items() if has(person, [who])]
+        return max(most, default=limits.ENTRIES)
 
 
 def has(person, who):

@@ -1,127 +1,101 @@
 """The service: connections of planners, and rounds that carry out their requests one after another.
 
-It is a single thread. While the program is at work, lines of other planners wait in their sockets, and form the next group."""
+It is a single thread. While the program is at work, lines of other planners wait in their sockets, and form the next group. In
+each round every planner has a turn, and whoever was served goes to the end."""
 import os
-import re
 import selectors
-import signal
 import socket
-import subprocess
-import sys
 import time
+from collections import Counter, deque
+from typing import Callable, List, Tuple
 
 from service import limits
-from service.batches import Batch, Fatal
-from service.limits import BAD_LINE, refusal
-from service.planner import Planner, Query, Word
+from service.backups import NAME, Backups
+from service.batch import Batch
+from service.batches import Batches
+from service.journal_log import filter_of
+from service.limits import BAD_LINE, of_one_user, refusal
+from service.planner import Forgotten, Planner, Query, Request, Word
 from service.rules import Rules, Unreadable, person_of
+from service.signals import Signals
+from service.users import Users
 
-BACKUP = re.compile(rb"[A-Za-z0-9_][A-Za-z0-9_.-]{0,31}")
-FILTER = re.compile(rb"(planner|alternative|record|last|after)=[!-~]+")
 # How often planners are checked for timeouts, in seconds.
 TICK = 1.0
 # A group waits for more planners for this fraction of the time that the last group took.
 GATHER, GATHER_STEP = 0.1, 20e-6
-
-
-class Log:
-    """A process that reads the journal for a planner while the service goes on. Only a few run at the same time."""
-
-    def __init__(self, server, planner, filters):
-        self.server, self.planner, self.filters = server, planner, filters
-        planner.job = self
-        server.logs.append(self)
-        if len(server.logs) <= limits.LOGS:
-            self.start()
-
-    def start(self):
-        words = [sys.executable, sys.argv[0], "log", *(f"--{it.decode()}" for it in self.filters), "--", self.server.batches.file]
-        self.process = subprocess.Popen(words, stdin=subprocess.DEVNULL, stdout=subprocess.PIPE, stderr=subprocess.DEVNULL)
-        self.server.selector.register(self.process.stdout, selectors.EVENT_READ, self.take)
-
-    def take(self, _events):
-        came = os.read(self.process.stdout.fileno(), 256 << 10)
-        if came and not self.planner.is_closed:
-            self.planner.answer(came)
-            return
-        if came:
-            self.process.kill()
-        self.server.selector.unregister(self.process.stdout)
-        self.process.stdout.close()
-        if self.process.wait():
-            self.planner.answer(BAD_LINE + b"\n")
-        self._end()
-
-    def _end(self):
-        logs = self.server.logs
-        logs.remove(self)
-        if len(logs) >= limits.LOGS:
-            logs[limits.LOGS - 1].start()
-        self.planner.job = None
-        if not self.planner.is_closed:
-            self.server.waiting[self.planner] = self.server.touched[self.planner] = None
+# How long arrived lines are looked at before the next round, and how long a round reads the journal for planners.
+READ_SECONDS, LOG_SECONDS = 0.01, 0.005
+# A planner to whom that much of a log is not sent yet has to read it first.
+LOG_BYTES = 256 << 10
+# What is short of for a moment when a connection cannot be accepted.
+Taken = Tuple[Planner, Request]
 
 
 class Server:
-    def __init__(self, listener, batches, rules, say):
-        self.listener, self.batches, self.rules, self.say = listener, batches, rules, say
+    def __init__(self, listener: socket.socket, batches: Batches, signals: Signals, say: Callable[[object], None]):
+        self.listener, self.batches, self.signals, self.say = listener, batches, signals, say
+        self.backups = Backups(batches.store)
         self.selector = selectors.DefaultSelector()
-        self.planners, self.logs, self.held_bytes, self.ends = {}, [], 0, False
-        # Planners with requests, in the order of their arrival, and planners with answers to be sent.
-        self.waiting, self.touched = {}, {}
+        self.users, self.planners = Users(), {}
+        # Planners with requests, planners with answers to be sent, and those to whom the journal is read, each in turns.
+        self.waiting, self.touched, self.logs = {}, {}, deque()
         # Until this time the next group may wait for this many planners.
         self.expected, self.gathers_until = 0, 0.0
+        self.is_listening, self.turn = False, 0
         listener.setblocking(False)
-        self.selector.register(listener, selectors.EVENT_READ, self._accept)
-        self._catch_signals()
+        self._listen()
+        self.selector.register(signals.woken, selectors.EVENT_READ, lambda _: signals.take())
 
-    def _catch_signals(self):
-        """TERM and INT end the service after the current round. HUP makes it read the rules again."""
-        woken, waker = socket.socketpair()
-        for it in (woken, waker):
-            it.setblocking(False)
-        signal.set_wakeup_fd(waker.fileno())
-        self.waker = waker
-        self.selector.register(woken, selectors.EVENT_READ, lambda _: woken.recv(4096))
-        for it in (signal.SIGTERM, signal.SIGINT):
-            signal.signal(it, self._end)
-        signal.signal(signal.SIGHUP, self._read_rules)
+    @property
+    def rules(self) -> Rules:
+        return self.batches.rules
 
-    def _end(self, *_):
-        self.ends = True
-
-    def _read_rules(self, *_):
+    def _read_rules(self) -> None:
+        self.signals.rereads = False
         try:
-            self.rules = Rules(self.rules.path)
+            self.batches.rules = Rules(self.rules.path)
         except Unreadable as fault:
             self.say(f"{fault}: the rules stay as they were")
-            return
-        for planner in self.planners:
-            planner.denials.clear()
 
     # --- connections ------------------------------------------------------------------------------
 
-    def _accept(self, _events):
-        try:
-            connection, _ = self.listener.accept()
-        except OSError:
-            return
+    def _listen(self) -> None:
+        if not self.is_listening:
+            self.selector.register(self.listener, selectors.EVENT_READ, self._accept)
+            self.is_listening = True
+
+    def _accept(self, _events: int) -> None:
+        """Accepts all who wait: each of them would wait for a round otherwise."""
+        for _ in range(limits.PLANNERS):
+            try:
+                connection, _ = self.listener.accept()
+            except (BlockingIOError, ConnectionError, InterruptedError):
+                return
+            except OSError as fault:
+                # There are no descriptors, say. Those who wait are accepted later.
+                self.say(f"no connection can be accepted now: {fault}")
+                self.selector.unregister(self.listener)
+                self.is_listening = False
+                return
+            self._begin(connection)
+
+    def _begin(self, connection: socket.socket) -> None:
         connection.setblocking(False)
         try:
             person = person_of(connection)
+            if not self.users.enter(person.uid):
+                connection.send(refusal(100) + b"\n")
+                connection.close()
+                return
         except OSError:
-            connection.close()
-            return
-        of_one = sum(it.person.uid == person.uid for it in self.planners)
-        if len(self.planners) >= limits.PLANNERS or of_one >= limits.PLANNERS_OF_ONE:
-            connection.send(refusal(100) + b"\n")
-            connection.close()
+            connection.close()  # Nobody is there any more.
             return
         planner = Planner(self, connection, person)
         self.planners[planner] = None
         planner.watch()
 
-    def watch(self, planner, events):
+    def watch(self, planner: Planner, events: int) -> None:
         """Sets the events that are watched on the connection of a planner."""
         if events == planner.watched:
             return
@@ -133,19 +107,20 @@ class Server:
             self.selector.modify(planner.connection, events, planner.handle)
         planner.watched = events
 
-    def forget(self, planner):
+    def forget(self, planner: Planner) -> None:
         for it in (self.planners, self.waiting, self.touched):
             it.pop(planner, None)
+        self.users.leave(planner.person.uid)
 
     # --- rounds -----------------------------------------------------------------------------------
 
-    def run(self):
-        """Serves until a signal ends it. Raises Fatal if the store can no longer be used. Waiting planners then get no answer,
-        because it is unknown whether the last commit was made."""
+    def run(self) -> None:
+        """Serves until a signal ends it. Raises Fatal if the store can no longer be used."""
         looked = time.monotonic()
-        while not self.ends:
-            for key, events in self.selector.select(0 if any(it.is_ready() for it in self.waiting) else TICK):
-                key.data(events)
+        while not self.signals.ends:
+            self._handle(self.selector.select(0 if self._has_work() else TICK))
+            if self.signals.rereads:
+                self._read_rules()
             now = time.monotonic()
             if now < self.gathers_until and self._gathers():
                 time.sleep(GATHER_STEP)
@@ -153,121 +128,195 @@ class Server:
             self._round()
             if now - looked > TICK:
                 looked = now
-                for planner in list(self.planners):
-                    planner.forget_if_late(now)
-                    planner.close_if_late(now)
+                self._tick(now)
 
-    def _round(self):
-        """Carries out requests of each waiting planner: queries, then batches of one line together, then others one by one."""
-        ready = [it for it in self.waiting if it.is_ready()]
-        self._answer_queries(ready)
-        self._commit_group(ready)
-        for planner in ready:
-            if planner.is_ready():
-                self._carry_out(planner)
+    def _handle(self, events: List[Tuple[selectors.SelectorKey, int]]) -> None:
+        """Takes what has arrived, but no longer than for a moment. The next time others come first."""
+        self.turn += 1
+        start = self.turn % len(events) if events else 0
+        until = time.monotonic() + READ_SECONDS
+        for key, found in events[start:] + events[:start]:
+            key.data(found)
+            if time.monotonic() > until:
+                return
+
+    def _has_work(self) -> bool:
+        return any(it.is_ready() for it in self.waiting) or bool(self.logs) or self.batches.log.has_more()
+
+    def _tick(self, now: float) -> None:
+        for planner in list(self.planners):
+            planner.forget_if_late(now)
+            planner.close_if_late(now)
+        self._listen()
+        self.batches.save()
+
+    def _round(self) -> None:
+        """Carries out requests: queries, then small batches together, then one that takes longer."""
+        self._answer_queries()
+        self._commit_group()
+        self._carry_out_long()
+        self._read_logs()
         self._send()
-        self.waiting = {it: None for it in self.waiting if it.requests}
 
-    def _gathers(self):
+    def _in_turns(self, fits: Callable[[Request], bool], most: int, lines: int) -> List[Taken]:
+        """Takes first requests that fit: one of each planner in turn, until there are too many of them or of their lines. Whoever
+        had a turn is at the end of the next round."""
+        taken: List[Taken] = []
+        counts, of_users = Counter(), Counter()
+        users = {it.person.uid for it in self.waiting}
+        turns = deque(self.waiting)
+        while turns and len(taken) < most and lines > 0:
+            planner = turns.popleft()
+            uid = planner.person.uid
+            if not planner.is_ready() or len(users) > 1 and of_users[uid] >= of_one_user(most):
+                continue
+            request = planner.peek()
+            if not fits(request):
+                continue
+            taken.append((planner, planner.next_request()))
+            lines -= len(request.lines) if isinstance(request, Batch) else 1
+            counts[planner] += 1
+            of_users[uid] += 1
+            if counts[planner] < limits.GROUP_OF_ONE:
+                turns.append(planner)
+        for planner in counts:
+            self.waiting.pop(planner, None)
+            if planner.peek() is not None:
+                self.waiting[planner] = None
+        return taken
+
+    def _gathers(self) -> bool:
         """Whether more planners are likely to join the next group."""
         ready = [it for it in self.waiting if it.is_ready()]
-        return 0 < len(ready) < self.expected and all(is_single(it.requests[0]) for it in ready)
+        return 0 < len(ready) < self.expected and all(is_small(it.peek()) for it in ready)
 
-    def _answer_queries(self, ready):
-        asked = []
-        for planner in ready:
-            taken = 0
-            while planner.requests and taken < limits.GROUP_OF_ONE and is_short(planner.requests[0]):
-                asked.append((planner, planner.next_request()))
-                taken += 1
-        answers = self.batches.ask([it.line for _, it in asked if not isinstance(it, bytes)])
-        at = 0
+    def _answer_queries(self) -> None:
+        asked = self._in_turns(is_short, limits.GROUP, limits.GROUP)
+        answers = iter(self.batches.ask([it.line for _, it in asked if isinstance(it, Query)]))
         for planner, it in asked:
-            if isinstance(it, bytes):
-                planner.answer(it + b"\n")
-            else:
-                planner.answer(answers[at] + b"\n")
-                at += 1
+            planner.answer(next(answers) + b"\n" if isinstance(it, Query) else it if isinstance(it, bytes) else it.text())
 
-    def _commit_group(self, ready):
-        """Carries out batches of one line and commits them together."""
-        group = []
-        for planner in ready:
-            taken = 0
-            most = min(limits.GROUP_OF_ONE, limits.GROUP - len(group))
-            while planner.requests and taken < most and is_single(planner.requests[0]):
-                group.append((planner, planner.next_request()))
-                taken += 1
+    def _commit_group(self) -> None:
+        """Carries out small batches and commits them together. There are as many as take about as long as their commit."""
+        least, most = limits.GROUP_LINES
+        lines = min(max(least, int(self.batches.commit_seconds / self.batches.line_seconds)), most)
+        group = self._in_turns(is_small, limits.GROUP, lines)
         if not group:
             return
         begun = time.monotonic()
-        self.batches.carry_out([batch for _, batch in group])
-        for planner, batch in group:
-            planner.answer(batch.text())
+        try:
+            self.batches.carry_out([batch for _, batch in group])
+        finally:
+            for planner, batch in group:
+                planner.settled(batch)
         # A planner with an answer often sends the next line at once. Waiting a little for it avoids two groups that alternate.
         now = time.monotonic()
         self.expected = len({planner for planner, _ in group} | self.waiting.keys())
         self.gathers_until = now + GATHER * (now - begun)
 
-    def _carry_out(self, planner):
-        """Carries out the next request of a planner, if it does not belong in a group."""
-        request = planner.requests[0]
-        if is_short(request) or is_single(request):
-            return
-        planner.next_request()
-        if isinstance(request, Batch):
-            if request.lines:
-                self.batches.carry_out([request])
-            planner.answer(request.text())
-        elif isinstance(request, Query):
-            if not self.batches.ask_rows(request.line, planner.answer):
-                planner.close()
-        else:
-            self._answer_word(planner, request.words)
+    def _carry_out_long(self) -> None:
+        """Carries out one request that does not belong in a group."""
+        for planner, request in self._in_turns(lambda it: not is_short(it) and not is_small(it), 1, 1):
+            if isinstance(request, Batch):
+                try:
+                    self.batches.carry_out([request])
+                finally:
+                    planner.settled(request)
+            elif isinstance(request, Query):
+                if not self.batches.ask_rows(request.line, planner.answer):
+                    planner.close()
+            else:
+                self._answer_word(planner, request.words)
 
-    def _answer_word(self, planner, words):
+    def _answer_word(self, planner: Planner, words: List[bytes]) -> None:
         verb, *others = words
         person = planner.person
         if verb == b"whoami" and not others:
             planner.answer(" ".join(["planner", person.name, str(person.uid), *sorted(person.groups)]).encode() + b"\n")
-        elif verb == b"log" and all(map(FILTER.fullmatch, others)):
-            Log(self, planner, others)
-        elif verb == b"backup" and len(others) == 1 and BACKUP.fullmatch(others[0]):
+        elif verb == b"log":
+            self._begin_log(planner, others)
+        elif verb == b"backup" and len(others) == 1 and NAME.fullmatch(others[0]):
             denial = self.rules.denial(person, "backup")
-            answer = self.batches.backup(others[0].decode()) if denial is None else refusal(90, *denial)
+            answer = self.backups.make(others[0].decode()) if denial is None else refusal(90, *denial)
             planner.answer(answer + b"\n")
         else:
             planner.answer(BAD_LINE + b"\n")
 
-    def _send(self):
+    # --- the journal ------------------------------------------------------------------------------
+
+    def _begin_log(self, planner: Planner, words: List[bytes]) -> None:
+        try:
+            wanted = filter_of([it.decode() for it in words])
+        except ValueError:
+            planner.answer(BAD_LINE + b"\n")
+            return
+        planner.job = self.batches.log.entries(wanted, self.batches.store.kept)
+        self.logs.append(planner)
+
+    def _read_logs(self) -> None:
+        """Reads the journal for planners for a moment, and indexes it."""
+        until = time.monotonic() + LOG_SECONDS
+        for _ in range(len(self.logs)):
+            planner = self.logs.popleft()
+            if planner.is_closed or planner.is_deaf:
+                planner.job = None
+                self.touched[planner] = None
+                continue
+            self.logs.append(planner)
+            if len(planner.unread.memory) > LOG_BYTES or planner.unread.file is not None:
+                continue
+            part = next(planner.job, None)
+            if part is None:
+                planner.job = None
+                self.logs.pop()
+                self.waiting[planner] = self.touched[planner] = None
+            elif part:
+                planner.answer(part)
+            if time.monotonic() > until:
+                break
+        else:
+            self.batches.log.add()
+
+    def _send(self) -> None:
         touched, self.touched = self.touched, {}
         for planner in touched:
-            planner.send()
+            if not planner.is_closed:
+                planner.send()
 
     # --- the end ----------------------------------------------------------------------------------
 
-    def refuse_waiting(self):
+    def refuse_waiting(self) -> None:
         """Refuses all waiting requests; none of them was begun."""
         for planner in list(self.planners):
-            for request in planner.requests:
+            planner.job = None
+            if planner.peek() is None and not planner.has_ended:
+                planner.receive()
+            while (request := planner.peek()) is not None:
+                planner.next_request()
                 if isinstance(request, Batch):
                     request.refuse(request.count, refusal(99))
-                    planner.answer(request.text())
-                else:
-                    planner.answer(request + b"\n" if isinstance(request, bytes) else refusal(99) + b"\n")
-            planner.requests.clear()
+                planner.answer(request.text() if isinstance(request, (Batch, Forgotten)) else ended(request))
             planner.send()
 
-    def close(self):
+    def close(self) -> None:
         for planner in list(self.planners):
             planner.close()
         self.listener.close()
 
 
-def is_short(request):
-    """Whether its answer is one line that is known already, or that the program gives at once."""
-    return isinstance(request, bytes) or isinstance(request, Query) and not request.has_rows
+def ended(request: Request) -> bytes:
+    return request if isinstance(request, bytes) else refusal(99) + b"\n"
 
 
-def is_single(request):
-    return isinstance(request, Batch) and len(request.lines) == 1
+def is_short(request: Request) -> bool:
+    """Whether its answer is known already, or one line that the program gives at once."""
+    return isinstance(request, (bytes, Forgotten)) or isinstance(request, Query) and not request.has_rows or is_empty(request)
+
+
+def is_empty(request: Request) -> bool:
+    """Whether it is a batch that has nothing to carry out."""
+    return isinstance(request, Batch) and not request.lines
+
+
+def is_small(request: Request) -> bool:
+    return isinstance(request, Batch) and bool(request.lines) and request.is_small()

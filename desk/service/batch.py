@@ -1,0 +1,63 @@
+"""A batch: lines of one planner that take effect together or not at all."""
+import time
+from typing import List, Optional
+
+from service import limits
+from service.limits import refusal
+
+
+class Batch:
+    """Lines of one planner. In the end it has the answers to all of them, or the position and the answer of the one that was
+    refused; the position after the last line stands for `commit`."""
+
+    def __init__(self, person, lines=(), is_explicit=False, rules=None):
+        self.person, self.lines, self.is_explicit = person, list(lines), is_explicit
+        self.count, self.begun = len(self.lines), time.monotonic()
+        self.bytes = sum(map(len, self.lines))
+        self.answers, self.refused = None, None
+        # The rules that have allowed its lines. They are looked at again if others are in force when it is carried out.
+        self.rules = rules
+        # What its lines count for among all that is held.
+        self.held = 0
+        # It is tried by itself first if one of the last batches of its planner had others carried out again.
+        self.is_doubtful, self.is_alone, self.has_disturbed = False, False, False
+
+    def hold(self, line: bytes) -> None:
+        """Adds a line. If an earlier one was refused, the line is only counted."""
+        self.count += 1
+        if self.refused is None:
+            self.lines.append(line)
+            self.bytes += len(line)
+
+    def refuse(self, place: int, answer: bytes) -> None:
+        """Notes the refused line, and forgets all lines."""
+        if self.refused is None:
+            self.refused = place, answer
+            self.lines, self.bytes, self.answers = [], 0, None
+
+    def refuse_if_open(self, answer: bytes) -> None:
+        """Refuses it as a whole, unless it is settled."""
+        if not self.is_settled():
+            self.refuse(self.count, answer)
+
+    def is_settled(self) -> bool:
+        return self.answers is not None or self.refused is not None
+
+    def is_small(self) -> bool:
+        """Whether it may share its commit with others."""
+        return len(self.lines) <= limits.SMALL_LINES and self.bytes <= max(limits.SMALL_BYTES, limits.LINE_BYTES * (self.count == 1))
+
+    def text(self) -> bytes:
+        """The answer to the planner."""
+        if self.refused is None:
+            return b"".join([b"%s\n" % it for it in self.answers or []]) + b"ok\n" * self.is_explicit
+        place, answer = self.refused
+        if not self.is_explicit:
+            return answer + b"\n"
+        others = refusal(91, place + 1) + b"\n"
+        return others * place + answer + b"\n" + others * (self.count - place)
+
+
+def refused_place(answers: List[bytes]) -> Optional[int]:
+    """The position of the first answer that is a refusal."""
+    return next((place for place, it in enumerate(answers) if it.startswith(b"error ")), None)

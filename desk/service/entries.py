@@ -1,0 +1,127 @@
+"""Alternatives and checkpoints: the parent of each alternative, and which planner made each of them."""
+import json
+import os
+from collections import Counter
+from typing import Dict, List, NamedTuple, Optional, Set, Tuple
+
+from service.batch import Batch
+from service.limits import refusal
+from service.lines import OF_THE_STORE, RIGHTS
+
+# The makers by the names of alternatives and checkpoints.
+Makers = Dict[str, Dict[str, str]]
+# The name under which an alternative itself stands among its checkpoints.
+ITSELF = ""
+
+
+# Verbs of lines that make or remove alternatives and checkpoints.
+MAKERS = {b"new", b"drop", b"checkpoint", b"uncheck"}
+
+
+class Effect(NamedTuple):
+    """What a batch has changed: which alternatives, and how many records; or the place and the refusal of a line that needs a right."""
+
+    refused: Optional[Tuple[int, bytes]]
+    touched: Set[str]
+    records: int
+
+
+class Entries:
+    """The alternatives of a store. Of those that were there before the service, nobody is the maker."""
+
+    def __init__(self, parents: Optional[Dict[bytes, bytes]] = None, makers: Optional[Makers] = None):
+        self.parents = parents or {}
+        self.makers = makers or {}
+        self.counts = Counter(it for names in self.makers.values() for it in names.values())
+        # How often a maker was noted or forgotten.
+        self.changes = 0
+
+    def copy(self) -> "Entries":
+        copied = Entries(dict(self.parents))
+        copied.makers = {name: dict(names) for name, names in self.makers.items()}
+        copied.counts, copied.changes = Counter(self.counts), self.changes
+        return copied
+
+    # --- what a batch changes ---------------------------------------------------------------------
+
+    def take(self, batch: Batch, answers: List[bytes], rules) -> Effect:
+        """Takes in what a batch has changed. Only now is it known which parents its alternatives have, so a line may still need a
+        right that its planner lacks. What was taken in is to be dropped then."""
+        touched, records = set(), 0
+        for place, (line, answer) in enumerate(zip(batch.lines, answers)):
+            verb, *words = line.split(b" ", 3)
+            if RIGHTS[verb] not in OF_THE_STORE:
+                touched.add(words[0].decode())
+            if verb in (b"put", b"remove"):
+                records += 1
+            elif verb == b"merge":
+                records += int(answer.split(b" ")[1])
+            elif verb == b"post" or verb in MAKERS:
+                if verb == b"post":
+                    touched.add(self.parents[words[0]].decode())
+                refused = self._take(verb, words, batch.person, rules)
+                if refused is not None:
+                    return Effect((place, refused), touched, records)
+        return Effect(None, touched, records)
+
+    def _take(self, verb: bytes, words: List[bytes], person, rules) -> Optional[bytes]:
+        if verb == b"post":
+            return rules.refusal_of_post(person, words[0], self.parents[words[0]])
+        self.note(verb, words, person.name)
+        most = rules.most_entries(person) if verb in (b"new", b"checkpoint") else None
+        return None if most is None or self.counts[person.name] <= most else refusal(102, most)
+
+    def note(self, verb: bytes, words: List[bytes], who: str) -> None:
+        """Notes what somebody's line has made or removed."""
+        if verb not in MAKERS:
+            return
+        name = words[0].decode()
+        if verb == b"new":
+            self.parents[words[0]] = words[1]
+            self._make(name, ITSELF, who)
+        elif verb == b"checkpoint":
+            self._make(name, words[1].decode(), who)
+        elif verb == b"uncheck":
+            self._remove(self.makers.get(name, {}), words[1].decode())
+        else:
+            self.parents.pop(words[0], None)
+            names = self.makers.pop(name, {})
+            for it in list(names):
+                self._remove(names, it)
+
+    def _make(self, name: str, checkpoint: str, who: str) -> None:
+        self.makers.setdefault(name, {})[checkpoint] = who
+        self.counts[who] += 1
+        self.changes += 1
+
+    def _remove(self, names: Dict[str, str], checkpoint: str) -> None:
+        who = names.pop(checkpoint, None)
+        if who is not None:
+            self.counts[who] -= 1
+            self.changes += 1
+
+    # --- who made them ----------------------------------------------------------------------------
+
+    def forget_missing(self, checkpoints: Dict[bytes, Set[bytes]]) -> None:
+        """Forgets the makers of what is not in the store, where these are the checkpoints of its alternatives."""
+        for name in list(self.makers):
+            there = {it.decode() for it in checkpoints.get(name.encode(), ())} | {ITSELF}
+            for it in list(self.makers[name]):
+                if name.encode() not in checkpoints or it not in there:
+                    self._remove(self.makers[name], it)
+
+    def save(self, path: str, batch: int) -> None:
+        """Writes who made what as of a batch. After a crash the journal has the rest."""
+        with open(f"{path}.new", "w") as file:
+            json.dump({"batch": batch, "makers": self.makers}, file)
+        os.replace(f"{path}.new", path)
+
+
+def saved(path: str) -> Tuple[int, Makers]:
+    """The batch and the makers in such a file, or none if there is no such file."""
+    try:
+        with open(path) as file:
+            text = json.load(file)
+        return text["batch"], text["makers"]
+    except (FileNotFoundError, ValueError, KeyError, TypeError):
+        return 0, {}

@@ -1,0 +1,201 @@
+"""An index of a journal: for each part of some 128 KiB the numbers of its batches, and which planners, alternatives and records
+are in it, as a Bloom filter. It lies in FILE.journal.index, has a hundredth of the journal's size, and is made again from the
+journal if it is missing or does not fit."""
+import os
+import re
+import struct
+import zlib
+from typing import Callable, Iterable, Iterator, List, NamedTuple, Optional, Set, Tuple
+
+from service.journal import HEAD, OPENED, PART, line_feed_before
+
+# Where a part begins and ends, the highest batch so far, a checksum of both ends, and whether it has a line `opened`.
+FORM = struct.Struct("<QQQII")
+BITS = 1 << 14
+RECORD = FORM.size + BITS // 8
+# How many records are read at once.
+PORTION = 128
+ONE = ord("1")
+CHECKED = 512
+# A key that stands for all lines that may change any record.
+WIDE = b"*"
+
+# Patterns that begin with fixed bytes are found much quicker.
+RECORDS = [re.compile(rb'"%s [^ "]+ 0*(\d+) 0*(\d+)' % verb) for verb in (b"put", b"remove")]
+# Verbs of lines that may change any record of an alternative.
+WIDE_VERBS = (b"merge", b"post", b"back", b"new", b"drop")
+BATCH = re.compile(rb'\{"batch":(\d+),')
+HEADS = re.compile(rb"^" + HEAD.pattern, re.M)
+OPENINGS = re.compile(rb"^" + OPENED.pattern, re.M)
+# No key is cut in two if this many bytes of the text before are looked at again.
+OVERLAP = 256
+
+
+class Part(NamedTuple):
+    """A part of a journal, from one line to another. Without `bits` it may have anything."""
+
+    begin: int
+    end: int
+    last: int = 0
+    has_openings: bool = True
+    bits: Optional[bytes] = None
+
+    def may_have(self, wanted: Iterable[Iterable[Iterable[int]]]) -> bool:
+        """Whether it may have one key of each group. Keys are told by their places."""
+        return self.bits is None or all(any(self._has(key) for key in group) for group in wanted)
+
+    def _has(self, key: Iterable[int]) -> bool:
+        return all(self.bits[it >> 3] & 0x80 >> (it & 7) for it in key)
+
+
+def places(key: bytes) -> Tuple[int, int, int, int]:
+    hashed = zlib.crc32(key) * 0x9E3779B97F4A7C15 & (1 << 64) - 1
+    return hashed >> 50, hashed >> 36 & BITS - 1, hashed >> 22 & BITS - 1, hashed >> 8 & BITS - 1
+
+
+def record_key(table: int, number: int) -> bytes:
+    return b"r%d:%d" % (table, number)
+
+
+def pieces(file: int, begin: int, end: int, overlap: int = 0) -> Iterator[bytes]:
+    """The text of a part, in pieces of a bounded size. Each begins with the last bytes of the one before."""
+    at = begin
+    while at < end:
+        start = max(begin, at - overlap)
+        at = min(end, at + PART)
+        yield os.pread(file, at - start, start)
+
+
+def part_end(file: int, begin: int, end: int) -> int:
+    """Where the part that begins here ends: at the end of a line, or at `begin` if there is none yet."""
+    if end - begin <= PART:
+        return line_feed_before(file, end) + 1 if end > begin else begin
+    found = os.pread(file, PART, begin).rfind(b"\n")
+    at = begin + PART
+    while found < 0 and at < end:
+        found = os.pread(file, PART, at).find(b"\n")
+        if found >= 0:
+            return at + found + 1
+        at += PART
+    return begin + found + 1 if found >= 0 else begin
+
+
+def keys_of(text: bytes) -> Set[bytes]:
+    """The keys of planners, alternatives and records in a text."""
+    keys = {b"r%s:%s" % it for pattern in RECORDS for it in pattern.findall(text)}
+    if any(b'"%s ' % verb in text for verb in WIDE_VERBS):
+        keys.add(WIDE)
+    heads = {it.group("uid", "who", "alternatives") for it in HEADS.finditer(text)}
+    for uid, who, names in heads:
+        keys |= {b"p" + uid, b"p" + who.strip(b'"'), *(b"a" + it.strip(b'"') for it in names.split(b","))}
+    return keys
+
+
+def indexed(file: int, begin: int, end: int, before: int) -> Part:
+    """A part with what it has. `before` is the highest number before it."""
+    digits = bytearray(b"0" * BITS)
+    numbers = [before]
+    has_openings = False
+    for text in pieces(file, begin, end, OVERLAP):
+        batch = BATCH.match(text, text.rfind(b'{"batch":')) if b'{"batch":' in text else None
+        numbers += [int(batch[1])] if batch else []
+        has_openings = has_openings or b'{"opened":' in text
+        for key in keys_of(text):
+            one, two, three, four = places(key)
+            digits[one] = digits[two] = digits[three] = digits[four] = ONE
+    return Part(begin, end, max(numbers), has_openings, int(digits, 2).to_bytes(BITS // 8, "big"))
+
+
+class Index:
+    """The parts of a journal that are indexed, and those behind them. Only the service writes to it."""
+
+    def __init__(self, journal: int, path: str, writes: bool):
+        self.journal, self.count, self.end = journal, 0, 0
+        try:
+            self.file = os.open(path, os.O_CLOEXEC | (os.O_RDWR | os.O_CREAT if writes else os.O_RDONLY), 0o600)
+        except FileNotFoundError:
+            self.file = None
+            return
+        self.count = os.fstat(self.file).st_size // RECORD
+        # A crash of the machine may leave other bytes at its end, and another journal may have its name now.
+        while self.count and not self._fits(self.count - 1):
+            self.count -= 1
+        self.count = self.count if self.count and self._fits(0) else 0
+        self.end = self._part(self.count - 1).end if self.count else 0
+        if writes:
+            os.ftruncate(self.file, self.count * RECORD)
+
+    def close(self) -> None:
+        if self.file is not None:
+            os.close(self.file)
+
+    def _fits(self, number: int) -> bool:
+        text = os.pread(self.file, FORM.size, number * RECORD)
+        begin, end, _, check, _ = FORM.unpack(text)
+        before = number and FORM.unpack(os.pread(self.file, FORM.size, (number - 1) * RECORD))[1]
+        return begin == before and end > begin and self._checksum(begin, end) == check
+
+    def _checksum(self, begin: int, end: int) -> int:
+        return zlib.crc32(os.pread(self.journal, CHECKED, begin) + os.pread(self.journal, CHECKED, max(begin, end - CHECKED)))
+
+    def _part(self, number: int) -> Part:
+        return part_of(os.pread(self.file, RECORD, number * RECORD))
+
+    def add(self, size: int) -> bool:
+        """Indexes the next part of a journal of this size. Returns False if there is none yet."""
+        end = part_end(self.journal, self.end, size) if size - self.end >= PART else self.end
+        if end == self.end:
+            return False
+        part = indexed(self.journal, self.end, end, self._part(self.count - 1).last if self.count else 0)
+        head = FORM.pack(part.begin, end, part.last, self._checksum(part.begin, end), part.has_openings)
+        try:
+            os.pwrite(self.file, head + part.bits, self.count * RECORD)
+        except OSError:
+            return False
+        self.count, self.end = self.count + 1, end
+        return True
+
+    def parts(self, size: int, begin: int = 0, is_backwards: bool = False) -> Iterator[Part]:
+        """The parts of a journal of this size that end behind `begin`, in their order or the other one."""
+        numbers = list(range(self._before(lambda it: it.end <= begin), self.count, PORTION))
+        if is_backwards:
+            yield from reversed(list(self._rest(size, begin)))
+            for at in reversed(numbers):
+                yield from reversed(self._portion(at))
+        else:
+            for at in numbers:
+                yield from self._portion(at)
+            yield from self._rest(size, begin)
+
+    def _portion(self, at: int) -> List[Part]:
+        text = os.pread(self.file, min(PORTION, self.count - at) * RECORD, at * RECORD)
+        return [part_of(text[place : place + RECORD]) for place in range(0, len(text), RECORD)]
+
+    def _rest(self, size: int, begin: int) -> Iterator[Part]:
+        """The parts that are not indexed yet."""
+        at = self.end
+        while (end := part_end(self.journal, at, size)) > at:
+            if end > begin:
+                yield Part(at, end)
+            at = end
+
+    def after(self, number: int) -> int:
+        """A position in the journal before which all batches have numbers up to this one."""
+        count = self._before(lambda it: it.last <= number)
+        return self._part(count - 1).end if count else 0
+
+    def _before(self, is_before: Callable[[Part], bool]) -> int:
+        """How many parts come before the first one that is not before something."""
+        low, high = 0, self.count
+        while low < high:
+            middle = (low + high) // 2
+            if is_before(self._part(middle)):
+                low = middle + 1
+            else:
+                high = middle
+        return low
+
+
+def part_of(text: bytes) -> Part:
+    begin, end, last, _, has_openings = FORM.unpack(text[: FORM.size])
+    return Part(begin, end, last, bool(has_openings), text[FORM.size :])

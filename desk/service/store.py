@@ -1,0 +1,120 @@
+"""The store of a file whose lock the service holds. The program that has it open is started again if it ends."""
+import errno
+import os
+import time
+from typing import Callable, Dict, List, Set, Tuple
+
+from service.entries import Entries
+from service.journal import settle
+from service.limits import refusal
+from service.lines import OWN
+from service.program import Ended, Program
+
+# How often a start that a signal ended is tried.
+TRIES = 3
+# What a machine may be short of for a moment, and how often and how long a start waits for it.
+SHORT = {errno.EAGAIN, errno.EMFILE, errno.ENFILE, errno.ENOMEM}
+WAITS, WAIT_SECONDS = 20, 0.25
+
+
+class Fatal(Exception):
+    """The store cannot be used any more, or the journal cannot be written."""
+
+
+class Store:
+    """Between two batches the store holds nothing uncommitted. Each commit includes the number of its last batch, as the name of
+    the only checkpoint of the alternative `.service`. A checkpoint takes no block, so a full store can still be emptied. The
+    alternative is made anew each time, so it keeps no old version of `top` in use."""
+
+    def __init__(self, file: str, altctl: str, options: List[str], lock: int, say: Callable[[object], None]):
+        self.file, self.altctl, self.lock, self.say = file, altctl, lock, say
+        self.words = [altctl, "run", *options, "--", file]
+        self.entries, self.kept, self.has_rollback = Entries(), 0, False
+        self.program = self._start()
+
+    # --- the program ------------------------------------------------------------------------------
+
+    def _start(self) -> Program:
+        """Starts the program, and finds out which batch is the last one in the store."""
+        try:
+            settle(self.lock)
+        except OSError as fault:
+            raise Fatal(f"it could not be synced: {fault}. The next start shows what the device has") from None
+        for _ in range(TRIES):
+            self.program = self._started()
+            try:
+                self.has_rollback = self.program.ask([b"rollback"]) == [b"ok"]
+                self._look()
+                if OWN not in self.entries.parents:
+                    self._begin()
+                return self.program
+            except Ended:
+                status = self.program.end()
+                if status >= 0:
+                    break
+        raise Fatal(f"altctl ended with status {status} at its start")
+
+    def _started(self) -> Program:
+        for _ in range(WAITS):
+            try:
+                return Program(self.words, self.lock)
+            except OSError as fault:
+                reason = fault
+                if fault.errno not in SHORT:
+                    break
+                time.sleep(WAIT_SECONDS)
+        raise Fatal(f"{self.altctl} cannot be started: {reason}")
+
+    def _look(self) -> None:
+        """Reads the alternatives, and the number of the last batch."""
+        self.entries.parents = {name: parent for _, name, parent in self.rows(b"alts")}
+        if OWN not in self.entries.parents:
+            self.kept = 0
+            return
+        names = [name for _, name in self.rows(b"checks " + OWN)]
+        if len(names) != 1 or not names[0].isdigit():
+            raise Fatal(f"the alternative {OWN.decode()} is not one that a service has made")
+        self.kept = int(names[0])
+
+    def _begin(self) -> None:
+        """Makes the service's own alternative."""
+        answers = self.program.ask([b"new %s top" % OWN, b"checkpoint %s %d" % (OWN, self.kept), b"commit"])
+        if answers != [b"ok"] * 3:
+            self.program.end()
+            raise Fatal(f"the alternative {OWN.decode()} cannot be made: {b', '.join(answers).decode()}")
+        self.entries.parents[OWN] = b"top"
+
+    def reopen(self) -> None:
+        """Starts the program again, which drops everything uncommitted."""
+        self.program.end(kills=True)
+        self._start()
+
+    def undo(self) -> None:
+        """Drops everything uncommitted."""
+        if not self.has_rollback or self.program.ask([b"rollback"]) != [b"ok"]:
+            self.reopen()
+
+    def end(self) -> int:
+        return self.program.end()
+
+    def is_in_place(self) -> bool:
+        """Whether the file still has its name."""
+        try:
+            return os.path.samestat(os.stat(self.file), os.fstat(self.lock))
+        except OSError:
+            return False
+
+    # --- queries ----------------------------------------------------------------------------------
+
+    def rows(self, line: bytes) -> List[Tuple[bytes, ...]]:
+        text = bytearray()
+        self.program.ask_rows(line, text.extend)
+        return [tuple(it.split(b" ")) for it in bytes(text).split(b"\n")[:-2]]
+
+    def checkpoints(self) -> Dict[bytes, Set[bytes]]:
+        """The checkpoints of each alternative."""
+        return {name: {it for _, it in self.rows(b"checks " + name)} for name in self.entries.parents}
+
+
+def stopped(count: int) -> List[bytes]:
+    return [refusal(99)] * count

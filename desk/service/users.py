@@ -1,0 +1,53 @@
+"""What users take of the limits that all of them share. Each may take a quarter."""
+from typing import Dict
+
+from service import limits
+from service.limits import of_one_user
+
+
+class User:
+    """A user with connections: how many, the size of the lines that are held and wait, and of unread answers in files."""
+
+    def __init__(self) -> None:
+        self.planners, self.held, self.in_files = 0, 0, 0
+
+
+class Users:
+    def __init__(self) -> None:
+        self.by_number: Dict[int, User] = {}
+        self.planners, self.held, self.in_files, self.in_memory = 0, 0, 0, 0
+
+    def enter(self, uid: int) -> bool:
+        """Counts a connection, unless there are too many."""
+        user = self.by_number.get(uid) or User()
+        if self.planners >= limits.PLANNERS or user.planners >= of_one_user(limits.PLANNERS):
+            return False
+        self.by_number[uid] = user
+        user.planners += 1
+        self.planners += 1
+        return True
+
+    def leave(self, uid: int) -> None:
+        user = self.by_number[uid]
+        user.planners -= 1
+        self.planners -= 1
+        if not user.planners:
+            del self.by_number[uid]
+
+    def hold(self, uid: int, size: int) -> None:
+        """Counts the size of lines that are held, or no longer are."""
+        self.by_number[uid].held += size
+        self.held += size
+
+    def may_hold(self, uid: int, size: int) -> bool:
+        """Whether that much more may be held for a user."""
+        return self.by_number[uid].held + size <= of_one_user(limits.HELD_BYTES) and self.held + size <= limits.HELD_BYTES
+
+    def file(self, uid: int, size: int) -> bool:
+        """Counts the size of unread answers in files, unless it is too much."""
+        user = self.by_number[uid]
+        if size > 0 and (user.in_files + size > of_one_user(limits.UNREAD_FILES) or self.in_files + size > limits.UNREAD_FILES):
+            return False
+        user.in_files += size
+        self.in_files += size
+        return True

@@ -1,0 +1,1 @@
+"""Tests of `desk/altserve`, which `desk/test_altserve.py` runs."""

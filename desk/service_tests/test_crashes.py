@@ -1,0 +1,71 @@
+"""Tests of the service: crashes."""
+import os
+from pathlib import Path
+
+from service.batch import Batch
+from service.batches import Batches
+from service.locking import locked
+from service.rules import Person, Rules
+from service.store import Store
+from service_tests.support import ALTCTL, ServiceTest, entries
+
+
+class CrashTests(ServiceTest):
+    def test_store_and_journal_agree_wherever_the_machine_stops(self):
+        moments = self.moments()
+        self.assertGreater(len(moments), 12)
+        shown = set()
+        for store, synced, journal in moments:
+            # Of what was not synced any part may be there, and other bytes in the place of the rest.
+            for length in {*range(synced, len(journal), 40), max(synced, len(journal) - 1), len(journal)}:
+                for text in {journal[:length], journal[:length] + bytes(len(journal) - length)}:
+                    shown.add(self.shown_after(store, text))
+        self.assertEqual({0, 2, 4, 5}, shown)
+
+    def batches(self, lock, say):
+        return Batches(Store(self.file, ALTCTL, [], lock, say), Rules(f"{self.file}.rules"), say)
+
+    def moments(self):
+        """Store and journal before and after each step of three commits, and how much of the journal is synced. A crash within a
+        commit of the program leaves the store as before or as after it: that is proved."""
+        lock = locked(self.file)
+        batches = self.batches(lock, self.fail)
+        program, journal = batches.store.program, batches.journal
+        ask, append, sync = program.ask, journal._append, journal._sync
+        moments, synced = {}, journal.end
+
+        def note():
+            moments[Path(self.file).read_bytes(), synced, Path(self.journal).read_bytes()] = None
+
+        def noting(call):
+            def step(*words):
+                nonlocal synced
+                note()
+                given = call(*words)
+                synced = journal.end if call == sync else synced
+                note()
+                return given
+
+            return step
+
+        program.ask, journal._append, journal._sync = map(noting, (ask, append, sync))
+        person = Person(os.geteuid(), "anna", frozenset())
+        groups = [[[1], [2]], [[3, 4]], [[5]]]
+        for group in groups:
+            batches.carry_out([Batch(person, [b"put top 1 %d a" % it for it in numbers]) for numbers in group])
+        batches.end()
+        os.close(lock)
+        return list(moments)
+
+    def shown_after(self, store, journal):
+        """How many records are there after such a crash, all of which the journal tells."""
+        Path(self.file).write_bytes(store)
+        Path(self.journal).write_bytes(journal)
+        lock = locked(self.file)
+        batches = self.batches(lock, lambda _: None)
+        rows = [it[2].decode() for it in batches.store.rows(b"list top")]
+        told = [it.split(" ")[7] for it in entries(self.journal)]
+        self.assertEqual(rows, told)
+        batches.end()
+        os.close(lock)
+        return len(rows)

@@ -1,0 +1,141 @@
+"""Tests of the service: lines."""
+import os
+import signal
+import socket
+import subprocess
+import unittest
+
+from service import limits
+from service_tests.support import HAS_NC, LONG, ServiceTest
+
+
+class LineTests(ServiceTest):
+    def test_a_line_is_durable_before_it_is_answered(self):
+        self.start()
+        with self.planner() as one:
+            self.assertEqual(["ok", "ok", "value duct"], one.ask("new north top", "put north 7 1 duct", "get north 7 1"))
+            os.kill(self.program(), signal.SIGKILL)
+            self.assertEqual(["value duct", "none"], one.ask("get north 7 1", "get north 7 2"))
+        self.stop(signal.SIGKILL)
+        self.start()
+        self.assertEqual(0, self.stop())
+        self.assertEqual(["value duct"], self.altctl("get north 7 1"))
+
+    def test_lines_are_answered_as_by_the_program(self):
+        due = {
+            "new north top": "ok",
+            "put top 7 1 a": "ok",
+            "  put   north 7 1 b \r": "ok",
+            "put north 7 2 Stra\xdfe": "ok",
+            "# a remark": "",
+            "": "",
+            "conflicts north": "conflict 7 1 ~ a b|end 1",
+            "merge north": "error 9 Unsettled 1",
+            "merge north 7:1=mine 7:9=mine": "error 10 NotInConflict 7:9",
+            "merge north 7:1=mine": "ok 0",
+            "changes north": "change 7 1 a b|change 7 2 ~ Stra%C3%9Fe|end 2",
+            "checkpoint north before": "ok",
+            "checks north": "checkpoint before|end 1",
+            "remove north 7 2": "ok",
+            "remove north 7 2 ": "error 5 NoSuchRecord",
+            "get north 7 2": "none",
+            "back north before": "ok",
+            "list north": "record 7 1 b|record 7 2 Stra%C3%9Fe|end 2",
+            "post north": "ok",
+            "get top 7 1": "value b",
+            "uncheck north before": "ok",
+            "drop north": "ok",
+            "drop top": "error 6 IsTop",
+            "nonsense": "error 22 BadLine",
+            "put top 7": "error 22 BadLine",
+            "put top 65536 1 a": "error 22 BadLine",
+            "put top 7 1 %2": "error 22 BadLine",
+            "put a/b 7 1 a": "error 22 BadLine",
+            "new": "error 22 BadLine",
+            "put nowhere 7 1 a": "error 1 NoSuchAlternative",
+            "list nowhere": "error 1 NoSuchAlternative",
+            "grow 10": "error 21 BadSize",
+            "grow 300": "ok",
+            "reclaim": "ok",
+            "commit": "ok",
+        }
+        lines = [it for it in due if it]
+        for answers in [self.altctl(*lines), None]:
+            if answers is None:
+                os.unlink(self.file)
+                self.create()
+                self.start()
+                with self.planner() as one:
+                    one.send(*due)
+                    answers = one.rest()
+            self.assertEqual("|".join(filter(None, due.values())), "|".join(answers))
+
+    def test_words_of_the_service(self):
+        self.start()
+        name = subprocess.run(["id", "-un"], stdout=subprocess.PIPE, check=True).stdout.decode().strip()
+        with self.planner() as one:
+            self.assertEqual(["planner", name, str(os.getuid())], one.ask("whoami")[0].split()[:3])
+            # Each line is committed by itself: a commit has nothing to do, and nothing can be taken back.
+            self.assertEqual(["ok"] * 4 + ["value a"], one.ask("put top 1 1 a", "commit", "rollback", "abort", "get top 1 1"))
+            lines = ["whoami I", "backup", "backup a b", "log a", "log record=7", "log last=-1", "log last=a", "begin now", "commit all"]
+            for line in lines:
+                self.assertEqual(["error 22 BadLine"], one.ask(line), line)
+
+    def test_the_alternative_of_the_service_is_its_own(self):
+        self.start()
+        rights = {"put .service 1 1 a": "change", "drop .service": "drop", "post .service": "post", "new a .service": "change"}
+        rights.update({"new .service top": "change", "uncheck .service 0": "change", "merge .service": "change"})
+        with self.planner() as one:
+            for line, right in rights.items():
+                self.assertEqual([f"error 90 Denied {right} .service"], one.ask(line))
+            self.assertEqual(["alternative top ~", "alternative .service top", "end 2"], one.rows("alts"))
+
+    @unittest.skipUnless(HAS_NC, "nc -U (netcat-openbsd) is not installed")
+    def test_netcat_will_do(self):
+        self.start()
+        words = ["nc", "-N", "-U", self.socket]
+        ran = subprocess.run(words, input=b"put top 7 1 duct\nget top 7 1\n", stdout=subprocess.PIPE, timeout=60)
+        self.assertEqual(b"ok\nvalue duct\n", ran.stdout)
+
+    def test_a_line_without_its_end_is_not_carried_out(self):
+        self.start()
+        with self.planner() as one:
+            one.socket.sendall(b"put top 7 1 a\nput top 7 12 value")
+            self.assertEqual(["ok", "error 96 HalfLine"], one.rest())
+        with self.planner() as one:
+            self.assertEqual(["record 7 1 a", "end 1"], one.rows("list top"))
+
+    def test_how_long_a_line_may_be(self):
+        self.start()
+        with self.planner() as one:
+            for size, due in [(limits.LINE_BYTES, "error 22 BadLine"), (limits.LINE_BYTES + 1, "error 23 LongLine")]:
+                self.assertEqual([due, "ok"], one.ask("put top 7 1 ".ljust(size, "a"), "put top 7 1 a"))
+
+    def test_many_lines_are_written_before_an_answer_is_read(self):
+        self.start()
+        with self.planner() as one:
+            lines = [line for n in range(300) for line in (f"put top 1 {n} {n}", f"get top 1 {n}")]
+            self.assertEqual([line for n in range(300) for line in ("ok", f"value {n}")], one.ask(*lines))
+
+    def test_a_list_of_more_than_waits_in_memory(self):
+        os.unlink(self.file)
+        self.create(2048)
+        self.start()
+        with self.planner() as one:
+            count = 3 * limits.UNREAD_BYTES // len(LONG)
+            self.assertEqual(["ok"] * count, one.ask(*(f"put top 1 {n} {LONG}" for n in range(count))))
+            due = [f"record 1 {n} {LONG}" for n in range(count)] + [f"end {count}"]
+            one.send("list top", "list top", "get top 1 0")
+            self.assertEqual(2 * due + [f"value {LONG}"], one.rest())
+
+    def test_a_full_store_can_be_emptied(self):
+        os.unlink(self.file)
+        self.create(64)
+        self.start()
+        with self.planner() as one:
+            one.ask("new a top")
+            answers = [one.ask(f"put a 1 {n} {LONG}")[0] for n in range(64)]
+            self.assertIn("error 13 Full", answers)
+            # Lines that wait together have one commit, and what one of them gives back can be had after it.
+            for line in ("drop a", "new a top", "put a 1 1 b"):
+                self.assertEqual(["ok"], one.ask(line))

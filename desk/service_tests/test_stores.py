@@ -1,0 +1,161 @@
+"""Tests of the service: stores."""
+import contextlib
+import os
+import signal
+import stat
+import subprocess
+import time
+from pathlib import Path
+
+from service_tests.support import ALTCTL, ServiceTest
+
+
+class StoreTests(ServiceTest):
+    def test_a_backup(self):
+        self.start()
+        with self.planner() as one:
+            one.ask("put top 1 1 a")
+            word, size, seconds = one.ask("backup first")[0].split()
+            self.assertEqual(("ok", os.path.getsize(f"{self.file}.backups/first")), (word, int(size)))
+            self.assertGreaterEqual(float(seconds), 0)
+            one.ask("put top 1 1 b")
+            self.assertEqual("ok", one.ask("backup second")[0].split()[0])
+            one.ask("put top 1 1 c")
+            self.assertEqual("ok", one.ask("backup second")[0].split()[0])
+        for name, value in {"first": "a", "second": "c"}.items():
+            copy = f"{self.file}.backups/{name}"
+            ran = subprocess.run([ALTCTL, "do", copy, "get top 1 1"], stdout=subprocess.PIPE, timeout=60)
+            self.assertEqual(f"value {value}\n", ran.stdout.decode())
+        self.assertEqual(["first", "second"], sorted(os.listdir(f"{self.file}.backups")))
+        self.assertEqual(0o700, stat.S_IMODE(os.stat(f"{self.file}.backups").st_mode))
+
+    def test_names_of_backups(self):
+        self.start()
+        with self.planner() as one:
+            for name in ["../a", "a/b", "/tmp/a", ".", "..", ".a", "-a", "a" * 33, "%2E%2E"]:
+                self.assertEqual(["error 22 BadLine"], one.ask(f"backup {name}"), name)
+        self.assertFalse(os.path.exists(f"{self.file}.backups"))
+
+    def test_a_backup_that_fails(self):
+        Path(f"{self.file}.backups").write_text("no folder")
+        self.start()
+        with self.planner() as one:
+            self.assertEqual(["error 98 NoBackup EEXIST", "ok"], one.ask("backup a", "put top 1 1 a"))
+        self.stop()
+        os.unlink(f"{self.file}.backups")
+        os.makedirs(f"{self.file}.backups/a/b")
+        self.start()
+        with self.planner() as one:
+            self.assertEqual(["error 98 NoBackup EISDIR"], one.ask("backup a"))
+        self.assertEqual(["a"], os.listdir(f"{self.file}.backups"))
+
+    def test_what_an_interrupted_backup_leaves_is_removed(self):
+        folder = Path(f"{self.file}.backups")
+        folder.mkdir()
+        others = [".a", ".a.17", ".profile", "a", "b.17.part"]
+        for name in (".a.17.part", *others):
+            (folder / name).write_bytes(b"a part")
+        (folder / ".b.17.part").symlink_to(folder / "a")
+        (folder / ".c.17.part").mkdir()
+        self.start()
+        self.assertEqual(sorted([".b.17.part", ".c.17.part", *others]), sorted(os.listdir(folder)))
+
+    def test_what_lies_behind_a_link_is_not_removed(self):
+        elsewhere = Path(self.folder, "elsewhere")
+        elsewhere.mkdir()
+        (elsewhere / ".a.17.part").write_bytes(b"of another service")
+        os.symlink(elsewhere, f"{self.file}.backups")
+        self.start()
+        self.assertEqual([".a.17.part"], os.listdir(elsewhere))
+        with self.planner() as one:
+            self.assertEqual("ok", one.ask("backup b")[0].split()[0])
+        self.assertEqual([".a.17.part", "b"], sorted(os.listdir(elsewhere)))
+
+    def test_a_second_service_is_refused(self):
+        self.start()
+        first, said = self.service, self.said
+        self.said = Path(f"{self.file}.second")
+        status, text = self.failed(change="from service import limits\nlimits.LOCK_SECONDS = 0.3")
+        self.assertEqual((1, f"altserve: {self.file}: another process has it\n"), (status, text))
+        self.service, self.said = first, said
+        self.assertEqual(1, subprocess.run(["flock", "-n", self.file, "true"]).returncode)
+        os.kill(self.program(), signal.SIGKILL)
+        self.assertEqual(1, subprocess.run(["flock", "-n", self.file, "true"]).returncode)
+        self.stop()
+        self.assertEqual(0, subprocess.run(["flock", "-n", self.file, "true"]).returncode)
+
+    def test_the_lock_outlives_a_service_that_is_killed(self):
+        self.start()
+        with self.planner() as one, self.halted() as program:
+            one.send("put top 1 1 a")
+            time.sleep(0.3)
+            self.stop(signal.SIGKILL)
+            self.assertEqual(1, subprocess.run(["flock", "-n", self.file, "true"]).returncode)
+            os.kill(program, signal.SIGCONT)
+            self.assertEqual(0, subprocess.run(["flock", self.file, "true"], timeout=60).returncode)
+        self.start()
+
+    def test_a_file_that_is_no_store(self):
+        Path(self.file).write_bytes(bytes(64 * 4096))
+        status, text = self.failed()
+        self.assertEqual((3, True), (status, "altctl: 19 NotAStore\n" in text and "status 1 at its start" in text))
+        os.unlink(self.file)
+        self.assertEqual(1, self.failed()[0])
+
+    def test_a_store_without_room_for_the_alternative(self):
+        self.assertEqual(["ok"] * 511, self.altctl(*(f"new a{n} top" for n in range(510)), "commit"))
+        status, text = self.failed()
+        self.assertEqual((3, True), (status, "12 TooMany" in text), text)
+
+    def test_an_alternative_that_no_service_has_made(self):
+        for lines in (["new .service top"], ["checkpoint .service a"], ["checkpoint .service 1"]):
+            self.assertEqual(["ok", "ok"], self.altctl(*lines, "commit"))
+            status, text = self.failed()
+            self.assertEqual((3, True), (status, "is not one that a service has made" in text), text)
+
+    def test_a_store_with_as_many_alternatives_as_it_may_have(self):
+        self.start()
+        with self.planner() as one:
+            lines = [f"new a{n} top" for n in range(509)]
+            self.assertEqual(["ok"] * 508 + ["error 12 TooMany"], one.ask(*lines))
+            self.assertEqual(["ok", "ok", "ok"], one.ask("put top 1 1 a", "drop a1", "new a1 top"))
+
+    def test_a_term_ends_it(self):
+        self.start()
+        with self.planner() as one, self.planner() as other:
+            with self.halted():
+                one.send("put top 1 1 a")
+                time.sleep(0.3)
+                other.send("put top 1 2 a", "begin", "put top 1 3 a")
+                self.service.send_signal(signal.SIGTERM)
+                time.sleep(0.3)
+            self.assertEqual(["ok", ""], one.read(2))
+            self.assertEqual(0, self.service.wait(60))
+        self.assertFalse(os.path.exists(self.socket))
+        self.assertEqual(["record 1 1 a", "end 1"], self.altctl("list top"))
+
+    def test_a_store_that_is_lost(self):
+        program = f"{self.folder}/altctl"
+        os.symlink(os.path.abspath(ALTCTL), program)
+        self.start("--program", program)
+        with self.planner() as one, self.planner() as other:
+            with self.halted() as it:
+                one.send("put top 1 1 a", "put top 1 2 a")
+                time.sleep(0.3)
+                other.send("put top 1 3 a")
+                os.unlink(program)
+                os.kill(it, signal.SIGKILL)
+            # The commit had not been asked for, so nothing was made.
+            self.assertEqual(["error 99 Stopped"] * 2 + [""], one.read(3))
+            self.assertEqual(["error 99 Stopped"], other.read())
+        self.assertEqual(3, self.service.wait(60))
+
+    def test_memory_stays(self):
+        self.start()
+        with self.planner() as one:
+            lines = [f"put top 1 {n % 500} {n}" for n in range(10_000)]
+            one.ask(*lines)
+            before = self.memory("VmRSS")
+            for _ in range(3):
+                self.assertEqual(["ok"] * len(lines), one.ask(*lines))
+            self.assertLess(self.memory("VmRSS"), before + (4 << 20))
