@@ -11,11 +11,15 @@ HERE = Path(__file__).resolve().parent
 sys.path[:0] = [str(HERE), str(HERE.parent / "clients" / "python")]
 from service_tests.test_batches import BatchTests
 from service_tests.test_crashes import CrashTests
+from service_tests.test_devices import DeviceTests, SyncTests
+from service_tests.test_fairness import BoundTests, FairnessTests, LeavingTests
 from service_tests.test_hostile import HostileTests
 from service_tests.test_journal import JournalTests
 from service_tests.test_limits import DocumentTests, UnreadTests
 from service_tests.test_lines import LineTests
+from service_tests.test_log import IndexTests, LogTests
 from service_tests.test_rules import RulesTests
+from service_tests.test_signals import ShortageTests, SignalTests
 from service_tests.test_sockets import SocketTests
 from service_tests.test_stores import StoreTests
 

@@ -10,8 +10,10 @@ class Batch:
     """Lines of one planner. In the end it has the answers to all of them, or the position and the answer of the one that was
     refused; the position after the last line stands for `commit`."""
 
-    def __init__(self, person, lines=(), is_explicit=False, rules=None):
+    def __init__(self, person, lines=(), is_explicit=False, rules=None, source=None):
         self.person, self.lines, self.is_explicit = person, list(lines), is_explicit
+        # Batches of one source are carried out in their order.
+        self.source = self if source is None else source
         self.count, self.begun = len(self.lines), time.monotonic()
         self.bytes = sum(map(len, self.lines))
         self.answers, self.refused = None, None

@@ -177,7 +177,7 @@ class Batches:
         """Carries out one batch and takes it back, so it is refused if it would be."""
         self.sent = batches
         answers = self.store.program.ask(batches[0].lines)
-        self._judge(0, batches[0], answers, self.store.entries.copy(), False)
+        self._judge(batches[0], answers, self.store.entries.copy(), False)
         self.store.undo()
 
     def _attempt(self, batches: List[Batch]) -> None:
@@ -202,7 +202,9 @@ class Batches:
                 batches[0].refuse(batches[0].count, fault)
             elif fault is not None:
                 return  # They are tried one by one.
-            batches = [it for it in open_ones(batches) if not it.is_alone]
+            # Those that are tried by themselves come later, and with them all of the same planner.
+            alone = {it.source for it in batches if it.is_alone}
+            batches = [it for it in open_ones(batches) if it.source not in alone]
 
     def _judged(self, batches: List[Batch], answers: List[bytes], entries: Entries) -> Optional[List[Done]]:
         """The batches that were carried out; None if one was refused that may have had an effect, so that others have to be again."""
@@ -210,14 +212,16 @@ class Batches:
         for number, batch in enumerate(batches, self.journal.next):
             its = answers[at : at + len(batch.lines)]
             at += len(its)
-            effect, place = self._judge(number, batch, its, entries, len(batches) > 1)
+            effect, place = self._judge(batch, its, entries, len(batches) > 1)
             if effect is not None and place is None:
                 done.append(Done(number, batch, its, effect))
             elif effect is not None or len(its) > 1:
                 return None
+            elif batch.is_alone and sum(it.source is batch.source for it in batches) > 1:
+                return None  # The others of its planner have to wait for it.
         return done
 
-    def _judge(self, number, batch, answers, entries, is_among_others) -> Tuple[Optional[Effect], Optional[int]]:
+    def _judge(self, batch, answers, entries, is_among_others) -> Tuple[Optional[Effect], Optional[int]]:
         """Refuses a batch if a line of it was refused or lacks a right. Returns its effect, if it has one, and the place of that line."""
         place, effect = refused_place(answers), None
         if place is None:

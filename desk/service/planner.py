@@ -141,11 +141,11 @@ class Planner:
             return  # It would only be answered.
         elif verb in RIGHTS:
             refused = self._refusal_of(words)
-            self._add(Batch(self.person, [line_of(words)], rules=self.server.rules) if refused is None else refused + b"\n")
+            self._add(self._batch([line_of(words)], False) if refused is None else refused + b"\n")
         elif verb in SINGLE or verb in ROWS:
             self._add(Query(line_of(words), verb in ROWS))
         elif words == [b"begin"]:
-            self.batch = Batch(self.person, is_explicit=True, rules=self.server.rules)
+            self.batch = self._batch([], True)
             self._add(b"ok\n")
         elif words in ([b"commit"], [b"abort"], [b"rollback"]):
             # Each earlier line was a batch of its own, so it is committed, and nothing can be taken back.
@@ -154,6 +154,9 @@ class Planner:
             self._add(Word(words))
         else:
             self._add(BAD_LINE + b"\n")
+
+    def _batch(self, lines: List[bytes], is_explicit: bool) -> Batch:
+        return Batch(self.person, lines, is_explicit, self.server.rules, self)
 
     def _hold(self, verb: bytes, words: List[bytes]) -> None:
         """A line within a batch."""

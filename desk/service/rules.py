@@ -58,6 +58,11 @@ def group_name(gid):
         return str(gid)
 
 
+def printed(letter):
+    """A letter of a rule as it is told: as in a value, so that it is part of a word."""
+    return letter if "!" <= letter <= "}" and letter != "%" or letter == "~" else "".join(f"%{it:02X}" for it in letter.encode())
+
+
 class Unreadable(Exception):
     """The file of rules exists and cannot be used."""
 
@@ -117,7 +122,7 @@ class Rules:
         matching = [it for it in rule if fnmatch.fnmatchcase(name, it)]
         if any(has(person, rule[it]) for it in matching):
             return None
-        return right, (matching or ["~"])[0].replace(" ", "%20")
+        return right, "".join(map(printed, (matching or ["~"])[0]))
 
     def refusal_of(self, person, words, parents) -> Optional[bytes]:
         """Why a person may not make a change, or None. `parents` are those of the alternatives that are known."""

@@ -177,7 +177,8 @@ class Server:
             lines -= len(request.lines) if isinstance(request, Batch) else 1
             counts[planner] += 1
             of_users[uid] += 1
-            if counts[planner] < limits.GROUP_OF_ONE:
+            # Where one batch may be refused, the next one may need to know.
+            if counts[planner] < limits.GROUP_OF_ONE and not planner.doubt:
                 turns.append(planner)
         for planner in counts:
             self.waiting.pop(planner, None)

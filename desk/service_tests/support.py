@@ -1,12 +1,15 @@
 """A service over a real store, and planners by bytes, for the tests."""
 import contextlib
+import fcntl
 import json
 import os
 import signal
 import socket
+import struct
 import subprocess
 import sys
 import tempfile
+import termios
 import time
 import unittest
 from pathlib import Path
@@ -86,11 +89,15 @@ class Raw:
         self.send(*lines)
         return self.read(len(lines))
 
+    def is_read(self):
+        """Whether the service has read all that was sent."""
+        return not struct.unpack("i", fcntl.ioctl(self.socket, termios.TIOCOUTQ, bytes(4)))[0]
+
     def rows(self, line):
         """The answer to a line up to the last row."""
         self.send(line)
         rows = self.read()
-        while not rows[-1].startswith(("end ", "error ")):
+        while rows[-1] and not rows[-1].startswith(("end ", "error ")):
             rows += self.read()
         return rows
 

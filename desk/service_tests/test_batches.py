@@ -9,7 +9,7 @@ import time
 from pathlib import Path
 
 from service import limits
-from service_tests.support import ALTCTL, ServiceTest, kept_batches
+from service_tests.support import ALTCTL, LONG, ServiceTest, kept_batches
 
 
 # The program without the word `rollback`, as earlier versions, and with one of later ones: `copy FROM TO`, which leaves a file
@@ -63,6 +63,85 @@ class BatchTests(ServiceTest):
             self.assertEqual(["alternative top ~", "alternative .service top", "end 2"], one.rows("alts"))
             self.assertEqual(["value b"], one.ask("get top 1 1"))
         self.assertEqual(["1 put top 1 1 a", "2 put top 1 1 b"], self.log())
+
+    def test_a_refused_line_leaves_no_number_behind(self):
+        self.start()
+        with self.planner() as one:
+            self.assertEqual(["ok"], one.ask("put top 1 1 a"))
+            for lines in (["put nowhere 1 1 a"], ["begin", "remove top 1 9", "commit"], ["begin", "put top 1 2 a", "drop x", "commit"]):
+                one.ask(*lines)
+                self.assertEqual(["checkpoint 1", "end 1"], one.rows("checks .service"), lines)
+            self.assertEqual(["ok"], one.ask("put top 1 3 a"))
+            self.assertEqual(["record 1 1 a", "record 1 3 a", "end 2"], one.rows("list top"))
+
+    def test_batches_of_several_lines_share_a_commit(self):
+        self.start()
+        with contextlib.ExitStack() as stack:
+            planners = [stack.enter_context(self.planner()) for _ in range(24)]
+            for one in planners:
+                one.ask("whoami")
+            with self.halted():
+                planners[0].send("put top 9 9 a")
+                self.until(planners[0].is_read)
+                for number, one in enumerate(planners[1:], 1):
+                    # Each third is refused at its second line, and each fifth takes back what it has put.
+                    last = "put nowhere 1 1 a" if number % 3 == 0 else f"remove top 1 {number}" if number % 5 == 0 else "put top 2 2 b"
+                    one.send("begin", f"put top 1 {number} a", last, "commit")
+            self.assertEqual(["ok"], planners[0].read())
+            for number, one in enumerate(planners[1:], 1):
+                refused = ["ok", "error 91 NotDone 2", "error 1 NoSuchAlternative", "error 91 NotDone 2"]
+                self.assertEqual(refused if number % 3 == 0 else ["ok"] * 4, one.read(4), number)
+            made = [number for number in range(1, 24) if number % 3 and number % 5]
+            due = [*(f"record 1 {number} a" for number in made), "record 2 2 b", "record 9 9 a", f"end {len(made) + 2}"]
+            self.assertEqual(due, planners[0].rows("list top"))
+        lines = [json.loads(it) for it in Path(self.journal).read_text().splitlines()]
+        self.assertEqual(17, sum("batch" in it for it in lines))
+        self.assertLessEqual(sum("done" in it for it in lines), 4)
+
+    def test_a_batch_that_has_no_room_beside_others_is_tried_by_itself(self):
+        os.unlink(self.file)
+        self.create(64)
+        self.start()
+        with self.planner() as one, self.planner() as other:
+            one.ask("new a top", "new b top")
+            full = next(n for n in range(64) if one.ask(f"put a 1 {n} {LONG}")[0] != "ok")
+            while one.ask(f"put b 2 {full} a") == ["ok"]:
+                full += 1
+            self.assertEqual(["error 13 Full"], other.ask("put b 1 1 a"))
+            with self.halted():
+                one.send("get top 1 1")
+                self.until(one.is_read)
+                one.send("drop a")
+                other.send("begin", "put b 3 1 a", "put b 3 2 a", "commit")
+            self.assertEqual(["none", "ok"], one.read(2))
+            self.assertEqual(["ok"] * 4, other.read(4))
+
+    def test_batches_of_one_planner_keep_their_order(self):
+        os.unlink(self.file)
+        self.create(64)
+        self.start()
+        with self.planner() as one, self.planner() as other:
+            one.ask("new a top", "new b top")
+            while one.ask(f"put a 1 {time.monotonic_ns()} {LONG}") == ["ok"]:
+                pass
+            for lines in (["put b 1 1 a"], ["begin", "put b 1 1 a", "put b 1 2 a", "commit"]):
+                with self.halted():
+                    other.send("get top 1 1")
+                    self.until(other.is_read)
+                    # There is room only after the drop, and the post needs what comes before it.
+                    other.send("drop a")
+                    one.send(*lines, "post b", "put top 1 1 c")
+                self.assertEqual(["none", "ok"], other.read(2))
+                self.assertEqual(["ok"] * (len(lines) + 2), one.read(len(lines) + 2))
+                self.assertEqual(["value c", "value a"], one.ask("get top 1 1", "get b 1 1"))
+                one.ask("drop b", "remove top 1 1", "remove top 1 2", "new a top", "new b top")
+                while one.ask(f"put a 1 {time.monotonic_ns()} {LONG}") == ["ok"]:
+                    pass
+            # After a refused batch the next ones still see what came before them.
+            one.ask("drop a")
+            one.ask("begin", "put b 2 1 a", "drop nowhere", "commit")
+            lines = ["begin", "new c b", "put c 2 1 a", "commit", "begin", "put c 2 2 a", "post c", "commit", "drop c"]
+            self.assertEqual(["ok"] * len(lines), one.ask(*lines))
 
     def refuse_a_batch(self, one):
         """Has a batch refused, and makes a part of it. Returns whether the program was started again in between."""

@@ -6,7 +6,8 @@ import subprocess
 import unittest
 
 from service import limits
-from service_tests.support import HAS_NC, LONG, ServiceTest
+from service.lines import LINES
+from service_tests.support import DESK, HAS_NC, LONG, ServiceTest
 
 
 class LineTests(ServiceTest):
@@ -69,6 +70,35 @@ class LineTests(ServiceTest):
                     one.send(*due)
                     answers = one.rest()
             self.assertEqual("|".join(filter(None, due.values())), "|".join(answers))
+
+    def test_carriage_returns_are_read_as_by_the_program(self):
+        lines = [
+            "new a top\r", "new b top\r\r", "new c .service\r\r", "put a 1 1 x\r\r", "get a 1 1", "put a 1 2 x\ry", "get a 1 2\r", "get a 1 2\r\r",
+            "put a 1 3 \r\r", "get a 1 3", "put a 1 4 x \r", "get a 1 4", "put a 1 4 x\r \r", "get a 1 4", "commit\r\r", "\r", "\r\r", "#\r\r", "list a\r",
+        ]
+        # One of the program's own answers takes the place of the one that the service gives for its alternative.
+        due = self.altctl(*lines)
+        self.assertIn("value x%0D", due)
+        os.unlink(self.file)
+        self.create()
+        self.start()
+        with self.planner() as one:
+            one.send(*lines)
+            self.assertEqual(due, one.rest())
+        puts = ["put a 1 1 x%0D", "put a 1 2 x%0Dy", "put a 1 3 %0D", "put a 1 4 x", "put a 1 4 x%0D"]
+        self.assertEqual(["new a top", *puts], [it.split(" ", 1)[1] for it in self.log()])
+
+    def test_each_line_of_the_formats_is_known(self):
+        text = (DESK.parent / "docs" / "FORMATS.md").read_text()
+        rows = [it.split("`")[1] for it in text[text.index("| Line | Does |") :].split("\n\n")[0].splitlines()[2:]]
+        verbs = {it.split()[0].encode() for it in rows} - {b"commit", b"rollback"}
+        self.assertEqual(verbs, set(LINES))
+        self.start()
+        with self.planner() as one:
+            self.assertEqual(["blocks 256"], one.ask("blocks"))
+            for verb, line in LINES.items():
+                answers = one.ask(verb.decode() + " x" * 9)
+                self.assertIn(answers, (["error 22 BadLine"], ["error 1 NoSuchAlternative"]), line)
 
     def test_words_of_the_service(self):
         self.start()

@@ -3,6 +3,7 @@ import grp
 import os
 import signal
 import sys
+import time
 import unittest
 
 from service.rules import Person, Rules
@@ -61,8 +62,78 @@ class RulesTests(ServiceTest):
             self.assertEqual(["ok"], one.ask("reclaim"))
 
     @unittest.skipUnless(HAS_TOML, NEEDS_TOML)
+    def test_a_batch_that_was_begun_before_the_rules_changed(self):
+        self.rules('[change]\n"*" = ["*"]')
+        self.start()
+        with self.planner() as one, self.planner() as other:
+            self.assertEqual(["ok"], one.ask("begin"))
+            one.send("put top 1 1 a", "put top 1 2 a")
+            self.until(one.is_read)
+            self.rules('[change]\nnorth = ["*"]')
+            self.service.send_signal(signal.SIGHUP)
+            self.until(lambda: other.ask("put top 1 3 a")[0].startswith("error 90"))
+            one.send("commit")
+            self.assertEqual(["error 90 Denied change ~", *["error 91 NotDone 1"] * 2], one.read(3))
+            self.assertEqual(["end 0"], one.rows("list top"))
+
+    @unittest.skipUnless(HAS_TOML, NEEDS_TOML)
+    def test_rights_on_the_parent(self):
+        self.rules('[change]\n"mine*" = ["*"]\n[post]\n"mine*" = ["*"]\n[drop]\n"mine*" = ["*"]')
+        self.assertEqual(["ok"] * 3, self.altctl("new south top", "new mine-0 south", "commit"))
+        self.start()
+        with self.planner() as one:
+            # A design of one's own, but not below what one may not change.
+            due = ["ok", "ok", "error 90 Denied change ~", "error 90 Denied post ~", "error 90 Denied post ~"]
+            self.assertEqual(due, one.ask("new mine-1 top", "new mine-2 mine-1", "new mine-3 south", "post mine-1", "post mine-0"))
+            self.assertEqual(["ok", "ok"], one.ask("put mine-2 7 1 a", "post mine-2"))
+            # Only when it is carried out it is known whose child it is.
+            lines = ["begin", "new mine-4 mine-1", "drop mine-4", "new mine-4 top", "put mine-4 7 1 b", "post mine-4", "commit"]
+            self.assertEqual("error 90 Denied post ~", one.ask(*lines)[5])
+            self.assertEqual(["end 0"], one.rows("list top"))
+            self.rules('[change]\n"mine*" = ["*"]\n[post]\n"mine*" = ["*"]\ntop = ["*"]\n[new]\nsouth = ["*"]')
+            self.service.send_signal(signal.SIGHUP)
+            self.until(lambda: one.ask("post mine-1") == ["ok"])
+            self.assertEqual(["ok", "error 90 Denied new ~"], one.ask("new mine-3 south", "new mine-5 top"))
+            self.assertEqual(["value a"], one.ask("get top 7 1"))
+
+    @unittest.skipUnless(HAS_TOML, NEEDS_TOML)
+    def test_how_many_entries_one_user_may_have(self):
+        self.rules('[change]\n"*" = ["*"]\n[drop]\n"*" = ["*"]\n[entries]\n"*" = 3\n"@nobody" = 500')
+        self.assertEqual(["ok", "ok"], self.altctl("new there top", "commit"))
+        for stops in (self.stop, lambda: self.stop(signal.SIGKILL)):
+            self.start()
+            with self.planner() as one:
+                self.assertEqual(["ok"] * 3, one.ask("new a top", "checkpoint a one", "checkpoint there two"))
+                due = ["error 102 TooManyEntries 3", "error 102 TooManyEntries 3"]
+                self.assertEqual(due, one.ask("new b top", "checkpoint a two"))
+                self.assertEqual(["ok"] * 4, one.ask("begin", "uncheck a one", "checkpoint a two", "commit"))
+                self.assertEqual(["error 102 TooManyEntries 3"], one.ask("checkpoint a three"))
+                self.assertEqual(["checkpoint two", "end 1"], one.rows("checks a"))
+                time.sleep(1.2)
+                self.assertEqual(["ok", "ok"], one.ask("uncheck there two", "new b a"))
+            # A service that is started again still knows who made them, also if it was killed.
+            stops()
+            self.start()
+            with self.planner() as one:
+                self.assertEqual(["error 102 TooManyEntries 3"], one.ask("new c top"))
+                self.assertEqual(["ok", "ok", "ok", "ok", "ok"], one.ask("drop b", "drop a", "new c top", "checkpoint c one", "drop c"))
+            self.stop()
+
+    @unittest.skipUnless(HAS_TOML, NEEDS_TOML)
+    def test_a_rule_with_other_bytes_is_told_in_one_line(self):
+        self.rules('[change]\n"t?p" = []\n"*\\n*" = []\n"to[p\\n \u00fc%]" = []')
+        self.start()
+        with self.planner() as one:
+            self.assertEqual(["error 90 Denied change t?p", "none"], one.ask("put top 1 1 a", "get top 1 1"))
+        self.stop()
+        self.rules('[change]\n"to[p\\n \u00fc%]" = []')
+        self.start()
+        with self.planner() as one:
+            self.assertEqual(["error 90 Denied change to[p%0A%20%C3%BC%25]", "none"], one.ask("put top 1 1 a", "get top 1 1"))
+
+    @unittest.skipUnless(HAS_TOML, NEEDS_TOML)
     def test_rules_that_are_none(self):
-        for text in ["[change", "[fly]\na = []", 'grow = "anna"', "grow = 1", "change = []", "[change]\na = [1]", "[grow]\na = []"]:
+        for text in ["[change", "[fly]\na = []", 'grow = "anna"', "grow = 1", "change = []", "[change]\na = [1]", "[grow]\na = []", "entries = 3", "[entries]\na = true", "[entries]\na = -1"]:
             self.rules(text)
             status, said = self.failed()
             self.assertEqual((1, True), (status, said.startswith(f"altserve: {self.file}.rules: ")), said)

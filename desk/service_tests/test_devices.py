@@ -1,0 +1,243 @@
+"""The device fails, or the program ends, at the worst moment."""
+import json
+import os
+import signal
+import sys
+from pathlib import Path
+
+from service_tests.support import ALTCTL, ServiceTest
+
+# A program that does something else at the line that the file NAME.fault names. The file is `WHAT LINE`.
+FAULTY = """#!{python}
+import os, signal, subprocess, sys
+
+name = sys.argv[0] + ".fault"
+program = subprocess.Popen([{altctl!r}, *sys.argv[1:]], stdin=subprocess.PIPE, stdout=subprocess.PIPE, close_fds=False)
+
+def ask(line):
+    program.stdin.write(line)
+    program.stdin.flush()
+    answers = program.stdout.readline()
+    while answers.splitlines()[-1].split()[0] in (b"record", b"alternative", b"checkpoint", b"change", b"conflict"):
+        answers += program.stdout.readline()
+    return answers
+
+for line in sys.stdin.buffer:
+    what, begin = open(name, "rb").read().split(b" ", 1) if os.path.exists(name) else (b"", b"nothing")
+    if not line.startswith(begin):
+        answers = ask(line)
+    else:
+        os.unlink(name)
+        if what.startswith(b"after"):
+            ask(line)
+        if what.endswith(b"dies"):
+            program.kill()
+            os.kill(os.getpid(), signal.SIGKILL)
+        answers = b"error " + what.split(b"-")[-1].replace(b"_", b" ") + b"\\n"
+    sys.stdout.buffer.write(answers)
+    sys.stdout.buffer.flush()
+    if answers == b"error 15 Device\\n":
+        program.kill()
+        sys.exit(3)
+program.communicate()
+"""
+# Has a call of the service on its journal fail once the file FAULT is there.
+FAILS = """import errno, os
+from service import journal
+real = os.{call}
+def {call}(*words):
+    if os.path.exists({fault!r}) and (words[0] == journal.Journal.last.file) == {is_journal}:
+        raise OSError(errno.EIO, "the device failed")
+    return real(*words)
+class Noted(journal.Journal):
+    def __init__(self, *words):
+        journal.Journal.last = self
+        super().__init__(*words)
+os.{call} = {call}
+from service import batches
+batches.Journal = Noted
+"""
+
+
+class DeviceTests(ServiceTest):
+    def setUp(self):
+        super().setUp()
+        self.faulty = Path(self.folder, "faulty")
+        self.faulty.write_text(FAULTY.format(python=sys.executable, altctl=ALTCTL))
+        self.faulty.chmod(0o755)
+        self.start("--program", str(self.faulty))
+
+    def fail(self, what):
+        Path(f"{self.faulty}.fault").write_text(what)
+
+    def records(self):
+        """The records in the store, once no service is at work."""
+        return [it.split()[2] for it in self.altctl("list top")[:-1]]
+
+    def told(self):
+        return [it.split()[-2] for it in self.log()]
+
+    def test_a_commit_that_the_device_failed_at_is_never_ok(self):
+        # The selector may be in the cache of the system, and not on the device.
+        for what, is_made in {"15_Device commit": False, "after-15_Device commit": True}.items():
+            if self.service is None:
+                self.start("--program", str(self.faulty))
+            number = len(self.records_now()) + 1
+            with self.planner() as one, self.planner() as other:
+                self.fail(what)
+                one.send("begin", f"put top 1 {number} a", "commit")
+                self.assertEqual(["ok", "error 91 NotDone 2", "error 101 Unsure"], one.read(3), what)
+                self.assertEqual([""], one.read())
+            self.assertEqual(3, self.service.wait(60))
+            self.service = None
+            self.assertIn("the device failed at a commit", self.said.read_text())
+            self.assertEqual(is_made, str(number) in self.records())
+        self.start()
+        self.stop()
+        self.assertEqual(self.records(), self.told())
+
+    def records_now(self):
+        with self.planner() as one:
+            return one.rows("list top")[:-1]
+
+    def test_others_who_wait_are_told_that_nothing_was_begun(self):
+        with self.planner() as one, self.planner() as other:
+            other.ask("whoami")
+            self.fail("15_Device commit")
+            with self.halted():
+                one.send("put top 1 1 a")
+                self.until(one.is_read)
+                other.send("put top 1 2 a", "get top 1 1", "put top 1 3 a")
+            self.assertEqual(["error 101 Unsure"], one.read())
+            self.assertEqual(["error 99 Stopped"] * 3, other.read(3))
+        self.assertEqual(3, self.service.wait(60))
+        self.service = None
+
+    def test_a_commit_that_was_made_before_the_program_died(self):
+        with self.planner() as one:
+            for what, lines in {
+                "after-dies commit": ["put top 1 1 a"],
+                "dies commit": ["put top 1 2 a"],
+                "dies checkpoint": ["begin", "new a top", "put top 1 3 a", "commit"],
+            }.items():
+                self.fail(what)
+                self.assertEqual(["ok"] * len(lines), one.ask(*lines), what)
+            self.assertEqual(["1", "2", "3"], [it.split()[2] for it in one.rows("list top")[:-1]])
+        self.stop()
+        # Of the second and third batch, the first attempts are not in the log.
+        self.assertEqual(["1", "2", "top", "3"], self.told()[:2] + [it.split()[-1] for it in self.log()[2:3]] + self.told()[3:])
+
+    def test_a_commit_that_is_refused(self):
+        with self.planner() as one:
+            self.fail("16_Memory commit")
+            due = ["ok", "error 91 NotDone 2", "error 16 Memory"]
+            self.assertEqual(due, one.ask("begin", "put top 1 1 a", "commit"))
+            self.assertEqual(["none", "ok"], one.ask("get top 1 1", "put top 1 2 a"))
+        self.stop()
+        self.assertEqual(["2"], self.told())
+        self.assertEqual(["2"], self.records())
+
+    def test_a_stamp_that_is_refused(self):
+        with self.planner() as one, self.planner() as other:
+            self.fail("16_Memory checkpoint .service")
+            due = ["ok", "error 91 NotDone 2", "error 16 Memory"]
+            self.assertEqual(due, one.ask("begin", "put top 1 1 a", "commit"))
+            self.assertEqual(["checkpoint 0", "end 1", "end 0"], one.rows("checks .service") + one.rows("list top"))
+            # Among others, each is tried by itself.
+            one.ask("whoami")
+            other.ask("whoami")
+            with self.halted():
+                one.send("put top 1 1 a")
+                self.fail("16_Memory checkpoint .service")
+                other.send("put top 1 2 a")
+            self.assertEqual({"ok"}, {*one.read(), *other.read()} - {"error 16 Memory"})
+            self.assertGreaterEqual(len(one.rows("list top")), 2)
+
+    def test_the_program_dies_at_a_query(self):
+        with self.planner() as one:
+            self.fail("dies get")
+            self.assertEqual(["none"], one.ask("get top 1 1"))
+            self.fail("dies list")
+            one.send("list top")
+            self.assertEqual([], one.rest())
+        with self.planner() as one:
+            self.assertEqual(["end 0"], one.rows("list top"))
+
+    def test_the_program_dies_at_each_attempt(self):
+        self.stop()
+        self.faulty.write_text(self.faulty.read_text().replace("os.unlink(name)", "pass"))
+        self.start("--program", str(self.faulty))
+        with self.planner() as one:
+            self.fail("dies put top 1 1")
+            self.assertEqual(["error 99 Stopped", "ok"], one.ask("put top 1 1 a", "put top 1 2 a"))
+            self.fail("dies get")
+            self.assertEqual(["error 99 Stopped", "none"], one.ask("get top 1 1", "get top 1 1")[:1] + self.cured(one))
+
+    def cured(self, one):
+        os.unlink(f"{self.faulty}.fault")
+        return one.ask("get top 1 1")
+
+
+class SyncTests(ServiceTest):
+    def start_failing(self, call, is_journal):
+        self.fault = f"{self.folder}/fault"
+        self.start(change=FAILS.format(call=call, fault=self.fault, is_journal=is_journal))
+
+    def ended(self):
+        status = self.service.wait(60)
+        self.service = None
+        os.unlink(self.fault)
+        return status
+
+    def test_the_journal_cannot_be_synced(self):
+        self.start_failing("fdatasync", True)
+        with self.planner() as one:
+            self.assertEqual(["ok"], one.ask("put top 1 1 a"))
+            Path(self.fault).touch()
+            self.assertEqual(["error 97 NotJournaled EIO", ""], one.ask("put top 1 2 a") + one.read())
+        self.assertEqual(3, self.ended())
+        self.start()
+        with self.planner() as one:
+            self.assertEqual(["record 1 1 a", "end 1"], one.rows("list top"))
+            self.assertEqual(["ok"], one.ask("put top 1 3 a"))
+        self.assertEqual(["1 put top 1 1 a", "3 put top 1 3 a"], self.log())
+
+    def test_the_journal_cannot_tell_that_the_program_was_started_again(self):
+        self.start_failing("fdatasync", True)
+        with self.planner() as one:
+            self.assertEqual(["ok"], one.ask("put top 1 1 a"))
+            Path(self.fault).touch()
+            os.kill(self.program(), signal.SIGKILL)
+            self.assertEqual(["error 99 Stopped"], one.ask("put top 1 2 a"))
+        self.assertEqual(3, self.ended())
+
+    def test_the_store_cannot_be_synced_before_a_start_of_the_program(self):
+        self.start_failing("fsync", False)
+        with self.planner() as one:
+            self.assertEqual(["ok"], one.ask("put top 1 1 a"))
+            Path(self.fault).touch()
+            os.kill(self.program(), signal.SIGKILL)
+            self.assertEqual(["error 99 Stopped"], one.ask("put top 1 2 a"))
+        self.assertEqual(3, self.ended())
+        self.assertIn("could not be synced", self.said.read_text())
+
+    def test_each_start_of_the_program_sees_what_the_device_has(self):
+        calls = f"{self.folder}/calls"
+        change = f"""import os, subprocess
+def noting(name, call):
+    def noted(*words, **how):
+        with open({calls!r}, "a") as file:
+            path = os.readlink(f"/proc/self/fd/{{words[0]}}") if isinstance(words[0], int) else words[0][1]
+            print(name, path, file=file)
+        return call(*words, **how)
+    return noted
+os.fsync, os.posix_fadvise = noting("fsync", os.fsync), noting("drop", os.posix_fadvise)
+subprocess.Popen = noting("start", subprocess.Popen)"""
+        self.start(change=change)
+        with self.planner() as one:
+            os.kill(self.program(), signal.SIGKILL)
+            self.assertEqual(["ok"], one.ask("put top 1 1 a"))
+        text = Path(calls).read_text().splitlines()
+        of_store = [it.split()[0] for it in text if it.endswith(self.file) or it == "start run"]
+        self.assertEqual(["fsync", "drop", "start"] * 2, of_store)
+        self.assertEqual(["fsync", "drop"], [it.split()[0] for it in text if it.endswith(self.journal)])
