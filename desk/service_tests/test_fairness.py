@@ -160,6 +160,16 @@ class BoundTests(ServiceTest):
             self.assertEqual("end 51", one.rows("list top 1 0 50")[-1])
             self.assertEqual("end 51", one.rows("list top 1 0 50")[-1])
 
+    def test_memory_stays(self):
+        self.start()
+        with self.planner() as one:
+            lines = [f"put top 1 {n % 500} {n}" for n in range(10_000)]
+            one.ask(*lines)
+            before = self.memory("VmRSS")
+            for _ in range(3):
+                self.assertEqual(["ok"] * len(lines), one.ask(*lines))
+            self.assertLess(self.memory("VmRSS"), before + (4 << 20))
+
 
 class LeavingTests(ServiceTest):
     def test_lines_that_were_sent_before_a_close(self):

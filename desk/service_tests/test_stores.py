@@ -2,12 +2,13 @@
 import contextlib
 import os
 import signal
+import socket
 import stat
 import subprocess
 import time
 from pathlib import Path
 
-from service_tests.support import ALTCTL, ServiceTest
+from service_tests.support import ALTCTL, LONG, ServiceTest
 
 
 class StoreTests(ServiceTest):
@@ -150,12 +151,42 @@ class StoreTests(ServiceTest):
             self.assertEqual(["error 99 Stopped"], other.read())
         self.assertEqual(3, self.service.wait(60))
 
-    def test_memory_stays(self):
+    def test_a_flood(self):
+        self.start_limited(GROUP=4)
+        with contextlib.ExitStack() as stack, self.planner() as other:
+            for text in (b"put top 1 1 a\n" * 9000, b"begin\nput top 1 1 b\nput nowhere 1 1 b\ncommit\n" * 3000):
+                for _ in range(6):
+                    one = stack.enter_context(self.planner())
+                    one.socket.setblocking(False)
+                    with contextlib.suppress(BlockingIOError):
+                        one.socket.sendall(text)
+            for number in range(5):
+                self.assertEqual(["ok"], other.ask(f"put top 2 {number} a"))
+            self.assertEqual("end 5", other.rows("list top 2")[-1])
+
+    def test_a_reader_that_never_reads(self):
+        self.start(change="from service import limits, server\nlimits.UNREAD_SECONDS = 1\nserver.TICK = 0.2")
+        with self.planner() as one, self.planner() as other:
+            other.ask(*(f"put top 1 {n} {LONG}" for n in range(40)))
+            one.send(*["list top"] * 60)
+            self.assertEqual(["ok", "value b"], other.ask("put top 2 1 b", "get top 2 1"))
+            self.until(lambda: self.is_closed(one))
+            self.assertEqual(["ok"], other.ask("put top 2 1 c"))
+
+    def is_closed(self, one):
+        """Whether the service has closed a connection."""
+        try:
+            one.socket.send(b"# a remark\n", socket.MSG_DONTWAIT)
+        except BlockingIOError:
+            return False
+        except OSError:
+            return True
+        return False
+
+    def test_two_carriage_returns(self):
+        lines = ["new a top\r", "new b .service\r\r", "put a 1 1 x\r\r", "get a 1 1\r"]
+        due = self.altctl(*lines)
+        self.assertEqual(["ok", "error 22 BadLine", "ok", "value x%0D"], due)
         self.start()
         with self.planner() as one:
-            lines = [f"put top 1 {n % 500} {n}" for n in range(10_000)]
-            one.ask(*lines)
-            before = self.memory("VmRSS")
-            for _ in range(3):
-                self.assertEqual(["ok"] * len(lines), one.ask(*lines))
-            self.assertLess(self.memory("VmRSS"), before + (4 << 20))
+            self.assertEqual(due, one.ask(*lines))
