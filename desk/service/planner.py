@@ -60,9 +60,12 @@ class Planner:
         self.job, self.watched, self.counted, self.doubt = None, 0, 0, 0
 
     def handle(self, events: int) -> None:
-        if events & selectors.EVENT_READ:
+        if events & selectors.EVENT_READ and self.peek() is None:
             self.receive()
-        self.send()
+            # What is watched is set at the end of the round: most have their answer by then.
+            self.server.touched[self] = None
+        else:
+            self.send()
 
     # --- lines that arrive ------------------------------------------------------------------------
 
@@ -103,6 +106,8 @@ class Planner:
 
     def peek(self) -> Optional[Request]:
         """The request that is next, if there is one."""
+        if self.first is not None or self.sought == len(self.text) and self.has_finished == self.has_ended:
+            return self.first
         while self.first is None and not self.is_closed:
             end = self.text.find(b"\n", self.sought)
             if end < 0:

@@ -1,13 +1,19 @@
 #!/usr/bin/env python3
-"""Measures how many commits and gets a second the service answers to 1, 8 and 64 planners, beside PostgreSQL and SQLite
-with as many writers: `tools/measure/measure_service.py [--seconds N] [--rounds N] [--slow MICROSECONDS] [ALTCTL]`. It
-writes a table. With `--slow` each sync of all three takes that much longer, as on a slower disk. Times are looked at,
-never tested.
+"""Measures how many commits and gets a second the service answers to planners who each wait for an answer, and how long
+they wait, beside PostgreSQL and SQLite with as many writers:
 
-Each commit changes one record of 10,000, and is durable before it is answered: in PostgreSQL by an UPDATE of one row with fsync
-on, in SQLite by one in WAL mode with synchronous=FULL. What is not installed is skipped, with a line that says so."""
+    tools/measure/measure_service.py [--seconds N] [--rounds N] [--planners N ..] [--processors N]
+        [--slow MICROSECONDS] [ALTCTL]
+
+It writes two tables. With `--slow` each sync of all three takes that much longer, as on a slower disk; with `--processors`
+all of them, and what asks them, share the first N. Times are looked at, never tested.
+
+Each commit changes one record of 10,000, or two in a batch, and is durable before it is answered: in PostgreSQL by an UPDATE of
+one row with fsync on, in SQLite by one in WAL mode with synchronous=FULL. What is not installed is skipped, with a line that says
+so."""
 import argparse
 import contextlib
+import json
 import os
 import random
 import selectors
@@ -20,60 +26,83 @@ import tempfile
 import time
 from pathlib import Path
 from statistics import median
+from typing import List, NamedTuple
 
 TOP = Path(__file__).resolve().parents[2]
 sys.path.insert(0, str(TOP / "tools/faults"))
 from preloaded import compiled, preloaded
 ALTSERVE = str(TOP / "desk" / "altserve")
-PLANNERS = (1, 8, 64)
+PLANNERS = [1, 8, 64]
 RECORDS = 10_000
 POSTGRES = sorted(Path("/usr/lib/postgresql").glob("*/bin"))[-1:]
 # How many processes act as planners.
 LOADERS = 2
+# The connections that PostgreSQL takes.
+MOST = 500
+# Of how many in a thousand commits the time is told.
+SHARES = (500, 990, 999)
+
+
+class Found(NamedTuple):
+    """How many answers came a second, and how long they took, in milliseconds, if that is known."""
+
+    rate: float
+    times: List[float] = []
 
 
 def in_processes(count, work):
-    """Runs `work` in `count` processes, each with its number, and returns the sum of the results."""
-    reads, writes = os.pipe()
-    children = []
-    for number in range(count):
-        child = os.fork()
-        if not child:
-            status = 1
-            try:
-                os.write(writes, f"{work(number)}\n".encode())
-                status = 0
-            finally:
-                os._exit(status)
-        children.append(child)
-    os.close(writes)
-    with open(reads) as file:
-        total = sum(map(int, file))
-    if any(os.waitpid(it, 0)[1] for it in children):
-        raise RuntimeError("a process of the load failed")
-    return total
+    """Runs `work` in `count` processes, each with its number, and returns the results, which are JSON."""
+    with tempfile.TemporaryDirectory() as folder:
+        children = []
+        for number in range(count):
+            child = os.fork()
+            if not child:
+                status = 1
+                try:
+                    Path(folder, str(number)).write_text(json.dumps(work(number)))
+                    status = 0
+                finally:
+                    os._exit(status)
+            children.append(child)
+        if any([os.waitpid(it, 0)[1] for it in children]):
+            raise RuntimeError("a process of the load failed")
+        return [json.loads(Path(folder, str(number)).read_text()) for number in range(count)]
 
 
-def load(path, count, seconds, line, due):
-    """Has `count` planners each write a line, wait for the answer, and write the next. Returns how many were answered."""
+def load(path, count, seconds, text, due):
+    """Has `count` planners each write a text, wait for its `due` lines of answer, and write the next. Returns how long each took, in
+    milliseconds. Those who are connected last wait for all others first, so the first answers do not count."""
     selector = selectors.DefaultSelector()
+    planners = []
     for _ in range(count):
         planner = socket.socket(socket.AF_UNIX)
         planner.connect(path)
-        selector.register(planner, selectors.EVENT_READ)
-        planner.sendall(line())
-    answered, until = 0, time.monotonic() + seconds
+        planners.append([planner, due, 0.0])
+    for it in planners:
+        selector.register(it[0], selectors.EVENT_READ, it)
+        it[0].sendall(text())
+    times, until = [], time.monotonic() + seconds
     while time.monotonic() < until:
         for key, _ in selector.select(1):
-            if not key.fileobj.recv(8192).startswith(due):
-                raise RuntimeError("not the answer")
-            answered += 1
-            key.fileobj.sendall(line())
-    return answered
+            it, answer = key.data, key.fileobj.recv(8192)
+            if not answer or b"error" in answer:
+                raise RuntimeError(f"not the answer: {answer}")
+            it[1] -= answer.count(b"\n")
+            if not it[1]:
+                now = time.monotonic()
+                if it[2]:
+                    times.append(1000 * (now - it[2]))
+                it[1], it[2] = due, now
+                key.fileobj.sendall(text())
+    return times
 
 
 def put():
     return b"put top 7 %d value-%d\n" % (random.randrange(RECORDS), random.randrange(1 << 30))
+
+
+def two_puts():
+    return b"begin\n" + put() + put() + b"commit\n"
 
 
 def get():
@@ -82,7 +111,7 @@ def get():
 
 @contextlib.contextmanager
 def service(altctl, folder, variables):
-    """A service over a store with the records. Gives what measures commits, and what measures gets."""
+    """A service over a store with the records. Gives what measures commits, batches of two lines, and gets."""
     file = f"{folder}/map.alt"
     subprocess.run([altctl, "create", file, "16384"], check=True, stdout=subprocess.DEVNULL)
     lines = "".join(f"put top 7 {number} value\n" for number in range(RECORDS)) + "commit\n"
@@ -90,17 +119,19 @@ def service(altctl, folder, variables):
     with open(f"{folder}/said", "wb") as said:
         process = subprocess.Popen([sys.executable, ALTSERVE, "--program", altctl, file], stderr=said, env=variables)
 
-    def measure(line, due):
+    def measure(text, due):
         def planners(count, seconds):
             loaders = min(LOADERS, count)
-            return in_processes(loaders, lambda _: load(f"{file}.sock", count // loaders, seconds, line, due)) / seconds
+            found = in_processes(loaders, lambda _: load(f"{file}.sock", count // loaders, seconds, text, due))
+            times = [it for part in found for it in part]
+            return Found(len(times) / seconds, times)
 
         return planners
 
     try:
         while b": batches to " not in Path(f"{folder}/said").read_bytes():
             time.sleep(0.05)
-        yield measure(put, b"ok\n"), measure(get, b"value ")
+        yield {"commits": measure(put, 1), "batches of two": measure(two_puts, 4), "gets": measure(get, 1)}
     finally:
         process.terminate()
         process.wait()
@@ -124,7 +155,7 @@ def postgres(folder, variables):
     initdb, pg_ctl, psql, pgbench = (str(POSTGRES[0] / it) for it in ("initdb", "pg_ctl", "psql", "pgbench"))
     run(initdb, "-D", f"{data}/it", "-A", "trust")
     control = [pg_ctl, "-D", f"{data}/it", "-w", "-l", f"{data}/log"]
-    run(*control, "-o", f"-k {data} -c listen_addresses= -c max_connections=100", "start", env=variables)
+    run(*control, "-o", f"-k {data} -c listen_addresses= -c max_connections={MOST}", "start", env=variables)
     try:
         for sql in (
             "CREATE TABLE map (number int PRIMARY KEY, value text)",
@@ -138,9 +169,13 @@ def postgres(folder, variables):
         )
 
         def commits(count, seconds):
-            clients = ["-c", str(count), "-j", str(min(LOADERS, count)), "-T", str(seconds)]
+            clients = ["-c", str(count), "-j", str(min(LOADERS, count)), "-T", str(seconds), "-l", f"--log-prefix={data}/times"]
             text = run(pgbench, "-h", data, "-n", "-M", "prepared", "-f", script, *clients, "postgres")
-            return float(text.split("tps = ")[1].split()[0])
+            times = []
+            for it in Path(data).glob("times.*"):
+                times += [int(line.split()[2]) / 1000 for line in it.read_text().splitlines()]
+                it.unlink()
+            return Found(float(text.split("tps = ")[1].split()[0]), times)
 
         yield commits
     finally:
@@ -157,7 +192,7 @@ def sqlite(folder, variables):
 
     def commits(count, seconds):
         words = [sys.executable, __file__, "--sqlite", file, str(count), "--seconds", str(seconds)]
-        return float(subprocess.run(words, check=True, stdout=subprocess.PIPE, env=variables).stdout)
+        return Found(float(subprocess.run(words, check=True, stdout=subprocess.PIPE, env=variables).stdout))
 
     return commits
 
@@ -176,7 +211,7 @@ def write_sqlite(file, count, seconds):
             done += 1
         return done
 
-    return in_processes(count, write) / seconds
+    return sum(in_processes(count, write)) / seconds
 
 
 def sync_time(folder):
@@ -189,10 +224,60 @@ def sync_time(folder):
         return (time.monotonic() - begun) / 200 * 1e6
 
 
+def shown(what, columns):
+    return f"| {what} | {' | '.join(columns)} |"
+
+
+def rates(found, planners):
+    """How many a second."""
+    yield shown("A second, by planners", [*map(str, planners), f"{planners[-1]} to {planners[0]}"]) + "\n" + "|---" * (len(planners) + 2) + "|"
+    for what, by_count in found.items():
+        medians = [median(it.rate for it in by_count[count]) for count in planners]
+        yield shown(what, [f"{it:,.0f}" for it in medians] + [f"{medians[-1] / medians[0]:.1f}"])
+
+
+def waits(found, planners):
+    """How long all but the slowest took."""
+    yield shown("Milliseconds: half, 99 %, 99.9 % take no longer", map(str, planners)) + "\n" + "|---" * (len(planners) + 1) + "|"
+    for what, by_count in found.items():
+        columns = []
+        for count in planners:
+            times = sorted(time for it in by_count[count] for time in it.times)
+            columns.append(", ".join(f"{times[len(times) * it // 1000]:.1f}" for it in SHARES) if times else "")
+        if any(columns):
+            yield shown(what, columns)
+
+
+def measured(said, planners):
+    """What was found of each, by planners, a list of rounds; how long syncs took, and how busy the machine was."""
+    with tempfile.TemporaryDirectory() as folder, contextlib.ExitStack() as stack:
+        variables = preloaded(compiled("slow_calls", folder), slow_sync=said.slow) if said.slow else dict(os.environ)
+        kinds = stack.enter_context(service(said.altctl, folder, variables))
+        measures = {f"altserve: {what}": measure for what, measure in kinds.items()}
+        if POSTGRES:
+            measures["PostgreSQL: commits"] = stack.enter_context(postgres(folder, variables))
+        else:
+            print("PostgreSQL is not installed (postgresql), and skipped")
+        if planners[-1] <= 64:
+            measures["SQLite: commits"] = sqlite(folder, variables)
+        found = {what: {count: [] for count in planners} for what in measures}
+        syncs, loads = [], []
+        # In turns, so that other work on the machine hits all of them alike.
+        for _ in range(said.rounds):
+            syncs.append(sync_time(folder))
+            loads.append(os.getloadavg()[0])
+            for what, measure in measures.items():
+                for count in planners:
+                    found[what][count].append(measure(count, said.seconds))
+    return found, syncs, loads
+
+
 def main():
     parser = argparse.ArgumentParser(description=__doc__.split(":")[0])
     parser.add_argument("--seconds", type=int, default=2, help="of each measurement")
     parser.add_argument("--rounds", type=int, default=5, help="how often each is done; the median counts")
+    parser.add_argument("--planners", type=int, nargs="+", default=PLANNERS, help="how many there are")
+    parser.add_argument("--processors", type=int, help="how many processors are used")
     parser.add_argument("--slow", type=int, default=0, help="microseconds added to each sync")
     parser.add_argument("--sqlite", nargs=2, help=argparse.SUPPRESS)
     parser.add_argument("altctl", nargs="?", default=str(TOP / "altctl"))
@@ -200,31 +285,14 @@ def main():
     if said.sqlite:
         print(write_sqlite(said.sqlite[0], int(said.sqlite[1]), said.seconds))
         return
-    with tempfile.TemporaryDirectory() as folder, contextlib.ExitStack() as stack:
-        variables = preloaded(compiled("slow_calls", folder), slow_sync=said.slow) if said.slow else dict(os.environ)
-        commits, gets = stack.enter_context(service(said.altctl, folder, variables))
-        measures = {"altserve: commits": commits}
-        if POSTGRES:
-            measures["PostgreSQL: commits"] = stack.enter_context(postgres(folder, variables))
-        else:
-            print("PostgreSQL is not installed (postgresql), and skipped")
-        measures["SQLite: commits"] = sqlite(folder, variables)
-        measures["altserve: gets"] = gets
-        found = {(what, count): [] for what in measures for count in PLANNERS}
-        syncs, loads = [], []
-        # In turns, so that other work on the machine hits all of them alike.
-        for _ in range(said.rounds):
-            syncs.append(sync_time(folder))
-            loads.append(os.getloadavg()[0])
-            for what, count in found:
-                found[what, count].append(measures[what](count, said.seconds))
+    if said.processors:
+        os.sched_setaffinity(0, sorted(os.sched_getaffinity(0))[: said.processors])
+    found, syncs, loads = measured(said, said.planners)
     sync = f"a sync takes {median(syncs):.0f} µs" + (f" and {said.slow} more" if said.slow else "")
     load_seen = f"load {min(loads):.0f} to {max(loads):.0f}"
-    print(f"{os.cpu_count()} processors, {load_seen}; {sync}; the median of {said.rounds} times {said.seconds} s")
-    print(f"| A second, by planners | {' | '.join(map(str, PLANNERS))} | {PLANNERS[-1]} to 1 |\n|---|---|---|---|---|")
-    for what in measures:
-        rates = [median(found[what, count]) for count in PLANNERS]
-        print(f"| {what} | {' | '.join(f'{it:,.0f}' for it in rates)} | {rates[-1] / rates[0]:.1f} |")
+    processors = len(os.sched_getaffinity(0))
+    print(f"{processors} processors, {load_seen}; {sync}; the median of {said.rounds} times {said.seconds} s")
+    print(*rates(found, said.planners), "", *waits(found, said.planners), sep="\n")
 
 
 if __name__ == "__main__":
