@@ -14,6 +14,8 @@ from service.unread import Unread
 MOST_ALLOWED = 1000
 # For how many batches a planner of whom one was refused is doubtful.
 DOUBT = 16
+# How many lines are looked at for a request at once: each costs time that others wait for.
+LOOK, LOOK_LONG = 16, 256
 
 
 class Query:
@@ -60,7 +62,7 @@ class Planner:
         self.job, self.watched, self.counted, self.doubt = None, 0, 0, 0
 
     def handle(self, events: int) -> None:
-        if events & selectors.EVENT_READ and self.peek() is None:
+        if events & selectors.EVENT_READ and self.first is None and self.is_exhausted():
             self.receive()
             # What is watched is set at the end of the round: most have their answer by then.
             self.server.touched[self] = None
@@ -83,7 +85,8 @@ class Planner:
             end = came.find(b"\n")
             came = came[end:] if end >= 0 else b""
         self.text += came
-        if self.peek() is None and self.skips is None:
+        self.look()
+        if self.first is None and self.skips is None and self.is_exhausted():
             self._limit_line()
         self._count_text()
 
@@ -104,17 +107,23 @@ class Planner:
         self.server.users.hold(self.person.uid, size - self.counted)
         self.counted = size
 
-    def peek(self) -> Optional[Request]:
-        """The request that is next, if there is one."""
-        if self.first is not None or self.sought == len(self.text) and self.has_finished == self.has_ended:
-            return self.first
-        while self.first is None and not self.is_closed:
+    def is_exhausted(self) -> bool:
+        """Whether no whole line is left to look at."""
+        return self.sought == len(self.text) and self.has_finished == self.has_ended
+
+    def look(self, count: int = LOOK) -> None:
+        """Looks at the next lines, up to one that makes a request. If there are many, the server has the rest looked at later."""
+        while self.first is None and not self.is_closed and not self.is_exhausted():
+            if not count:
+                self.server.unseen[self] = None
+                return
+            count -= 1
             end = self.text.find(b"\n", self.sought)
             if end < 0:
                 self.sought = len(self.text)
-                if self.has_ended and not self.has_finished:
+                if self.has_ended:
                     self._finish()
-                break
+                return
             line = bytes(self.text[self.at : end])
             self.at = self.sought = end + 1
             if self.skips is not None:
@@ -124,7 +133,6 @@ class Planner:
                 self._refuse(LONG_LINE)
             else:
                 self._take(line)
-        return self.first
 
     def _finish(self) -> None:
         """The input has ended. An unfinished line is not carried out, as it may be the beginning of a longer one."""
@@ -243,14 +251,15 @@ class Planner:
 
     def is_ready(self) -> bool:
         """Whether the next line can be carried out. A planner who has many answers to read has to read them first."""
-        return self.job is None and self.unread.file is None and not self.is_closed and self.peek() is not None
+        return self.first is not None and self.job is None and self.unread.file is None
 
     def next_request(self) -> Request:
-        """Takes the first request."""
-        request, self.first = self.peek(), None
+        """Takes the first request, and looks for the next one."""
+        request, self.first = self.first, None
         if isinstance(request, Batch):
             request.is_doubtful = self.doubt > 0
             self._release(request)
+        self.look()
         if self.counted:
             self._count_text()
         return request
@@ -288,9 +297,9 @@ class Planner:
 
     def watch(self) -> None:
         """Tells the server which events matter now: lines, if none waits, and answers, if some wait."""
-        has_line = self.peek() is not None
         if self.is_closed:
             return
+        has_line = self.first is not None or not self.is_exhausted()
         if self.has_finished and not has_line and self.job is None and not self.unread:
             self.close()
             return

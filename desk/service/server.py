@@ -15,7 +15,7 @@ from service.batch import Batch
 from service.batches import Batches
 from service.journal_log import filter_of
 from service.limits import BAD_LINE, of_one_user, refusal
-from service.planner import Forgotten, Planner, Query, Request, Word
+from service.planner import LOOK_LONG, Forgotten, Planner, Query, Request, Word
 from service.rules import Rules, Unreadable, person_of
 from service.signals import Signals
 from service.users import Users
@@ -24,8 +24,10 @@ from service.users import Users
 TICK = 1.0
 # A group waits for more planners for this fraction of the time that the last group took.
 GATHER, GATHER_STEP = 0.1, 20e-6
-# How long arrived lines are looked at before the next round, and how long a round reads the journal for planners.
-READ_SECONDS, LOG_SECONDS = 0.01, 0.005
+# How long a round looks at lines that make no request, and how long it reads the journal for planners.
+LOOK_SECONDS, LOG_SECONDS = 0.005, 0.005
+# How long the end may take for those who wait.
+END_SECONDS = 2.0
 # A planner to whom that much of a log is not sent yet has to read it first.
 LOG_BYTES = 256 << 10
 # What is short of for a moment when a connection cannot be accepted.
@@ -38,11 +40,11 @@ class Server:
         self.backups = Backups(batches.store)
         self.selector = selectors.DefaultSelector()
         self.users, self.planners = Users(), {}
-        # Planners with requests, planners with answers to be sent, and those to whom the journal is read, each in turns.
-        self.waiting, self.touched, self.logs = {}, {}, deque()
+        # Planners with requests, with lines that are not looked at yet, with answers to be sent, and with a log, each in turns.
+        self.waiting, self.unseen, self.touched, self.logs = {}, {}, {}, deque()
         # Until this time the next group may wait for this many planners.
         self.expected, self.gathers_until = 0, 0.0
-        self.is_listening, self.turn = False, 0
+        self.is_listening = False
         listener.setblocking(False)
         self._listen()
         self.selector.register(signals.woken, selectors.EVENT_READ, lambda _: signals.take())
@@ -108,7 +110,7 @@ class Server:
         planner.watched = events
 
     def forget(self, planner: Planner) -> None:
-        for it in (self.planners, self.waiting, self.touched):
+        for it in (self.planners, self.waiting, self.unseen, self.touched):
             it.pop(planner, None)
         self.users.leave(planner.person.uid)
 
@@ -118,7 +120,8 @@ class Server:
         """Serves until a signal ends it. Raises Fatal if the store can no longer be used."""
         looked = time.monotonic()
         while not self.signals.ends:
-            self._handle(self.selector.select(0 if self._has_work() else TICK))
+            for key, events in self.selector.select(0 if self._has_work() else TICK):
+                key.data(events)
             if self.signals.rereads:
                 self._read_rules()
             now = time.monotonic()
@@ -130,18 +133,8 @@ class Server:
                 looked = now
                 self._tick(now)
 
-    def _handle(self, events: List[Tuple[selectors.SelectorKey, int]]) -> None:
-        """Takes what has arrived, but no longer than for a moment. The next time others come first."""
-        self.turn += 1
-        start = self.turn % len(events) if events else 0
-        until = time.monotonic() + READ_SECONDS
-        for key, found in events[start:] + events[:start]:
-            key.data(found)
-            if time.monotonic() > until:
-                return
-
     def _has_work(self) -> bool:
-        return any(it.is_ready() for it in self.waiting) or bool(self.logs) or self.batches.log.has_more()
+        return bool(self.unseen or self.logs) or any(it.is_ready() for it in self.waiting) or self.batches.log.has_more()
 
     def _tick(self, now: float) -> None:
         for planner in list(self.planners):
@@ -152,11 +145,21 @@ class Server:
 
     def _round(self) -> None:
         """Carries out requests: queries, then small batches together, then one that takes longer."""
+        self._look()
         self._answer_queries()
         self._commit_group()
         self._carry_out_long()
         self._read_logs()
         self._send()
+
+    def _look(self) -> None:
+        """Looks at lines that many planners have sent, for a moment: at those of batches that are held, and at remarks."""
+        until = time.monotonic() + LOOK_SECONDS
+        while self.unseen and time.monotonic() < until:
+            planner = next(iter(self.unseen))
+            del self.unseen[planner]
+            planner.look(LOOK_LONG)
+            self.touched[planner] = None
 
     def _in_turns(self, fits: Callable[[Request], bool], most: int, lines: int) -> List[Taken]:
         """Takes first requests that fit: one of each planner in turn, until there are too many of them or of their lines. Whoever
@@ -170,7 +173,7 @@ class Server:
             uid = planner.person.uid
             if not planner.is_ready() or len(users) > 1 and of_users[uid] >= of_one_user(most):
                 continue
-            request = planner.peek()
+            request = planner.first
             if not fits(request):
                 continue
             taken.append((planner, planner.next_request()))
@@ -182,14 +185,14 @@ class Server:
                 turns.append(planner)
         for planner in counts:
             self.waiting.pop(planner, None)
-            if planner.peek() is not None:
+            if planner.first is not None:
                 self.waiting[planner] = None
         return taken
 
     def _gathers(self) -> bool:
         """Whether more planners are likely to join the next group."""
         ready = [it for it in self.waiting if it.is_ready()]
-        return 0 < len(ready) < self.expected and all(is_small(it.peek()) for it in ready)
+        return 0 < len(ready) < self.expected and all(is_small(it.first) for it in ready)
 
     def _answer_queries(self) -> None:
         asked = self._in_turns(is_short, limits.GROUP, limits.GROUP)
@@ -287,13 +290,14 @@ class Server:
     # --- the end ----------------------------------------------------------------------------------
 
     def refuse_waiting(self) -> None:
-        """Refuses all waiting requests; none of them was begun."""
+        """Refuses requests that wait, as many as there is time for; none of them was begun."""
+        until = time.monotonic() + END_SECONDS
         for planner in list(self.planners):
             planner.job = None
-            if planner.peek() is None and not planner.has_ended:
+            if planner.first is None and planner.is_exhausted() and not planner.has_ended:
                 planner.receive()
-            while (request := planner.peek()) is not None:
-                planner.next_request()
+            while planner.first is not None and time.monotonic() < until:
+                request = planner.next_request()
                 if isinstance(request, Batch):
                     request.refuse(request.count, refusal(99))
                 planner.answer(request.text() if isinstance(request, (Batch, Forgotten)) else ended(request))
