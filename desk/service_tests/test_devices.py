@@ -144,14 +144,20 @@ class DeviceTests(ServiceTest):
             self.assertEqual(due, one.ask("begin", "put top 1 1 a", "commit"))
             self.assertEqual(["checkpoint 0", "end 1", "end 0"], one.rows("checks .service") + one.rows("list top"))
             # Among others, each is tried by itself.
-            one.ask("whoami")
             other.ask("whoami")
-            with self.halted():
+            self.fail("16_Memory checkpoint .service")
+            with self.halted(), self.planner() as third:
+                third.send("get top 1 1")
+                self.until(third.is_read)
                 one.send("put top 1 1 a")
-                self.fail("16_Memory checkpoint .service")
                 other.send("put top 1 2 a")
-            self.assertEqual({"ok"}, {*one.read(), *other.read()} - {"error 16 Memory"})
-            self.assertGreaterEqual(len(one.rows("list top")), 2)
+            self.assertEqual(["ok", "ok"], one.read() + other.read())
+            self.assertEqual("end 2", one.rows("list top")[-1])
+
+    def test_the_device_fails_at_a_line_of_the_service(self):
+        with self.planner() as one:
+            self.fail("15_Device checkpoint .service")
+            self.assertEqual(["error 15 Device", "none", "ok"], one.ask("put top 1 1 a", "get top 1 1", "put top 1 1 b"))
 
     def test_the_program_dies_at_a_query(self):
         with self.planner() as one:

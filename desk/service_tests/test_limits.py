@@ -3,6 +3,7 @@ import contextlib
 import re
 import socket
 import unittest
+import unittest.mock
 
 from service import limits
 from service.unread import Unread
@@ -59,3 +60,11 @@ class UnreadTests(unittest.TestCase):
                 read += part
             self.assertEqual(sent, read)
             self.assertIsNone(unread.file)
+
+    def test_no_file_can_be_made(self):
+        users = Users()
+        users.enter(1)
+        unread = Unread(users, 1)
+        with unittest.mock.patch("tempfile.TemporaryFile", side_effect=OSError), self.assertRaises(OSError):
+            unread.add(bytes(limits.UNREAD_BYTES + 1))
+        self.assertEqual((False, 0), (bool(unread), users.in_files))

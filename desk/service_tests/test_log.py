@@ -85,8 +85,8 @@ class IndexTests(unittest.TestCase):
             self.remove()
             Path(self.path).write_text(self.journal(chance))
             log = Log(self.path, writes=True)
-            for _ in range(chance.choice((0, 3, 99))):
-                log.add()
+            for _ in range(chance.choice((0, 3, 999))):
+                log.index.add(log.size())
             for _ in range(12):
                 values = {"planner": chance.choice((None, "anna", 'b\u00fcr"o', "4", "x"))}
                 values.update(alternative=chance.choice((None, None, "top", "b.1")), record=chance.choice((None, "0:3", "2:5", "9:9")))
@@ -111,6 +111,16 @@ class IndexTests(unittest.TestCase):
             log = Log(self.path, writes=True)
             self.assertEqual(wanted(self.path, record="2:5"), self.ask(log, ["record=2:5"]))
             log.close()
+
+    def test_an_index_that_cannot_be_written(self):
+        Path(self.path).write_text(self.journal(random.Random(5)) * 9)
+        log = Log(self.path, writes=True)
+        real, log.index.file = log.index.file, os.open("/dev/null", os.O_RDONLY)
+        self.assertFalse(log.index.add(log.size()))
+        os.close(log.index.file)
+        log.index.file = real
+        self.assertTrue(log.index.add(log.size()))
+        log.close()
 
     def test_a_part_says_no_if_it_has_nothing(self):
         line = '{"batch":%d,"time":"t","uid":0,"who":"anna","alternatives":["top"],"records":1,"lines":["put top 1 %d a"]}\n'
@@ -141,6 +151,20 @@ class LogTests(ServiceTest):
                 self.assertEqual("end 500", one.read(501)[-1])
             self.assertEqual(["value a"], one.read())
 
+    def test_whoever_leaves_before_it_is_read(self):
+        self.start()
+        with self.planner() as one:
+            lines = [f"put top 1 {n % 100} {'a' * 200}" for n in range(2000)]
+            self.assertEqual(["ok"] * 2002, one.ask("begin", *lines, "commit"))
+            for how in ("log", "log last=1999", "log record=1:1"):
+                for _ in range(3):
+                    with self.planner() as other:
+                        other.send(how, how)
+                        other.answers.read(100)
+            self.assertEqual("end 2000", one.rows("log")[-1])
+            count = len(os.listdir(f"/proc/{self.service.pid}/fd"))
+            self.until(lambda: len(os.listdir(f"/proc/{self.service.pid}/fd")) <= count)
+
     def test_numbers_with_zeros(self):
         self.start()
         with self.planner() as one:
@@ -156,6 +180,7 @@ class LogTests(ServiceTest):
             rows = one.rows("log record=1:33")
             self.assertEqual([lines[33]], [it.split(" ", 4)[4] for it in rows[:-1]])
             self.assertEqual("end 3", one.rows("log last=3")[-1])
+            self.assertEqual(["end 0"], one.rows("log planner=nobody"))
 
     def test_no_room_for_the_line_that_tells_a_commit(self):
         change = f"""import errno, os

@@ -118,6 +118,15 @@ class RulesTests(ServiceTest):
                 self.assertEqual(["error 102 TooManyEntries 3"], one.ask("new c top"))
                 self.assertEqual(["ok", "ok", "ok", "ok", "ok"], one.ask("drop b", "drop a", "new c top", "checkpoint c one", "drop c"))
             self.stop()
+        self.start()
+        with self.planner() as one:
+            self.assertEqual(["ok", "ok", "ok"], one.ask("new a top", "new b a", "checkpoint b one"))
+        self.stop()
+        # What is removed while no service runs no longer counts.
+        self.assertEqual(["ok"] * 3, self.altctl("uncheck b one", "drop b", "commit"))
+        self.start()
+        with self.planner() as one:
+            self.assertEqual(["ok", "ok", "error 102 TooManyEntries 3"], one.ask("new c a", "checkpoint c one", "checkpoint c two"))
 
     @unittest.skipUnless(HAS_TOML, NEEDS_TOML)
     def test_a_rule_with_other_bytes_is_told_in_one_line(self):
@@ -147,14 +156,14 @@ class RulesTests(ServiceTest):
     def test_a_foreign_user(self):
         os.chmod(self.folder, 0o755)
 
-        def ask():
+        def ask(uid=NOBODY, gid=grp.getgrnam("nogroup").gr_gid):
             """What another user is answered."""
             reads, writes = os.pipe()
             child = os.fork()
             if not child:
                 os.setgroups([])
-                os.setgid(grp.getgrnam("nogroup").gr_gid)
-                os.setuid(NOBODY)
+                os.setgid(gid)
+                os.setuid(uid)
                 try:
                     with self.planner() as one:
                         one.send("put top 1 1 a", "begin", "put top 1 1 a", "commit", "get top 1 1", "backup a", "whoami")
@@ -176,6 +185,11 @@ class RulesTests(ServiceTest):
         denied = "error 90 Denied change ~"
         due = [denied, "ok", denied, "error 91 NotDone 1", "none", "error 90 Denied backup ~", f"planner nobody {NOBODY} nogroup"]
         self.assertEqual(due, ask())
+        self.stop()
+        # A user and a group without a name are told by their numbers.
+        self.start()
+        os.chmod(self.socket, 0o666)
+        self.assertEqual(["planner 54321 54321 54322"], ask(54321, 54322)[-1:])
         if HAS_TOML:
             self.stop()
             self.rules('[change]\ntop = ["@nogroup"]')

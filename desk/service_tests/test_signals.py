@@ -79,15 +79,15 @@ store.Program = program"""
         self.assertFalse(os.path.exists(f"{self.folder}/short"))
 
     def test_a_store_that_is_moved_away(self):
-        for path in (self.file, self.journal):
+        for path, is_replaced in [(self.file, True), (self.journal, True), (self.file, False), (self.journal, False)]:
             self.start()
             with self.planner() as one:
                 one.ask("put top 1 1 a")
                 os.rename(path, f"{path}.old")
-                with open(path, "wb") as other:
-                    other.write(Path(f"{path}.old").read_bytes())
                 if path == self.file:
                     self.assertEqual(["error 98 NoBackup ESTALE"], one.ask("backup a"))
+                if is_replaced:
+                    Path(path).write_bytes(Path(f"{path}.old").read_bytes())
                 self.assertEqual(["error 99 Stopped", ""], one.ask("put top 1 2 a") + one.read())
             self.assertEqual(3, self.service.wait(60))
             self.service = None
