@@ -8,7 +8,7 @@ import subprocess
 import time
 from pathlib import Path
 
-from service_tests.support import ALTCTL, LONG, ServiceTest
+from service_tests.support import ALTCTL, ALTSERVE, DESK, LONG, ServiceTest
 
 
 class StoreTests(ServiceTest):
@@ -150,6 +150,25 @@ class StoreTests(ServiceTest):
             self.assertEqual(["error 99 Stopped"] * 2 + [""], one.read(3))
             self.assertEqual(["error 99 Stopped"], other.read())
         self.assertEqual(3, self.service.wait(60))
+
+    def test_a_store_that_grows(self):
+        os.unlink(self.file)
+        self.create(64)
+        for options, due in {("--grow-to", "80"): 80, ("--grow",): 160}.items():
+            self.start(*options)
+            with self.planner() as one:
+                answers = one.ask(*(f"put top 1 {n} {LONG}" for n in range(60)))
+                self.assertEqual(["ok"] * 60 if due == 160 else ["error 13 Full"], answers if due == 160 else answers[-1:])
+                self.assertEqual([f"blocks {due}"], one.ask("blocks"))
+            self.stop()
+        self.assertEqual(60, sum(it.startswith("record") for it in self.altctl("list top")))
+
+    def test_the_program_of_a_clone_is_found(self):
+        path = os.environ["PATH"]
+        with open(self.said, "wb") as said:
+            self.service = subprocess.Popen([ALTSERVE, self.file], stderr=said, env={"PATH": path})
+        self.until(lambda: b": batches to " in self.said.read_bytes())
+        self.assertIn(str(DESK.parent), Path(f"/proc/{self.program()}/exe").resolve().as_posix())
 
     def test_a_flood(self):
         self.start_limited(GROUP=4)
