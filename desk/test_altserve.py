@@ -21,6 +21,7 @@ from service_tests.test_log import IndexTests, LogTests
 from service_tests.test_rules import RulesTests
 from service_tests.test_signals import ShortageTests, SignalTests
 from service_tests.test_sockets import SocketTests
+from service_tests.test_status import RoomTests, StatusTests
 from service_tests.test_stores import StoreTests
 
 if __name__ == "__main__":

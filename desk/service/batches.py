@@ -13,6 +13,7 @@ from service.limits import refusal
 from service.lines import OWN
 from service.program import Ended
 from service.rules import Rules
+from service.status import SLOW_SECONDS, Commits, Room, Teller
 from service.store import Fatal, Store, stopped
 
 # How often a batch is tried by itself after the program ended at it.
@@ -60,6 +61,7 @@ class Batches:
         # The batches that were sent last, and the commit that was asked for and has no answer yet.
         self.sent: List[Batch] = []
         self.asked: Optional[Commit] = None
+        self.commits, self.room, self.teller = Commits(), Room(), Teller(say)
         # How long the last commit and a line of its batches took, for a group that is as long as its commit.
         self.commit_seconds, self.line_seconds = 0.01, 20e-6
 
@@ -114,6 +116,12 @@ class Batches:
         except Ended:
             self._reopen()
             return False
+
+    def look_at_room(self) -> None:
+        """Asks how many blocks there are."""
+        answers = self.ask([b"blocks", b"free"])
+        if all(it.split()[0] in (b"blocks", b"free") for it in answers):
+            self.room.note(time.monotonic(), *(int(it.split()[1]) for it in answers))
 
     # --- batches ----------------------------------------------------------------------------------
 
@@ -235,12 +243,14 @@ class Batches:
             return None, place
         else:
             refused = answers[place]
+        self.commits.refused += 1
         batch.has_disturbed = effect is not None or len(answers) > 1
         batch.refuse(place, refused)
         return effect, place
 
     def _commit(self, commit: Commit) -> None:
         self._look_at_files()
+        begun = time.monotonic()
         try:
             self.journal.write([(it.number, it.batch, it.effect.touched, it.effect.records) for it in commit.done], commit.last)
         except Broken as fault:
@@ -250,8 +260,7 @@ class Batches:
             self.store.undo()
             refuse_all(commit.done, refusal(97, errno.errorcode[fault.errno]))
             return
-        self.asked = commit
-        begun = time.monotonic()
+        self.asked, synced = commit, time.monotonic()
         [answer] = self.store.program.ask([b"commit"])
         if answer == DEVICE:
             # The system may show what the device does not have, so nothing is looked up now.
@@ -262,7 +271,11 @@ class Batches:
             return
         commit.settle()
         self.store.entries, self.store.kept = commit.entries, commit.last
-        self.commit_seconds += 0.1 * (time.monotonic() - begun - self.commit_seconds)
+        now = time.monotonic()
+        self.commit_seconds += 0.1 * (now - begun - self.commit_seconds)
+        self.commits.note(now, len(commit.done), now - begun, synced - begun)
+        if now - begun > SLOW_SECONDS:
+            self.teller.tell("slow commit", f"batch {commit.last} took {now - begun:.3f} s, {synced - begun:.3f} s of it for the journal")
         self.journal.done(commit.last)
 
     def _look_at_files(self) -> None:

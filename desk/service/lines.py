@@ -47,7 +47,7 @@ RIGHTS = {verb: line.right for verb, line in LINES.items() if line.kind == "chan
 OF_THE_STORE = {"reclaim", "grow", "backup"}
 
 # Lines that the service itself answers.
-OWN_WORDS = {b"begin", b"commit", b"abort", b"rollback", b"whoami", b"backup", b"log"}
+OWN_WORDS = {b"begin", b"commit", b"abort", b"rollback", b"whoami", b"backup", b"log", b"status"}
 
 NAME = re.compile(rb"[A-Za-z0-9_.-]{1,32}")
 

@@ -7,13 +7,15 @@ from typing import List, Optional, Union
 from service import limits
 from service.batch import Batch
 from service.limits import BAD_LINE, LONG_LINE, refusal
-from service.lines import OWN_WORDS, RIGHTS, ROWS, SINGLE, alternative_of, line_of, words_of
+from service.lines import OWN_WORDS, RIGHTS, ROWS, SINGLE, alternative_of, line_of, printable, words_of
 from service.unread import Unread
 
 # How many decisions on rights are remembered for a planner.
 MOST_ALLOWED = 1000
 # For how many batches a planner of whom one was refused is doubtful.
 DOUBT = 16
+# How much of a line is told.
+TOLD = 100
 # How many lines are looked at for a request at once: each costs time that others wait for.
 LOOK, LOOK_LONG = 16, 256
 
@@ -154,6 +156,7 @@ class Planner:
             return  # It would only be answered.
         elif verb in RIGHTS:
             refused = self._refusal_of(words)
+            self._tell(refused, line)
             self._add(self._batch([line_of(words)], False) if refused is None else refused + b"\n")
         elif verb in SINGLE or verb in ROWS:
             self._add(Query(line_of(words), verb in ROWS))
@@ -267,7 +270,15 @@ class Planner:
     def settled(self, batch: Batch) -> None:
         """A batch of this planner was carried out or refused."""
         self.doubt = DOUBT if batch.has_disturbed else max(0, self.doubt - 1)
+        if batch.refused is not None:
+            self._tell(batch.refused[1], b"line %d of a batch" % (batch.refused[0] + 1))
         self.answer(batch.text())
+
+    def _tell(self, refused: Optional[bytes], line: bytes) -> None:
+        """Tells the operator of a line that a right was missing for."""
+        if refused is not None and refused.startswith(b"error 90 "):
+            what = printable(line[:TOLD])
+            self.server.batches.teller.tell("denied", f"{self.person.name}, uid {self.person.uid}: {what}: {refused[9:].decode()}")
 
     # --- answers ----------------------------------------------------------------------------------
 

@@ -7,7 +7,7 @@ import selectors
 import socket
 import time
 from collections import Counter, deque
-from typing import Callable, List, Tuple
+from typing import Callable, Dict, List, Optional, Tuple
 
 from service import limits
 from service.backups import NAME, Backups
@@ -18,6 +18,7 @@ from service.limits import BAD_LINE, of_one_user, refusal
 from service.planner import LOOK_LONG, Forgotten, Planner, Query, Request, Word
 from service.rules import Rules, Unreadable, person_of
 from service.signals import Signals
+from service.status import Value, memory, status_lines
 from service.users import Users
 
 # How often planners are checked for timeouts, in seconds.
@@ -44,7 +45,7 @@ class Server:
         self.waiting, self.unseen, self.touched, self.logs = {}, {}, {}, deque()
         # Until this time the next group may wait for this many planners.
         self.expected, self.gathers_until = 0, 0.0
-        self.is_listening = False
+        self.is_listening, self.begun = False, time.monotonic()
         listener.setblocking(False)
         self._listen()
         self.selector.register(signals.woken, selectors.EVENT_READ, lambda _: signals.take())
@@ -142,6 +143,7 @@ class Server:
             planner.close_if_late(now)
         self._listen()
         self.batches.save()
+        self.batches.look_at_room()
 
     def _round(self) -> None:
         """Carries out requests: queries, then small batches together, then one that takes longer."""
@@ -198,7 +200,10 @@ class Server:
         asked = self._in_turns(is_short, limits.GROUP, limits.GROUP)
         answers = iter(self.batches.ask([it.line for _, it in asked if isinstance(it, Query)]))
         for planner, it in asked:
-            planner.answer(next(answers) + b"\n" if isinstance(it, Query) else it if isinstance(it, bytes) else it.text())
+            if isinstance(it, Batch):
+                planner.settled(it)
+            else:
+                planner.answer(next(answers) + b"\n" if isinstance(it, Query) else it if isinstance(it, bytes) else it.text())
 
     def _commit_group(self) -> None:
         """Carries out small batches and commits them together. There are as many as take about as long as their commit."""
@@ -237,6 +242,8 @@ class Server:
         person = planner.person
         if verb == b"whoami" and not others:
             planner.answer(" ".join(["planner", person.name, str(person.uid), *sorted(person.groups)]).encode() + b"\n")
+        elif verb == b"status" and not others:
+            planner.answer("".join(f"{it}\n" for it in status_lines(self.figures())).encode())
         elif verb == b"log":
             self._begin_log(planner, others)
         elif verb == b"backup" and len(others) == 1 and NAME.fullmatch(others[0]):
@@ -245,6 +252,35 @@ class Server:
             planner.answer(answer + b"\n")
         else:
             planner.answer(BAD_LINE + b"\n")
+
+    def figures(self) -> Dict[str, Optional[Value]]:
+        """What the service tells about itself, by the names in FIGURES."""
+        batches, users, now = self.batches, self.users, time.monotonic()
+        batches.look_at_room()
+        room, commits = batches.room, batches.commits
+        return {
+            "blocks": room.blocks,
+            "free_blocks": room.free,
+            "spare_blocks": room.spare(),
+            "seconds_left": room.seconds_left(),
+            "alternatives": len(batches.store.entries.parents) - 1,
+            "last_batch": batches.store.kept,
+            "batches_total": commits.batches,
+            "refused_batches_total": commits.refused,
+            "commits_total": commits.count,
+            "commit_seconds_total": commits.seconds,
+            "commit_seconds_slowest": commits.slowest_since(now - 60),
+            "sync_seconds_total": commits.sync_seconds,
+            "planners": users.planners,
+            "users": len(users.by_number),
+            "waiting_planners": sum(it.first is not None for it in self.waiting),
+            "held_bytes": users.held,
+            "unread_bytes": users.in_memory + users.in_files,
+            "logs": len(self.logs),
+            "journal_bytes": batches.journal.end,
+            "memory_bytes": memory(),
+            "up_seconds": now - self.begun,
+        }
 
     # --- the journal ------------------------------------------------------------------------------
 
