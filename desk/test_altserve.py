@@ -18,6 +18,7 @@ from service_tests.test_journal import JournalTests
 from service_tests.test_limits import DocumentTests, UnreadTests
 from service_tests.test_lines import LineTests
 from service_tests.test_log import IndexTests, LogTests
+from service_tests.test_restore import RestoreTests
 from service_tests.test_rules import RulesTests
 from service_tests.test_signals import ShortageTests, SignalTests
 from service_tests.test_sockets import SocketTests
