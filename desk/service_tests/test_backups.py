@@ -3,12 +3,11 @@ import os
 import subprocess
 import sys
 import threading
-import time
 from pathlib import Path
 
 from service_tests.support import ALTCTL, LONG, ServiceTest
 
-# A program whose copy takes SECONDS longer. It notes each copy, and reads the store itself first, as a program would.
+# A program whose copy ends only once there is a file `go`. It notes each copy, and reads the store itself first, as a program would.
 SLOW = """#!{python}
 import os, subprocess, sys, time
 
@@ -18,17 +17,18 @@ if sys.argv[1] == "copy":
     with open(sys.argv[-2], "rb") as store:
         store.read(300_000)
         ran = subprocess.run([{altctl!r}, *sys.argv[1:]])
-        time.sleep({seconds})
+        while not os.path.exists({go!r}):
+            time.sleep(0.02)
     sys.exit(ran.returncode)
 os.execv({altctl!r}, [{altctl!r}, *sys.argv[1:]])
 """
 
 
 class BackupTests(ServiceTest):
-    def start_slow(self, seconds):
-        self.copies = Path(self.folder, "copies")
+    def start_slow(self):
+        self.copies, self.go = Path(self.folder, "copies"), Path(self.folder, "go")
         program = Path(self.folder, "slow")
-        program.write_text(SLOW.format(python=sys.executable, log=str(self.copies), altctl=ALTCTL, seconds=seconds))
+        program.write_text(SLOW.format(python=sys.executable, log=str(self.copies), altctl=ALTCTL, go=str(self.go)))
         program.chmod(0o755)
         self.start("--program", str(program))
 
@@ -40,16 +40,16 @@ class BackupTests(ServiceTest):
         return ran.stdout.decode().splitlines()
 
     def test_batches_go_on_meanwhile(self):
-        self.start_slow(1.5)
+        self.start_slow()
         with self.planner() as one, self.planner() as other, self.planner() as third:
             one.ask("put top 1 1 a")
             one.send("backup a", "get top 1 2")
             self.until(self.count)
             third.send("backup b")
-            begun = time.monotonic()
             for number in range(2, 12):
                 self.assertEqual(["ok"], other.ask(f"put top 1 {number} a"))
-            self.assertLess(time.monotonic() - begun, 1.4)
+            self.assertEqual(1, self.count())
+            self.go.touch()
             # The next line of its planner waits for it, and another backup, too.
             self.assertEqual(["ok", "value a"], [one.read()[0].split()[0], one.read()[0]])
             self.assertEqual("ok", third.read()[0].split()[0])
@@ -59,10 +59,11 @@ class BackupTests(ServiceTest):
         self.assertEqual(0, subprocess.run([ALTCTL, "check", f"{self.file}.backups/a"], stdout=subprocess.DEVNULL).returncode)
 
     def test_blocks_that_become_free_meanwhile(self):
-        self.start_slow(0.7)
+        self.start_slow()
         for lines in (["reclaim"], ["begin", "put top 1 1 b", "reclaim", "commit"], None, ["merge a 1:1=mine"]):
             with self.planner() as one, self.planner() as other:
                 before = self.count()
+                self.go.unlink(missing_ok=True)
                 one.send("backup a")
                 self.until(lambda: self.count() > before)
                 if lines is None:
@@ -71,6 +72,7 @@ class BackupTests(ServiceTest):
                 other.ask("put top 1 1 a")
                 other.ask(*lines)
                 other.ask("put top 1 3 a")
+                self.go.touch()
                 self.assertEqual("ok", one.read()[0].split()[0])
                 self.assertEqual(2, self.count() - before, lines)
                 self.assertEqual(["value a"], self.in_backup("a", "get top 1 3"))
@@ -78,17 +80,18 @@ class BackupTests(ServiceTest):
     def test_too_few_blocks_are_free(self):
         os.unlink(self.file)
         self.create(128)
-        self.start_slow(0.5)
+        self.start_slow()
         with self.planner() as one, self.planner() as other:
             one.send("backup a")
             self.until(self.count)
             for number in range(120):
                 self.assertEqual(["ok"], other.ask(f"put top 1 {number % 7} {LONG}"))
+            self.go.touch()
             self.assertEqual("ok", one.read()[0].split()[0])
         self.assertEqual(2, self.count())
 
     def test_a_service_that_ends_meanwhile(self):
-        self.start_slow(30)
+        self.start_slow()
         with self.planner() as one:
             one.send("backup a")
             self.until(self.count)
