@@ -1,9 +1,12 @@
 #!/usr/bin/env python3
-"""Measures how many commits and gets a second the service answers to planners who each wait for an answer, and how long they wait,
-beside PostgreSQL and SQLite with as many writers:
-`tools/measure/measure_service.py [--seconds N] [--rounds N] [--planners N ..] [--processors N] [--slow MICROSECONDS] [ALTCTL]`. It writes two
-tables. With `--slow` each sync of all three takes that much longer, as on a slower disk; with `--processors` all of them, and what
-asks them, share the first N. Times are looked at, never tested.
+"""Measures how many commits and gets a second the service answers to planners who each wait for an answer, and how long
+they wait, beside PostgreSQL and SQLite with as many writers:
+
+    tools/measure/measure_service.py [--seconds N] [--rounds N] [--planners N ..] [--processors N]
+        [--slow MICROSECONDS] [ALTCTL]
+
+It writes two tables. With `--slow` each sync of all three takes that much longer, as on a slower disk; with `--processors`
+all of them, and what asks them, share the first N. Times are looked at, never tested.
 
 Each commit changes one record of 10,000, or two in a batch, and is durable before it is answered: in PostgreSQL by an UPDATE of
 one row with fsync on, in SQLite by one in WAL mode with synchronous=FULL. What is not installed is skipped, with a line that says
