@@ -78,6 +78,9 @@ enum {
     ALT_NO_BACKUP = 98,
     ALT_STOPPED = 99,
     ALT_TOO_MANY_PLANNERS = 100,
+    ALT_UNSURE = 101,
+    ALT_TOO_MANY_ENTRIES = 102,
+    ALT_CHANGED = 103,
 
     /* There are no more rows. */
     ALT_DONE = -1,

@@ -278,6 +278,11 @@ class Service:
             raise
         self.lines, self.answers = (self._socket.makefile(mode, encoding="ascii", newline="\n") for mode in "wr")
 
+    def abort(self) -> None:
+        """Has each call that waits for an answer raise Ended."""
+        with contextlib.suppress(OSError):
+            self._socket.shutdown(socket.SHUT_RDWR)
+
     def end(self):
         """Ends the connection. A batch that was not committed is forgotten."""
         with contextlib.suppress(BrokenPipeError):
@@ -325,13 +330,20 @@ class Store:
         if status and not quietly:
             raise Ended(status, said)
 
+    def abort(self) -> None:
+        """Ends the connection to a service, even while another thread waits for an answer: its call raises Ended."""
+        if not isinstance(self._other, Service):
+            raise ValueError("only a connection to a service can be aborted")
+        self._other.abort()
+
     @contextlib.contextmanager
-    def batch(self):
+    def batch(self, seen: Optional[Dict[str, int]] = None) -> Iterator[None]:
         """Changes that a service applies together at the end of the `with`: all of them, or none. If an exception leaves the
-        `with`, or one of them is refused at its end, everything stays as it was. Queries are not possible in it."""
+        `with`, or one of them is refused at its end, everything stays as it was. Queries are not possible in it. `seen` is a dict
+        from alternatives to batches: if one has changed since that batch, all of it is refused (103 Changed)."""
         if not isinstance(self._other, Service) or self._batch is not None:
             raise ValueError("a batch is one of a service's store, and not in another one")
-        self._batch = ["begin"]
+        self._batch = [self._line("begin", *(f"{alt}={number:d}" for alt, number in (seen or {}).items()))]
         try:
             yield
             lines = [*self._batch, "commit"]
@@ -582,6 +594,10 @@ class Store:
     def checkpoints(self, alt: str) -> Rows[str]:
         """The names of an alternative's checkpoints."""
         return self._list(lambda words: words[0], "checks", alt)
+
+    def batches(self) -> int:
+        """The number of the last batch that a service has committed."""
+        return int(self._ask("batches")[1])
 
     def whoami(self) -> str:
         """The name of the planner whom a service sees here."""

@@ -7,6 +7,7 @@ import io
 import os
 import random
 import shutil
+import signal
 import subprocess
 import sys
 import tempfile
@@ -858,6 +859,30 @@ class ServiceTests(unittest.TestCase):
             with store.batch():
                 pass
             self.assertEqual([], list(store.list("top")))
+
+    def test_a_batch_that_depends_on_what_was_seen(self):
+        with self.open() as one, self.open() as other:
+            one.new("north", "top")
+            seen = other.batches()
+            self.assertEqual(1, seen)
+            one.put("north", 7, 1, b"a")
+            with self.assertRaises(Refusal) as came, other.batch({"north": seen, "top": seen}):
+                other.put("north", 7, 1, b"b")
+            self.assertEqual((103, "Changed", "north 2"), (came.exception.number, came.exception.name, came.exception.detail))
+            with other.batch({"north": other.batches()}):
+                other.put("north", 7, 1, b"b")
+            self.assertEqual(b"b", one.get("north", 7, 1))
+
+    def test_a_call_that_waits_is_aborted(self):
+        with self.assertRaises(Ended), self.open() as store:
+            self.service.send_signal(signal.SIGSTOP)
+            try:
+                timer = threading.Timer(0.2, store.abort)
+                timer.start()
+                store.put("top", 7, 1, b"a")
+            finally:
+                timer.join()
+                self.service.send_signal(signal.SIGCONT)
 
     def test_the_journal_is_read(self):
         with self.open() as store:
