@@ -15,6 +15,7 @@ import maps
 import places
 from altctl import Conflict, Refusal
 from maps import GEOMETRY, PARTS
+from maps.systems import crs_from_text
 from places import box_of, parsed
 
 gdal.UseExceptions()
@@ -51,7 +52,7 @@ def attributes_of(value):
     """The attributes of a feature as names and texts. What is no JSON object is one text."""
     try:
         return {name: text_of(it) for name, it in json.loads(value).items()}
-    except (AttributeError, ValueError):
+    except (AttributeError, ValueError, RecursionError):
         return {"value": value.decode("utf-8", "backslashreplace")}
 
 
@@ -72,10 +73,9 @@ def typed(text, field, old):
 
 def aspect_of(crs, bounds):
     """How wide a unit is beside its height: with degrees, as it is in the middle of the map."""
-    system = osr.SpatialReference()
     try:
-        is_round = crs and bounds and system.SetFromUserInput(crs) == 0 and system.IsGeographic()
-    except RuntimeError:
+        is_round = crs and bounds and crs_from_text(crs).IsGeographic()
+    except maps.Fault:
         is_round = False
     return math.cos(math.radians((bounds[1] + bounds[3]) / 2)) if is_round else 1
 
@@ -232,7 +232,8 @@ class Design:
         records = maps.read(self.store, at, self.mine.keys_of(feature))
         if not any(it in records for it in self.mine.keys_of(feature)):
             return None
-        attributes = attributes_of(places.safe_value(records, feature) or b"{}")
+        value = places.safe_value(records, feature)
+        attributes = attributes_of(records.get(feature, b"{}") if value is None else value)
         geometry = places.safe_value(records, (feature[0] + GEOMETRY, feature[1]))
         return {"attributes": attributes, "course": geojson(geometry) if feature[0] in self.mine.layers else None}
 

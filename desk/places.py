@@ -22,6 +22,7 @@ from osgeo import ogr
 import maps
 from altctl import Refusal
 from maps import GEOMETRY
+from maps.geometry import fault_of as geometry_fault
 
 OWN = ".places"
 PAGES, HEADS = 65000, 65100
@@ -34,6 +35,8 @@ IS_THERE = 4
 
 def parsed(value):
     """A geometry from WKB, or None where there is none that can be drawn."""
+    if geometry_fault(value):
+        return None
     try:
         geometry = ogr.CreateGeometryFromWkb(value)
     except RuntimeError:
@@ -118,7 +121,7 @@ class Index:
 def scanned(store, at, table):
     """The bounds of all features of a version's table, read a page at a time."""
     numbers, boxes = array("Q"), array("d")
-    for number, value in maps.scan_values(store, at, table + GEOMETRY):
+    for number, value in maps.scan_values(store, at, table + GEOMETRY, bad=lambda *_: None):
         box = box_of(value)
         if box:
             numbers.append(number)

@@ -1,9 +1,8 @@
 #!/usr/bin/env python3
 """Tests of `altgis` and `demo` over real stores, with the program's path in the variable ALTCTL, or else with the one that
 `./altctl` at the top builds. They run in a Python that has GDAL; where none is there, a line says that they are skipped.
-That two layers are equal is told by GDAL: it copies both into one GeoPackage, and SQL there compares all columns."""
+gis_tests/ has those of what attackers and bad records do, and what all of them stand on."""
 import argparse
-import importlib.util
 import json
 import os
 import shutil
@@ -15,7 +14,6 @@ import tempfile
 import time
 import unittest
 import unittest.mock
-from importlib.machinery import SourceFileLoader
 from pathlib import Path
 
 sys.dont_write_bytecode = True
@@ -32,170 +30,11 @@ sys.path.insert(0, str(HERE))
 import maps
 import places
 from altctl import Change, Record, Store
-
-ALTCTL = os.path.abspath(os.environ.get("ALTCTL", HERE.parent / "altctl"))
-gdal.PushErrorHandler("CPLQuietErrorHandler")  # Its warnings. Errors are exceptions.
-gdal.UseExceptions()
-ogr.UseExceptions()
-osr.UseExceptions()
+from gis_tests.cases import ALTCTL, DUCTS, THREE, AltgisCase, change, field, polygon, program, system, write
+from gis_tests.safety import SafetyTests
 
 
-def program(name):
-    """A program of this folder, as a module."""
-    loader = SourceFileLoader(name, str(HERE / name))
-    module = importlib.util.module_from_spec(importlib.util.spec_from_loader(name, loader))
-    loader.exec_module(module)
-    return module
-
-
-def field(name, kind, subtype=ogr.OFSTNone):
-    made = ogr.FieldDefn(name, kind)
-    made.SetSubType(subtype)
-    return made
-
-
-def system(code):
-    made = osr.SpatialReference()
-    made.ImportFromEPSG(code)
-    made.SetAxisMappingStrategy(osr.OAMS_TRADITIONAL_GIS_ORDER)
-    return made
-
-
-def write(file, name, fields, features, shape=ogr.wkbUnknown, code=2056):
-    """A layer of a file, of features that are each a fid, a dict of what is set, and a geometry as text or as GDAL has it."""
-    kinds = {".gpkg": "GPKG", ".geojson": "GeoJSON", ".csv": "CSV", ".shp": "ESRI Shapefile"}
-    source = gdal.GetDriverByName(kinds[Path(file).suffix]).Create(file, 0, 0, 0, gdal.GDT_Unknown)
-    layer = source.CreateLayer(name, system(code) if code else None, shape)
-    for it in fields:
-        layer.CreateField(it)
-    for fid, values, geometry in features:
-        feature = ogr.Feature(layer.GetLayerDefn())
-        feature.SetFID(fid)
-        for key, value in values.items():
-            at = feature.GetFieldIndex(key)
-            if isinstance(value, bytes):
-                feature.SetFieldBinaryFromHexString(at, value.hex())
-            elif isinstance(value, tuple):
-                feature.SetField(at, *value)
-            elif isinstance(value, list):
-                feature[key] = value
-            else:
-                feature.SetField(at, value)
-        if geometry is not None:
-            feature.SetGeometry(ogr.CreateGeometryFromWkt(geometry) if isinstance(geometry, str) else geometry)
-        layer.CreateFeature(feature)
-    source.FlushCache()
-
-
-def change(file, *statements):
-    """Changes a GeoPackage by SQL."""
-    source = gdal.OpenEx(file, gdal.OF_VECTOR | gdal.OF_UPDATE)
-    for it in statements:
-        source.ExecuteSQL(it)
-    source.FlushCache()
-
-
-def polygon(points, east=0):
-    """A polygon of so many points."""
-    ring = ogr.Geometry(ogr.wkbLinearRing)
-    for it in range(points):
-        ring.AddPoint_2D(2600000.1 + east + it / 7, 1200000 + (it * it) % 1009 / 3)
-    ring.CloseRings()
-    made = ogr.Geometry(ogr.wkbPolygon)
-    made.AddGeometry(ring)
-    return made
-
-
-DUCTS = [field("dn", ogr.OFTInteger), field("mat", ogr.OFTString)]
-THREE = [
-    (1, {"dn": 110, "mat": "PVC"}, "LINESTRING (1 2,3 4)"),
-    (2, {"dn": 160, "mat": "Straße"}, "LINESTRING (1 2,3 5)"),
-    (12, {"dn": None, "mat": ""}, None),
-]
-
-
-class AltgisTests(unittest.TestCase):
-    def setUp(self):
-        folder = tempfile.TemporaryDirectory()
-        self.addCleanup(folder.cleanup)
-        self.folder, self.store = folder.name, os.path.join(folder.name, "map.alt")
-        self.create(16384)
-
-    def create(self, blocks):
-        Path(self.store).unlink(missing_ok=True)
-        subprocess.run([ALTCTL, "create", self.store, str(blocks)], check=True, stdout=subprocess.DEVNULL)
-
-    def file(self, name):
-        return os.path.join(self.folder, name)
-
-    def ask(self, do):
-        with Store(self.store, ALTCTL) as store:
-            result = do(store)
-            store.commit()
-            return result
-
-    def start(self, words, **how):
-        environment = {**os.environ, "ALTCTL": ALTCTL, **how}
-        return subprocess.run(words, capture_output=True, text=True, env=environment, cwd=self.folder, timeout=120)
-
-    def altgis(self, *words):
-        """What altgis tells on its output. It has no other words but warnings of GDAL."""
-        ran = self.start([sys.executable, str(HERE / "altgis"), *map(str, words)])
-        faults = [it for it in ran.stderr.splitlines() if not it.startswith("Warning ")]
-        self.assertEqual((0, []), (ran.returncode, faults), words)
-        return ran.stdout
-
-    def bring(self, file, layer, *words, alt="top", table=7):
-        return self.altgis("import", self.store, file, layer, "--alt", alt, "--table", table, *words)
-
-    def refused(self, told, *words):
-        """A refusal is one line, leaves the store as it is, byte for byte, and no file."""
-        before, files = Path(self.store).read_bytes(), sorted(os.listdir(self.folder))
-        ran = self.start([sys.executable, str(HERE / "altgis"), *map(str, words)])
-        self.assertEqual((1, ""), (ran.returncode, ran.stdout), words)
-        self.assertRegex(ran.stderr.splitlines()[-1], f"^altgis: .*{told}")
-        self.assertTrue(Path(self.store).read_bytes() == before, words)
-        self.assertEqual(files, sorted(os.listdir(self.folder)))
-
-    def count(self, sql, *layers):
-        """The answer to SQL over layers that GDAL has copied from their files, as a and b. None is a file's only layer."""
-        self.copies = getattr(self, "copies", 0) + 1
-        whole = self.file(f"compared{self.copies}.gpkg")
-        for name, (file, layer) in zip("ab", layers):
-            how = {"format": "GPKG", "layerName": name, "accessMode": "update" if os.path.exists(whole) else None}
-            options = ["KEEP_GEOM_COLUMNS=NO"] if file.endswith(".csv") else []
-            source = gdal.OpenEx(file, gdal.OF_VECTOR, open_options=options)
-            layer = layer or source.GetLayer(0).GetName()
-            names = ["GEOMETRY_NAME=geom", "FID=fid"]
-            gdal.VectorTranslate(whole, source, layers=[layer], options=["-preserve_fid"], layerCreationOptions=names, **how)
-        found = gdal.OpenEx(whole, gdal.OF_VECTOR).ExecuteSQL(sql)
-        return found.GetNextFeature().GetField(0)
-
-    def equal(self, count, a, b, columns="*"):
-        """Two layers have so many features, and the same ones."""
-        for one, other in (("a", "b"), ("b", "a")):
-            self.assertEqual(count, self.count(f"SELECT count(*) FROM {one}", a, b))
-            sql = f"SELECT count(*) FROM (SELECT {columns} FROM {one} EXCEPT SELECT {columns} FROM {other})"
-            self.assertEqual(0, self.count(sql, a, b), (a, b))
-
-    def opens(self, file):
-        """QGIS's reader opens a file."""
-        if not shutil.which("ogrinfo"):
-            self.skipTest("ogrinfo is not there (apt install gdal-bin)")
-        ran = subprocess.run(["ogrinfo", "-al", "-ro", file], capture_output=True, text=True)
-        faults = [it for it in ran.stderr.splitlines() if not it.startswith("Warning ")]
-        self.assertEqual((0, []), (ran.returncode, faults), file)
-        return ran.stdout
-
-    def there_and_back(self, file, layer, out, *words, count, columns="*"):
-        """A layer into a store of its own and out of it again."""
-        self.create(16384)
-        self.bring(file, layer, *words)
-        self.altgis("export", self.store, "top", self.file(out), "--layer", layer)
-        self.equal(count, (file, layer), (self.file(out), None), columns)
-        self.opens(self.file(out))
-        Path(self.file(out)).unlink()
-
+class AltgisTests(AltgisCase):
     def test_records_of_a_layer(self):
         write(self.file("a.gpkg"), "ducts", DUCTS, THREE)
         told = self.bring(self.file("a.gpkg"), "ducts")
@@ -227,7 +66,7 @@ class AltgisTests(unittest.TestCase):
         self.assertEqual(due, json.loads(value))
         self.assertEqual(list(sorted(due)), list(json.loads(value)))
         self.ask(lambda store: store.put("top", 7, 1, b'{"d":"yesterday"}'))
-        self.refused("'yesterday' is no Date", "export", self.store, "top", self.file("b.gpkg"))
+        self.left_out(1, "'yesterday' is no Date", "export", self.store, "top", self.file("b.gpkg"))
         point = {"type": "Point", "coordinates": [1.5, 2]}
         lists = {"il": [1, -2], "ll": [2**40], "rl": [0.1, -0.0], "sl": ["a", ""], "n": None}
         feature = {"type": "Feature", "id": 4, "properties": lists, "geometry": point}
@@ -277,15 +116,6 @@ class AltgisTests(unittest.TestCase):
         self.there_and_back(self.file("none.gpkg"), "none", "out.gpkg", count=0)
         write(self.file("table.gpkg"), "table", [], [(0, {}, None), (5, {}, None)], ogr.wkbNone, None)
         self.there_and_back(self.file("table.gpkg"), "table", "out.gpkg", count=2)
-
-    def lines(self, name, **how):
-        """A layer of lines whose numbers each of the formats keeps."""
-        features = [
-            (it, {"dn": it * 10, "mat": f"m{it}", "x": it / 8}, f"LINESTRING ({it} 0.1,{it / 7} {it / 3},-1e-7 9)")
-            for it in range(1, 40)
-        ]
-        fields = [*DUCTS, field("x", ogr.OFTReal)]
-        write(self.file(name), "ducts", fields, features, ogr.wkbLineString, how.get("code", 2056))
 
     def test_each_format_there_and_back(self):
         self.lines("ducts.gpkg")
@@ -470,7 +300,7 @@ class AltgisTests(unittest.TestCase):
         bring("feature 1 has a text that is not UTF-8", "f.csv", "f", "--alt", "top", "--table", 8)
         write(self.file("e.gpkg"), "e", DUCTS, [(1, {}, "POINT (1 2)"), (2, {}, polygon(250001))])
         bring("107:2 has 4000045 bytes, and 4000000 are the most", "e.gpkg", "e", "--alt", "top", "--table", 7, "--sync")
-        self.refused("GDAL|not recognized", "import", self.store, str(HERE / "maps.py"), *where)
+        self.refused("ends with none of", "import", self.store, str(HERE / "places.py"), *where)
         self.refused("already", "export", self.store, "top", self.file("a.gpkg"))
         self.refused("ends with none of", "export", self.store, "top", self.file("a.xyz"))
         self.refused("no layer", "export", self.store, "top", self.file("x.gpkg"), "--table", 8)
@@ -480,13 +310,21 @@ class AltgisTests(unittest.TestCase):
         bring("table 9 has records, and they are no layer", "a.gpkg", "ducts", "--alt", "top", "--table", 9)
         for value, told in ((b'{"dn":"wide"}', "'wide' is no Integer"), (b"duct", "feature 1 "), (b"[1]", "feature 1 ")):
             self.ask(lambda store: store.put("top", 7, 1, value))
-            self.refused(told, "export", self.store, "top", self.file("x.gpkg"))
+            self.left_out(1, told, "export", self.store, "top", self.file("x.gpkg"))
+            self.assertEqual([(2,), (12,)], self.rows(self.file("x.gpkg"), "ducts", "fid"))
+            Path(self.file("x.gpkg")).unlink()
         self.ask(lambda store: store.remove("top", 7, 1))
         self.ask(lambda store: store.put("top", 7, 2**63, b"{}"))
-        self.refused("feature 9223372036854775808 ", "export", self.store, "top", self.file("x.gpkg"))
+        self.left_out(1, "feature 9223372036854775808 ", "export", self.store, "top", self.file("x.gpkg"))
+        Path(self.file("x.gpkg")).unlink()
         for value in (b"duct", b"[1]"):
             self.ask(lambda store: store.put("top", 0, 1, value))
-            self.refused("table 0 has a record that is no layer", "export", self.store, "top", self.file("x.gpkg"))
+            bring("table 0 has a record that is no layer", "a.gpkg", "ducts", "--alt", "top", "--table", 1)
+            told = "table 0 has a record that is no layer"
+            self.refused("has no layer, or none in table 1", "export", self.store, "top", self.file("x.gpkg"), "--table", 1)
+            ran = self.start_altgis("export", self.store, "top", self.file("x.gpkg"))
+            self.assertIn(told, ran.stderr)
+            Path(self.file("x.gpkg")).unlink()
         for words in (["--table", "0"], ["--table", "100"], ["--table", "x"], []):
             ran = self.start([sys.executable, str(HERE / "altgis"), "import", self.store, "a", "b", "--alt", "top", *words])
             self.assertEqual(2, ran.returncode)
@@ -542,11 +380,11 @@ class AltgisTests(unittest.TestCase):
         self.addCleanup(there.close, quietly=True)
         pages = maps.scan_features
 
-        def with_others(store, at, table):
-            yield from pages(store, at, table)
+        def with_others(store, at, table, bad):
+            yield from pages(store, at, table, bad)
             store.put(at, table, 1, b"{}")
 
-        words = argparse.Namespace(store=f"unix:{socket}", version="top", table=7, layer=None, out=self.file("half.gpkg"))
+        words = argparse.Namespace(store=f"unix:{socket}", version="top", table=7, layer=None, plain=False, out=self.file("half.gpkg"))
         with unittest.mock.patch("maps.scan_features", with_others):
             with self.assertRaisesRegex(maps.Fault, "top has changed meanwhile"):
                 module.export(there, words)
@@ -602,10 +440,6 @@ class AltgisTests(unittest.TestCase):
         self.altgis("index", self.store)
         self.assertEqual((0, 601, 4), self.ask(look))
         self.assertEqual([], self.ask(lambda store: list(store.checkpoints("top"))))
-
-    def rows(self, file, layer, columns):
-        with sqlite3.connect(file) as it:
-            return it.execute(f"SELECT {columns} FROM {layer} ORDER BY fid").fetchall()
 
     def test_a_difference_is_four_layers(self):
         write(self.file("a.gpkg"), "ducts", DUCTS, THREE)
