@@ -14,8 +14,9 @@ from osgeo import gdal, ogr, osr
 import maps
 import places
 from altctl import Conflict, Refusal
-from maps import GEOMETRY, PARTS
+from maps import GEOMETRY, PARTS, numbers
 from maps.systems import crs_from_text
+from maps.types import fault_of
 from places import box_of, parsed
 
 gdal.UseExceptions()
@@ -48,11 +49,11 @@ def text_of(value):
     return value if isinstance(value, str) else json.dumps(value, ensure_ascii=False)
 
 
-def attributes_of(value):
+def attributes_of(value, layer=maps.NO_LAYER):
     """The attributes of a feature as names and texts. What is no JSON object is one text."""
     try:
-        return {name: text_of(it) for name, it in json.loads(value).items()}
-    except (AttributeError, ValueError, RecursionError):
+        return {name: text_of(it) for name, it in maps.Fields(layer).named(value).items()}
+    except maps.Fault:
         return {"value": value.decode("utf-8", "backslashreplace")}
 
 
@@ -60,14 +61,24 @@ def typed(text, field, old):
     """The value that a text in a form stands for: by the type of its field, or else by the value before."""
     kind = field["type"] if field else "String" if isinstance(old, str) else "value"
     due = list if kind.endswith("List") else LITERALS.get(kind)
+    if field and kind != "String" and not text:
+        return None
     if not due:
-        return text
+        return checked(text, field)
     try:
         value = json.loads(text, parse_constant=int) if text else None  # `NaN` is no number here, nor for int.
     except ValueError:
         value = ...
     if value is not None and not isinstance(value, due):
         raise maps.Fault(f"{text} is no {kind}")
+    return checked(value, field)
+
+
+def checked(value, field):
+    """The value, if the field can have it."""
+    fault = fault_of(field, value) if field else None
+    if fault:
+        raise maps.Fault(fault)
     return value
 
 
@@ -233,7 +244,8 @@ class Design:
         if not any(it in records for it in self.mine.keys_of(feature)):
             return None
         value = places.safe_value(records, feature)
-        attributes = attributes_of(records.get(feature, b"{}") if value is None else value)
+        layer = self.mine.layers.get(feature[0], maps.NO_LAYER)
+        attributes = attributes_of(records.get(feature, b"{}") if value is None else value, layer)
         geometry = places.safe_value(records, (feature[0] + GEOMETRY, feature[1]))
         return {"attributes": attributes, "course": geojson(geometry) if feature[0] in self.mine.layers else None}
 
@@ -305,7 +317,8 @@ class Designs:
         self.rows = None
         self.parents = {it.name: it.parent for it in self.store.alternatives()}
         self.has_index = self.parents.pop(places.OWN, None) is not None
-        self.parents.pop(OWN, None)
+        for it in (OWN, numbers.OWN):
+            self.parents.pop(it, None)
         is_told = self.batch is not None and news and news[-1].batch >= last and len(news) < MOST_LINES
         self.batch = max([last, *(it.batch for it in news)])
         if not is_told or not all(map(self._follow, news)):
@@ -318,6 +331,8 @@ class Designs:
         if verb in ("grow", "reclaim"):
             return True
         alt = words[0]
+        if numbers.OWN in words[:2]:
+            return True
         if places.OWN in words[:2]:
             if verb == "new":  # The index is made anew: where features lie is read again.
                 self.designs, self.indexes = {}, {}

@@ -2,7 +2,6 @@
 """Tests of `altgis` and `demo` over real stores, with the program's path in the variable ALTCTL, or else with the one that
 `./altctl` at the top builds. They run in a Python that has GDAL; where none is there, a line says that they are skipped.
 gis_tests/ has those of what attackers and bad records do, and what all of them stand on."""
-import argparse
 import json
 import os
 import shutil
@@ -30,7 +29,10 @@ sys.path.insert(0, str(HERE))
 import maps
 import places
 from altctl import Change, Record, Store
+from gis.exporting import export
+from gis.words import read_words
 from gis_tests.cases import ALTCTL, DUCTS, THREE, AltgisCase, change, field, polygon, program, system, write
+from gis_tests.planning import PlanningTests
 from gis_tests.safety import SafetyTests
 
 
@@ -39,13 +41,13 @@ class AltgisTests(AltgisCase):
         write(self.file("a.gpkg"), "ducts", DUCTS, THREE)
         told = self.bring(self.file("a.gpkg"), "ducts")
         self.assertEqual("ducts into top, table 7: 3 added, 0 changed, 0 removed, 0 same\n", told)
-        fields = '[{"name":"dn","type":"Integer"},{"name":"mat","type":"String"}]'
-        layer = f'{{"crs":"EPSG:2056","fields":{fields},"geometry":"Unknown (any)","id":null,"name":"ducts"}}'
+        fields = '[{"name":"dn","number":1,"type":"Integer"},{"name":"mat","number":2,"type":"String"}]'
+        layer = f'{{"crs":"EPSG:2056","fields":{fields},"geometry":"Unknown (any)","id":null,"name":"ducts","next":3}}'
         due = [
             Record(0, 7, layer.encode()),
-            Record(7, 1, b'{"dn":110,"mat":"PVC"}'),
-            Record(7, 2, '{"dn":160,"mat":"Straße"}'.encode()),
-            Record(7, 12, b'{"dn":null,"mat":""}'),
+            Record(7, 1, b'{"1":110,"2":"PVC"}'),
+            Record(7, 2, '{"1":160,"2":"Straße"}'.encode()),
+            Record(7, 12, b'{"2":""}'),
             Record(107, 1, struct.pack("<BIIdddd", 1, 2, 2, 1, 2, 3, 4)),
             Record(107, 2, struct.pack("<BIIdddd", 1, 2, 2, 1, 2, 3, 5)),
         ]
@@ -63,8 +65,8 @@ class AltgisTests(AltgisCase):
         due = {"i": -(2**31), "l": -(2**63), "r": 0.1, "s": 'a "b"\n\t\\', "d": "1999-12-31", "yes": True}
         due = {**due, "t": "2024-02-29T23:59:59.999+00", "b": "00ff"}
         value = self.ask(lambda store: store.get("top", 7, 1))
-        self.assertEqual(due, json.loads(value))
-        self.assertEqual(list(sorted(due)), list(json.loads(value)))
+        self.assertEqual({str(at): due[it] for at, it in enumerate("ilrsdtb", 1)} | {"8": True}, json.loads(value))
+        self.assertEqual([str(it) for it in range(1, 9)], list(json.loads(value)))
         self.ask(lambda store: store.put("top", 7, 1, b'{"d":"yesterday"}'))
         self.left_out(1, "'yesterday' is no Date", "export", self.store, "top", self.file("b.gpkg"))
         point = {"type": "Point", "coordinates": [1.5, 2]}
@@ -75,15 +77,15 @@ class AltgisTests(AltgisCase):
         feature["properties"] = {"a": float("nan"), "b": float("-inf"), "c": 0.5}
         Path(self.file("i.geojson")).write_text(json.dumps({"type": "FeatureCollection", "features": [feature]}))
         self.bring(self.file("i.geojson"), "i", table=10)
-        self.assertEqual(b'{"a":"nan","b":"-inf","c":0.5}', self.ask(lambda store: store.get("top", 10, 4)))
+        self.assertEqual(b'{"1":"nan","2":"-inf","3":0.5}', self.ask(lambda store: store.get("top", 10, 4)))
         self.altgis("export", self.store, "top", self.file("i.gpkg"), "--table", 10)
         self.assertEqual([(float("-inf"), 0.5)], self.rows(self.file("i.gpkg"), "i", "b, c"))
         Path(self.file("c.csv")).write_text("at,n\n12:34:56,1\n")
         Path(self.file("c.csvt")).write_text("Time,Integer\n")
         self.bring(self.file("c.csv"), "c", table=9)
         value = self.ask(lambda store: store.get("top", 8, 4))
-        self.assertEqual(b'{"il":[1,-2],"ll":[1099511627776],"n":null,"rl":[0.1,-0.0],"sl":["a",""]}', value)
-        self.assertEqual({"at": "12:34:56", "n": 1}, json.loads(self.ask(lambda store: store.get("top", 9, 1))))
+        self.assertEqual(b'{"1":[1,-2],"2":[1099511627776],"3":[0.1,-0.0],"4":["a",""]}', value)
+        self.assertEqual({"1": "12:34:56", "2": 1}, json.loads(self.ask(lambda store: store.get("top", 9, 1))))
         self.altgis("export", self.store, "top", self.file("b.geojson"), "--table", 8)
         self.assertEqual(lists, json.loads(Path(self.file("b.geojson")).read_text())["features"][0]["properties"])
         self.altgis("export", self.store, "top", self.file("d.csv"), "--table", 9)
@@ -161,13 +163,14 @@ class AltgisTests(AltgisCase):
         self.ask(lambda store: store.new("north", "top"))
         change(self.file("a.gpkg"), "UPDATE ducts SET dn = 125 WHERE fid = 2", "DELETE FROM ducts WHERE fid = 1")
         told = self.bring(self.file("a.gpkg"), "ducts", alt="north")
-        self.assertEqual("ducts into north, table 7: 0 added, 1 changed, 0 removed, 1 same\n", told)
-        old = '{"dn":160,"mat":"Straße"}'.encode()
+        checkpoint = "checkpoint before-import-{} of north has what was there before\n"
+        self.assertEqual(checkpoint.format(1) + "ducts into north, table 7: 0 added, 1 changed, 0 removed, 1 same\n", told)
+        old = '{"1":160,"2":"Straße"}'.encode()
         due = [Change(7, 2, old, old.replace(b"160", b"125"))]
         self.assertEqual(due, self.ask(lambda store: list(store.changes("north"))))
         told = self.bring(self.file("a.gpkg"), "ducts", "--sync", alt="north")
-        self.assertEqual("ducts into north, table 7: 0 added, 0 changed, 1 removed, 2 same\n", told)
-        gone = [Change(7, 1, b'{"dn":110,"mat":"PVC"}', None), *due]
+        self.assertEqual(checkpoint.format(2) + "ducts into north, table 7: 0 added, 0 changed, 1 removed, 2 same\n", told)
+        gone = [Change(7, 1, b'{"1":110,"2":"PVC"}', None), *due]
         gone += [Change(107, 1, struct.pack("<BIIdddd", 1, 2, 2, 1, 2, 3, 4), None)]
         self.assertEqual(gone, self.ask(lambda store: list(store.changes("north"))))
         self.altgis("export", self.store, "north", self.file("b.gpkg"))
@@ -208,7 +211,7 @@ class AltgisTests(AltgisCase):
         write(self.file("c.gpkg"), "a", DUCTS, [(5, {}, polygon(300)), (6, {}, polygon(300))])
         self.bring(self.file("a.gpkg"), "a")
         self.assertEqual(123, len(self.parts()))
-        self.assertEqual({4000, 29, 1020}, {len(it.value) for it in self.parts()})
+        self.assertEqual({4000, 29, 1008}, {len(it.value) for it in self.parts()})
         self.altgis("export", self.store, "top", self.file("out.gpkg"))
         self.equal(2, (self.file("a.gpkg"), "a"), (self.file("out.gpkg"), "a"))
         self.assertIn("1 changed", self.bring(self.file("b.gpkg"), "a"))
@@ -266,7 +269,7 @@ class AltgisTests(AltgisCase):
         write(self.file("a.gpkg"), "a", fields, [(it + 1, {"name": "a", "number": id}, None) for it, id in enumerate(ids)])
         self.bring(self.file("a.gpkg"), "a", "--id", "number")
         keys = self.ask(lambda store: [it[1:] for it in store.list("top") if it.table == 7])
-        self.assertEqual([(it, b'{"name":"a"}') for it in ids], keys)
+        self.assertEqual([(it, b'{"1":"a"}') for it in ids], keys)
         self.altgis("export", self.store, "top", self.file("out.gpkg"))
         self.equal(3, (self.file("a.gpkg"), "a"), (self.file("out.gpkg"), "a"), "name, number")
         self.assertIn("3 same", self.bring(self.file("out.gpkg"), "a", "--id", "number"))
@@ -274,7 +277,7 @@ class AltgisTests(AltgisCase):
         self.altgis("export", self.store, "top", self.file("out.csv"))
         head, *rows = Path(self.file("out.csv")).read_text().splitlines(keepends=True)
         Path(self.file("out.csv")).write_text(head + "".join(rows[::-1]))
-        told = self.bring(self.file("out.csv"), "out", "--id", "number", "--sync")
+        told = self.bring(self.file("out.csv"), "out", "--id", "number", "--sync", "--name", "a")
         self.assertIn("0 added, 0 changed, 0 removed, 3 same", told)
 
     def test_what_is_refused_leaves_all_as_it_was(self):
@@ -299,7 +302,7 @@ class AltgisTests(AltgisCase):
         Path(self.file("f.csv")).write_bytes(b"id,n\n1,caf\xe9\n")
         bring("feature 1 has a text that is not UTF-8", "f.csv", "f", "--alt", "top", "--table", 8)
         write(self.file("e.gpkg"), "e", DUCTS, [(1, {}, "POINT (1 2)"), (2, {}, polygon(250001))])
-        bring("107:2 has 4000045 bytes, and 4000000 are the most", "e.gpkg", "e", "--alt", "top", "--table", 7, "--sync")
+        bring("107:2 has 4000045 bytes, and 4000000 are the most", "e.gpkg", "e", "--alt", "top", "--table", 7, "--sync", "--rename")
         self.refused("ends with none of", "import", self.store, str(HERE / "places.py"), *where)
         self.refused("already", "export", self.store, "top", self.file("a.gpkg"))
         self.refused("ends with none of", "export", self.store, "top", self.file("a.xyz"))
@@ -308,7 +311,7 @@ class AltgisTests(AltgisCase):
         self.refused("no layer", "export", self.store, "top@", self.file("x.gpkg"))
         self.ask(lambda store: store.put("top", 9, 1, b"duct"))
         bring("table 9 has records, and they are no layer", "a.gpkg", "ducts", "--alt", "top", "--table", 9)
-        for value, told in ((b'{"dn":"wide"}', "'wide' is no Integer"), (b"duct", "feature 1 "), (b"[1]", "feature 1 ")):
+        for value, told in ((b'{"dn":"wide"}', "'wide' is no Integer"), (b"duct", "feature 1: "), (b"[1]", "feature 1: ")):
             self.ask(lambda store: store.put("top", 7, 1, value))
             self.left_out(1, told, "export", self.store, "top", self.file("x.gpkg"))
             self.assertEqual([(2,), (12,)], self.rows(self.file("x.gpkg"), "ducts", "fid"))
@@ -334,7 +337,8 @@ class AltgisTests(AltgisCase):
         self.lines("ducts.gpkg")
         write(self.file("many.gpkg"), "a", DUCTS, [(it, {"dn": it}, "POINT (1 2)") for it in range(3000)])
         self.bring(self.file("ducts.gpkg"), "ducts")
-        self.refused("13 Full .*grow BLOCKS", "import", self.store, self.file("many.gpkg"), "a", "--alt", "top", "--table", 8)
+        where = ("import", self.store, self.file("many.gpkg"), "a", "--alt", "top", "--table", 8)
+        self.refused("13 Full .*1000 of 3000 features had room, and the rest takes about .* blocks more: .* 'grow ", *where)
         self.altgis("export", self.store, "top", self.file("out.gpkg"))
         self.equal(39, (self.file("ducts.gpkg"), "ducts"), (self.file("out.gpkg"), "ducts"))
 
@@ -369,14 +373,14 @@ class AltgisTests(AltgisCase):
         while not os.path.exists(socket) and time.monotonic() < late:
             time.sleep(0.05)
         for file, layer in (("a.gpkg", "ducts"), ("b.gpkg", "b")):
-            where = ("--alt", "top", "--table", 7, "--sync")
+            where = ("--alt", "top", "--table", 7, "--sync", "--rename")
             self.altgis("import", f"unix:{socket}", self.file(file), layer, *where)
         self.altgis("export", f"unix:{socket}", "top", self.file("out.gpkg"))
         self.equal(2, (self.file("b.gpkg"), "b"), (self.file("out.gpkg"), "b"))
         entries = [it.split() for it in self.start([*words, "log", self.store]).stdout.splitlines()]
         self.assertEqual(2, len({it[1] for it in entries if it[4:7] == ["put", "top", "7"]}))  # The numbers of the batches.
 
-        module, there = program("altgis"), Store(f"unix:{socket}")
+        there = Store(f"unix:{socket}")
         self.addCleanup(there.close, quietly=True)
         pages = maps.scan_features
 
@@ -384,10 +388,10 @@ class AltgisTests(AltgisCase):
             yield from pages(store, at, table, bad)
             store.put(at, table, 1, b"{}")
 
-        words = argparse.Namespace(store=f"unix:{socket}", version="top", table=7, layer=None, plain=False, out=self.file("half.gpkg"))
+        words = read_words(["export", f"unix:{socket}", "top", self.file("half.gpkg"), "--table", "7"])
         with unittest.mock.patch("maps.scan_features", with_others):
             with self.assertRaisesRegex(maps.Fault, "top has changed meanwhile"):
-                module.export(there, words)
+                export(there, words)
         self.assertFalse(os.path.exists(self.file("half.gpkg")))
 
     def test_each_version_goes_out(self):
@@ -439,7 +443,7 @@ class AltgisTests(AltgisCase):
         self.assertEqual((2, 601, 4), self.ask(look))
         self.altgis("index", self.store)
         self.assertEqual((0, 601, 4), self.ask(look))
-        self.assertEqual([], self.ask(lambda store: list(store.checkpoints("top"))))
+        self.assertEqual(["before-import-1"], self.ask(lambda store: list(store.checkpoints("top"))))
 
     def test_a_difference_is_four_layers(self):
         write(self.file("a.gpkg"), "ducts", DUCTS, THREE)
@@ -459,15 +463,15 @@ class AltgisTests(AltgisCase):
             "added": [(20, "after", "", 9, None, 1)],
             "removed": [(1, "before", "", 110, "PVC", 0)],
             "changed": [
-                (2, "before", "attributes geometry", 2, "Straße", 1),
-                (2, "after", "attributes geometry", 1, "Straße", 0),
-                (12, "before", "attributes", None, "", 1),
-                (12, "after", "attributes", None, "a", 1),
+                (2, "before", "dn, geometry", 2, "Straße", 1),
+                (2, "after", "dn, geometry", 1, "Straße", 0),
+                (12, "before", "mat", None, "", 1),
+                (12, "after", "mat", None, "a", 1),
             ],
             "conflicts": [
-                (2, "base", "attributes", 160, "Straße", 0),
-                (2, "parent", "attributes", 2, "Straße", 1),
-                (2, "mine", "attributes", 1, "Straße", 0),
+                (2, "base", "dn", 160, "Straße", 0),
+                (2, "parent", "dn", 2, "Straße", 1),
+                (2, "mine", "dn", 1, "Straße", 0),
             ],
         }
         self.assertEqual(due, {it: self.rows(self.file("d.gpkg"), it, columns) for it in due})

@@ -38,7 +38,7 @@ link libaltstore.so.0 lib/libaltstore.so
 644 clients/python/altstore.py share/zonegrater/clients/python/altstore.py
 link ../../../share/zonegrater/clients/python/altstore.py lib/python3/dist-packages/altstore.py
 END
-    for it in desk/service/*.py desk/maps/*.py; do
+    for it in desk/service/*.py desk/maps/*.py desk/gis/*.py; do
         echo "644 $it share/zonegrater/$it"
     done
     for it in docs/*.md docs/pictures/*.svg; do
