@@ -32,6 +32,7 @@ from altctl import Change, Record, Store
 from gis.exporting import export
 from gis.words import read_words
 from gis_tests.cases import ALTCTL, DUCTS, THREE, AltgisCase, change, field, polygon, program, system, write
+from gis_tests.bringing import BringingTests
 from gis_tests.planning import PlanningTests
 from gis_tests.safety import SafetyTests
 
@@ -338,7 +339,7 @@ class AltgisTests(AltgisCase):
         write(self.file("many.gpkg"), "a", DUCTS, [(it, {"dn": it}, "POINT (1 2)") for it in range(3000)])
         self.bring(self.file("ducts.gpkg"), "ducts")
         where = ("import", self.store, self.file("many.gpkg"), "a", "--alt", "top", "--table", 8)
-        self.refused("13 Full .*1000 of 3000 features had room, and the rest takes about .* blocks more: .* 'grow ", *where)
+        self.refused("13 Full .* of 3000 features had room, and the rest takes about .* blocks more: .* 'grow ", *where)
         self.altgis("export", self.store, "top", self.file("out.gpkg"))
         self.equal(39, (self.file("ducts.gpkg"), "ducts"), (self.file("out.gpkg"), "ducts"))
 

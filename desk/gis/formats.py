@@ -23,8 +23,6 @@ def set_up():
         it.UseExceptions()
     shut_off()
     gdal.SetConfigOption("OGR_WKT_PRECISION", "17")
-    # The stream of a GeoPackage that threads read ahead fails in GDAL 3.6 if rows were removed.
-    gdal.SetConfigOption("OGR_GPKG_STREAM_BASE_IMPL", "YES")
 
 
 def shut_off():

@@ -211,13 +211,15 @@ def once(seen):
 
 def room(store, words, changes, jobs):
     """How much room is wanting, and how the store gets it."""
-    total, seen = sum(it.total for it in jobs), changes.done * PORTION
     if words.is_service:
         wanting, told = changes.size - changes.free, "the import"
     else:
-        wanting = changes.free * (total / max(min(seen, total), 1) - 1) + 17
-        told = f"{min(seen, total)} of {total} features had room, and the rest"
-    wanting = max(int(wanting * 1.1), 17)
+        total = sum(it.total for it in jobs)
+        seen = max(sum(sum(it.counts.values()) for it in jobs), 1)
+        done = min(changes.done * seen // max(changes.given, 1), total)
+        wanting = changes.free * (total / max(done, 1) - 1)
+        told = f"{done} of {total} features had room, and the rest"
+    wanting = int(max(wanting, 0) * 1.1) + 34
     try:
         blocks = min(store.blocks() + wanting, MOST_BLOCKS)
     except Refusal:

@@ -33,6 +33,11 @@ def catch():
     signal.signal(signal.SIGINT, _interrupted)
 
 
+def end():
+    """All is done and told: there is nothing left to interrupt."""
+    signal.signal(signal.SIGINT, signal.SIG_IGN)
+
+
 def remove_at_end(folder):
     """Lets an interruption remove this folder, too."""
     _state["folders"].append(folder)
