@@ -61,11 +61,13 @@ def bring(store, words):
         it.pass_over()
     if words.alt == "top":
         index(store, words)
+        numbers.renew(store, words.is_service)
     return max(it.status for it in jobs)
 
 
 def sources(words, layers):
-    """The layers of the file, each with its table: that of the layer of its name in the store, or else the first free one."""
+    """The layers of the file, each with its table: that of the layer of its name in the store, or else the first free
+    one."""
     if not words.all:
         return [(Source(*open_layer(words.file, words.layer), words.id), words.table)]
     known = {it["name"]: table for table, it in sorted(layers.items(), reverse=True)}
@@ -73,7 +75,9 @@ def sources(words, layers):
     names = names_of(open_source(words.file))
     tables = [known.get(name) or next(free, None) for name in names]
     if None in tables:
-        raise Fault(f"{words.file} has {len(names)} layers, and there are not so many free tables from {words.first_table} on")
+        raise Fault(
+            f"{words.file} has {len(names)} layers, and there are not so many free tables from {words.first_table} on"
+        )
     return [(Source(*open_layer(words.file, name)), table) for name, table in zip(names, tables)]
 
 
@@ -165,8 +169,8 @@ class Import:
         self.counts["removed"] = len(removed)
 
     def _left(self, seen, firsts):
-        """The keys to remove: with `--sync` those of features that are not seen, and always parts that belong to no value. `firsts`
-        has those of the seen features' values."""
+        """The keys to remove: with `--sync` those of features that are not seen, and always parts that belong to no
+        value. `firsts` has those of the seen features' values."""
         store, alt = self._store, self._alt
 
         def is_seen(number):

@@ -1,9 +1,9 @@
-"""Features of a GeoPackage read and written by SQL, many at once, which is several times as quick as by GDAL one by one. GDAL opens
-or makes the file, and tells what its layers are. It is only for tables of whole numbers, reals, texts and dates: what else there
-may be, or has another type than its field says, goes through GDAL."""
+"""Features of a GeoPackage read and written by SQL, many at once, which is several times as quick as by GDAL one by
+one. GDAL opens or makes the file, and tells what its layers are. It is only for tables of whole numbers, reals, texts
+and dates: what else there may be, or has another type than its field says, goes through GDAL."""
+import contextlib
 import math
 import sqlite3
-import struct
 from json.encoder import encode_basestring as quoted
 from pathlib import Path
 
@@ -18,8 +18,38 @@ OTHER = {
     "String": "typeof({0}) NOT IN ('text', 'null')",
     "Date": "{0} IS NOT NULL AND (typeof({0}) <> 'text' OR date({0}) IS NOT {0} OR {0} < '0001')",
 }
+# When GDAL would make something else of a value, without a word: 0 of a text in a column of numbers.
+WRONG = {
+    "Integer": "typeof({0}) NOT IN ('integer', 'null') OR abs({0}) > 2147483647 AND {0} <> -2147483648",
+    "Integer64": "typeof({0}) NOT IN ('integer', 'null')",
+    "Real": "typeof({0}) NOT IN ('real', 'integer', 'null')",
+    "Date": "{0} IS NOT NULL AND date({0}) IS NOT {0}",
+    "DateTime": "{0} IS NOT NULL AND datetime({0}) IS NULL",
+}
 ENVELOPES = {0: 0, 1: 32, 2: 48, 3: 48, 4: 64}  # Bytes, by the bits 1 to 3 of the flags of a geometry.
 EXTENDED = 0x20
+
+
+def connected(file: str) -> sqlite3.Connection:
+    database = sqlite3.connect(f"{Path(file).absolute().as_uri()}?mode=ro", uri=True)
+    database.text_factory = bytes
+    return database
+
+
+def wrong_values(file: str, table: str, fid: str, fields) -> dict:
+    """What is wrong with features of a GeoPackage, by their fids: values that are not what their field says."""
+    found = {}
+    with contextlib.closing(connected(file)) as database:
+        for it in fields:
+            if it["type"] in WRONG:
+                column, kind = sql_name(it["name"]), it["type"]
+                where = WRONG[kind].format(column)
+                for number, value in database.execute(
+                    f"SELECT {sql_name(fid)}, {column} FROM {sql_name(table)} WHERE {where}"
+                ):
+                    shown = value.decode("utf-8", "replace") if isinstance(value, bytes) else value
+                    found[number] = f"feature {number}: {shown!r} is no {kind}, as the field {it['name']} is"
+    return found
 
 
 def is_plain(field) -> bool:
@@ -41,8 +71,7 @@ class Quick:
         fields = self._described["fields"]
         if not self._is_geopackage or not self._layer.GetFIDColumn() or not all(map(is_plain, fields)):
             return False
-        self._database = sqlite3.connect(f"{Path(self._file).absolute().as_uri()}?mode=ro", uri=True)
-        self._database.text_factory = bytes
+        self._database = connected(self._file)
         other = " OR ".join(OTHER[it["type"]].format(sql_name(it["name"])) for it in fields)
         table = sql_name(self._layer.GetName())
         return not other or self._database.execute(f"SELECT 1 FROM {table} WHERE {other} LIMIT 1").fetchone() is None
@@ -90,7 +119,8 @@ def column(kind: str, key: str, values) -> list:
 
 
 def well_known(value: bytes) -> bytes:
-    """The geometry of a GeoPackage as the store has it. What is no such thing is given back as it is, and told to be bad."""
+    """The geometry of a GeoPackage as the store has it. What is no such thing is given back as it is, and told to be
+    bad."""
     size = ENVELOPES.get(value[3] >> 1 & 7) if len(value) > 8 else None
     if value[:2] != b"GP" or size is None or value[3] & EXTENDED:
         return value

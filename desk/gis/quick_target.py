@@ -1,6 +1,6 @@
-"""Features of a GeoPackage written by SQL, many at once. GDAL has made the file and its layers before, and makes the index of places
-afterwards. A value that is not as its field says, and a geometry that has more than x and y, is left to GDAL: NotPlain tells that
-the file is to be written anew by it."""
+"""Features of a GeoPackage written by SQL, many at once. GDAL has made the file and its layers before, and makes the
+index of places afterwards. A value that is not as its field says, and a geometry that has more than x and y, is left to
+GDAL: NotPlain tells that the file is to be written anew by it."""
 import functools
 import struct
 import sys
@@ -80,7 +80,7 @@ class QuickLayer:
         self.course, self._system = database.execute(found, (name,)).fetchone() or (None, 0)
         self._bounds = []
         self._at = {it["name"]: (at, CHECKS[it["type"]]) for at, it in enumerate(described["fields"], 1)}
-        fid, = (it[1] for it in database.execute(f"PRAGMA table_info({sql_name(name)})") if it[5])
+        (fid,) = (it[1] for it in database.execute(f"PRAGMA table_info({sql_name(name)})") if it[5])
         names = [fid, *self._at, *([self.course] if self.course else [])]
         marks = ", ".join("?" * len(names))
         self._insert = f"INSERT INTO {sql_name(name)} ({', '.join(map(sql_name, names))}) VALUES ({marks})"
@@ -88,7 +88,9 @@ class QuickLayer:
 
     def _take_triggers(self):
         """Takes away the triggers that count each feature by itself, and gives what makes them again."""
-        found = "SELECT name, sql FROM sqlite_master WHERE type = 'trigger' AND tbl_name = ? AND sql LIKE '%AFTER INSERT%'"
+        found = (
+            "SELECT name, sql FROM sqlite_master WHERE type = 'trigger' AND tbl_name = ? AND sql LIKE '%AFTER INSERT%'"
+        )
         triggers = self._database.execute(found, (self.name,)).fetchall()
         for name, _ in triggers:
             self._database.execute(f"DROP TRIGGER {sql_name(name)}")
@@ -137,7 +139,9 @@ class QuickLayer:
         self._write()
         for made in self._counts:
             self._database.execute(made)
-        self._database.execute("UPDATE gpkg_ogr_contents SET feature_count = ? WHERE table_name = ?", (self.count, self.name))
+        self._database.execute(
+            "UPDATE gpkg_ogr_contents SET feature_count = ? WHERE table_name = ?", (self.count, self.name)
+        )
         if self._bounds:
             update = "UPDATE gpkg_contents SET min_x = ?, max_x = ?, min_y = ?, max_y = ? WHERE table_name = ?"
             self._database.execute(update, (*self._bounds[0], self.name))

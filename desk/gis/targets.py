@@ -2,7 +2,6 @@
 import contextlib
 import os
 import sqlite3
-import sys
 import tempfile
 from pathlib import Path
 
@@ -21,7 +20,8 @@ SHAPES = {ogr.GeometryTypeToName(it): it for it in (ogr.wkbNone, *sum(KINDS, ())
 
 
 def create_layer(source, described, name, is_plain, more=()):
-    """A new layer, and for each of its fields its place and what writes it. A type that the format lacks becomes a text."""
+    """A new layer, and for each of its fields its place and what writes it. A type that the format lacks becomes a
+    text."""
     driver = source.GetDriver()
     kinds = driver.GetMetadataItem(gdal.DMD_CREATIONFIELDDATATYPES).split()
     subtypes = (driver.GetMetadataItem(gdal.DMD_CREATIONFIELDDATASUBTYPES) or "").split()
@@ -55,7 +55,9 @@ def set_field(feature, at, write, value):
         feature.SetFieldNull(at) if value is None else write(feature, at, value)
     except (TypeError, ValueError, AttributeError, NotImplementedError, OverflowError, SystemError):
         field = feature.GetFieldDefnRef(at)
-        raise Fault(f"feature {feature.GetFID()}: {value!r} is no {field.GetTypeName()}, as the field {field.GetName()} is")
+        raise Fault(
+            f"feature {feature.GetFID()}: {value!r} is no {field.GetTypeName()}, as the field {field.GetName()} is"
+        )
 
 
 def parsed(number, value):
@@ -101,8 +103,8 @@ class Layer:
 
 
 def write_quickly(file, layers, fill, is_plain):
-    """Writes a GeoPackage as `write_layers` does, by SQL. GDAL makes it, and its index of places. NotPlain is raised if a value
-    has to go through GDAL."""
+    """Writes a GeoPackage as `write_layers` does, by SQL. GDAL makes it, and its index of places. NotPlain is raised if
+    a value has to go through GDAL."""
     source = gdal.GetDriverByName("GPKG").Create(file, 0, 0, 0, gdal.GDT_Unknown)
     for described, name in layers:
         create_layer(source, described, name, is_plain, ["SPATIAL_INDEX=NO"])
@@ -124,7 +126,8 @@ def write_quickly(file, layers, fill, is_plain):
 
 
 def write_layers(source, layers, fill, is_plain):
-    """Writes layers, each a description and a name: `fill` is given them to add their features, and tells how many they are."""
+    """Writes layers, each a description and a name: `fill` is given them to add their features, and tells how many they
+    are."""
     if source.TestCapability(ogr.ODsCTransactions):
         source.StartTransaction()
     made = [Layer(source, *it, is_plain) for it in layers]
@@ -138,7 +141,8 @@ def write_layers(source, layers, fill, is_plain):
 
 
 def write_file(out, layers, fill, is_plain=False, finish=lambda file: None):
-    """Makes a file of layers, as `write_layers` does. It is there under its name once it is whole, and `finish` is done."""
+    """Makes a file of layers, as `write_layers` does. It is there under its name once it is whole, and `finish` is
+    done."""
     if out.startswith("PG:"):
         source = gdal.OpenEx(out, gdal.OF_VECTOR | gdal.OF_UPDATE, allowed_drivers=["PostgreSQL"])
         return write_layers(source, layers, fill, is_plain)

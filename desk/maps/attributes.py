@@ -1,5 +1,5 @@
-"""The attributes of a feature: a JSON object without nulls, in which a field has its number as its key. What an older program
-wrote has names in their place, and is read as well."""
+"""The attributes of a feature: a JSON object without nulls, in which a field has its number as its key. What an older
+program wrote has names in their place, and is read as well."""
 import json
 from typing import Any, Dict
 

@@ -1,5 +1,5 @@
-"""Whether a geometry can be used: its bytes are WKB as a whole, and each place is a finite one. GDAL takes a count of points
-for granted, and GEOS may never return from a line with a NaN in it, so both are looked at first."""
+"""Whether a geometry can be used: its bytes are WKB as a whole, and each place is a finite one. GDAL takes a count of
+points for granted, and GEOS may never return from a line with a NaN in it, so both are looked at first."""
 import math
 import struct
 import sys

@@ -1,8 +1,8 @@
 #!/usr/bin/env python3
-"""Measures maps at the size of a utility: `tools/measure_maps.py [--features N] [--kinds] [--keep FOLDER]`. It makes a network of 220,000
-features (30,000 chambers, 60,000 ducts, 80,000 cables, 50,000 service points of 13 to 15 fields) as a GeoPackage, brings it into
-a store, takes it out again, and tells the times, the sizes, and by GDAL's SQL how many features differ: the status is 1 if any
-does. Times are looked at, never tested."""
+"""Measures maps at the size of a utility: `tools/measure/measure_maps.py [--features N] [--kinds] [--keep FOLDER]`. It
+makes a network of 220,000 features (30,000 chambers, 60,000 ducts, 80,000 cables, 50,000 service points of 13 to 15
+fields) as a GeoPackage, brings it into a store, takes it out again, and tells the times, the sizes, and by GDAL's SQL
+how many features differ: the status is 1 if any does. Times are looked at, never tested."""
 import argparse
 import os
 import random
@@ -14,7 +14,7 @@ import time
 from pathlib import Path
 
 sys.dont_write_bytecode = True
-TOP = Path(__file__).resolve().parent.parent
+TOP = Path(__file__).resolve().parents[2]
 DEBIAN = "/usr/bin/python3"  # The Python that Debian's python3-gdal is installed for.
 try:
     from osgeo import gdal, ogr, osr
@@ -32,21 +32,41 @@ EAST, NORTH = 2600000, 1200000
 KINDS = {"i": ogr.OFTInteger, "r": ogr.OFTReal, "s": ogr.OFTString, "d": ogr.OFTDate}
 # Of each layer: its share of the features, its type of geometry, and its fields with their kinds.
 LAYERS = {
-    "chambers": (30000, ogr.wkbPoint, "chamber_no:s kind:s cover:s width:r depth:r owner:s street:s house:s built:d "
-                 "condition:s inspected:d drawing:s remark:s"),
-    "ducts": (60000, ogr.wkbLineString, "duct_no:s mat:s dn:i ways:i length:r depth:r owner:s street:s built:d condition:s "
-              "project:s inspected:d from_no:i to_no:i remark:s"),
-    "cables": (80000, ogr.wkbLineString, "cable_no:s kind:s voltage:r cores:i section:r length:r owner:s route:s built:d "
-               "condition:s project:s duct:i tested:d remark:s"),
-    "points": (50000, ogr.wkbPoint, "point_no:s address:s zip:i town:s customer:s meter:s phase:i fuse:i built:d state:s "
-               "cable:i read:d remark:s"),
+    "chambers": (
+        30000,
+        ogr.wkbPoint,
+        "chamber_no:s kind:s cover:s width:r depth:r owner:s street:s house:s built:d "
+        "condition:s inspected:d drawing:s remark:s",
+    ),
+    "ducts": (
+        60000,
+        ogr.wkbLineString,
+        "duct_no:s mat:s dn:i ways:i length:r depth:r owner:s street:s built:d condition:s "
+        "project:s inspected:d from_no:i to_no:i remark:s",
+    ),
+    "cables": (
+        80000,
+        ogr.wkbLineString,
+        "cable_no:s kind:s voltage:r cores:i section:r length:r owner:s route:s built:d "
+        "condition:s project:s duct:i tested:d remark:s",
+    ),
+    "points": (
+        50000,
+        ogr.wkbPoint,
+        "point_no:s address:s zip:i town:s customer:s meter:s phase:i fuse:i built:d state:s "
+        "cable:i read:d remark:s",
+    ),
 }
 TEXTS = {
-    "mat": ("PVC", "HDPE", "steel", "clay"), "kind": ("pull box", "joint", "transition", "NAYY 4x150", "N2XS"),
-    "cover": ("B125", "D400"), "owner": ("Stadtwerke Nord", "Netz AG", "Gemeinde"), "state": ("active", "planned", "off"),
-    "condition": ("good", "fair", "to be renewed"), "town": ("Muttenz", "Birsfelden", "Pratteln"),
+    "mat": ("PVC", "HDPE", "steel", "clay"),
+    "kind": ("pull box", "joint", "transition", "NAYY 4x150", "N2XS"),
+    "cover": ("B125", "D400"),
+    "owner": ("Stadtwerke Nord", "Netz AG", "Gemeinde"),
+    "state": ("active", "planned", "off"),
+    "condition": ("good", "fair", "to be renewed"),
+    "town": ("Muttenz", "Birsfelden", "Pratteln"),
     "street": ("Hauptstrasse", "Bahnhofstrasse", "Rütiweg", "Im Grund", "Seestrasse"),
-}  # fmt: skip
+}
 
 
 def value_of(name, kind, fid, chance):

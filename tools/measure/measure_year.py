@@ -1,7 +1,8 @@
 #!/usr/bin/env python3
-"""Measures how a store grows in a year with twelve designs: `tools/measure_year.py [--weeks N] [--features N]`. The map is one
-layer of short records. Each week 500 records of `top` change, each design changes 50 and is merged, and makes a checkpoint; every
-fourth week a third of the designs is posted, dropped and begun anew. It tells the blocks in use by quarter, and what dropping frees."""
+"""Measures how a store grows in a year with twelve designs: `tools/measure/measure_year.py [--weeks N] [--features N]`.
+The map is one layer of short records. Each week 500 records of `top` change, each design changes 50 and is merged, and
+makes a checkpoint; every fourth week a third of the designs is posted, dropped and begun anew. It tells the blocks in
+use by quarter, and what dropping frees."""
 import argparse
 import os
 import random
@@ -11,7 +12,7 @@ import tempfile
 from pathlib import Path
 
 sys.dont_write_bytecode = True
-TOP = Path(__file__).resolve().parent.parent
+TOP = Path(__file__).resolve().parents[2]
 sys.path.insert(0, str(TOP / "clients" / "python"))
 from altctl import Store
 
