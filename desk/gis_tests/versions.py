@@ -1,15 +1,85 @@
 """Versions of a map: each goes out as it was, differences are layers, and the index of places follows."""
+import contextlib
+import io
+import os
 import shutil
+import sqlite3
 import struct
+import unittest.mock
 from pathlib import Path
 
-from gis_tests.cases import DUCTS, THREE, AltgisCase, change, field, write
+from gis.formats import set_up
+from gis.words import carry_out, read_words
+from gis_tests.cases import ALTCTL, DUCTS, THREE, AltgisCase, change, field, write
 from osgeo import ogr
 
 import places
 
 
 class VersionTests(AltgisCase):
+    def carry_out(self, *words):
+        """Does a job of altgis in this process."""
+        with unittest.mock.patch.dict(os.environ, ALTCTL=ALTCTL), contextlib.redirect_stdout(io.StringIO()):
+            return carry_out(read_words(list(map(str, words))))
+
+    def hard(self, file):
+        """A layer of the types that SQL is quick with, and of values that are at their limits."""
+        kinds = [
+            ("i", ogr.OFTInteger),
+            ("l", ogr.OFTInteger64),
+            ("r", ogr.OFTReal),
+            ("s", ogr.OFTString),
+            ("d", ogr.OFTDate),
+        ]
+        values = [{"i": it} for it in (0, -(2**31), 2**31 - 1)] + [{"l": it} for it in (-(2**63), 2**63 - 1)]
+        values += [{"r": it} for it in (0.1, 1 / 3, 5e-324, -1.7976931348623157e308, 1e22, 2.0, 123456789.123456789)]
+        values += [{"s": it} for it in ("", " ", '"', "\\", "a\nb\tc", "Straße \U0001f600", "x" * 9000, "\x7f", "null")]
+        values += [{"d": (year, 2, 28, 0, 0, 0.0, 0)} for year in (1, 1582, 1969, 1970, 2024, 9999)] + [{}]
+        shapes = ["POINT (0.1 1e-300)", "LINESTRING (0 0,-1 5,3 -2)", "POLYGON ((0 0,0 9,9 9,0 0),(1 2,1 3,2 3,1 2))"]
+        shapes += ["MULTIPOINT (1 2,3 4)", "GEOMETRYCOLLECTION (POINT (1 2),LINESTRING (0 0,1 1))", None, "POINT EMPTY"]
+        shapes += ["LINESTRING EMPTY", "MULTIPOLYGON (((0 0,0 9,9 9,0 0)))"]
+        features = [(at * 3 + 1, it, shapes[at % len(shapes)]) for at, it in enumerate(values)]
+        write(file, "hard", [field(*it) for it in kinds], features)
+        return len(features)
+
+    def test_sql_reads_and_writes_what_gdal_does(self):
+        """A GeoPackage that is read by SQL gives the records that GDAL gives, and one that is written by SQL is the same to
+        GDAL; what SQL is not for goes through GDAL."""
+        count = self.hard(self.file("a.gpkg"))
+        set_up()
+        records = []
+        for way in (None, "gis.quick.Quick.can"):
+            self.create(4096)
+            with unittest.mock.patch(way, return_value=False) if way else contextlib.nullcontext():
+                self.carry_out("import", self.store, self.file("a.gpkg"), "--alt", "top", "--table", 7)
+            records.append(self.ask(lambda store: list(store.list("top", 7)) + list(store.list("top", 107))))
+        self.assertEqual(*records)
+        out = {"gis.targets.write_layers": "quick.gpkg", "gis.targets.write_quickly": "slow.gpkg"}
+        for never, name in out.items():
+            with unittest.mock.patch("gis.targets.is_quick", return_value=name == "quick.gpkg"):
+                with unittest.mock.patch(never, side_effect=AssertionError):
+                    self.carry_out("export", self.store, "top", self.file(name))
+            self.equal(count, (self.file("a.gpkg"), "hard"), (self.file(name), "hard"))
+            self.opens(self.file(name))
+        tables = {}
+        for name in out.values():
+            with contextlib.closing(sqlite3.connect(self.file(name))) as it:
+                found = [it.execute("SELECT * FROM hard ORDER BY fid").fetchall()]
+                found.append(it.execute("SELECT min_x, min_y, max_x, max_y FROM gpkg_contents").fetchall())
+                found.append(it.execute("SELECT feature_count FROM gpkg_ogr_contents").fetchall())
+                found.append(sorted(it.execute("SELECT type, name FROM sqlite_master").fetchall()))
+                found.append(
+                    it.execute("SELECT id, minx, maxx, miny, maxy FROM rtree_hard_geom ORDER BY id").fetchall()
+                )
+                tables[name] = found
+        self.assertEqual(*tables.values())
+
+    def test_what_sql_is_not_for_goes_through_gdal(self):
+        for shape in ("POINT Z (1 2 3)", "LINESTRING M (1 2 3,4 5 6)", "CIRCULARSTRING (0 0,1 1,2 0)"):
+            write(self.file("z.gpkg"), "ducts", DUCTS, [(1, {"dn": 1}, "POINT (1 2)"), (2, {"dn": 2}, shape)])
+            self.there_and_back(self.file("z.gpkg"), "ducts", "z_out.gpkg", count=2)
+            Path(self.file("z.gpkg")).unlink()
+
     def test_each_version_goes_out(self):
         """Four states of the map, each written down when it was: top, and north at its base, at a checkpoint, and
         now."""
