@@ -134,9 +134,15 @@ class Import:
 
     def _features(self, fields):
         features = self._source.features(fields, self._note)
-        if not self._words.new:
-            return features
-        return ((number, attributes, course) for number, (_, attributes, course) in zip(self._given, features))
+        return self._with_numbers(features) if self._words.new else features
+
+    def _with_numbers(self, features):
+        given = iter(self._given)
+        for _, attributes, course in features:
+            number = next(given, None)
+            if number is None:
+                raise Fault(f"the layer {self.name} has more features than the {self.total} that its file tells of")
+            yield number, attributes, course
 
     def run(self, changes):
         """Puts the features of the layer, and removes those that are gone if that is asked for."""

@@ -59,14 +59,19 @@ def read_words(arguments=None):
     show.add_argument("version", metavar="VERSION", nargs="?", default="top", help=VERSION)
     job("index", index, "makes the index of places, by which the desk is quick, of what `top` shows", STORE)
     words = parser.parse_args(arguments)
+    check(parser, words)
+    words.is_service = words.job is not None and words.store.startswith("unix:")
+    return words
+
+
+def check(parser, words):
+    """Refuses words that do not go together."""
     if not words.version and not words.job:
         parser.error("say what to do: import, export, diff, merge, layers or index")
     if words.job == "import" and not words.all and words.table is None:
         parser.error("say which table by --table, or give --all")
     if words.job == "import" and words.all and (words.table or words.layer or words.name or words.id):
         parser.error("with --all there is no LAYER, and no --table, --name or --id")
-    words.is_service = words.job is not None and words.store.startswith("unix:")
-    return words
 
 
 def import_words(parser):

@@ -215,6 +215,12 @@ class PlanningTests(AltgisCase):
         for first in (4, 1004):
             self.assertIn("2 added, 0 changed", self.bring(self.file("more.gpkg"), "ducts", "--new"))
             self.assertEqual([{"dn": 1}, {"dn": 2}], [self.attributes("top", it) for it in (first, first + 1)])
+        with sqlite3.connect(self.file("more.gpkg")) as it:  # A file that tells of less than it has.
+            it.execute("UPDATE gpkg_ogr_contents SET feature_count = 0")
+        words = ("import", self.store, self.file("more.gpkg"), "--alt", "top", "--table", 7, "--new")
+        self.refused("more features than the 0", *words)
+        with sqlite3.connect(self.file("more.gpkg")) as it:
+            it.execute("UPDATE gpkg_ogr_contents SET feature_count = 2")
         before = Path(self.store).read_bytes()
         self.assertIn("2 added", self.bring(self.file("more.gpkg"), "ducts", "--new", "--dry-run"))
         self.assertTrue(Path(self.store).read_bytes() == before)
