@@ -1,7 +1,7 @@
 """Conflicts as people settle them: of a feature that a design and its parent have both changed, only the fields need a choice that
 both have changed differently; the others are joined. maps/merging.py has how."""
 from maps import GEOMETRY, Fault, numbers
-from maps.merging import Choices, Merging
+from maps.merging import Choices, Merging, Plan, settlements_of
 
 MOST_JOINED = 5000  # conflicts; of more, each record is settled as a whole
 
@@ -57,13 +57,15 @@ def merge(store, alt, conflicts, sides, rest, batch):
     if len(conflicts) > MOST_JOINED:
         settled = {key: sides.get(key) or rest for key in conflicts}
         refuse_open(sum(it is None for it in settled.values()))
+        plan = Plan()
+        plan.settlements = settled
         with batch():
-            store.merge(alt, settled)
+            store.merge(alt, *settlements_of(plan))
         return
     plan = merging_of(store, alt, sides, rest).make()
     refuse_open(len(plan.open))
     with batch():
-        store.merge(alt, plan.settlements)
+        store.merge(alt, *settlements_of(plan))
         store.put_many(alt, ((*key, plan.put[key]) for key in sorted(plan.put)))
         store.remove_many(alt, plan.remove)
 

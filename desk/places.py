@@ -21,6 +21,7 @@ from osgeo import ogr
 import maps
 from altctl import Refusal
 from maps import GEOMETRY
+from maps.geometry import Bad, bounds_of
 from maps.geometry import fault_of as geometry_fault
 
 OWN = ".places"
@@ -31,6 +32,7 @@ PER_PAGE, PER_HEAD = maps.LONGEST // PAGE.itemsize, maps.LONGEST // HEAD.itemsiz
 MOST_PAGES = 120  # that one window reads
 FARTHEST = 1e12  # No coordinate system counts so far, and from 1e38 on a bound would be infinite.
 IS_THERE = 4
+STRAIGHT = range(1, 8)  # Points to collections: of these the bounds are those of their points. A curve goes beyond them.
 
 
 def geometry_of(value):
@@ -59,6 +61,12 @@ def parsed(value):
 
 def box_of(value):
     """The bounds of a geometry: west, south, east, north. None where it has none."""
+    if value and value[:1] == b"\1" and int.from_bytes(value[1:5], "little") in STRAIGHT:
+        try:
+            found = bounds_of(value)
+        except Bad:
+            return None
+        return found and (found[0], found[2], found[1], found[3])
     geometry = parsed(value) if value else None
     if geometry is None:
         return None

@@ -1,15 +1,13 @@
 #!/usr/bin/env python3
-"""Tests of `altgis` and `demo` over real stores, with the program's path in the variable ALTCTL, or else with the one that
-`./altctl` at the top builds. They run in a Python that has GDAL; where none is there, a line says that they are skipped.
-gis_tests/ has those of what attackers and bad records do, and what all of them stand on."""
+"""Tests of `altgis` and `demo` over real stores, with the program's path in the variable ALTCTL, or else with the one
+that `./altctl` at the top builds. They run in a Python that has GDAL; where none is there, a line says that they are
+skipped. gis_tests/ has those of what attackers and bad records do, and what all of them stand on."""
 import json
 import os
 import shutil
-import sqlite3
 import struct
 import subprocess
 import sys
-import tempfile
 import time
 import unittest
 import unittest.mock
@@ -27,13 +25,14 @@ except ImportError:
     sys.exit(0)
 sys.path.insert(0, str(HERE))
 import maps
-import places
 from altctl import Change, Record, Store
 from gis.exporting import export
 from gis.words import read_words
 from gis_tests.cases import ALTCTL, DUCTS, THREE, AltgisCase, change, field, polygon, program, system, write
+from gis_tests.bringing import BringingTests
 from gis_tests.planning import PlanningTests
 from gis_tests.safety import SafetyTests
+from gis_tests.versions import VersionTests
 
 
 class AltgisTests(AltgisCase):
@@ -59,7 +58,14 @@ class AltgisTests(AltgisCase):
         kinds += [("d", ogr.OFTDate), ("t", ogr.OFTDateTime), ("b", ogr.OFTBinary)]
         fields = [field(*it) for it in kinds] + [field("yes", ogr.OFTInteger, ogr.OFSTBoolean)]
         moment = (2024, 2, 29, 23, 59, 59.999, 100)
-        one = {"i": -(2**31), "l": -(2**63), "r": 0.1, "s": 'a "b"\n\t\\', "d": (1999, 12, 31, 0, 0, 0.0, 0), "t": moment}
+        one = {
+            "i": -(2**31),
+            "l": -(2**63),
+            "r": 0.1,
+            "s": 'a "b"\n\t\\',
+            "d": (1999, 12, 31, 0, 0, 0.0, 0),
+            "t": moment,
+        }
         write(self.file("a.gpkg"), "all", fields, [(1, {**one, "b": b"\x00\xff", "yes": 1}, None)])
         self.bring(self.file("a.gpkg"), "all")
         due = {"i": -(2**31), "l": -(2**63), "r": 0.1, "s": 'a "b"\n\t\\', "d": "1999-12-31", "yes": True}
@@ -98,7 +104,8 @@ class AltgisTests(AltgisCase):
         fields = [field(*it) for it in (*kinds, *subtypes, ("f", ogr.OFTReal, ogr.OFSTFloat32))]
         reals = [0.1, 1 / 3, 5e-324, 1.7976931348623157e308, -1e-7, 2.0**53 + 2, 1e22, 123456789.123456789]
         values = [{"r": it, "l": 2**63 - 1 - at, "i": at} for at, it in enumerate(reals)]
-        texts = ["", " ", "%41", "~", "null", '"', "\\u0041", "naïve 日本 \U0001f600", "a\nb\r\n", "x" * 5000, "é" * 4000]
+        texts = ["", " ", "%41", "~", "null", '"', "\\u0041", "naïve 日本 \U0001f600"]
+        texts += ["a\nb\r\n", "x" * 5000, "é" * 4000]
         values += [{"s": it} for it in texts]
         zones = (0, 100, 104, 90, 122)
         values += [{"t": (1, 1, 1, 0, 0, 0.0, 0)}, {"d": (9999, 12, 31, 0, 0, 0.0, 0)}, {"f": 0.25, "short": -32768}]
@@ -107,7 +114,11 @@ class AltgisTests(AltgisCase):
         shapes = ["POINT EMPTY", "LINESTRING EMPTY", "POLYGON EMPTY", "MULTIPOLYGON EMPTY", "GEOMETRYCOLLECTION EMPTY"]
         shapes += ["POINT Z (1 2 3)", "POINT M (1 2 3)", "LINESTRING ZM (1 2 3 4,5 6 7 8)", "POINT (0.1 1e-300)", None]
         shapes += ["MULTILINESTRING ((0 0,1 1),(2 2,3 3))", "MULTIPOLYGON (((0 0,0 9,9 9,0 0),(1 2,1 3,2 3,1 2)))"]
-        shapes += ["CIRCULARSTRING (0 0,1 1,2 0)", "GEOMETRYCOLLECTION (POINT (1 2),LINESTRING (0 0,1 1))", polygon(30000)]
+        shapes += [
+            "CIRCULARSTRING (0 0,1 1,2 0)",
+            "GEOMETRYCOLLECTION (POINT (1 2),LINESTRING (0 0,1 1))",
+            polygon(30000),
+        ]
         features = [(at * 7, it, shapes[at % len(shapes)]) for at, it in enumerate(values)]
         write(self.file("hard.gpkg"), "hard", fields, features)
         self.there_and_back(self.file("hard.gpkg"), "hard", "out.gpkg", count=len(features))
@@ -123,15 +134,22 @@ class AltgisTests(AltgisCase):
         self.lines("ducts.gpkg")
         columns = "dn, mat, x, geom"  # The fid is a row's number in a Shapefile and in CSV.
         for suffix in (".gpkg", ".geojson", ".shp", ".csv"):
-            self.there_and_back(self.file("ducts.gpkg"), "ducts", f"{suffix[1:]}_out{suffix}", count=39, columns=columns)
+            self.there_and_back(
+                self.file("ducts.gpkg"), "ducts", f"{suffix[1:]}_out{suffix}", count=39, columns=columns
+            )
 
     def test_each_format_comes_in(self):
         self.lines("ducts.gpkg")
         for table, suffix in enumerate((".gpkg", ".geojson", ".shp", ".csv"), 1):
-            gdal.VectorTranslate(self.file(f"in{suffix}"), self.file("ducts.gpkg"), layerName="in", options=[
-                *(["-lco", "GEOMETRY=AS_WKT", "-lco", "CREATE_CSVT=YES"] if suffix == ".csv" else []),
-                *(["-lco", "SIGNIFICANT_FIGURES=17"] if suffix == ".geojson" else []),
-            ])
+            gdal.VectorTranslate(
+                self.file(f"in{suffix}"),
+                self.file("ducts.gpkg"),
+                layerName="in",
+                options=[
+                    *(["-lco", "GEOMETRY=AS_WKT", "-lco", "CREATE_CSVT=YES"] if suffix == ".csv" else []),
+                    *(["-lco", "SIGNIFICANT_FIGURES=17"] if suffix == ".geojson" else []),
+                ],
+            )
             self.assertIn("39 added", self.bring(self.file(f"in{suffix}"), "in", table=table))
             self.altgis("export", self.store, "top", self.file(f"{table}.gpkg"), "--table", table, "--layer", "back")
             self.equal(39, (self.file(f"in{suffix}"), "in"), (self.file(f"{table}.gpkg"), "back"), "dn, mat, x, geom")
@@ -164,12 +182,16 @@ class AltgisTests(AltgisCase):
         change(self.file("a.gpkg"), "UPDATE ducts SET dn = 125 WHERE fid = 2", "DELETE FROM ducts WHERE fid = 1")
         told = self.bring(self.file("a.gpkg"), "ducts", alt="north")
         checkpoint = "checkpoint before-import-{} of north has what was there before\n"
-        self.assertEqual(checkpoint.format(1) + "ducts into north, table 7: 0 added, 1 changed, 0 removed, 1 same\n", told)
+        self.assertEqual(
+            checkpoint.format(1) + "ducts into north, table 7: 0 added, 1 changed, 0 removed, 1 same\n", told
+        )
         old = '{"1":160,"2":"Straße"}'.encode()
         due = [Change(7, 2, old, old.replace(b"160", b"125"))]
         self.assertEqual(due, self.ask(lambda store: list(store.changes("north"))))
         told = self.bring(self.file("a.gpkg"), "ducts", "--sync", alt="north")
-        self.assertEqual(checkpoint.format(2) + "ducts into north, table 7: 0 added, 0 changed, 1 removed, 2 same\n", told)
+        self.assertEqual(
+            checkpoint.format(2) + "ducts into north, table 7: 0 added, 0 changed, 1 removed, 2 same\n", told
+        )
         gone = [Change(7, 1, b'{"1":110,"2":"PVC"}', None), *due]
         gone += [Change(107, 1, struct.pack("<BIIdddd", 1, 2, 2, 1, 2, 3, 4), None)]
         self.assertEqual(gone, self.ask(lambda store: list(store.changes("north"))))
@@ -240,7 +262,8 @@ class AltgisTests(AltgisCase):
                 self.assertRaises(maps.Fault, maps.value_at, it, 107, 1)
 
     def test_two_designs_that_change_one_long_course(self):
-        """Each settlement leaves one of the two courses, and no mixture, also where the courses differ in different parts."""
+        """Each settlement leaves one of the two courses, and no mixture, also where the courses differ in different
+        parts."""
         course = lambda *moved: [[it, it * it % 97 + (0.5 if it in moved else 0)] for it in range(1000)]
         text = lambda points: f"LINESTRING ({','.join(f'{x} {y}' for x, y in points)})"
         versions = {"top": course(5), "north": course(990), "south": course(5, 500)[:700]}
@@ -266,7 +289,9 @@ class AltgisTests(AltgisCase):
     def test_ids_from_a_field(self):
         fields = [field("name", ogr.OFTString), field("number", ogr.OFTInteger64)]
         ids = (0, 7, 2**63 - 1)
-        write(self.file("a.gpkg"), "a", fields, [(it + 1, {"name": "a", "number": id}, None) for it, id in enumerate(ids)])
+        write(
+            self.file("a.gpkg"), "a", fields, [(it + 1, {"name": "a", "number": id}, None) for it, id in enumerate(ids)]
+        )
         self.bring(self.file("a.gpkg"), "a", "--id", "number")
         keys = self.ask(lambda store: [it[1:] for it in store.list("top") if it.table == 7])
         self.assertEqual([(it, b'{"1":"a"}') for it in ids], keys)
@@ -302,7 +327,17 @@ class AltgisTests(AltgisCase):
         Path(self.file("f.csv")).write_bytes(b"id,n\n1,caf\xe9\n")
         bring("feature 1 has a text that is not UTF-8", "f.csv", "f", "--alt", "top", "--table", 8)
         write(self.file("e.gpkg"), "e", DUCTS, [(1, {}, "POINT (1 2)"), (2, {}, polygon(250001))])
-        bring("107:2 has 4000045 bytes, and 4000000 are the most", "e.gpkg", "e", "--alt", "top", "--table", 7, "--sync", "--rename")
+        bring(
+            "107:2 has 4000045 bytes, and 4000000 are the most",
+            "e.gpkg",
+            "e",
+            "--alt",
+            "top",
+            "--table",
+            7,
+            "--sync",
+            "--rename",
+        )
         self.refused("ends with none of", "import", self.store, str(HERE / "places.py"), *where)
         self.refused("already", "export", self.store, "top", self.file("a.gpkg"))
         self.refused("ends with none of", "export", self.store, "top", self.file("a.xyz"))
@@ -311,7 +346,11 @@ class AltgisTests(AltgisCase):
         self.refused("no layer", "export", self.store, "top@", self.file("x.gpkg"))
         self.ask(lambda store: store.put("top", 9, 1, b"duct"))
         bring("table 9 has records, and they are no layer", "a.gpkg", "ducts", "--alt", "top", "--table", 9)
-        for value, told in ((b'{"dn":"wide"}', "'wide' is no Integer"), (b"duct", "feature 1: "), (b"[1]", "feature 1: ")):
+        for value, told in (
+            (b'{"dn":"wide"}', "'wide' is no Integer"),
+            (b"duct", "feature 1: "),
+            (b"[1]", "feature 1: "),
+        ):
             self.ask(lambda store: store.put("top", 7, 1, value))
             self.left_out(1, told, "export", self.store, "top", self.file("x.gpkg"))
             self.assertEqual([(2,), (12,)], self.rows(self.file("x.gpkg"), "ducts", "fid"))
@@ -324,12 +363,16 @@ class AltgisTests(AltgisCase):
             self.ask(lambda store: store.put("top", 0, 1, value))
             bring("table 0 has a record that is no layer", "a.gpkg", "ducts", "--alt", "top", "--table", 1)
             told = "table 0 has a record that is no layer"
-            self.refused("has no layer, or none in table 1", "export", self.store, "top", self.file("x.gpkg"), "--table", 1)
+            self.refused(
+                "has no layer, or none in table 1", "export", self.store, "top", self.file("x.gpkg"), "--table", 1
+            )
             ran = self.start_altgis("export", self.store, "top", self.file("x.gpkg"))
             self.assertIn(told, ran.stderr)
             Path(self.file("x.gpkg")).unlink()
         for words in (["--table", "0"], ["--table", "100"], ["--table", "x"], []):
-            ran = self.start([sys.executable, str(HERE / "altgis"), "import", self.store, "a", "b", "--alt", "top", *words])
+            ran = self.start(
+                [sys.executable, str(HERE / "altgis"), "import", self.store, "a", "b", "--alt", "top", *words]
+            )
             self.assertEqual(2, ran.returncode)
 
     def test_a_store_that_is_too_small_is_as_it_was(self):
@@ -338,7 +381,7 @@ class AltgisTests(AltgisCase):
         write(self.file("many.gpkg"), "a", DUCTS, [(it, {"dn": it}, "POINT (1 2)") for it in range(3000)])
         self.bring(self.file("ducts.gpkg"), "ducts")
         where = ("import", self.store, self.file("many.gpkg"), "a", "--alt", "top", "--table", 8)
-        self.refused("13 Full .*1000 of 3000 features had room, and the rest takes about .* blocks more: .* 'grow ", *where)
+        self.refused("13 Full .* of 3000 features had room, and the rest takes about .* blocks more: .* 'grow ", *where)
         self.altgis("export", self.store, "top", self.file("out.gpkg"))
         self.equal(39, (self.file("ducts.gpkg"), "ducts"), (self.file("out.gpkg"), "ducts"))
 
@@ -378,7 +421,9 @@ class AltgisTests(AltgisCase):
         self.altgis("export", f"unix:{socket}", "top", self.file("out.gpkg"))
         self.equal(2, (self.file("b.gpkg"), "b"), (self.file("out.gpkg"), "b"))
         entries = [it.split() for it in self.start([*words, "log", self.store]).stdout.splitlines()]
-        self.assertEqual(2, len({it[1] for it in entries if it[4:7] == ["put", "top", "7"]}))  # The numbers of the batches.
+        self.assertEqual(
+            2, len({it[1] for it in entries if it[4:7] == ["put", "top", "7"]})
+        )  # The numbers of the batches.
 
         there = Store(f"unix:{socket}")
         self.addCleanup(there.close, quietly=True)
@@ -393,111 +438,6 @@ class AltgisTests(AltgisCase):
             with self.assertRaisesRegex(maps.Fault, "top has changed meanwhile"):
                 export(there, words)
         self.assertFalse(os.path.exists(self.file("half.gpkg")))
-
-    def test_each_version_goes_out(self):
-        """Four states of the map, each written down when it was: top, and north at its base, at a checkpoint, and now."""
-        write(self.file("base.gpkg"), "ducts", DUCTS, THREE)
-        self.bring(self.file("base.gpkg"), "ducts")
-        self.ask(lambda store: store.new("north", "top"))
-        states = {"top": "base", "north@": "base"}
-        steps = {"north@before": "UPDATE ducts SET dn = 50 WHERE fid = 2", "north": "DELETE FROM ducts WHERE fid = 1"}
-        shutil.copy(self.file("base.gpkg"), self.file("now.gpkg"))
-        for at, statement in steps.items():
-            change(self.file("now.gpkg"), statement, "INSERT INTO ducts (dn) VALUES (9)")
-            states[at] = f"{at}_due"
-            shutil.copy(self.file("now.gpkg"), self.file(f"{at}_due.gpkg"))
-            self.bring(self.file("now.gpkg"), "ducts", "--sync", alt="north")
-            if at == "north@before":
-                self.ask(lambda store: store.checkpoint("north", "before"))
-        before = Path(self.store).read_bytes()
-        for at, due in states.items():
-            self.altgis("export", self.store, at, self.file(f"{at}_out.gpkg"))
-            count = self.count("SELECT count(*) FROM a", (self.file(f"{due}.gpkg"), "ducts"))
-            self.equal(count, (self.file(f"{due}.gpkg"), "ducts"), (self.file(f"{at}_out.gpkg"), "ducts"))
-        self.assertTrue(Path(self.store).read_bytes() == before)
-
-    def test_the_index_has_each_feature_where_it_is(self):
-        """After an import, a second one and an edit by hand, a window finds what reading all of the geometry finds."""
-        boxes = {it: (it % 50 * 100.1, it // 50 * 70.3, 5.0 * (it % 7 + 1)) for it in range(1, 701)}
-        line = "LINESTRING ({0} {1},{2} {3})"
-        features = {it: (it, {"dn": 1}, line.format(x, y, x + size, y + size)) for it, (x, y, size) in boxes.items()}
-        features[701] = (701, {"dn": 1}, "LINESTRING (-50 -50,9000 9000)")  # A big one, which each window is to have.
-        write(self.file("a.gpkg"), "ducts", DUCTS, features.values())
-        self.bring(self.file("a.gpkg"), "ducts")
-
-        def look(store):
-            moved = places.moved(store, places.OWN, "top", 7)
-            index, whole = places.Index(store, 7), places.scanned(store, "top", 7)
-            for window in ((0, 0, 300, 300), (4000, 500, 4100, 600), (-99, -99, 9999, 9999), (-9, -9, -5, -5), (8e4, 0, 9e4, 1)):
-                found = {it for it in index.window(*window)[0].tolist() if it not in moved}
-                found |= set(places.Places.of(moved).window(*window)[0].tolist())
-                self.assertEqual(set(whole.window(*window)[0].tolist()), found)
-            return len(moved), len(whole.numbers), len(index.pages)
-
-        self.assertEqual((0, 701, 5), self.ask(look))
-        change(self.file("a.gpkg"), "DELETE FROM ducts WHERE fid < 100", "UPDATE ducts SET geom = NULL WHERE fid = 300")
-        self.bring(self.file("a.gpkg"), "ducts", "--sync")
-        self.assertEqual((0, 601, 4), self.ask(look))
-        self.ask(lambda store: store.put("top", 107, 5, struct.pack("<BIIdddd", 1, 2, 2, 4050, 550, 4051, 551)))
-        self.ask(lambda store: store.remove("top", 107, 400))
-        self.assertEqual((2, 601, 4), self.ask(look))
-        self.altgis("index", self.store)
-        self.assertEqual((0, 601, 4), self.ask(look))
-        self.assertEqual(["before-import-1"], self.ask(lambda store: list(store.checkpoints("top"))))
-
-    def test_a_difference_is_four_layers(self):
-        write(self.file("a.gpkg"), "ducts", DUCTS, THREE)
-        self.bring(self.file("a.gpkg"), "ducts")
-        self.ask(lambda store: store.new("north", "top"))
-        mine = ["UPDATE ducts SET dn = 1 WHERE fid = 2", "UPDATE ducts SET mat = 'a' WHERE fid = 12"]
-        mine += ["DELETE FROM ducts WHERE fid = 1", "INSERT INTO ducts (fid, dn) VALUES (20, 9)"]
-        shutil.copy(self.file("a.gpkg"), self.file("b.gpkg"))
-        change(self.file("a.gpkg"), *mine)
-        change(self.file("b.gpkg"), "UPDATE ducts SET dn = 2, geom = NULL WHERE fid = 2")
-        self.bring(self.file("a.gpkg"), "ducts", "--sync", alt="north")
-        self.bring(self.file("b.gpkg"), "ducts", "--sync")
-        told = self.altgis("diff", self.store, "top", "north", self.file("d.gpkg"))
-        self.assertEqual("top to north, table 7: 1 added, 2 changed, 1 removed, 1 conflicts\n", told)
-        columns = "alt_id, alt_side, alt_what, dn, mat, geom IS NULL"
-        due = {
-            "added": [(20, "after", "", 9, None, 1)],
-            "removed": [(1, "before", "", 110, "PVC", 0)],
-            "changed": [
-                (2, "before", "dn, geometry", 2, "Straße", 1),
-                (2, "after", "dn, geometry", 1, "Straße", 0),
-                (12, "before", "mat", None, "", 1),
-                (12, "after", "mat", None, "a", 1),
-            ],
-            "conflicts": [
-                (2, "base", "dn", 160, "Straße", 0),
-                (2, "parent", "dn", 2, "Straße", 1),
-                (2, "mine", "dn", 1, "Straße", 0),
-            ],
-        }
-        self.assertEqual(due, {it: self.rows(self.file("d.gpkg"), it, columns) for it in due})
-        self.opens(self.file("d.gpkg"))
-        told = self.altgis("diff", self.store, "north@", "north", self.file("e.gpkg"))
-        self.assertEqual("north@ to north, table 7: 1 added, 2 changed, 1 removed, 0 conflicts\n", told)
-        told = self.altgis("diff", self.store, "north", "top", self.file("f.gpkg"))
-        self.assertEqual("north to top, table 7: 1 added, 2 changed, 1 removed, 1 conflicts\n", told)
-        self.assertEqual(due["conflicts"], self.rows(self.file("f.gpkg"), "conflicts", columns))
-        self.refused("give two versions", "diff", self.store, "top", "top", self.file("g.gpkg"))
-        self.refused("takes one layer", "diff", self.store, "top", "north", self.file("g.geojson"))
-
-    def test_a_field_of_the_map_with_a_name_of_ours(self):
-        fields = [field(it, ogr.OFTInteger) for it in ("FID_", "Geom_", "ALT_ID")]
-        write(self.file("a.gpkg"), "a", fields, [(1, {"FID_": 5, "ALT_ID": 6}, "POINT (1 2)")])
-        self.bring(self.file("a.gpkg"), "a")
-        Path(self.file("b.csv")).write_text("fid,geom\n5,6\n")
-        self.bring(self.file("b.csv"), "b", table=8)
-        self.altgis("export", self.store, "top", self.file("out.gpkg"))
-        self.equal(1, (self.file("a.gpkg"), "a"), (self.file("out.gpkg"), "a"))
-        self.assertEqual([("5", "6")], self.rows(self.file("out.gpkg"), "b", "fid, geom"))
-        self.ask(lambda store: store.new("north", "top"))
-        self.ask(lambda store: store.remove("north", 7, 1))
-        self.ask(lambda store: store.remove("north", 107, 1))
-        self.altgis("diff", self.store, "top", "north", self.file("d.gpkg"), "--table", 7)
-        self.assertEqual([(1, 6, 5)], self.rows(self.file("d.gpkg"), "removed", "ALT_ID_, ALT_ID, FID_"))
 
     def test_rivers_and_coasts_there_and_back(self):
         if not shutil.which("gmt"):

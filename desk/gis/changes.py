@@ -1,5 +1,5 @@
-"""The changes that an import makes in a store of its own, where each is made at once and shown at the commit, or by a service, which
-takes all of them together, as one batch."""
+"""The changes that an import makes in a store of its own, where each is made at once and shown at the commit, or by a
+service, which takes all of them together, as one batch."""
 from collections import deque
 from concurrent.futures import ThreadPoolExecutor
 
@@ -12,15 +12,20 @@ MOST_BLOCKS = 2**20
 AHEAD = 3  # Portions that wait for the store.
 
 
-
 class Changes:
-    """Before the first change to an alternative that has records, a checkpoint is made; `checkpoint` is its name then."""
+    """Before the first change to an alternative that has records, a checkpoint is made; `checkpoint` is its name
+    then."""
 
     def __init__(self, store, words, is_service):
         self._store, self._words, self._alt = store, words, words.alt
         self._held = [] if is_service else None
         self._thread, self._waiting = ThreadPoolExecutor(1), deque()
-        self.are_any, self.checkpoint, self.done, self.size = False, None, 0, 0
+        self.are_any, self.checkpoint = False, None
+        self.given, self.done, self.size = (
+            0,
+            0,
+            0,
+        )  # Records to put, those that were put, and about how many blocks they take.
         self.free = store.free()
         self._has_records = any(True for _ in store.next(words.alt, 0, 0, 1))
 
@@ -30,6 +35,7 @@ class Changes:
         if not self.are_any and self._has_records and not self._words.no_checkpoint:
             self.checkpoint = self._free_name()
         is_first, self.are_any = not self.are_any, True
+        self.given += len(put)
         if self._words.dry_run:
             return
         if self._held is not None:
@@ -49,8 +55,12 @@ class Changes:
 
     def _make(self, gone, put):
         self._store.remove_many(self._alt, gone)
-        self._store.put_many(self._alt, ((*key, put[key]) for key in sorted(put)))
-        self.done += 1
+        try:
+            self._store.put_many(self._alt, ((*key, put[key]) for key in sorted(put)))
+        except Refusal as refusal:
+            self.done += refusal.at or 0
+            raise
+        self.done += len(put)
 
     def _free_name(self):
         there, at = set(self._store.checkpoints(self._alt)), 1
@@ -98,7 +108,8 @@ class Changes:
 
 
 def blocks_of(value):
-    """About how many blocks a new record takes: half of a leaf's 16 rows are in use, and a longer value has a block of its own."""
+    """About how many blocks a new record takes: half of a leaf's 16 rows are in use, and a longer value has a block of
+    its own."""
     return 1 / 8 + (len(value) > 240)
 
 

@@ -8,7 +8,7 @@ import maps
 from gis.exporting import LeftOut, Reader, steady
 from gis.importing import portions
 from gis.targets import write_file
-from maps import Fault, Fields
+from maps import Fault
 from maps.merging import Choices, Merging
 
 LAYERS = "added", "changed", "removed", "conflicts"
@@ -16,8 +16,8 @@ OWN = {"alt_id": "Integer64", "alt_side": "String", "alt_what": "String"}
 
 
 class Differences:
-    """The layers of a difference of one table. Their fields are those of the map, and before them the id, the side, and what
-    differs: the names of fields, and of the geometry."""
+    """The layers of a difference of one table. Their fields are those of the map, and before them the id, the side, and
+    what differs: the names of fields, and of the geometry."""
 
     def __init__(self, described, made, bad):
         self._names, self._layers, self._bad = own_names(described), dict(zip(LAYERS, made)), bad
@@ -55,7 +55,12 @@ class Table:
         self._shape = maps.free_name("geometry", self.described["fields"])
 
     def fill(self, made):
-        differences, store, words, table = Differences(self.described, made, self._bad), self._store, self._words, self.table
+        differences, store, words, table = (
+            Differences(self.described, made, self._bad),
+            self._store,
+            self._words,
+            self.table,
+        )
         rows = (row for it in (table, table + maps.GEOMETRY) for row in store.diff(words.a, words.b, it))
         for numbers in portions(numpy.unique(array("Q", (it.number for it in rows))).tolist()):
             sides = [self.features(it, read, numbers) for it, read in zip((words.a, words.b), self._readers)]
@@ -64,7 +69,9 @@ class Table:
                 what = self._what(before, after)
                 layer = "added" if before is None else "removed" if after is None else "changed"
                 if layer != "changed" or what:
-                    differences.add(layer, number, what if layer == "changed" else "", {"before": before, "after": after})
+                    differences.add(
+                        layer, number, what if layer == "changed" else "", {"before": before, "after": after}
+                    )
         return differences
 
     def features(self, at, read, numbers):
@@ -99,13 +106,19 @@ class Table:
                 what.setdefault(it.number, []).append(it.field)
         alt = merging.alt
         for numbers in portions(sorted(what)):
-            versions = {"base": f"{alt}@", "parent": self._words.a if alt == self._words.b else self._words.b, "mine": alt}
+            versions = {
+                "base": f"{alt}@",
+                "parent": self._words.a if alt == self._words.b else self._words.b,
+                "mine": alt,
+            }
             reads = {"parent": self._readers[alt == self._words.a], "mine": self._readers[alt == self._words.b]}
             base = maps.layer_at(self._store, versions["base"], self.table)
             reads["base"] = Reader(base or self.described)
             sides = {side: self.features(at, reads[side], numbers) for side, at in versions.items()}
             for it in numbers:
-                differences.add("conflicts", it, ", ".join(what[it]), {side: its.get(it) for side, its in sides.items()})
+                differences.add(
+                    "conflicts", it, ", ".join(what[it]), {side: its.get(it) for side, its in sides.items()}
+                )
 
 
 def merging_of(store, words):
@@ -143,7 +156,9 @@ def diff(store, words):
         check()
         return told
 
-    layers_due = [(with_own_fields(it.described), prefix + name) for it, prefix in zip(its, prefixes) for name in LAYERS]
+    layers_due = [
+        (with_own_fields(it.described), prefix + name) for it, prefix in zip(its, prefixes) for name in LAYERS
+    ]
     for it, counts in zip(its, write_file(words.out, layers_due, fill)):
         told = ", ".join(f"{counts[name]} {name}" for name in LAYERS)
         print(f"{words.a} to {words.b}, table {it.table}: {told}")

@@ -11,7 +11,8 @@ from maps import Fault, Fields, numbers
 
 
 def steady(store, words, *versions):
-    """What raises a Fault if these versions have changed since now: a service carries out others' batches between two pages."""
+    """What raises a Fault if these versions have changed since now: a service carries out others' batches between two
+    pages."""
     alts = sorted({it.partition("@")[0] for it in versions})
 
     def last_lines():
@@ -76,7 +77,7 @@ def export(store, words):
         told = f"{words.version} has layers in the tables {', '.join(map(str, tables))}"
         raise Fault(f"{told}: give --table with --layer")
     names = [words.layer or layers[it]["name"] for it in tables]
-    given = take_numbers(store, words, tables)
+    given = take_numbers(store, words, layers, tables)
     left_out = LeftOut()
 
     def fill(*made):
@@ -98,12 +99,15 @@ def export(store, words):
     return left_out.tell()
 
 
-def take_numbers(store, words, tables):
+def take_numbers(store, words, layers, tables):
     """A thousand numbers for each table, if that is asked for: they are nobody else's from then on."""
     if not words.numbers:
         return [range(0)] * len(tables)
     if "@" in words.version or not words.out.lower().endswith(".gpkg"):
         raise Fault("--numbers is for an alternative as it is now, and a name that ends with .gpkg")
+    other = [it for it in tables if layers[it]["id"] is not None]
+    if other:
+        raise Fault(f"--numbers is for fids, and the ids of table {other[0]} are in the field {layers[other[0]]['id']}")
     return [numbers.take(store, it, numbers.RANGE, words.is_service) for it in tables]
 
 

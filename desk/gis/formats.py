@@ -23,13 +23,11 @@ def set_up():
         it.UseExceptions()
     shut_off()
     gdal.SetConfigOption("OGR_WKT_PRECISION", "17")
-    # The stream of a GeoPackage that threads read ahead fails in GDAL 3.6 if rows were removed.
-    gdal.SetConfigOption("OGR_GPKG_STREAM_BASE_IMPL", "YES")
 
 
 def shut_off():
-    """Keeps GDAL from fetching what a file names, such as the address of a coordinate system: all that it fetches goes by way of
-    a proxy that cannot be there."""
+    """Keeps GDAL from fetching what a file names, such as the address of a coordinate system: all that it fetches goes
+    by way of a proxy that cannot be there."""
     for it in ("no_proxy", "NO_PROXY", "SPATIALITE_SECURITY"):
         os.environ.pop(it, None)
     for it in ("GDAL_HTTP_PROXY", "GDAL_HTTPS_PROXY"):
@@ -46,8 +44,8 @@ def refuse_virtual_tables(file):
 
 
 def open_source(file):
-    """A file that GDAL has opened by the one driver that its name tells: a file of another kind, which may lead elsewhere, is not
-    opened."""
+    """A file that GDAL has opened by the one driver that its name tells: a file of another kind, which may lead
+    elsewhere, is not opened."""
     if file.startswith("PG:"):
         return gdal.OpenEx(file, gdal.OF_VECTOR, allowed_drivers=["PostgreSQL"])
     driver = FORMATS.get(Path(file).suffix.lower())

@@ -61,11 +61,13 @@ def bring(store, words):
         it.pass_over()
     if words.alt == "top":
         index(store, words)
+        numbers.renew(store, words.is_service)
     return max(it.status for it in jobs)
 
 
 def sources(words, layers):
-    """The layers of the file, each with its table: that of the layer of its name in the store, or else the first free one."""
+    """The layers of the file, each with its table: that of the layer of its name in the store, or else the first free
+    one."""
     if not words.all:
         return [(Source(*open_layer(words.file, words.layer), words.id), words.table)]
     known = {it["name"]: table for table, it in sorted(layers.items(), reverse=True)}
@@ -73,7 +75,9 @@ def sources(words, layers):
     names = names_of(open_source(words.file))
     tables = [known.get(name) or next(free, None) for name in names]
     if None in tables:
-        raise Fault(f"{words.file} has {len(names)} layers, and there are not so many free tables from {words.first_table} on")
+        raise Fault(
+            f"{words.file} has {len(names)} layers, and there are not so many free tables from {words.first_table} on"
+        )
     return [(Source(*open_layer(words.file, name)), table) for name, table in zip(names, tables)]
 
 
@@ -130,9 +134,15 @@ class Import:
 
     def _features(self, fields):
         features = self._source.features(fields, self._note)
-        if not self._words.new:
-            return features
-        return ((number, attributes, course) for number, (_, attributes, course) in zip(self._given, features))
+        return self._with_numbers(features) if self._words.new else features
+
+    def _with_numbers(self, features):
+        given = iter(self._given)
+        for _, attributes, course in features:
+            number = next(given, None)
+            if number is None:
+                raise Fault(f"the layer {self.name} has more features than the {self.total} that its file tells of")
+            yield number, attributes, course
 
     def run(self, changes):
         """Puts the features of the layer, and removes those that are gone if that is asked for."""
@@ -165,8 +175,8 @@ class Import:
         self.counts["removed"] = len(removed)
 
     def _left(self, seen, firsts):
-        """The keys to remove: with `--sync` those of features that are not seen, and always parts that belong to no value. `firsts`
-        has those of the seen features' values."""
+        """The keys to remove: with `--sync` those of features that are not seen, and always parts that belong to no
+        value. `firsts` has those of the seen features' values."""
         store, alt = self._store, self._alt
 
         def is_seen(number):
@@ -211,13 +221,15 @@ def once(seen):
 
 def room(store, words, changes, jobs):
     """How much room is wanting, and how the store gets it."""
-    total, seen = sum(it.total for it in jobs), changes.done * PORTION
     if words.is_service:
         wanting, told = changes.size - changes.free, "the import"
     else:
-        wanting = changes.free * (total / max(min(seen, total), 1) - 1) + 17
-        told = f"{min(seen, total)} of {total} features had room, and the rest"
-    wanting = max(int(wanting * 1.1), 17)
+        total = sum(it.total for it in jobs)
+        seen = max(sum(sum(it.counts.values()) for it in jobs), 1)
+        done = min(changes.done * seen // max(changes.given, 1), total)
+        wanting = changes.free * (total / max(done, 1) - 1)
+        told = f"{done} of {total} features had room, and the rest"
+    wanting = int(max(wanting, 0) * 1.1) + 34
     try:
         blocks = min(store.blocks() + wanting, MOST_BLOCKS)
     except Refusal:

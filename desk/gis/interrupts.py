@@ -1,7 +1,7 @@
 """What Ctrl-C does: one line that says what is in the store, no trace of the program, and a status that is not 0.
 
-The handler ends the process at once, so nothing is half undone: `altctl` sees that its input has ended, and what was not
-committed is not there. While a commit is on its way, the handler waits for its answer."""
+The handler ends the process at once, so nothing is half undone: `altctl` sees that its input has ended, and what was
+not committed is not there. While a commit is on its way, the handler waits for its answer."""
 import contextlib
 import os
 import shutil
@@ -31,6 +31,11 @@ def _interrupted(*_):
 
 def catch():
     signal.signal(signal.SIGINT, _interrupted)
+
+
+def end():
+    """All is done and told: there is nothing left to interrupt."""
+    signal.signal(signal.SIGINT, signal.SIG_IGN)
 
 
 def remove_at_end(folder):

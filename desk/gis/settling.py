@@ -25,7 +25,9 @@ def choices_of(words):
         elif one and not (one[3] and one[4] == "both"):
             found[int(one[1]), int(one[2]), one[3] or ""] = one[4]
         else:
-            raise Fault(f"a choice is TABLE:NUMBER=mine, =theirs or =both, TABLE:NUMBER.FIELD=mine or all=mine, and not {it}")
+            raise Fault(
+                f"a choice is TABLE:NUMBER=mine, =theirs or =both, TABLE:NUMBER.FIELD=mine or all=mine, and not {it}"
+            )
     return Choices(found, rest)
 
 
@@ -47,7 +49,9 @@ def text_of(value):
 def show(clash):
     if clash.field or clash.base is not None and clash.parent is not None and clash.mine is not None:
         return f"{clash}: base {text_of(clash.base)}, parent {text_of(clash.parent)}, mine {text_of(clash.mine)}"
-    what = "added by both" if clash.base is None else "removed by the parent" if clash.parent is None else "removed here"
+    what = (
+        "added by both" if clash.base is None else "removed by the parent" if clash.parent is None else "removed here"
+    )
     return f"{clash}: {what}: parent {text_of(clash.parent)}, mine {text_of(clash.mine)}"
 
 
@@ -72,7 +76,8 @@ def merge(store, words):
         check()
         with interrupts.held_back(f"{words.alt} is merged"):
             make_merge(store, words.alt, plan, words.is_service)
-    told = f"{len(plan.settlements)} records that both changed, {joined} of them joined by field, {len(plan.clashes)} chosen"
+    both, chosen = len(plan.settlements), len(plan.clashes)
+    told = f"{both} records that both changed, {joined} of them joined by field, {chosen} chosen"
     print(f"{'a dry run: ' if words.dry_run else ''}{words.alt} is merged: {told}")
     for (table, number), new in plan.renamed.items():
         print(f"{table}:{number} of {words.alt} is {table}:{new} now")

@@ -2,14 +2,15 @@
 import re
 from typing import Callable, Iterator, Optional, Tuple
 
-from osgeo import ogr
+from osgeo import gdal, ogr
 
-from gis.quick import Quick
+from gis.quick import Quick, wrong_values
 from gis.values import readers, unguarded
 from maps import Fault, Fields, geometry
 from maps.systems import crs_to_text
 
 MOST_ID = 2**63 - 1
+WRONG_VALUE = re.compile("Invalid (content|value)|parsed incompletely|out of range|clamped|truncated", re.I)
 Feature = Tuple[int, bytes, Optional[bytes]]
 
 
@@ -21,8 +22,8 @@ def field_to_json(field):
 
 
 class Source:
-    """A layer of a file that GDAL has opened: `described` is what the store keeps of it beside its features. With `id_field`
-    the ids are in that field, and not the fids."""
+    """A layer of a file that GDAL has opened: `described` is what the store keeps of it beside its features. With
+    `id_field` the ids are in that field, and not the fids."""
 
     def __init__(self, opened, layer, id_field: Optional[str] = None):
         self.opened, self.layer = opened, layer
@@ -43,9 +44,10 @@ class Source:
         return max(self.layer.GetFeatureCount(), 0)
 
     def features(self, fields: Fields, bad: Callable[[str], None]) -> Iterator[Feature]:
-        """The features: id, attributes as `fields` writes them, and geometry. One that cannot be in a store is told to `bad`."""
+        """The features: id, attributes as `fields` writes them, and geometry. One that cannot be in a store is told to
+        `bad`."""
         quick = Quick(self.opened, self.layer, self.described, fields)
-        for number, attributes, course in quick.features() if quick.can() else self._slowly(fields):
+        for number, attributes, course in quick.features() if quick.can() else self._slowly(fields, bad):
             number = id_of(number, self.described["id"])
             fault = geometry.fault_of(course) if course is not None else None
             if attributes is None:
@@ -55,13 +57,38 @@ class Source:
             else:
                 yield number, attributes, course
 
-    def _slowly(self, fields: Fields):
-        """The features one by one, whatever their types are. Attributes are None if they have a text that is not UTF-8."""
+    def _wrong(self) -> dict:
+        """What GDAL would not tell of: by fid, the features of a GeoPackage that have a value of another type."""
+        fid = self.layer.GetFIDColumn()
+        if self.opened.GetDriver().ShortName != "GPKG" or not fid:
+            return {}
+        return wrong_values(self.opened.GetDescription(), self.layer.GetName(), fid, self.described["fields"])
+
+    def _told(self):
+        """The features, each with what GDAL has said while it read it: that a value is not what its field says."""
+        said = []
+        gdal.PushErrorHandler(lambda kind, number, text: said.append(text) if WRONG_VALUE.search(text) else None)
+        try:
+            for feature in self.layer:
+                yield feature, said[:1]
+                said.clear()
+        finally:
+            gdal.PopErrorHandler()
+
+    def _slowly(self, fields: Fields, bad):
+        """The features one by one, whatever their types are. Attributes are None if they have a text that is not
+        UTF-8."""
         described = self.described
         names = [it["name"] for it in described["fields"]]
         id_at = None if described["id"] is None else names.index(described["id"])
         reads = list(readers(described["fields"], described["id"], self.is_csv))
-        for feature in self.layer:
+        wrong = self._wrong()
+        for feature, said in self._told():
+            if said and self.is_csv:  # Of further ones in that field GDAL says nothing.
+                raise Fault(f"{said[0].partition('. ')[0]}, and maybe in others: mend them, or the type in the .csvt")
+            if said or feature.GetFID() in wrong:
+                bad(wrong.get(feature.GetFID()) or f"feature {feature.GetFID()}: {said[0]}")
+                continue
             number = str(feature.GetFID()) if id_at is None else feature.GetFieldAsString(id_at)
             found = {name: read(feature, at) for at, name, read in reads if feature.IsFieldSetAndNotNull(at)}
             try:

@@ -1,6 +1,7 @@
 """The files that are written: layers of features, there under their name once they are whole."""
+import contextlib
 import os
-import sys
+import sqlite3
 import tempfile
 from pathlib import Path
 
@@ -9,6 +10,7 @@ from osgeo import gdal, ogr
 import maps
 from gis import interrupts
 from gis.formats import FORMATS, OPTIONS, WITH_LAYERS
+from gis.quick_target import NotPlain, QuickLayer, is_quick, tell_unknown
 from gis.values import SUBTYPES, TYPES, WRITE, guarded, set_guarded
 from maps import Fault, geometry
 from maps.systems import crs_from_text
@@ -17,15 +19,16 @@ KINDS = [(it, ogr.GT_SetZ(it), ogr.GT_SetM(it), ogr.GT_SetModifier(it, True, Tru
 SHAPES = {ogr.GeometryTypeToName(it): it for it in (ogr.wkbNone, *sum(KINDS, ()))}
 
 
-def create_layer(source, described, name, is_plain):
-    """A new layer, and for each of its fields its place and what writes it. A type that the format lacks becomes a text."""
+def create_layer(source, described, name, is_plain, more=()):
+    """A new layer, and for each of its fields its place and what writes it. A type that the format lacks becomes a
+    text."""
     driver = source.GetDriver()
     kinds = driver.GetMetadataItem(gdal.DMD_CREATIONFIELDDATATYPES).split()
     subtypes = (driver.GetMetadataItem(gdal.DMD_CREATIONFIELDDATASUBTYPES) or "").split()
     shape = SHAPES.get(described["geometry"])
     if shape is None or not all(it["type"] in TYPES for it in described["fields"]):
         raise Fault(f"the layer {described['name']} has a type of geometry or of fields that GDAL does not know")
-    options = list(OPTIONS.get(driver.ShortName, []))
+    options = [*OPTIONS.get(driver.ShortName, ()), *more]
     if driver.ShortName == "CSV" and shape != ogr.wkbNone:
         options.append("GEOMETRY=AS_WKT")
     if driver.ShortName in WITH_LAYERS:
@@ -52,7 +55,9 @@ def set_field(feature, at, write, value):
         feature.SetFieldNull(at) if value is None else write(feature, at, value)
     except (TypeError, ValueError, AttributeError, NotImplementedError, OverflowError, SystemError):
         field = feature.GetFieldDefnRef(at)
-        raise Fault(f"feature {feature.GetFID()}: {value!r} is no {field.GetTypeName()}, as the field {field.GetName()} is")
+        raise Fault(
+            f"feature {feature.GetFID()}: {value!r} is no {field.GetTypeName()}, as the field {field.GetName()} is"
+        )
 
 
 def parsed(number, value):
@@ -94,13 +99,35 @@ class Layer:
         self.count += 1
 
     def tell_unknown(self):
-        if self._unknown:
-            names = ", ".join(sorted(self._unknown))
-            print(f"altgis: left out, as {self._name} has no such fields: {names}", file=sys.stderr)
+        tell_unknown(self._name, self._unknown)
+
+
+def write_quickly(file, layers, fill, is_plain):
+    """Writes a GeoPackage as `write_layers` does, by SQL. GDAL makes it, and its index of places. NotPlain is raised if
+    a value has to go through GDAL."""
+    source = gdal.GetDriverByName("GPKG").Create(file, 0, 0, 0, gdal.GDT_Unknown)
+    for described, name in layers:
+        create_layer(source, described, name, is_plain, ["SPATIAL_INDEX=NO"])
+    del source
+    with contextlib.closing(sqlite3.connect(file)) as database:
+        made = [QuickLayer(database, *it) for it in layers]
+        told = fill(*made)
+        for it in made:
+            it.finish()
+        database.commit()
+    source = gdal.OpenEx(file, gdal.OF_VECTOR | gdal.OF_UPDATE)
+    for it in made:
+        it.tell_unknown()
+        if it.course:
+            texts = ("'" + text.replace("'", "''") + "'" for text in (it.name, it.course))
+            source.ReleaseResultSet(source.ExecuteSQL(f"SELECT CreateSpatialIndex({', '.join(texts)})"))
+    del source
+    return told
 
 
 def write_layers(source, layers, fill, is_plain):
-    """Writes layers, each a description and a name: `fill` is given them to add their features, and tells how many they are."""
+    """Writes layers, each a description and a name: `fill` is given them to add their features, and tells how many they
+    are."""
     if source.TestCapability(ogr.ODsCTransactions):
         source.StartTransaction()
     made = [Layer(source, *it, is_plain) for it in layers]
@@ -114,7 +141,8 @@ def write_layers(source, layers, fill, is_plain):
 
 
 def write_file(out, layers, fill, is_plain=False, finish=lambda file: None):
-    """Makes a file of layers, as `write_layers` does. It is there under its name once it is whole, and `finish` is done."""
+    """Makes a file of layers, as `write_layers` does. It is there under its name once it is whole, and `finish` is
+    done."""
     if out.startswith("PG:"):
         source = gdal.OpenEx(out, gdal.OF_VECTOR | gdal.OF_UPDATE, allowed_drivers=["PostgreSQL"])
         return write_layers(source, layers, fill, is_plain)
@@ -126,10 +154,18 @@ def write_file(out, layers, fill, is_plain=False, finish=lambda file: None):
     folder = Path(out).absolute().parent
     with tempfile.TemporaryDirectory(dir=folder, prefix=".altgis") as made:
         interrupts.remove_at_end(made)
-        source = driver.Create(os.path.join(made, Path(out).name), 0, 0, 0, gdal.GDT_Unknown)
-        told = write_layers(source, layers, fill, is_plain)
-        del source  # Closes the file.
-        finish(os.path.join(made, Path(out).name))
+        file = os.path.join(made, Path(out).name)
+        told = None
+        if driver.ShortName == "GPKG" and all(is_quick(described) for described, _ in layers):
+            try:
+                told = write_quickly(file, layers, fill, is_plain)
+            except NotPlain:
+                os.unlink(file)
+        if told is None:
+            source = driver.Create(file, 0, 0, 0, gdal.GDT_Unknown)
+            told = write_layers(source, layers, fill, is_plain)
+            del source  # Closes the file.
+        finish(file)
         names = os.listdir(made)
         for it in names:
             if (folder / it).exists():

@@ -12,7 +12,8 @@ SUBTYPES = {ogr.GetFieldSubTypeName(it): it for it in range(6)}
 
 
 def moment_to_text(feature, at):
-    """A date, a time or both as ISO 8601 has it: GDAL writes them 2024/02/29 23:59:59.999+00, and reads this form, too."""
+    """A date, a time or both as ISO 8601 has it: GDAL writes them 2024/02/29 23:59:59.999+00, and reads this form,
+    too."""
     return feature.GetFieldAsString(at).replace("/", "-").replace(" ", "T")
 
 

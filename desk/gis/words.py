@@ -37,7 +37,9 @@ def read_words(arguments=None):
             made.add_argument(place.lower(), metavar=place, help=meaning)
         return made
 
-    import_words(job("import", bring, "puts what differs between layers of a file and tables", STORE, ("FILE", "a file of maps")))
+    import_words(
+        job("import", bring, "puts what differs between layers of a file and tables", STORE, ("FILE", "a file of maps"))
+    )
     out = ("OUT", "a file that is not there yet: .gpkg, .geojson, .json, .shp or .csv")
     send = job("export", export, "writes a version as layers of a file", STORE, ("VERSION", VERSION), out)
     send.add_argument("--table", type=table_number, metavar="T", help="the layer of this table alone")
@@ -51,31 +53,44 @@ def read_words(arguments=None):
     told = "TABLE:NUMBER=mine, =theirs or =both, TABLE:NUMBER.FIELD=mine, all=mine"
     settle.add_argument("choices", metavar="CHOICE", nargs="*", help=told)
     settle.add_argument("--dry-run", action="store_true", help="tells what would be merged, and changes nothing")
-    show = job("layers", listing.of_store, "tells which layers a store or a file has", ("STORE", "a store or a file of maps"))
+    show = job(
+        "layers", listing.of_store, "tells which layers a store or a file has", ("STORE", "a store or a file of maps")
+    )
     show.add_argument("version", metavar="VERSION", nargs="?", default="top", help=VERSION)
     job("index", index, "makes the index of places, by which the desk is quick, of what `top` shows", STORE)
     words = parser.parse_args(arguments)
+    check(parser, words)
+    words.is_service = words.job is not None and words.store.startswith("unix:")
+    return words
+
+
+def check(parser, words):
+    """Refuses words that do not go together."""
     if not words.version and not words.job:
         parser.error("say what to do: import, export, diff, merge, layers or index")
     if words.job == "import" and not words.all and words.table is None:
         parser.error("say which table by --table, or give --all")
     if words.job == "import" and words.all and (words.table or words.layer or words.name or words.id):
         parser.error("with --all there is no LAYER, and no --table, --name or --id")
-    words.is_service = words.job is not None and words.store.startswith("unix:")
-    return words
 
 
 def import_words(parser):
     parser.add_argument("layer", metavar="LAYER", nargs="?", help="one of its layers, if it has several")
     parser.add_argument("--alt", required=True, help="the alternative")
     parser.add_argument("--table", type=table_number, metavar="T", help="1 to 99")
-    parser.add_argument("--all", action="store_true", help="all layers of the file, each into the table of its name or a free one")
-    parser.add_argument("--first-table", type=table_number, default=1, metavar="T", help="the first table that may be free")
+    parser.add_argument(
+        "--all", action="store_true", help="all layers of the file, each into the table of its name or a free one"
+    )
+    parser.add_argument(
+        "--first-table", type=table_number, default=1, metavar="T", help="the first table that may be free"
+    )
     parser.add_argument("--id", metavar="FIELD", help="the field of the ids, if they are not the fids")
     parser.add_argument("--new", action="store_true", help="each feature is a new one, and gets a number of the store")
     parser.add_argument("--name", help="the layer's name in the store, if it has another one in the file")
     parser.add_argument("--rename", action="store_true", help="lets the table's layer get another name")
-    parser.add_argument("--link", action="append", metavar="FIELD=T", help="the field has numbers of features of table T")
+    parser.add_argument(
+        "--link", action="append", metavar="FIELD=T", help="the field has numbers of features of table T"
+    )
     parser.add_argument("--sync", action="store_true", help="removes what the file lacks")
     parser.add_argument("--skip-bad", action="store_true", help="leaves bad features out, and names them")
     parser.add_argument("--dry-run", action="store_true", help="tells what would change, and changes nothing")
@@ -91,7 +106,9 @@ def table_number(word):
 
 def tell_versions(program):
     ran = subprocess.run([program, "--version"], stdout=subprocess.PIPE, encoding="utf-8", errors="replace")
-    print(f"altgis beside {ran.stdout.partition(chr(10))[0]}, GDAL {gdal.__version__}, Python {platform.python_version()}")
+    print(
+        f"altgis beside {ran.stdout.partition(chr(10))[0]}, GDAL {gdal.__version__}, Python {platform.python_version()}"
+    )
 
 
 def carry_out(words):

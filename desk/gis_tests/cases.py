@@ -1,5 +1,6 @@
-"""What the tests of `altgis` stand on: files that GDAL makes, a store in a folder of its own, and `altgis` as a program. That two
-layers are equal is told by GDAL: it copies both into one GeoPackage, and SQL there compares all columns."""
+"""What the tests of `altgis` stand on: files that GDAL makes, a store in a folder of its own, and `altgis` as a
+program. That two layers are equal is told by GDAL: it copies both into one GeoPackage, and SQL there compares all
+columns."""
 import importlib.util
 import os
 import shutil
@@ -14,7 +15,6 @@ from pathlib import Path
 from osgeo import gdal, ogr, osr
 
 DESK = Path(__file__).resolve().parents[1]
-import maps
 from altctl import Store
 
 ALTCTL = os.path.abspath(os.environ.get("ALTCTL", DESK.parent / "altctl"))
@@ -46,7 +46,8 @@ def system(code):
 
 
 def write(file, name, fields, features, shape=ogr.wkbUnknown, code=2056):
-    """A layer of a file, of features that are each a fid, a dict of what is set, and a geometry as text or as GDAL has it."""
+    """A layer of a file, of features that are each a fid, a dict of what is set, and a geometry as text or as GDAL has
+    it."""
     kinds = {".gpkg": "GPKG", ".geojson": "GeoJSON", ".csv": "CSV", ".shp": "ESRI Shapefile"}
     source = gdal.GetDriverByName(kinds[Path(file).suffix]).Create(file, 0, 0, 0, gdal.GDT_Unknown)
     layer = source.CreateLayer(name, system(code) if code else None, shape)
@@ -156,7 +157,8 @@ class AltgisCase(unittest.TestCase):
         self.assertTrue(Path(self.store).read_bytes() == before, words)
 
     def count(self, sql, *layers):
-        """The answer to SQL over layers that GDAL has copied from their files, as a and b. None is a file's only layer."""
+        """The answer to SQL over layers that GDAL has copied from their files, as a and b. None is a file's only
+        layer."""
         self.copies = getattr(self, "copies", 0) + 1
         whole = self.file(f"compared{self.copies}.gpkg")
         for name, (file, layer) in zip("ab", layers):
@@ -165,7 +167,9 @@ class AltgisCase(unittest.TestCase):
             source = gdal.OpenEx(file, gdal.OF_VECTOR, open_options=options)
             layer = layer or source.GetLayer(0).GetName()
             names = ["GEOMETRY_NAME=geom", "FID=fid"]
-            gdal.VectorTranslate(whole, source, layers=[layer], options=["-preserve_fid"], layerCreationOptions=names, **how)
+            gdal.VectorTranslate(
+                whole, source, layers=[layer], options=["-preserve_fid"], layerCreationOptions=names, **how
+            )
         found = gdal.OpenEx(whole, gdal.OF_VECTOR).ExecuteSQL(sql)
         return found.GetNextFeature().GetField(0)
 

@@ -1,16 +1,14 @@
 """Two designs of one map: fields by number, merges by field, and numbers that nobody else has."""
-import json
 import shutil
 import sqlite3
 from pathlib import Path
 
-from gis_tests.cases import DUCTS, THREE, AltgisCase, change, field, write
+from gis_tests.cases import DUCTS, AltgisCase, change, field, write
 from osgeo import gdal, ogr
 
 import maps
 from maps import Fields, numbers
 from maps.merged_layer import MergedLayer
-from maps.merging import Choices, Merging, merge
 
 LINE = "LINESTRING ({0} 0,{0} 9)"
 
@@ -58,9 +56,10 @@ class PlanningTests(AltgisCase):
         return self.ask(read)
 
     def test_two_designs_that_draw_add_a_field_and_change_the_same_ducts(self):
-        """Each draws 100 ducts, adds a field, and changes a field of the same 1,000: they come together with no conflict."""
+        """Each draws 100 ducts, adds a field, and changes a field of the same 1,000: they come together with no
+        conflict."""
         self.begin(ducts(1200), "north", "south")
-        due, drawn = {}, {}
+        drawn = {}
         for alt, east, added, what in (("north", 5000, "depth", "dn = 160"), ("south", 6000, "owner", "mat = 'HDPE'")):
             file = self.file(f"{alt}.gpkg")
             told = self.altgis("export", self.store, alt, file, "--numbers")
@@ -81,14 +80,24 @@ class PlanningTests(AltgisCase):
         columns = "dn, mat, depth, owner, count(*)"
         with sqlite3.connect(self.file("all.gpkg")) as it:
             rows = it.execute(f"SELECT {columns} FROM ducts GROUP BY dn, mat, depth, owner ORDER BY dn").fetchall()
-        self.assertEqual([(50, None, None, None, 200), (110, "PVC", None, None, 200), (160, "HDPE", 1.5, "Netz AG", 1000)], rows)
+        self.assertEqual(
+            [(50, None, None, None, 200), (110, "PVC", None, None, 200), (160, "HDPE", 1.5, "Netz AG", 1000)], rows
+        )
         self.opens(self.file("all.gpkg"))
 
     def test_the_same_fields_are_shown_and_nothing_is_merged(self):
         self.begin(ducts(10), "north")
         shutil.copy(self.file("top.gpkg"), self.file("north.gpkg"))
-        change(self.file("top.gpkg"), "UPDATE ducts SET dn = 125 WHERE fid <= 3", "UPDATE ducts SET mat = 'clay' WHERE fid = 3")
-        change(self.file("north.gpkg"), "UPDATE ducts SET dn = 160 WHERE fid <= 2", "UPDATE ducts SET mat = 'HDPE' WHERE fid <= 4")
+        change(
+            self.file("top.gpkg"),
+            "UPDATE ducts SET dn = 125 WHERE fid <= 3",
+            "UPDATE ducts SET mat = 'clay' WHERE fid = 3",
+        )
+        change(
+            self.file("north.gpkg"),
+            "UPDATE ducts SET dn = 160 WHERE fid <= 2",
+            "UPDATE ducts SET mat = 'HDPE' WHERE fid <= 4",
+        )
         self.bring(self.file("top.gpkg"), "ducts")
         self.bring(self.file("north.gpkg"), "ducts", alt="north")
         before = Path(self.store).read_bytes()
@@ -103,7 +112,9 @@ class PlanningTests(AltgisCase):
         self.refused("was not added by both", "merge", self.store, "north", "7:1=both", "all=mine")
         self.merged("north", "7:1=mine", "7:2=theirs", "7:3.mat=mine")
         found = [self.attributes("north", it) for it in (1, 2, 3, 4)]
-        self.assertEqual([(160, "HDPE"), (125, "HDPE"), (125, "HDPE"), (110, "HDPE")], [(it["dn"], it["mat"]) for it in found])
+        self.assertEqual(
+            [(160, "HDPE"), (125, "HDPE"), (125, "HDPE"), (110, "HDPE")], [(it["dn"], it["mat"]) for it in found]
+        )
         self.assertEqual([], self.ask(lambda store: list(store.conflicts("north"))))
         self.ask(lambda store: store.post("north"))
 
@@ -117,7 +128,11 @@ class PlanningTests(AltgisCase):
 
     def test_geometry_is_a_field_and_goes_with_the_attributes(self):
         move = lambda x: f"UPDATE ducts SET geom = (SELECT geom FROM ducts WHERE fid = {x})"
-        for choices, dn, east in ((["all=mine"], 1, 2), (["7:1=theirs"], 9, 3), (["7:1=mine", "7:1.geometry=theirs"], 1, 3)):
+        for choices, dn, east in (
+            (["all=mine"], 1, 2),
+            (["7:1=theirs"], 9, 3),
+            (["7:1=mine", "7:1.geometry=theirs"], 1, 3),
+        ):
             self.create(16384)
             Path(self.file("top.gpkg")).unlink(missing_ok=True)
             self.clash([f"{move(3)}, dn = 9 WHERE fid = 1"], [f"{move(2)}, dn = 1 WHERE fid = 1"])
@@ -143,7 +158,8 @@ class PlanningTests(AltgisCase):
             self.assertEqual([(7, 1), (107, 1)] if side == "mine" else [], keys)
 
     def test_both_are_kept_and_links_follow(self):
-        """Both designs drew duct 601. Cables of the design that gets a new number follow it, those of the other one do not."""
+        """Both designs drew duct 601. Cables of the design that gets a new number follow it, those of the other one do
+        not."""
         cables = [field("no", ogr.OFTString), field("duct", ogr.OFTInteger)]
         self.begin(ducts(3))
         write(self.file("cables.gpkg"), "cables", cables, [(1, {"no": "a", "duct": 1}, None)])
@@ -153,7 +169,11 @@ class PlanningTests(AltgisCase):
         links = self.ask(lambda store: Fields(maps.layers(store, "top")[9]))
         for alt, dn in (("top", 50), ("north", 60)):
             self.ask(lambda store: store.put(alt, 7, 601, fields.packed({"dn": dn})))
-            self.ask(lambda store: store.put(alt, 107, 601, bytes(ogr.CreateGeometryFromWkt(LINE.format(dn)).ExportToWkb(ogr.wkbNDR))))
+            self.ask(
+                lambda store: store.put(
+                    alt, 107, 601, bytes(ogr.CreateGeometryFromWkt(LINE.format(dn)).ExportToWkb(ogr.wkbNDR))
+                )
+            )
             self.ask(lambda store: store.put(alt, 9, dn, links.packed({"no": alt, "duct": 601})))
         self.assertIn("7:601: added by both", self.merged("north", status=4))
         told = self.merged("north", "7:601=both")
@@ -170,10 +190,16 @@ class PlanningTests(AltgisCase):
             return numbers.take(store, table, count, False)
 
         self.begin(ducts(3))
-        self.assertEqual([range(4, 1004), range(1004, 2004), range(2004, 5004)], self.ask(lambda store: [take(store), take(store), take(store, 2001)]))
+        self.assertEqual(
+            [range(4, 1004), range(1004, 2004), range(2004, 5004)],
+            self.ask(lambda store: [take(store), take(store), take(store, 2001)]),
+        )
         self.assertEqual(range(1, 1001), self.ask(lambda store: take(store, table=8)))
         write(self.file("far.gpkg"), "ducts", DUCTS, [(7000, {}, None)])
         self.bring(self.file("far.gpkg"), "ducts")
+        # An import into `top` lets go of the version that the numbers were made of.
+        rows = self.ask(lambda store: [(it.table, it.number) for it in store.diff("top", numbers.OWN)])
+        self.assertEqual([numbers.STATE], [it for it, _ in rows])
         self.assertEqual(range(7001, 8001), self.ask(take))
         self.ask(lambda store: store.put("top", 7, 2**63 - 500, b"{}"))
         self.ask(lambda store: numbers.pass_over(store, 7, 2**63 - 500, False))
@@ -189,19 +215,29 @@ class PlanningTests(AltgisCase):
         for first in (4, 1004):
             self.assertIn("2 added, 0 changed", self.bring(self.file("more.gpkg"), "ducts", "--new"))
             self.assertEqual([{"dn": 1}, {"dn": 2}], [self.attributes("top", it) for it in (first, first + 1)])
+        with sqlite3.connect(self.file("more.gpkg")) as it:  # A file that tells of less than it has.
+            it.execute("UPDATE gpkg_ogr_contents SET feature_count = 0")
+        words = ("import", self.store, self.file("more.gpkg"), "--alt", "top", "--table", 7, "--new")
+        self.refused("more features than the 0", *words)
+        with sqlite3.connect(self.file("more.gpkg")) as it:
+            it.execute("UPDATE gpkg_ogr_contents SET feature_count = 2")
         before = Path(self.store).read_bytes()
         self.assertIn("2 added", self.bring(self.file("more.gpkg"), "ducts", "--new", "--dry-run"))
         self.assertTrue(Path(self.store).read_bytes() == before)
 
     def test_a_new_field_changes_the_layer_alone(self):
         self.begin(ducts(50), "north")
-        change(self.file("top.gpkg"), "ALTER TABLE ducts ADD COLUMN depth REAL", "UPDATE ducts SET depth = 1.5 WHERE fid = 1")
+        change(
+            self.file("top.gpkg"),
+            "ALTER TABLE ducts ADD COLUMN depth REAL",
+            "UPDATE ducts SET depth = 1.5 WHERE fid = 1",
+        )
         self.assertIn("0 added, 1 changed, 0 removed, 49 same", self.bring(self.file("top.gpkg"), "ducts", alt="north"))
         self.assertEqual([(0, 7), (7, 1)], self.ask(lambda store: [it[:2] for it in store.changes("north")]))
 
     def test_old_values_are_read_as_they_are(self):
-        """A store of an older altgis, with names in its values: a difference, an export and an import see the same map, and what
-        an import changes it writes with numbers."""
+        """A store of an older altgis, with names in its values: a difference, an export and an import see the same map,
+        and what an import changes it writes with numbers."""
         fields = [{"name": "dn", "type": "Integer"}, {"name": "2", "type": "String"}, {"name": "mat", "type": "String"}]
         old = {**maps.NO_LAYER, "name": "ducts", "crs": "EPSG:2056", "fields": fields}
         values = {1: {"dn": 110, "2": "two", "mat": None}, 2: {"dn": None, "mat": "PVC"}}
@@ -209,7 +245,10 @@ class PlanningTests(AltgisCase):
         for number, it in values.items():
             self.ask(lambda store: store.put("top", 7, number, maps.to_text(it).encode()))
         self.altgis("export", self.store, "top", self.file("a.gpkg"))
-        self.assertEqual([(1, 110, "two", None), (2, None, None, "PVC")], self.rows(self.file("a.gpkg"), "ducts", 'fid, dn, "2", mat'))
+        self.assertEqual(
+            [(1, 110, "two", None), (2, None, None, "PVC")],
+            self.rows(self.file("a.gpkg"), "ducts", 'fid, dn, "2", mat'),
+        )
         self.ask(lambda store: store.new("north", "top"))
         told = self.bring(self.file("a.gpkg"), "ducts", alt="north")
         self.assertIn("0 added, 0 changed, 0 removed, 2 same", told)
@@ -225,7 +264,10 @@ class PlanningTests(AltgisCase):
         nobody = lambda *_: self.fail("nobody has to choose")
         base = layer(dn=1, mat=2)
         found = MergedLayer(base, layer(dn=1, mat=2, depth=3), layer(dn=1, mat=2, owner=4), nobody)
-        self.assertEqual([("dn", 1), ("mat", 2), ("depth", 3), ("owner", 4)], [(it["name"], it["number"]) for it in found.layer["fields"]])
+        self.assertEqual(
+            [("dn", 1), ("mat", 2), ("depth", 3), ("owner", 4)],
+            [(it["name"], it["number"]) for it in found.layer["fields"]],
+        )
         found = MergedLayer(base, layer(size=1, mat=2), layer(dn=1), nobody)
         self.assertEqual([("size", 1)], [(it["name"], it["number"]) for it in found.layer["fields"]])
         found = MergedLayer(base, layer(dn=1, mat=2, depth=3), layer(dn=1, mat=2, depth=4), nobody)
@@ -252,7 +294,9 @@ class PlanningTests(AltgisCase):
 
     def test_values_that_look_alike_are_not_the_same(self):
         fields = [{"name": it, "type": "Real", "number": at} for at, it in enumerate("abc", 1)]
-        self.ask(lambda store: store.put("top", 0, 7, maps.to_text({**maps.NO_LAYER, "fields": fields, "next": 4}).encode()))
+        self.ask(
+            lambda store: store.put("top", 0, 7, maps.to_text({**maps.NO_LAYER, "fields": fields, "next": 4}).encode())
+        )
         self.ask(lambda store: store.put("top", 7, 1, b'{"1":1,"2":2,"3":0}'))
         self.ask(lambda store: store.new("north", "top"))
         self.ask(lambda store: store.put("top", 7, 1, b'{"1":1.0,"2":2,"3":1}'))

@@ -1,5 +1,5 @@
-"""Files and records that are made to hurt: what leads elsewhere is not opened, what no program can use is named, and all else goes
-its way."""
+"""Files and records that are made to hurt: what leads elsewhere is not opened, what no program can use is named, and
+all else goes its way."""
 import csv
 import io
 import json
@@ -35,14 +35,18 @@ class SafetyTests(AltgisCase):
         return self.file("secret.csv")
 
     def test_a_vrt_is_not_opened_whatever_its_name_is(self):
-        source = f'<SrcDataSource>{self.secret()}</SrcDataSource>'
+        source = f"<SrcDataSource>{self.secret()}</SrcDataSource>"
         vrt = f'<OGRVRTDataSource><OGRVRTLayer name="secret">{source}</OGRVRTLayer></OGRVRTDataSource>'
         for suffix in ("gpkg", "geojson", "json", "shp", "vrt"):
             file = self.file(f"a.{suffix}")
             Path(file).write_text(vrt)
-            told = "ends with none of" if suffix == "vrt" else "not recognized|GDAL|Unable to open|file is not a database"
+            told = (
+                "ends with none of" if suffix == "vrt" else "not recognized|GDAL|Unable to open|file is not a database"
+            )
             self.refused(told, "import", self.store, file, "secret", "--alt", "top", "--table", 7)
-        self.refused("No such file", "import", self.store, f"/vsizip/{self.file('a.gpkg')}", "x", "--alt", "top", "--table", 7)
+        self.refused(
+            "No such file", "import", self.store, f"/vsizip/{self.file('a.gpkg')}", "x", "--alt", "top", "--table", 7
+        )
 
     def test_a_geopackage_whose_table_is_another_file_is_refused(self):
         self.secret()
@@ -52,8 +56,8 @@ class SafetyTests(AltgisCase):
             database = sqlite3.connect(self.file("a.gpkg"))
             database.execute("PRAGMA writable_schema = 1")
             database.execute("INSERT INTO sqlite_master VALUES ('table', 't', 't', 0, ?)", (made,))
-            contents = "INSERT INTO gpkg_contents (table_name, identifier, data_type, srs_id) VALUES ('t', 't', 'attributes', 0)"
-            database.execute(contents)
+            columns = "table_name, identifier, data_type, srs_id"
+            database.execute(f"INSERT INTO gpkg_contents ({columns}) VALUES ('t', 't', 'attributes', 0)")
             database.commit()
             database.close()
             told = "the table t reads what is not in the file"
@@ -77,8 +81,16 @@ class SafetyTests(AltgisCase):
                 connection.close()
 
         threading.Thread(target=serve, daemon=True).start()
-        feature = {"type": "Feature", "id": 1, "properties": {"dn": 1}, "geometry": {"type": "Point", "coordinates": [1, 2]}}
-        for crs in ({"type": "link", "properties": {"href": address}}, {"type": "name", "properties": {"name": address}}):
+        feature = {
+            "type": "Feature",
+            "id": 1,
+            "properties": {"dn": 1},
+            "geometry": {"type": "Point", "coordinates": [1, 2]},
+        }
+        for crs in (
+            {"type": "link", "properties": {"href": address}},
+            {"type": "name", "properties": {"name": address}},
+        ):
             whole = {"type": "FeatureCollection", "crs": crs, "features": [feature]}
             Path(self.file("a.geojson")).write_text(json.dumps(whole))
             where = ("import", self.store, self.file("a.geojson"), "a", "--alt", "top", "--table", 7)
@@ -89,15 +101,29 @@ class SafetyTests(AltgisCase):
         self.assertEqual([], asked)
 
     def test_a_coordinate_system_is_a_code_or_wkt(self):
-        for text in ("EPSG:2056", "ESRI:102100", system(2056).ExportToWkt(["FORMAT=WKT2_2019"]), system(4326).ExportToWkt()):
+        for text in (
+            "EPSG:2056",
+            "ESRI:102100",
+            system(2056).ExportToWkt(["FORMAT=WKT2_2019"]),
+            system(4326).ExportToWkt(),
+        ):
             self.assertTrue(crs_from_text(text))
         lambert = crs_from_text("ESRI:102100")
         self.assertTrue(crs_to_text(lambert).startswith("PROJCRS["))
         self.assertTrue(crs_from_text(crs_to_text(lambert)).IsSame(lambert))
         self.assertEqual("EPSG:2056", crs_to_text(system(2056)))
         Path(self.file("a.prj")).write_text(system(2056).ExportToWkt())
-        for text in (self.file("a.prj"), "http://x/", "+proj=utm +zone=32", "urn:ogc:def:crs:EPSG::2056", "EPSG:2056\n", "", "a[",
-                     "EPSG:1", "ABC[]"):
+        for text in (
+            self.file("a.prj"),
+            "http://x/",
+            "+proj=utm +zone=32",
+            "urn:ogc:def:crs:EPSG::2056",
+            "EPSG:2056\n",
+            "",
+            "a[",
+            "EPSG:1",
+            "ABC[]",
+        ):
             self.assertRaises(maps.Fault, crs_from_text, text)
 
     def test_a_spreadsheet_sees_no_formula(self):
@@ -117,16 +143,29 @@ class SafetyTests(AltgisCase):
         self.assertEqual(["dn", "mat", "=cmd()"], names)
         self.altgis("export", self.store, "top", self.file("back.gpkg"), "--table", 8)
         texts[5] = "\n=1"  # GDAL reads CR as LF.
-        self.assertEqual([it or "" for it in texts], [it or "" for it, in self.rows(self.file("back.gpkg"), "out", "mat")])
+        self.assertEqual(
+            [it or "" for it in texts], [it or "" for it, in self.rows(self.file("back.gpkg"), "out", "mat")]
+        )
         self.altgis("export", self.store, "top", self.file("plain.csv"), "--table", 7, "--plain")
         self.assertIn("=1+2", Path(self.file("plain.csv")).read_text().split("\n")[1].split(",")[1])
 
     def test_geometry_that_is_bad(self):
         """What GDAL has written is good, and it stays bad however its bytes are cut or changed to what is no place."""
         shapes = ["POINT EMPTY", "POINT (1 2)", "LINESTRING EMPTY", "POINT ZM (1 2 3 4)", "LINESTRING M (1 2 3,4 5 6)"]
-        shapes += ["POLYGON ((0 0,0 9,9 9,0 0),(1 2,1 3,2 3,1 2))", "MULTIPOINT (1 2,3 4)", "CIRCULARSTRING (0 0,1 1,2 0)"]
-        shapes += ["COMPOUNDCURVE ((0 0,1 1),CIRCULARSTRING (1 1,2 2,3 1))", "GEOMETRYCOLLECTION (POINT (1 2),LINESTRING (0 0,1 1))"]
-        shapes += ["MULTIPOLYGON Z (((0 0 1,0 9 1,9 9 1,0 0 1)))", "TIN (((0 0,0 1,1 0,0 0)))", "MULTICURVE ((0 0,1 1))"]
+        shapes += [
+            "POLYGON ((0 0,0 9,9 9,0 0),(1 2,1 3,2 3,1 2))",
+            "MULTIPOINT (1 2,3 4)",
+            "CIRCULARSTRING (0 0,1 1,2 0)",
+        ]
+        shapes += [
+            "COMPOUNDCURVE ((0 0,1 1),CIRCULARSTRING (1 1,2 2,3 1))",
+            "GEOMETRYCOLLECTION (POINT (1 2),LINESTRING (0 0,1 1))",
+        ]
+        shapes += [
+            "MULTIPOLYGON Z (((0 0 1,0 9 1,9 9 1,0 0 1)))",
+            "TIN (((0 0,0 1,1 0,0 0)))",
+            "MULTICURVE ((0 0,1 1))",
+        ]
         chance = random.Random(5)
         for it in shapes:
             for order in (ogr.wkbNDR, ogr.wkbXDR):
@@ -143,31 +182,71 @@ class SafetyTests(AltgisCase):
                     self.assertTrue(box is None or all(abs(it) <= 1e38 for it in box), spoiled)
         self.assertIsNone(geometry.fault_of(bytes(polygon(30000).ExportToIsoWkb(ogr.wkbNDR))))
         nan, inf = math.nan, math.inf
-        for numbers in ((0, nan, 1, 1), (nan, 0, 1, 1), (1, 1, nan, nan), (inf, 0, 0, 0), (0, -inf, 1, 1), (1e39, 0, 0, 0), (0, 0, 0, -1e39)):
+        for numbers in (
+            (0, nan, 1, 1),
+            (nan, 0, 1, 1),
+            (1, 1, nan, nan),
+            (inf, 0, 0, 0),
+            (0, -inf, 1, 1),
+            (1e39, 0, 0, 0),
+            (0, 0, 0, -1e39),
+        ):
             self.assertIsNotNone(geometry.fault_of(course(*numbers)), numbers)
             self.assertIsNone(places.box_of(course(*numbers)))
-        for value in (b"", b"\1", b"duct", struct.pack("<BII", 1, 2, 2**32 - 1), struct.pack("<BII", 1, 7, 2**32 - 1),
-                      struct.pack("<BII", 1, 3, 2**32 - 1), struct.pack("<BII", 1, 7, 1) * 5000):
+        for value in (
+            b"",
+            b"\1",
+            b"duct",
+            struct.pack("<BII", 1, 2, 2**32 - 1),
+            struct.pack("<BII", 1, 7, 2**32 - 1),
+            struct.pack("<BII", 1, 3, 2**32 - 1),
+            struct.pack("<BII", 1, 7, 1) * 5000,
+        ):
             self.assertIsNotNone(geometry.fault_of(value))
 
     def spoil(self, file, fid, value):
         """Gives a feature of a GeoPackage another geometry, past all that GDAL would see to."""
         with sqlite3.connect(file) as database:
-            for name, in database.execute("SELECT name FROM sqlite_master WHERE type = 'trigger'").fetchall():
+            for (name,) in database.execute("SELECT name FROM sqlite_master WHERE type = 'trigger'").fetchall():
                 database.execute(f"DROP TRIGGER {name}")
-            old, = database.execute("SELECT geom FROM ducts WHERE fid = ?", (fid,)).fetchone()
+            (old,) = database.execute("SELECT geom FROM ducts WHERE fid = ?", (fid,)).fetchone()
             at = old.index(course(0, 0, 1, 1))
             database.execute("UPDATE ducts SET geom = ? WHERE fid = ?", (old[:at] + value, fid))
 
     def test_bad_geometry_does_not_come_in(self):
         for numbers in ((0, math.nan, 1, 1), (0, 0, 1e39, 0), (0, 0, -1e39, math.inf)):
-            write(self.file("a.gpkg"), "ducts", DUCTS, [(1, {"dn": 1}, "LINESTRING (0 0,1 1)"), (2, {"dn": 1}, "LINESTRING (0 0,1 1)")])
+            write(
+                self.file("a.gpkg"),
+                "ducts",
+                DUCTS,
+                [(1, {"dn": 1}, "LINESTRING (0 0,1 1)"), (2, {"dn": 1}, "LINESTRING (0 0,1 1)")],
+            )
             self.spoil(self.file("a.gpkg"), 2, course(*numbers))
-            self.refused("feature 2: its geometry is bad", "import", self.store, self.file("a.gpkg"), "ducts", "--alt", "top", "--table", 7)
+            self.refused(
+                "feature 2: its geometry is bad",
+                "import",
+                self.store,
+                self.file("a.gpkg"),
+                "ducts",
+                "--alt",
+                "top",
+                "--table",
+                7,
+            )
             Path(self.file("a.gpkg")).unlink()
 
-    HEADS = (b"long 2000000000000 0", b"long 4001 0", b"long x y", b"long ", b"long 0 0", b"long -5 0", b"long 5000 1",
-             b"long 5000 99999999999999999999", b"long 5000 3 4", b"long 5000 \xb2")
+    HEADS = (
+        b"long 2000000000000 0",
+        b"long 4001 0",
+        b"long x y",
+        b"long ",
+        b"long 0 0",
+        b"long -5 0",
+        b"long 5000 1",
+        b"long 5000 99999999999999999999",
+        b"long 5000 3 4",
+        b"long 5000 \xb2",
+    )
 
     def test_a_head_that_leads_nowhere(self):
         for head in self.HEADS:
@@ -179,13 +258,28 @@ class SafetyTests(AltgisCase):
         """Beside three good features there is one of each kind of bad record. Each is named, and the others go out."""
         write(self.file("a.gpkg"), "ducts", DUCTS, THREE)
         self.bring(self.file("a.gpkg"), "ducts")
-        courses = [course(0, math.nan, 1, 1), course(0, 0, 1e39, 0), b"duct", struct.pack("<BII", 1, 2, 2**32 - 1), *self.HEADS]
+        courses = [
+            course(0, math.nan, 1, 1),
+            course(0, 0, 1e39, 0),
+            b"duct",
+            struct.pack("<BII", 1, 2, 2**32 - 1),
+            *self.HEADS,
+        ]
         texts = [b"duct", b"[1]", b'{"dn":"wide"}', b'{"dn":' * 600, b"\xff", *self.HEADS]
         bad = {(107, 100 + at): it for at, it in enumerate(courses)}
         bad.update({(7, 100 + at): b"{}" for at in range(len(courses))})
         bad.update({(7, 200 + at): it for at, it in enumerate(texts)})
         bad[7, 2**63] = b"{}"
-        layers = {1: b"duct", 2: b"[1]", 3: b'{"fields":[{}]}', 4: b'{"name":5}', 5: b'{"crs":[]}', 200: b"{}", 6: b"[" * 3999, 8: b"long x y"}
+        layers = {
+            1: b"duct",
+            2: b"[1]",
+            3: b'{"fields":[{}]}',
+            4: b'{"name":5}',
+            5: b'{"crs":[]}',
+            200: b"{}",
+            6: b"[" * 3999,
+            8: b"long x y",
+        }
         self.ask(lambda store: store.put_many("top", [(*key, it) for key, it in bad.items()]))
         self.ask(lambda store: store.put_many("top", [(0, it, value) for it, value in layers.items()]))
         ran = self.start_altgis("export", self.store, "top", self.file("x.gpkg"))
@@ -200,7 +294,10 @@ class SafetyTests(AltgisCase):
         self.altgis("index", self.store)
 
         def look(store):
-            return places.scanned(store, "top", 7).numbers.tolist(), places.Index(store, 7).window(-1e38, -1e38, 1e38, 1e38)[0].tolist()
+            return (
+                places.scanned(store, "top", 7).numbers.tolist(),
+                places.Index(store, 7).window(-1e38, -1e38, 1e38, 1e38)[0].tolist(),
+            )
 
         self.assertEqual(([1, 2], [1, 2]), self.ask(look))
 

@@ -8,9 +8,10 @@ package, and it on the client alone: it knows no file format of maps. Only its m
 | (T + 100, id) | its geometry: WKB as ISO has it, little-endian; no record if it has none |
 | (T + 200, n) | a part of a value of more than 4,000 bytes (records.py) |
 
-Such a longer value has a *head* in its own record: `long BYTES FIRST`. Its parts of 4,000 bytes are under FIRST, FIRST +
-1 and so on. FIRST is computed from the key and from all bytes of the value, so a changed value has other parts, and the
-head alone tells which: two designs that change it are in conflict at the head, and what a merge leaves is one of them."""
+Such a longer value has a *head* in its own record: `long BYTES FIRST`. Its parts of 4,000 bytes are under FIRST, FIRST
++ 1 and so on. FIRST is computed from the key and from all bytes of the value, so a changed value has other parts, and
+the head alone tells which: two designs that change it are in conflict at the head, and what a merge leaves is one of
+them."""
 import sys
 from pathlib import Path
 

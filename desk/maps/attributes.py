@@ -1,5 +1,5 @@
-"""The attributes of a feature: a JSON object without nulls, in which a field has its number as its key. What an older program
-wrote has names in their place, and is read as well."""
+"""The attributes of a feature: a JSON object without nulls, in which a field has its number as its key. What an older
+program wrote has names in their place, and is read as well."""
 import json
 from typing import Any, Dict
 
@@ -33,7 +33,11 @@ class Fields:
 
     def named(self, value: bytes) -> Dict[str, Any]:
         """The attributes that a value has, by the names of their fields. A key that is no field stays as it is."""
-        found = object_of(value)
+        found, known = object_of(value), self._names
+        try:
+            return {known[key]: it for key, it in found.items() if it is not None}
+        except KeyError:
+            pass
         names = {self._names.get(key, key): key for key in sorted(found, key=self._names.__contains__)}
         return {name: found[key] for name, key in names.items() if found[key] is not None}
 

@@ -1,8 +1,9 @@
 """The layers of a map: what the store has of each beside its features, as a dict that its record has as JSON.
 
-Each field has a number, by which the values of features name it, so a new field changes this record alone. No number is given
-twice: `next` is the first one that none has had. A field that two designs added at once has both of their numbers, the second
-one in `also`. A layer that an older program made has no numbers, and its values have names in their place."""
+Each field has a number, by which the values of features name it, so a new field changes this record alone. No number is
+given twice: `next` is the first one that none has had. A field that two designs added at once has both of their
+numbers, the second one in `also`. A layer that an older program made has no numbers, and its values have names in their
+place."""
 import json
 from typing import Any, Dict, List, Optional, Tuple
 
@@ -23,7 +24,8 @@ def free_name(name, fields):
 
 
 def layers(store, at) -> Dict[int, Layer]:
-    """The layers of a version, as a dict from table to layer. What is no layer is left out: `layers_and_bad` tells of it."""
+    """The layers of a version, as a dict from table to layer. What is no layer is left out: `layers_and_bad` tells of
+    it."""
     return layers_and_bad(store, at)[0]
 
 
@@ -81,8 +83,8 @@ def next_number(layer: Layer) -> int:
 
 
 def numbered(layer: Layer, first: int = 1) -> Layer:
-    """A layer with a number for each field. One that is also the name of a field, which older values may have as a key, is
-    passed over."""
+    """A layer with a number for each field. One that is also the name of a field, which older values may have as a key,
+    is passed over."""
     names, at = {it["name"] for it in layer["fields"]}, max(first, next_number(layer))
     fields = []
     for it in layer["fields"]:

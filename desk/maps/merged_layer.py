@@ -1,6 +1,6 @@
-"""The layer that a merge leaves where both sides have changed the layer's record: properties and fields are taken from the side
-that changed them."""
-from typing import Any, Callable, Dict, List, Optional, Tuple
+"""The layer that a merge leaves where both sides have changed the layer's record: properties and fields are taken from
+the side that changed them."""
+from typing import Any, Callable, Dict, List, Optional
 
 from maps.layer import NO_LAYER, UNKNOWN_GEOMETRY, Layer, kind_of, next_number, numbered, numbers_of
 
@@ -17,7 +17,8 @@ def three_way(base, parent, mine):
 
 
 class MergedLayer:
-    """The layer of a merge. `renumbered` has the numbers of own fields that the parent has given to other ones meanwhile."""
+    """The layer of a merge. `renumbered` has the numbers of own fields that the parent has given to other ones
+    meanwhile."""
 
     def __init__(self, base: Optional[Layer], parent: Layer, mine: Layer, choose: Choose):
         self._choose, self.renumbered = choose, {}

@@ -1,9 +1,9 @@
-"""Merges of a design with its parent, field by field. A field that one side alone has changed is taken from that side; a field that
-both have changed to different values is a *clash*, for a person to choose. Geometry is a field of its own.
+"""Merges of a design with its parent, field by field. A field that one side alone has changed is taken from that side;
+a field that both have changed to different values is a *clash*, for a person to choose. Geometry is a field of its own.
 
-What is chosen for a feature is for all of its clashes, unless a field has a choice of its own. A feature that one side removed and
-the other one changed, or that both added under one number, is a clash as a whole. The store knows records alone: a joined value is
-put in the same batch as the merge, which settles its record as `mine`."""
+What is chosen for a feature is for all of its clashes, unless a field has a choice of its own. A feature that one side
+removed and the other one changed, or that both added under one number, is a clash as a whole. The store knows records
+alone: a joined value is put in the same batch as the merge, which settles its record as `mine`."""
 import contextlib
 from typing import Any, Callable, Dict, List, NamedTuple, Optional, Tuple
 
@@ -13,6 +13,7 @@ from maps.merged_layer import MergedLayer, three_way
 from maps.records import GEOMETRY, Fault, read, read_features, records_of, value_at
 
 PORTION = 1000
+MOST_SETTLEMENTS = 30000  # Of 32 bytes at most: a line has 1,048,576.
 SIDES = "mine", "theirs"
 Key = Tuple[int, int]
 
@@ -32,7 +33,8 @@ class Clash(NamedTuple):
 
 
 class Feature(NamedTuple):
-    """A feature as a version has it: its attributes by the names of the merged layer, and its geometry. Both None: there is none."""
+    """A feature as a version has it: its attributes by the names of the merged layer, and its geometry. Both None:
+    there is none."""
 
     attributes: Optional[Dict[str, Any]]
     geometry: Optional[bytes]
@@ -42,7 +44,8 @@ class Feature(NamedTuple):
 
 
 class Choices:
-    """What people have chosen: `mine`, `theirs` or `both` for a feature, another side for one of its fields, or one for all."""
+    """What people have chosen: `mine`, `theirs` or `both` for a feature, another side for one of its fields, or one for
+    all."""
 
     def __init__(self, of: Optional[Dict[Tuple[int, int, str], str]] = None, rest: Optional[str] = None):
         self._of, self.rest = of or {}, rest
@@ -56,8 +59,8 @@ class Choices:
 
 
 class Plan:
-    """What a merge does: the side of each conflict, what it puts and removes behind that, and the clashes: those that nobody has
-    chosen a side for are `open`, and the merge is not to be made while there are any."""
+    """What a merge does: the side of each conflict, what it puts and removes behind that, and the clashes: those that
+    nobody has chosen a side for are `open`, and the merge is not to be made while there are any."""
 
     def __init__(self):
         self.settlements: Dict[Key, str] = {}
@@ -148,7 +151,9 @@ class Merging:
             sides.append((self._features(table, numbers, records, self._fields(table, side)), records))
         for number in numbers:
             found = [its[number] for its, _ in sides]
-            if not any(isinstance(it, Fault) for it in found):  # What cannot be read is settled as the records that it is.
+            if not any(
+                isinstance(it, Fault) for it in found
+            ):  # What cannot be read is settled as the records that it is.
                 left = self._merge_feature(table, number, *found)
                 self._leave_feature(table, number, left, [records for _, records in sides])
 
@@ -212,7 +217,9 @@ class Merging:
 
     # --- records ---------------------------------------------------------------------------------
 
-    def _leave(self, table: int, number: int, value: Optional[bytes], heads: Optional[List[Optional[bytes]]] = None) -> None:
+    def _leave(
+        self, table: int, number: int, value: Optional[bytes], heads: Optional[List[Optional[bytes]]] = None
+    ) -> None:
         """Sees to it that the merge leaves this value under a key, or none."""
         key = table, number
         records = {} if value is None else records_of(table, number, value)
@@ -248,16 +255,26 @@ class Merging:
                     self.plan.put.update(records_of(table + GEOMETRY, new, mine.geometry))
 
     def _translate(self) -> None:
-        """Writes own values anew that have numbers of fields which are the parent's now, or links to features with new numbers."""
+        """Writes own values anew that have numbers of fields which are the parent's now, or links to features with new
+        numbers."""
         renamed = {table for table, _ in self.plan.renamed}
         links = {
-            table: {it["name"]: it["link"] for it in layer["fields"] if it.get("link") in renamed} for table, layer in self.layers.items()
+            table: {it["name"]: it["link"] for it in layer["fields"] if it.get("link") in renamed}
+            for table, layer in self.layers.items()
         }
         due = {table for table, its in links.items() if its} | {table for table, its in self._renumbered.items() if its}
         if not due:
             return
-        own = {(it.table, it.number): it.after for it in self._store.changes(self.alt) if it.table in due and it.after is not None}
-        own = {key: it for key, it in own.items() if self.plan.settlements.get(key) != "theirs" and key not in self.plan.remove}
+        own = {
+            (it.table, it.number): it.after
+            for it in self._store.changes(self.alt)
+            if it.table in due and it.after is not None
+        }
+        own = {
+            key: it
+            for key, it in own.items()
+            if self.plan.settlements.get(key) != "theirs" and key not in self.plan.remove
+        }
         put = {key: it for key, it in self.plan.put.items() if key[0] in due}
         for key in sorted({*own, *put}):
             records = read(self._store, self.alt, [key]) if key not in put else self.plan.put
@@ -286,7 +303,9 @@ class Exact(NamedTuple):
     value: Any
 
     def __eq__(self, other):
-        return type(self.value) is type(other.value) and self.value == other.value and repr(self.value) == repr(other.value)
+        if type(self.value) is not type(other.value) or self.value != other.value:
+            return False
+        return isinstance(self.value, (bytes, str)) or repr(self.value) == repr(other.value)
 
     def __ne__(self, other):
         return not self == other
@@ -300,13 +319,26 @@ def as_number(value: Any) -> int:
     return int(text) if text.isascii() and text.isdecimal() and len(text) < 20 else -1
 
 
+def settlements_of(plan: Plan) -> Tuple[Dict[Key, str], Optional[str]]:
+    """The words of the merge: each conflict's side, or, if a line has no place for so many, one side for all but
+    some."""
+    if len(plan.settlements) <= MOST_SETTLEMENTS:
+        return plan.settlements, None
+    sides = list(plan.settlements.values())
+    rest = max(SIDES, key=sides.count)
+    found = {key: side for key, side in plan.settlements.items() if side != rest}
+    if len(found) > MOST_SETTLEMENTS:
+        raise Fault(f"{len(found)} conflicts are more than one merge can settle: merge with all=mine or all=theirs")
+    return found, rest
+
+
 def merge(store, alt: str, plan: Plan, is_service: bool) -> None:
     """Makes a merge by its plan, as one batch or one commit."""
     if plan.open:
         raise Fault(f"{len(plan.open)} clashes have no choice yet")
     try:
         with store.batch() if is_service else contextlib.nullcontext():
-            store.merge(alt, plan.settlements)
+            store.merge(alt, *settlements_of(plan))
             store.put_many(alt, ((*key, plan.put[key]) for key in sorted(plan.put)))
             store.remove_many(alt, plan.remove)
         if not is_service:

@@ -1,8 +1,8 @@
 """Numbers for new features, so that two designs never give the same one.
 
-The alternative `.numbers` under `top` has one record, (64000, V): JSON of each table with the first number that nobody has been
-given. Whoever needs numbers takes them a thousand at a time, in a batch that removes record V and puts V + 1: if another planner
-was faster, record V is gone, the batch is refused as a whole, and it is tried again."""
+The alternative `.numbers` under `top` has one record, (64000, V): JSON of each table with the first number that nobody
+has been given. Whoever needs numbers takes them a thousand at a time, in a batch that removes record V and puts V + 1:
+if another planner was faster, record V is gone, the batch is refused as a whole, and it is tried again."""
 import contextlib
 import json
 from typing import Dict, Optional, Tuple
@@ -19,8 +19,8 @@ NO_ALTERNATIVE, IS_THERE, NO_SUCH_RECORD = 1, 2, 5
 
 
 def take(store, table: int, count: int, is_service: bool) -> range:
-    """Takes at least so many numbers of a table, in whole thousands, for good: nobody else is given them. On a store without a
-    service this is a commit, so it comes before other changes."""
+    """Takes at least so many numbers of a table, in whole thousands, for good: nobody else is given them. On a store
+    without a service this is a commit, so it comes before other changes."""
     count = -(-count // RANGE) * RANGE
     for _ in range(TRIES):
         version, firsts = state(store)
@@ -32,6 +32,24 @@ def take(store, table: int, count: int, is_service: bool) -> range:
     raise Fault(f"others take numbers of table {table} all the time")
 
 
+def renew(store, is_service: bool) -> None:
+    """Makes `.numbers` anew of what `top` is now: until then it holds the version of `top` that it was made of."""
+    version, firsts = state(store)
+    if not version:
+        return
+    try:
+        with store.batch() if is_service else contextlib.nullcontext():
+            store.remove(OWN, STATE, version)
+            store.drop(OWN)
+            store.new(OWN, "top")
+            store.put(OWN, STATE, version + 1, text_of(firsts))
+        if not is_service:
+            store.commit()
+    except Refusal:  # This planner may not do that, or another one was faster: it can stay as it is.
+        if not is_service:
+            store.rollback()
+
+
 def pass_over(store, table: int, number: int, is_service: bool) -> None:
     """Lets no number up to this one be given, if numbers of this table were ever taken."""
     for _ in range(TRIES):
@@ -41,7 +59,8 @@ def pass_over(store, table: int, number: int, is_service: bool) -> None:
 
 
 def state(store) -> Tuple[Optional[int], Dict[int, int]]:
-    """The number of the record, 0 if there is none and None if there is no alternative for it, and what the record says."""
+    """The number of the record, 0 if there is none and None if there is no alternative for it, and what the record
+    says."""
     try:
         row = next(iter(store.list(OWN, STATE)), None)
         return (row.number, {int(it): int(first) for it, first in json.loads(row.value).items()}) if row else (0, {})
@@ -55,14 +74,13 @@ def state(store) -> Tuple[Optional[int], Dict[int, int]]:
 
 def write(store, version: Optional[int], firsts: Dict[int, int], is_service: bool) -> bool:
     """Makes this the record in place of that version. False if another planner was faster."""
-    value = json.dumps({str(it): firsts[it] for it in sorted(firsts)}).encode()
     try:
         with store.batch() if is_service else contextlib.nullcontext():
             if version is None:
                 store.new(OWN, "top")
             elif version:
                 store.remove(OWN, STATE, version)
-            store.put(OWN, STATE, (version or 0) + 1, value)
+            store.put(OWN, STATE, (version or 0) + 1, text_of(firsts))
     except Refusal as refusal:
         if refusal.number in (IS_THERE, NO_SUCH_RECORD) and is_service:
             return False
@@ -70,6 +88,10 @@ def write(store, version: Optional[int], firsts: Dict[int, int], is_service: boo
     if not is_service:
         store.commit()
     return True
+
+
+def text_of(firsts: Dict[int, int]) -> bytes:
+    return json.dumps({str(it): firsts[it] for it in sorted(firsts)}).encode()
 
 
 def free_number(store, table: int) -> int:

@@ -1,4 +1,5 @@
-"""The values of a map as records of a store: each in one record, or in a head and parts. maps/__init__.py has the table."""
+"""The values of a map as records of a store: each in one record, or in a head and parts. maps/__init__.py has the
+table."""
 import hashlib
 import heapq
 import itertools
@@ -67,8 +68,8 @@ def value_at(records, table, number):
 
 
 def features(records, table):
-    """The features of a table among records, as a dict from id to attributes and geometry. A feature of which a merge has left
-    the geometry alone has no attributes."""
+    """The features of a table among records, as a dict from id to attributes and geometry. A feature of which a merge
+    has left the geometry alone has no attributes."""
     numbers = sorted({number for its_table, number in records if its_table in (table, table + GEOMETRY)})
     return {it: (value_at(records, table, it) or b"{}", value_at(records, table + GEOMETRY, it)) for it in numbers}
 
@@ -79,7 +80,9 @@ def features(records, table):
 def read(store, at, keys):
     """The records that are there under these keys, and the parts that their heads tell of."""
     keys = list(keys)
-    return with_parts(store, at, {key: value for key, value in zip(keys, store.get_many(at, keys)) if value is not None})
+    return with_parts(
+        store, at, {key: value for key, value in zip(keys, store.get_many(at, keys)) if value is not None}
+    )
 
 
 def with_parts(store, at, records):
@@ -94,13 +97,15 @@ def read_features(store, at, table, numbers):
     tables, wanted, first, last = (table, table + GEOMETRY), set(numbers), min(numbers), max(numbers)
     if last - first > 4 * len(wanted):
         return read(store, at, ((it, number) for it in tables for number in sorted(wanted)))
-    found = {(it, row.number): row.value for it in tables for row in store.list(at, it, first, last) if row.number in wanted}
+    found = {
+        (it, row.number): row.value for it in tables for row in store.list(at, it, first, last) if row.number in wanted
+    }
     return with_parts(store, at, found)
 
 
 def scan_values(store, at, table, bad: Optional[Callable[[int, Fault], None]] = None):
-    """The values of a table with their numbers, a page at a time. A value that lacks parts is given to `bad`, if that is there,
-    and left out; else it is raised."""
+    """The values of a table with their numbers, a page at a time. A value that lacks parts is given to `bad`, if that
+    is there, and left out; else it is raised."""
     for row in store.scan(at, table):
         if not row.value.startswith(b"long "):
             yield row.number, row.value
@@ -115,8 +120,8 @@ def scan_values(store, at, table, bad: Optional[Callable[[int, Fault], None]] = 
 
 
 def scan_features(store, at, table, bad: Optional[Callable[[int, Fault], None]] = None):
-    """The features of a table, a page at a time: id, attributes and geometry. One whose value lacks parts is given to `bad`, if
-    that is there, and left out; else it is raised."""
+    """The features of a table, a page at a time: id, attributes and geometry. One whose value lacks parts is given to
+    `bad`, if that is there, and left out; else it is raised."""
     left_out = set()
 
     def note(number, fault):

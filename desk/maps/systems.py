@@ -1,5 +1,5 @@
-"""Coordinate systems as a layer's record names them: a code of EPSG, or WKT. What a record names is never looked up elsewhere:
-GDAL would open a file of that name, or fetch an address."""
+"""Coordinate systems as a layer's record names them: a code of EPSG, or WKT. What a record names is never looked up
+elsewhere: GDAL would open a file of that name, or fetch an address."""
 import re
 from typing import Optional
 
@@ -7,7 +7,7 @@ from osgeo import osr
 
 from maps.records import Fault
 
-# Codes that PROJ's own database has. Only those of EPSG are written; stores that older programs made have the others, too.
+# Codes that PROJ's own database has. Only those of EPSG are written; older stores have the others, too.
 CODE = re.compile(r"(EPSG|ESRI|OGC|IGNF|NKG|IAU_2015):[A-Za-z0-9_]+")
 WKT = re.compile(r"[A-Z][A-Za-z0-9_]*\[")
 

@@ -1,5 +1,5 @@
-"""Which values of JSON a field may have, by its type: what is put by hand or by the desk is looked at by this before it is there,
-so that each value can go out again."""
+"""Which values of JSON a field may have, by its type: what is put by hand or by the desk is looked at by this before it
+is there, so that each value can go out again."""
 import re
 from datetime import date
 from typing import Any, Optional
@@ -8,7 +8,11 @@ SIZES = {"Integer": 31, "Integer64": 63}
 WORDS = ("nan", "inf", "-inf")  # JSON has no others for reals that are not finite.
 TIME = r"([01]\d|2[0-3]):[0-5]\d:([0-5]\d|60)(\.\d{1,9})?"
 ZONE = r"(Z|[+-]\d{2}(:?\d{2})?)?"
-MOMENTS = {"Date": r"(\d{4}-\d{2}-\d{2})", "Time": f"(){TIME}{ZONE}", "DateTime": rf"(\d{{4}}-\d{{2}}-\d{{2}})[T ]{TIME}{ZONE}"}
+MOMENTS = {
+    "Date": r"(\d{4}-\d{2}-\d{2})",
+    "Time": f"(){TIME}{ZONE}",
+    "DateTime": rf"(\d{{4}}-\d{{2}}-\d{{2}})[T ]{TIME}{ZONE}",
+}
 
 
 def is_day(text: str) -> bool:

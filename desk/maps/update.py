@@ -5,9 +5,9 @@ from maps.records import GEOMETRY, MOST_PARTS, PARTS, Fault, first_part, part_ke
 
 
 class Update:
-    """What makes of the records that are there, `old`, those that are to be: records to put, and keys to remove. A record that
-    stays or changes is taken out of `old`. `firsts` has the FIRST / 1,000 of each longer value of the new map. Attributes of
-    which `is_same` tells that they are the same, though written otherwise, stay as they are."""
+    """What makes of the records that are there, `old`, those that are to be: records to put, and keys to remove. A
+    record that stays or changes is taken out of `old`. `firsts` has the FIRST / 1,000 of each longer value of the new
+    map. Attributes of which `is_same` tells that they are the same, though written otherwise, stay as they are."""
 
     def __init__(self, old, firsts=(), is_same: Optional[Callable[[bytes, bytes], bool]] = None):
         self.old, self.put, self.firsts = old, {}, set() if firsts == () else firsts
