@@ -1,0 +1,127 @@
+"""How a clone is made: a store of its own in a new file, which gets its name once it is whole. Until then it is FILE.part: if the
+link breaks, the same words go on with it."""
+import contextlib
+import os
+import re
+import socket
+import subprocess
+from typing import List, Optional, Sequence
+
+from altctl import Refusal
+from carry import names
+from carry.batch import Batch
+from carry.links import Fault, Link, program_path
+from carry.names import SETTINGS, mark, office_of
+from carry.pair import Say, told
+
+BLOCKS = 1024  # to begin with: the file grows as it needs
+PAGE = 20000
+LAST_NUMBER, LAST_TABLE = 2**64 - 1, 2**16 - 1
+
+
+def default_name() -> str:
+    return re.sub("[^A-Za-z0-9_-]", "-", socket.gethostname().split(".")[0])[:15] or "office"
+
+
+class Clone:
+    def __init__(self, head: Link, file: str, name: str, tables: Sequence[int], say: Say):
+        self.head, self.file, self.name, self.tables, self.say = head, file, names.checked(name), sorted(set(tables)), say
+        self.part = f"{file}.part"
+
+    def make(self) -> None:
+        """Makes the store with `top` as it is at HEAD."""
+        if os.path.exists(self.file):
+            raise Fault(f"{self.file} is there already")
+        with self._store() as store:
+            settings = names.settings_of(store.store)[1]
+            while settings.get("at") is not None:
+                settings = self._page(store, settings)
+        os.link(self.part, self.file)
+        os.unlink(self.part)
+
+    def _store(self) -> Link:
+        """The part of the clone that is there, if HEAD still has its mark; else a new one."""
+        there = names.read_names(self.head.store, self.name)
+        if os.path.exists(self.part):
+            with contextlib.suppress(Fault):
+                store = Link(self.part)
+                if self._goes_on(store, there):
+                    self.say("goes on where it was interrupted")
+                    return store
+                store.store.close(quietly=True)
+            os.unlink(self.part)
+        if there.tokens:
+            raise Fault(
+                f"HEAD has an office {self.name} already: choose another name by --office. If its clone is lost: altcarry forget HEAD "
+                f"--office {self.name}"
+            )
+        return self._begin()
+
+    def _goes_on(self, store: Link, there: names.Names) -> bool:
+        name, settings = names.settings_of(store.store)
+        tokens = names.read_names(store.store, name).tokens
+        is_same = name == self.name and settings["tables"] == self.tables and settings["head"] == self.head.place
+        return is_same and len(tokens) == 1 and there.marks.get("top") == tokens == there.tokens
+
+    def _begin(self) -> Link:
+        """An empty clone, with the token that HEAD gets next: if that comes to nothing, the next try begins anew."""
+        token = names.new_token()
+        words = [program_path(), "create", self.part, str(BLOCKS)]
+        subprocess.run(words, check=True, stdout=subprocess.DEVNULL)
+        store, batch = Link(self.part), Batch()
+        settings = {"head": self.head.place, "tables": self.tables, "at": [self.tables[0] if self.tables else 0, 0]}
+        names.renew(batch, self.name, None, [token], settings)
+        batch.carry_out(store)
+        batch = Batch()
+        names.renew(batch, self.name, None, [token])
+        batch.add("checkpoint", "top", mark(self.name, token))
+        try:
+            batch.carry_out(self.head)
+        except Refusal as refusal:
+            raise Fault(told(refusal, "HEAD")) from refusal
+        return store
+
+    def _page(self, store: Link, settings: dict) -> dict:
+        """Brings the next records, and commits them with the place that comes after them."""
+        [token] = names.read_names(store.store, self.name).tokens
+        table, number = settings["at"]
+        rows = list(self.head.store.next(f"top@{mark(self.name, token)}", table, number, PAGE))
+        wanted = [it for it in rows if not self.tables or it.table in self.tables]
+        settings = {**settings, "at": self._place_after(rows, table)}
+        batch = Batch()
+        for it in wanted:
+            batch.add("put", "top", *it)
+        if settings["at"] is None:
+            settings.pop("at")
+            names.renew(batch, self.name, token, [token], settings)
+            batch.add("checkpoint", "top", mark(self.name, token))
+        else:
+            batch.add("put", office_of(self.name), *SETTINGS, names.text_of(settings))
+        batch.carry_out(store)
+        return settings
+
+    def _place_after(self, rows: list, table: int) -> Optional[List[int]]:
+        """The key at which the next page begins, or None after the last one."""
+        if len(rows) < PAGE:
+            return None
+        table, number = rows[-1].table, rows[-1].number
+        if number == LAST_NUMBER:
+            table, number = table + 1, -1
+        if self.tables and table not in self.tables:
+            table, number = next((it for it in self.tables if it > table), LAST_TABLE + 1), -1
+        return [table, number + 1] if table <= LAST_TABLE else None
+
+
+def forget(head: Link, name: str, say: Say) -> None:
+    """Removes all names of an office at HEAD. Its clone, if there still is one, cannot pull or push then."""
+    there, batch = names.read_names(head.store, names.checked(name)), Batch()
+    if office_of(name) not in there.parents:
+        raise Fault(f"HEAD has no office {name}")
+    for alt, check in there.extra(name, {}, ""):
+        batch.add("uncheck", alt, check)
+    batch.add("drop", office_of(name))
+    try:
+        batch.carry_out(head)
+    except Refusal as refusal:
+        raise Fault(told(refusal, "HEAD")) from refusal
+    say(f"{name}: forgotten at HEAD")
