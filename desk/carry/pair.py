@@ -29,7 +29,12 @@ class Pair:
 
     def look(self) -> None:
         """Reads the names of both sides, and compares them. Raises a Fault unless one belongs to the other."""
-        self.here, self.there = (names.read_names(it.store, self.name) for it in (self.clone, self.head))
+        self.there = names.read_names(self.head.store, self.name)
+        self.look_here()
+
+    def look_here(self) -> None:
+        """Compares the clone with what HEAD had when it was looked at, and has got since."""
+        self.here = names.read_names(self.clone.store, self.name)
         common = set(self.here.tokens) & set(self.there.tokens)
         if len(common) != 1:
             self._refuse_stranger()
@@ -104,7 +109,14 @@ class Pair:
         for alt, check in extra:
             batch.add("uncheck", alt, check)
         self.carry_out(self.head, batch)
-        self.look()
+        kept = {alt: [self.marks[alt]] for alt, tokens in self.there.marks.items() if self.marks.get(alt) in tokens}
+        self.there = self.there._replace(tokens=[self.token], marks=kept)
+
+    def note_there(self, token: str, designs: List[str]) -> None:
+        """Notes that HEAD has got a token, and these designs a mark of it."""
+        self.there.tokens.append(token)
+        for it in designs:
+            self.there.marks.setdefault(it, []).append(token)
 
     def carry_out(self, link: Link, batch: Batch) -> None:
         try:

@@ -58,7 +58,6 @@ class Pull:
             found = pair.differ(pair.head, *bases, *known)
             if found[: len(bases)] == before:
                 break
-            pair.look()
             pair.tidy()
         else:
             raise Fault("HEAD's designs are merged all the time: try again later")
@@ -72,6 +71,7 @@ class Pull:
         for it in designs:
             batch.add("checkpoint", it, self.frozen)
         pair.carry_out(pair.head, batch)
+        pair.note_there(self.token, designs)
 
     # --- in the clone -----------------------------------------------------------------------------
 
@@ -251,7 +251,7 @@ def pull(pair: Pair, asked: List[str]) -> None:
         found.fetch()
         if found.incoming:
             found.apply()
-        pair.look()
+        pair.look_here()
         pair.tidy()
 
 

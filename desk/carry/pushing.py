@@ -267,7 +267,14 @@ def complete(pair: Pair, push: Push) -> None:
             f"{push.design}: HEAD has changed it meanwhile, and not all of that fits. Your changes are the design {beside_it} under it, "
             f"here and at HEAD: merge {beside_it}, settle, and post it"
         )
-    pair.look()
+    pair.note_there(push.token, [beside_it or push.design])
+    pair.there.tokens[:] = [push.token]
+    if beside_it:
+        pair.there.parents[beside_it] = push.design
+    else:
+        pair.there.marks[push.design] = [push.token]
+        pair.there.parents.setdefault(push.design, pair.parent(push.design))
+    pair.look_here()
     pair.tidy()
 
 
