@@ -5,7 +5,7 @@ import os
 import re
 import socket
 import subprocess
-from typing import List, Optional, Sequence
+from typing import List, Optional, Sequence, Tuple
 
 from altctl import Refusal
 from carry import names
@@ -40,38 +40,49 @@ class Clone:
         os.unlink(self.part)
 
     def _store(self) -> Link:
-        """The part of the clone that is there, if HEAD still has its mark; else a new one."""
+        """The part of the clone that is there, if it is one of this HEAD; else a new one."""
         there = names.read_names(self.head.store, self.name)
-        if os.path.exists(self.part):
-            with contextlib.suppress(Fault):
-                store = Link(self.part)
-                if self._goes_on(store, there):
-                    self.say("goes on where it was interrupted")
-                    return store
-                store.store.close(quietly=True)
-            os.unlink(self.part)
+        token, has_begun = self._part_found()
+        if token is not None and there.tokens == [token] == there.marks.get("top"):
+            self.say("goes on where it was interrupted")
+            return Link(self.part)
         if there.tokens:
             raise Fault(
                 f"HEAD has an office {self.name} already: choose another name by --office. If its clone is lost: altcarry forget HEAD "
                 f"--office {self.name}"
             )
-        return self._begin()
+        if token is None or has_begun:
+            token = self._begin()
+        self._name_there(token)
+        return Link(self.part)
 
-    def _goes_on(self, store: Link, there: names.Names) -> bool:
-        name, settings = names.settings_of(store.store)
-        tokens = names.read_names(store.store, name).tokens
-        is_same = name == self.name and settings["tables"] == self.tables and settings["head"] == self.head.place
-        return is_same and len(tokens) == 1 and there.marks.get("top") == tokens == there.tokens
+    def _part_found(self) -> Tuple[Optional[str], bool]:
+        """The token of a part that these words have made before, and whether it has records."""
+        if os.path.exists(self.part):
+            with contextlib.suppress(Fault), Link(self.part) as store:
+                name, settings = names.settings_of(store.store)
+                tokens = names.read_names(store.store, name).tokens
+                if name == self.name and (settings["tables"], settings["head"]) == (self.tables, self.head.place) and len(tokens) == 1:
+                    return tokens[0], settings.get("at") != self._start()
+        return None, False
 
-    def _begin(self) -> Link:
-        """An empty clone, with the token that HEAD gets next: if that comes to nothing, the next try begins anew."""
-        token = names.new_token()
+    def _start(self) -> List[int]:
+        return [self.tables[0] if self.tables else 0, 0]
+
+    def _begin(self) -> str:
+        """An empty clone, with the token that HEAD gets next. If that comes to nothing, the next try sends the same one."""
+        with contextlib.suppress(FileNotFoundError):
+            os.unlink(self.part)
         words = [program_path(), "create", self.part, str(BLOCKS)]
         subprocess.run(words, check=True, stdout=subprocess.DEVNULL)
-        store, batch = Link(self.part), Batch()
-        settings = {"head": self.head.place, "tables": self.tables, "at": [self.tables[0] if self.tables else 0, 0]}
-        names.renew(batch, self.name, None, [token], settings)
-        batch.carry_out(store)
+        token, batch = names.new_token(), Batch()
+        names.renew(batch, self.name, None, [token], {"head": self.head.place, "tables": self.tables, "at": self._start()})
+        with Link(self.part) as store:
+            batch.carry_out(store)
+        return token
+
+    def _name_there(self, token: str) -> None:
+        """HEAD's mark on the `top` that is read, page by page."""
         batch = Batch()
         names.renew(batch, self.name, None, [token])
         batch.add("checkpoint", "top", mark(self.name, token))
@@ -79,7 +90,6 @@ class Clone:
             batch.carry_out(self.head)
         except Refusal as refusal:
             raise Fault(told(refusal, "HEAD")) from refusal
-        return store
 
     def _page(self, store: Link, settings: dict) -> dict:
         """Brings the next records, and commits them with the place that comes after them."""

@@ -7,7 +7,7 @@ from carry.batch import ASIDE, Batch
 from carry.links import Fault
 from carry.names import MINE, beside, mark, passing
 from carry.pair import Pair, told
-from carry.versions import Differences, Rebase, after, values
+from carry.versions import Differences, Rebase, after, differences, values
 
 EXISTS, NOT_MERGED, UNSETTLED, DENIED = 2, 8, 9, 90
 MOST_TRIES = 20
@@ -217,6 +217,7 @@ def prepare(pair: Pair, design: str) -> Optional[Push]:
     if design not in pair.here.parents or design.startswith("."):
         raise Fault(f"there is no design {design} here")
     parent, token = pair.parent(design), names.new_token()
+    refuse_others(pair, design)
     if design in pair.marks and not pair.is_there(design):
         raise Fault(f"{design} is not at HEAD any more: pull tells what became of it")
     if parent is None:
@@ -235,9 +236,22 @@ def prepare(pair: Pair, design: str) -> Optional[Push]:
         pair.clone, (pair.mark(design), design), (pair.base(design), f"{design}@"), (pair.mark(parent), f"{design}@")
     )
     if moved and ahead:
-        raise Fault(f"{design} was merged here with changes of {parent} that HEAD doesn't have as they are: push {parent}, pull, and merge "
-                    f"{design} again")
+        raise Fault(
+            f"{design} was merged here with another {parent} than HEAD's last one: pull, merge {design} again, and push {parent} first if it "
+            "was changed here"
+        )
     return Push(pair, design, token, bool(moved)) if rows or moved else None
+
+
+def refuse_others(pair: Pair, design: str) -> None:
+    """A clone of some tables has no others to push: HEAD may have records there that are not here."""
+    if not pair.tables:
+        return
+    known = pair.mark(design) if design in pair.marks else f"{design}@"
+    [rows] = differences(pair.clone.store, [(known, design)], [])
+    others = sorted(key for key in rows if key[0] not in pair.tables)
+    if others:
+        raise Fault(f"{others[0][0]}:{others[0][1]} is in a table that this clone does not have from HEAD: nothing is pushed")
 
 
 def finish(pair: Pair) -> None:
@@ -245,9 +259,12 @@ def finish(pair: Pair) -> None:
     if "push" not in pair.settings:
         return
     design, token, moves = pair.settings["push"]
-    push = Push(pair, design, token, moves)
     pair.say(f"{design}: a push of it was interrupted, and is ended first")
-    complete(pair, push)
+    try:
+        complete(pair, Push(pair, design, token, moves))
+    except Fault as fault:
+        pair.say(f"{fault}. So that push is given up: {design} is as before")
+        pair.look_here()
 
 
 def complete(pair: Pair, push: Push) -> None:
@@ -255,9 +272,9 @@ def complete(pair: Pair, push: Push) -> None:
     having = [alt for alt, tokens in pair.there.marks.items() if push.token in tokens]
     try:
         beside_it = push.send() if not having else having[0] if having != [push.design] else None
-    except Fault:
+    except (Fault, Refusal) as fault:
         push.cancel()
-        raise
+        raise fault if isinstance(fault, Fault) else Fault(told(fault, "HEAD")) from fault
     if beside_it is None:
         push.end()
         pair.say(f"{push.design}: pushed")
