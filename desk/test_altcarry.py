@@ -22,7 +22,7 @@ sys.path.insert(0, str(HERE))
 ALTCTL = os.environ["ALTCTL"] = os.path.abspath(os.environ.get("ALTCTL", HERE.parent / "altctl"))
 import carry
 from altctl import Ended, Store
-from carry import batch, cloning, names, pulling, pushing, status
+from carry import batch, cloning, names, pulling, pushing, ranges, status
 from carry.links import Fault, Link, ssh_words
 from carry.pair import Pair
 
@@ -443,6 +443,33 @@ class PushTests(CarryTest):
         self.assertEqual(4, len(found), found)
         found = self.own_names(self.field)
         self.assertEqual(5, len(found), found)
+
+
+class NumberTests(CarryTest):
+    def test_ranges_are_taken_along_and_given_once(self):
+        self.do(self.head, "put north 7 41 x", "put top 107 1234 y", "put top 8 9999 z")
+        said = self.clone("north", "--numbers", "7", "--numbers", "9:1500")
+        due = 'record {} {{"7":%202235,%20"9":%202001}}'
+        self.assertIn("table 7: new features get the numbers 1235 to 2234 here", said)
+        self.assertIn("table 9: new features get the numbers 1 to 2000 here", said)
+        self.assertEqual([due.format("64000 2"), "end 1"], self.ask(self.head, "list .numbers 64000"))
+        self.assertEqual([due.format("64001 0"), "end 1"], self.ask(self.field, "list .numbers 64001"))
+        second = f"{self.folder}/two.alt"
+        said = self.clone("--numbers", "7", file=second, office="berta")
+        self.assertIn("table 7: new features get the numbers 2235 to 3234 here", said)
+        # What is left is enough.
+        self.assertIn("numbers 1235 to 2234", self.carry("pull", "--numbers", "7:900", self.field))
+        self.assertIn("numbers 3235 to 5234", self.carry("pull", "--numbers", "7:1001", self.field))
+
+    def test_the_highest_number_is_found(self):
+        for number in (1, 2, 15, 16, 17, 2**40, 2**63 - 3000):
+            self.do(self.head, f"put top 5 {number} x")
+            with Link(self.head) as head:
+                self.assertEqual(number + 1, ranges.free_number(head, 5))
+
+    def test_bad_words(self):
+        for it in ("x", "0", "100", "7:0", "-1"):
+            self.carry("pull", f"--numbers={it}", self.field, status=2)
 
 
 class StrangerTests(CarryTest):

@@ -2,7 +2,7 @@
 from itertools import groupby
 from typing import Dict, Optional, Tuple
 
-from altctl import Ended, Refusal
+from altctl import Ended, Refusal, encode
 from carry.links import Link
 
 Key = Tuple[int, int]
@@ -39,6 +39,10 @@ class Batch:
         self.add("back", alt, ASIDE)
         self.add("uncheck", alt, ASIDE)
 
+    def text(self) -> str:
+        """The lines as they are written."""
+        return "".join(" ".join([verb, *map(word_of, words)]) + "\n" for verb, words in self.lines)
+
     def carry_out(self, link: Link) -> None:
         store = link.store
         if link.is_service:
@@ -59,6 +63,10 @@ class Batch:
             else:
                 for _, words in lines:
                     getattr(store, verb)(*words)
+
+
+def word_of(word) -> str:
+    return encode(word) if isinstance(word, bytes) else str(word)
 
 
 def is_gone(fault: Exception) -> bool:
