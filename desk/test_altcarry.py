@@ -1,6 +1,6 @@
 #!/usr/bin/env python3
-"""Tests of `altcarry` over real stores, with the program's path in the variable ALTCTL, or else with the one that `./altctl` at the
-top builds. `tools/travels.py` tries it over a bad link."""
+"""Tests of `altcarry` over real stores, with the program's path in the variable ALTCTL, or else with the one that
+`./altctl` at the top builds. `tools/travels.py` tries it over a bad link."""
 import contextlib
 import getpass
 import itertools
@@ -38,14 +38,23 @@ class CarryTest(unittest.TestCase):
         self.head, self.field = f"{self.folder}/head.alt", f"{self.folder}/field.alt"
         self.services = {}
         self.create(self.head)
-        self.do(self.head, "put top 7 1 duct", "put top 7 2 pipe", "put top 107 1 line", "new north top", "put north 7 1 cable")
+        self.do(
+            self.head,
+            "put top 7 1 duct",
+            "put top 7 2 pipe",
+            "put top 107 1 line",
+            "new north top",
+            "put north 7 1 cable",
+        )
 
     def create(self, file):
         subprocess.run([ALTCTL, "create", file, "1024"], check=True, stdout=subprocess.DEVNULL)
 
     def do(self, file, *lines):
         """The answers to lines, committed if none is refused."""
-        ran = subprocess.run([ALTCTL, "do", "--strict", file, *lines, "commit"], stdout=subprocess.PIPE, text=True, timeout=60)
+        ran = subprocess.run(
+            [ALTCTL, "do", "--strict", file, *lines, "commit"], stdout=subprocess.PIPE, text=True, timeout=60
+        )
         self.assertEqual(0, ran.returncode, ran.stdout)
         return ran.stdout.splitlines()[:-1]
 
@@ -101,7 +110,9 @@ class CarryTest(unittest.TestCase):
 
 class CloneTests(CarryTest):
     def test_a_clone_has_top_and_its_designs_with_their_bases(self):
-        self.do(self.head, "put top 7 3 hose", "new wide north", "put wide 7 4 -", "put north 7 9 late", "remove top 7 2")
+        self.do(
+            self.head, "put top 7 3 hose", "new wide north", "put wide 7 4 -", "put north 7 9 late", "remove top 7 2"
+        )
         self.clone("wide")
         self.assertEqual({"top": "~", "north": "top", "wide": "north"}, self.designs(self.field))
         for it in ("top", "north", "wide"):
@@ -110,7 +121,14 @@ class CloneTests(CarryTest):
         self.assertEqual({"7:1": "duct", "7:2": "pipe", "107:1": "line"}, self.records(self.field, "north@"))
 
     def test_values_of_all_bytes_and_lengths_travel(self):
-        values = {(0, 0): b"", (65535, 2**64 - 1): b"-", (7, 5): ODD * 15, (7, 6): b"\x00" * 4000, (7, 7): b"~", (8, 1): b"%25"}
+        values = {
+            (0, 0): b"",
+            (65535, 2**64 - 1): b"-",
+            (7, 5): ODD * 15,
+            (7, 6): b"\x00" * 4000,
+            (7, 7): b"~",
+            (8, 1): b"%25",
+        }
         with Store(self.head, ALTCTL) as store:
             store.put_many("top", [(*key, value) for key, value in values.items()])
             store.commit()
@@ -165,7 +183,9 @@ class CloneTests(CarryTest):
         self.carry("pull", self.field)
         self.assertEqual({"7:1": "duct", "7:2": "pipe", "7:3": "new", "107:1": "line"}, self.records(self.field, "top"))
         self.do(self.field, "put north 8 1 x")
-        self.assertIn("8:1 is in a table that this clone does not have", self.carry("push", self.field, "north", status=1))
+        self.assertIn(
+            "8:1 is in a table that this clone does not have", self.carry("push", self.field, "north", status=1)
+        )
         self.assertEqual(due, self.records(self.head, "north"))
 
     def test_a_merged_design_of_some_tables_is_settled_only_there(self):
@@ -176,7 +196,10 @@ class CloneTests(CarryTest):
         self.do(self.field, "merge north all=mine")
         self.carry("push", self.field, "north")
         self.assertEqual(["tally 1 0 0 yes"], self.ask(self.head, "tally north"))
-        self.assertEqual({"7:1": "mine", "7:2": "pipe", "8:1": "valve", "8:2": "new", "107:1": "line"}, self.records(self.head, "north"))
+        self.assertEqual(
+            {"7:1": "mine", "7:2": "pipe", "8:1": "valve", "8:2": "new", "107:1": "line"},
+            self.records(self.head, "north"),
+        )
 
     def test_what_cannot_be_cloned_is_told(self):
         Path(self.field).write_text("mine")
@@ -204,14 +227,23 @@ class PullTests(CarryTest):
         self.clone("north")
 
     def test_changes_come_and_own_ones_stay(self):
-        self.do(self.head, "put top 7 3 hose", "remove top 107 1", "put north 7 4 head", "remove north 7 2", "put north 7 2 again")
+        self.do(
+            self.head,
+            "put top 7 3 hose",
+            "remove top 107 1",
+            "put north 7 4 head",
+            "remove north 7 2",
+            "put north 7 2 again",
+        )
         self.do(self.field, "put north 7 5 field", "new mine top", "put mine 7 9 mine")
         said = self.carry("pull", self.field)
         self.assertIn("top: 2 changes came", said)
         self.assert_same("top")
         due = {"7:1": "cable", "7:2": "again", "7:4": "head", "7:5": "field", "107:1": "line"}
         self.assertEqual(due, self.records(self.field, "north"))
-        self.assertEqual({"7:1": "duct", "7:2": "pipe", "7:9": "mine", "107:1": "line"}, self.records(self.field, "mine"))
+        self.assertEqual(
+            {"7:1": "duct", "7:2": "pipe", "7:9": "mine", "107:1": "line"}, self.records(self.field, "mine")
+        )
         self.assertEqual(["tally 1 2 0 no"], self.ask(self.field, "tally mine"))
 
     def test_a_conflict_makes_the_own_changes_a_design_beside(self):
@@ -254,7 +286,9 @@ class PullTests(CarryTest):
         due = {"7:1": "cable", "7:2": "field", "7:3": "top", "107:1": "line"}
         self.assertEqual(due, self.records(self.field, "north.anna"))
         self.assertEqual("top", self.designs(self.field)["north.anna"])
-        self.assertEqual(["change 7 1 duct cable", "change 7 2 pipe field", "end 2"], self.ask(self.field, "changes north.anna"))
+        self.assertEqual(
+            ["change 7 1 duct cable", "change 7 2 pipe field", "end 2"], self.ask(self.field, "changes north.anna")
+        )
 
     def test_a_design_that_was_merged_here_takes_heads_changes_in(self):
         self.do(self.head, "put top 7 3 top")
@@ -335,9 +369,13 @@ class PushTests(CarryTest):
         self.carry("push", self.field, "north")
         said = self.carry("push", second, "north")
         self.assertIn("Your changes are the design north.berta under it, here and at HEAD", said)
-        self.assertEqual({"7:1": "cable", "7:2": "anna", "7:3": "anna", "107:1": "line"}, self.records(self.head, "north"))
+        self.assertEqual(
+            {"7:1": "cable", "7:2": "anna", "7:3": "anna", "107:1": "line"}, self.records(self.head, "north")
+        )
         self.assertEqual(["conflict 7 2 pipe anna berta", "end 1"], self.ask(self.head, "conflicts north.berta"))
-        self.assertEqual({"7:1": "cable", "7:2": "berta", "7:4": "berta", "107:1": "line"}, self.records(second, "north.berta"))
+        self.assertEqual(
+            {"7:1": "cable", "7:2": "berta", "7:4": "berta", "107:1": "line"}, self.records(second, "north.berta")
+        )
         self.do(self.head, "merge north.berta 7:2=theirs", "post north.berta", "drop north.berta")
         due = {"7:1": "cable", "7:2": "anna", "7:3": "anna", "7:4": "berta", "107:1": "line"}
         for it in (self.field, second):
@@ -423,7 +461,9 @@ class PushTests(CarryTest):
 
     def test_a_value_before_that_differs_stops_it(self):
         """A store in which the names fit, and the records do not."""
-        [check] = [it.split()[1] for it in self.ask(self.head, "checks north") if it.startswith("checkpoint .office.anna")]
+        [check] = [
+            it.split()[1] for it in self.ask(self.head, "checks north") if it.startswith("checkpoint .office.anna")
+        ]
         self.do(self.head, f"uncheck north {check}", "put north 7 2 forged", f"checkpoint north {check}")
         self.do(self.field, "put north 7 2 field")
         before = self.records(self.head, "north")
@@ -479,12 +519,16 @@ class StrangerTests(CarryTest):
         self.backup = f"{self.folder}/backup"
 
     def both_are_refused(self, text):
-        before = [self.own_names(it) + [self.records(it, alt) for alt in self.designs(it)] for it in (self.head, self.field)]
+        before = [
+            self.own_names(it) + [self.records(it, alt) for alt in self.designs(it)] for it in (self.head, self.field)
+        ]
         self.do(self.field, "put north 7 8 mine")
         for words in (["pull", self.field], ["push", self.field, "north"], ["status", self.field]):
             self.assertIn(text, self.carry(*words, status=1))
         self.do(self.field, "remove north 7 8")
-        after = [self.own_names(it) + [self.records(it, alt) for alt in self.designs(it)] for it in (self.head, self.field)]
+        after = [
+            self.own_names(it) + [self.records(it, alt) for alt in self.designs(it)] for it in (self.head, self.field)
+        ]
         self.assertEqual(before, after)
 
     def test_another_store(self):
@@ -525,10 +569,12 @@ class Cut(OSError):
 
 
 class InterruptionTests(CarryTest):
-    """Each batch fails once before it is carried out, and once after that, unheard: done again, all is as if nothing had failed."""
+    """Each batch fails once before it is carried out, and once after that, unheard: done again, all is as if nothing
+    had failed."""
 
     def interrupted(self, at, do):
-        """Does something, and cuts the link at batch `at // 2`: before it or after it. Returns whether it came so far."""
+        """Does something, and cuts the link at batch `at // 2`: before it or after it. Returns whether it came so
+        far."""
         number, is_after = divmod(at, 2)
         seen = []
         whole = batch.Batch.carry_out
@@ -667,8 +713,7 @@ class ServiceTests(CarryTest):
             import tomllib  # noqa: F401
         except ImportError:
             self.skipTest("no tomllib")
-        me = getpass.getuser()
-        Path(f"{self.head}.rules").write_text(f'[change]\n"*" = ["{me}"]\n[drop]\n"*" = ["{me}"]\n')
+        self.rule({"change": [".office.anna", "top", "north*"], "drop": [".office.anna", "north.*"]})
         socket_path = self.serve(self.head)
         self.carry("clone", socket_path, self.field, "north", "--office", "anna")
         self.do(self.field, "put north 7 3 field")
@@ -676,6 +721,34 @@ class ServiceTests(CarryTest):
         with Store(f"unix:{socket_path}") as head:
             self.assertEqual(b"field", head.get("north.anna", 7, 3))
             self.assertIsNone(head.get("north", 7, 3))
+
+    def rule(self, rights):
+        """Rules by which the tester has these rights, and no others."""
+        text = ""
+        for right, patterns in rights.items():
+            text += f"[{right}]\n" + "".join(f'"{it}" = ["{getpass.getuser()}"]\n' for it in patterns)
+        Path(f"{self.head}.rules").write_text(text)
+
+    def test_the_rights_that_an_office_needs(self):
+        try:
+            import tomllib  # noqa: F401
+        except ImportError:
+            self.skipTest("no tomllib")
+        self.rule(
+            {"change": [".office.anna", "top", "north*"], "drop": [".office.anna", "north.*"], "post": ["north*"]}
+        )
+        socket_path = self.serve(self.head)
+        self.carry("clone", socket_path, self.field, "north", "--office", "anna")
+        self.do(self.field, "put north 7 3 field")
+        self.assertEqual("north: pushed\n", self.carry("push", self.field, "north"))
+        self.do(self.field, "put north 7 2 field", "new south top")
+        self.assertIn("you may not do that in HEAD: 90 Denied", self.carry("push", self.field, "south", status=1))
+        self.do(self.field, "put top 7 9 t", "remove top 7 9", "put north 7 2 again", "new north2 top")
+        self.carry("pull", self.field)
+        self.carry("push", self.field, "north", "north2")
+        self.stop(self.head)
+        self.assert_same("north")
+        self.assertIn("north2", self.designs(self.head))
 
     def test_a_service_that_is_not_there(self):
         socket_path = self.serve(self.head)
@@ -720,13 +793,15 @@ class SshTests(CarryTest):
         with socket.create_server(("127.0.0.1", 0)) as probe:
             port = probe.getsockname()[1]
         Path(self.folder, "config").write_text(
-            f"Port {port}\nListenAddress 127.0.0.1\nHostKey {self.folder}/host\nAuthorizedKeysFile {self.folder}/key.pub\n"
+            f"Port {port}\nListenAddress 127.0.0.1\nHostKey {self.folder}/host\n"
+            f"AuthorizedKeysFile {self.folder}/key.pub\n"
             f"StrictModes no\nUsePAM no\nPidFile none\nPermitRootLogin prohibit-password\n"
         )
         server = subprocess.Popen([sshd, "-D", "-e", "-f", f"{self.folder}/config"], stderr=subprocess.DEVNULL)
         self.addCleanup(server.wait)
         self.addCleanup(server.terminate)
-        options = f"-i {self.folder}/key -o UserKnownHostsFile={self.folder}/known -o StrictHostKeyChecking=no -o LogLevel=ERROR"
+        known = f"-o UserKnownHostsFile={self.folder}/known -o StrictHostKeyChecking=no"
+        options = f"-i {self.folder}/key {known} -o LogLevel=ERROR"
         late = time.monotonic() + 30
         while time.monotonic() < late:
             with contextlib.suppress(OSError), socket.create_connection(("127.0.0.1", port)):

@@ -1,8 +1,10 @@
-"""A bad link between two network namespaces: packets are late, lost, and held back to a rate, and the link can be cut.
+"""A bad link between two network namespaces: packets are late, lost, and held back to a rate, and the link can be
+cut.
 
-It is what `tc netem` does, for kernels without it: two devices of the kind TUN, one in each namespace, and this process between them.
-The far namespace has a relay from a port of TCP to a service's socket. `words` is a command that leads there from the near one; it
-stands in for `ssh`, whose words it ignores. Needs root, `ip` and /dev/net/tun; `missing` tells what is not there."""
+It is what `tc netem` does, for kernels without it: two devices of the kind TUN, one in each namespace, and this
+process between them. The far namespace has a relay from a port of TCP to a service's socket. `words` is a command
+that leads there from the near one; it stands in for `ssh`, whose words it ignores. Needs root, `ip` and /dev/net/tun;
+`missing` tells what is not there."""
 import contextlib
 import fcntl
 import heapq
@@ -129,8 +131,8 @@ class BadLink:
 
 
 class PoorProxy:
-    """What stands in for the link where it cannot be made: each connection is late by a proxy, some pieces by a second more, as if TCP
-    had sent them again, and a cut closes all."""
+    """What stands in for the link where it cannot be made: each connection is late by a proxy, some pieces by a
+    second more, as if TCP had sent them again, and a cut closes all."""
 
     def __init__(self, number, service, delay=0.15, loss=0.05, rate=None, seed=1):
         self.delay, self.loss, self.chance, self.service = delay, loss, random.Random(seed), service
@@ -199,6 +201,7 @@ def keep_alive(connection):
 
 def shuttle(one, other_in, other_out):
     """Passes bytes on between a socket and two descriptors, until either end is done."""
+
     def back():
         with contextlib.suppress(OSError):
             while came := one.recv(65536):

@@ -1,7 +1,8 @@
 #!/usr/bin/env python3
-"""Measures what designs cost that travel: `tools/measure_travels.py [ALTCTL] [FEATURES]`. A clone of a map, a pull and a push by
-`altcarry` through SSH with its compression, beside `git clone` of the same map as GeoJSON and copies of it as GeoPackage, over a link
-of 10 Mbit/s and 20 ms (bad_link.py). Bytes are those of all packets, both ways. Needs root, sshd, git, nc and python3-gdal."""
+"""Measures what designs cost that travel: `tools/measure_travels.py [ALTCTL] [FEATURES]`. A clone of a map, a pull
+and a push by `altcarry` through SSH with its compression, beside `git clone` of the same map as GeoJSON and copies of
+it as GeoPackage, over a link of 10 Mbit/s and 20 ms (bad_link.py). Bytes are those of all packets, both ways. Needs
+root, sshd, git, nc and python3-gdal."""
 import argparse
 import json
 import os
@@ -26,7 +27,11 @@ RATE, DELAY = 10e6, 0.01
 
 def feature(number, chance):
     """A duct: attributes as JSON, and a line of some points in metres as WKB."""
-    values = {"dn": chance.choice([50, 110, 125, 160]), "mat": chance.choice(["PVC", "HDPE", "steel"]), "year": chance.randrange(1960, 2026)}
+    values = {
+        "dn": chance.choice([50, 110, 125, 160]),
+        "mat": chance.choice(["PVC", "HDPE", "steel"]),
+        "year": chance.randrange(1960, 2026),
+    }
     values.update(name=f"D-{number}", owner=chance.choice(["city", "water", "telecom"]), state="in use")
     east, north = 2600000 + chance.random() * 20000, 1200000 + chance.random() * 20000
     points = []
@@ -40,7 +45,10 @@ def feature(number, chance):
 
 def make_map(file, altctl, count):
     chance = random.Random(1)
-    fields = [{"name": it, "type": "Integer" if it in ("dn", "year") else "String"} for it in ("dn", "mat", "name", "owner", "state", "year")]
+    fields = [
+        {"name": it, "type": "Integer" if it in ("dn", "year") else "String"}
+        for it in ("dn", "mat", "name", "owner", "state", "year")
+    ]
     layer = {"crs": "EPSG:2056", "fields": fields, "geometry": "Line String", "id": None, "name": "ducts"}
     subprocess.run([altctl, "create", file, "4096"], check=True, stdout=subprocess.DEVNULL)
     with Store(file, altctl, grow=True) as store:
@@ -60,7 +68,8 @@ class Bench:
             subprocess.run(["ssh-keygen", "-q", "-t", "ed25519", "-N", "", "-f", f"{folder}/{it}"], check=True)
         os.makedirs("/run/sshd", exist_ok=True)
         Path(folder, "config").write_text(
-            f"ListenAddress {self.link.net}.2\nHostKey {folder}/host\nAuthorizedKeysFile {folder}/key.pub\nStrictModes no\nUsePAM no\n"
+            f"ListenAddress {self.link.net}.2\nHostKey {folder}/host\nAuthorizedKeysFile {folder}/key.pub\nStrictModes no\n"
+            "UsePAM no\n"
             "PidFile none\nPermitRootLogin prohibit-password\n"
         )
         sshd = shutil.which("sshd", path=f"{os.environ['PATH']}:/usr/sbin")
@@ -78,7 +87,13 @@ class Bench:
 
     def take(self, what, *words, **variables):
         before, begun = self.link.bytes, time.monotonic()
-        environment = {**os.environ, "ALTCTL": self.altctl, "ALTCARRY_SSH": self.ssh, "GIT_SSH_COMMAND": self.ssh, **variables}
+        environment = {
+            **os.environ,
+            "ALTCTL": self.altctl,
+            "ALTCARRY_SSH": self.ssh,
+            "GIT_SSH_COMMAND": self.ssh,
+            **variables,
+        }
         subprocess.run(words, check=True, env=environment, stdout=subprocess.DEVNULL, stderr=subprocess.DEVNULL)
         seconds, count = time.monotonic() - begun, self.link.bytes - before
         print(f"{what}: {count:,} bytes, {seconds:.1f} s", flush=True)
@@ -99,20 +114,26 @@ def measure(bench, folder, altctl, count):
     altcarry, altgis = str(DESK / "altcarry"), str(DESK / "altgis")
     environment = {**os.environ, "ALTCTL": altctl}
     for it in ("map.gpkg", "map.geojson"):
-        subprocess.run([altgis, "export", head, "top", f"{folder}/{it}"], check=True, env=environment, stdout=subprocess.DEVNULL)
+        subprocess.run(
+            [altgis, "export", head, "top", f"{folder}/{it}"], check=True, env=environment, stdout=subprocess.DEVNULL
+        )
         print(f"{it}: {os.path.getsize(f'{folder}/{it}'):,} bytes")
     repository = f"{folder}/repository"
     os.mkdir(repository)
     shutil.move(f"{folder}/map.geojson", repository)
     for words in (["init", "-q"], ["add", "."], ["-c", "user.name=a", "-c", "user.email=a@b", "commit", "-qm", "map"]):
         subprocess.run(["git", "-C", repository, *words], check=True)
-    service = subprocess.Popen([sys.executable, str(DESK / "altserve"), "--program", altctl, head], stderr=subprocess.DEVNULL)
+    service = subprocess.Popen(
+        [sys.executable, str(DESK / "altserve"), "--program", altctl, head], stderr=subprocess.DEVNULL
+    )
     try:
         while not os.path.exists(f"{head}.sock"):
             time.sleep(0.05)
         place = f"ssh://{bench.host}{head}.sock"
         bench.take("altcarry clone", altcarry, "clone", place, field, "north", "--office", "anna")
-        bench.take("git clone of the GeoJSON", "git", "clone", "-q", f"ssh://{bench.host}{repository}", f"{folder}/cloned")
+        bench.take(
+            "git clone of the GeoJSON", "git", "clone", "-q", f"ssh://{bench.host}{repository}", f"{folder}/cloned"
+        )
         copy = f"{bench.ssh} {bench.host} cat {folder}/map.gpkg >{folder}/copied.gpkg"
         bench.take("copy of the GeoPackage", "sh", "-c", copy)
         bench.take("copy of the GeoPackage, compressed (ssh -C)", "sh", "-c", copy.replace(" ssh ", " ssh -C "))
@@ -125,7 +146,9 @@ def measure(bench, folder, altctl, count):
         subprocess.run([altctl, "do", field, "new mine top", "commit"], check=True, stdout=subprocess.DEVNULL)
         lines, chance = [], random.Random(3)
         for number in chance.sample(range(1, count + 1), 100):
-            lines.append(f"put mine 7 {number} {{\"dn\":{chance.randrange(50, 200)},\"name\":\"D-{number}\",\"mat\":\"HDPE\",\"state\":\"planned\"}}")
+            lines.append(
+                f'put mine 7 {number} {{"dn":{chance.randrange(50, 200)},"name":"D-{number}","state":"planned"}}'
+            )
         subprocess.run([altctl, "do", field, *lines, "commit"], check=True, stdout=subprocess.DEVNULL)
         bench.take("altcarry push of a new design of 100 changes", altcarry, "push", field, "mine")
         lines = [it.replace("planned", "built") for it in lines]

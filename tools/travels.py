@@ -1,13 +1,14 @@
 #!/usr/bin/env python3
-"""Lets offices work with `altcarry` over a bad link, which is cut, while both sides are killed, and looks in the end whether all show
-the same `top`, and whether each acknowledged change is in it, or was changed or settled by name, and none came back:
-`tools/travels.py [ALTCTL] [ROUNDS] [SEED] [--worlds N]`. If not, the status is 1. It stands beside the gate.
+"""Lets offices work with `altcarry` over a bad link, which is cut, while both sides are killed, and looks in the end
+whether all show the same `top`, and whether each acknowledged change is in it, or was changed or settled by name, and
+none came back: `tools/travels.py [ALTCTL] [ROUNDS] [SEED] [--worlds N]`. If not, the status is 1. It stands beside
+the gate.
 
-HEAD is a service, and each of two offices has a clone, in some rounds with a service of its own. In each round people at HEAD and in
-the offices make designs, put, merge, settle and post, and the offices pull and push. The model knows nothing of how `altcarry` works:
-each put has a value of its own, and supersedes the value that its planner saw; a settlement supersedes the side that it gives up. In
-the end, of the values that a key ever had exactly the one that nothing supersedes is in `top`. Several worlds run side by side, since
-most of their time they wait for the link."""
+HEAD is a service, and each of two offices has a clone, in some rounds with a service of its own. In each round people
+at HEAD and in the offices make designs, put, merge, settle and post, and the offices pull and push. The model knows
+nothing of how `altcarry` works: each put has a value of its own, and supersedes the value that its planner saw; a
+settlement supersedes the side that it gives up. In the end, of the values that a key ever had exactly the one that
+nothing supersedes is in `top`. Several worlds run side by side, since most of their time they wait for the link."""
 import argparse
 import contextlib
 import os
@@ -67,8 +68,8 @@ class History:
         return found
 
     def fault(self, top):
-        """What is wrong with the records that `top` shows in the end, or None. Two people who settle the same at the same time may
-        each keep what the other gives up: then it is settled once more, and either may be there."""
+        """What is wrong with the records that `top` shows in the end, or None. Two people who settle the same at the
+        same time may each keep what the other gives up: then it is settled once more, and either may be there."""
         for key, known in self.values.items():
             value = top.get(key)
             if value not in known:
@@ -102,7 +103,10 @@ class Lines:
             self.write, self.read = self.socket.makefile("w"), self.socket.makefile("r")
         else:
             self.process = subprocess.Popen(
-                [world.altctl, "run", "--wait", "--grow", place], stdin=subprocess.PIPE, stdout=subprocess.PIPE, text=True
+                [world.altctl, "run", "--wait", "--grow", place],
+                stdin=subprocess.PIPE,
+                stdout=subprocess.PIPE,
+                text=True,
             )
             self.write, self.read = self.process.stdin, self.process.stdout
 
@@ -162,8 +166,8 @@ class Lines:
 
 
 class Planner:
-    """A person at HEAD or in an office, who works as planners do: in a design of their own below another one, which they merge, settle
-    and post. What was interrupted they look after first."""
+    """A person at HEAD or in an office, who works as planners do: in a design of their own below another one, which
+    they merge, settle and post. What was interrupted they look after first."""
 
     def __init__(self, world, who, place, designs):
         self.world, self.who, self.place, self.designs = world, who, place, designs
@@ -261,7 +265,8 @@ class Planner:
         self.sure(
             lines,
             [merge],
-            lambda it: not keys or all([int(row[0]), int(row[1])] != list(keys[0]) for row in it.rows(f"conflicts {design}")),
+            lambda it: not keys
+            or all([int(row[0]), int(row[1])] != list(keys[0]) for row in it.rows(f"conflicts {design}")),
             lambda: self.note(given_up),
         )
 
@@ -269,7 +274,9 @@ class Planner:
 class AtHead(Planner):
     def tend(self, lines, parents):
         """Takes an office's own version in, or, now and then, ends a design."""
-        leaves = [it for it in parents if it not in parents.values() and it not in self.designs and not it.startswith("w")]
+        leaves = [
+            it for it in parents if it not in parents.values() and it not in self.designs and not it.startswith("w")
+        ]
         if leaves and (self.chance.random() < 0.6 or self.world.is_over):
             design = self.chance.choice(leaves)
             self.bring_in(lines, design, parents[design])
@@ -296,7 +303,14 @@ class World:
     """HEAD, two offices, their links, and what became of each change."""
 
     def __init__(self, altctl, folder, number, seed, rounds, count):
-        self.altctl, self.folder, self.number, self.seed, self.rounds, self.count = altctl, folder, number, seed, rounds, count
+        self.altctl, self.folder, self.number, self.seed, self.rounds, self.count = (
+            altctl,
+            folder,
+            number,
+            seed,
+            rounds,
+            count,
+        )
         self.chance, self.history, self.is_over = random.Random(f"{seed} world"), History(), False
         self.services, self.failure = {}, None
         os.mkdir(folder)
@@ -374,7 +388,13 @@ class World:
     def carry(self, office, *words, kills=False):
         """Runs altcarry. Returns its status and what it said; None if it was killed."""
         environment = {**os.environ, "ALTCTL": self.altctl, "ALTCARRY_SSH": self.links[office].words}
-        how = {"stdout": subprocess.PIPE, "stderr": subprocess.STDOUT, "text": True, "env": environment, "start_new_session": True}
+        how = {
+            "stdout": subprocess.PIPE,
+            "stderr": subprocess.STDOUT,
+            "text": True,
+            "env": environment,
+            "start_new_session": True,
+        }
         ran = subprocess.Popen([sys.executable, ALTCARRY, *words], **how)
         try:
             said, _ = ran.communicate(timeout=self.chance.expovariate(1 / 3) if kills else HANGS)
@@ -394,7 +414,15 @@ class World:
 
     def expect(self, words, said):
         """Refusals that may come: those that tell the person to pull or to merge first, and races."""
-        fine = ("pull, ", "merge it here", "try again", "is not at HEAD any more", "HEAD has no design", "push top first", "HEAD doesn't have")
+        fine = (
+            "pull, ",
+            "merge it here",
+            "try again",
+            "is not at HEAD any more",
+            "HEAD has no design",
+            "push top first",
+            "HEAD doesn't have",
+        )
         if not any(it in said for it in fine):
             raise Failure(f"altcarry {words}: {said}")
         self.count["told to pull or merge first"] += 1
@@ -544,7 +572,9 @@ class World:
         with Lines(self, self.place(office)) as lines:
             person.look_after(lines)
             for design, parent in reversed(list(lines.parents().items())):
-                if design.startswith("w") or (f".{office}" in design and parent != "top" and person.is_local(lines, design)):
+                if design.startswith("w") or (
+                    f".{office}" in design and parent != "top" and person.is_local(lines, design)
+                ):
                     person.bring_in(lines, design, parent)
             for design in lines.parents():
                 if design != "top":
@@ -583,7 +613,10 @@ def main():
     for it in failures:
         print(f"travels: {it}")
     if not failures:
-        print(f"travels: all show the same top, and each change is in it once or was superseded by name, seed {words.seed}")
+        print(
+            "travels: all show the same top, and each change is in it once or was superseded by name, "
+            f"seed {words.seed}"
+        )
     for what, number in sorted(count.items()):
         print(f"    {number} {what}")
     print(f"    {time.monotonic() - begun:.0f} s")

@@ -1,10 +1,11 @@
-"""How a clone is made: a store of its own in a new file, which gets its name once it is whole. Until then it is FILE.part: if the
-link breaks, the same words go on with it."""
+"""How a clone is made: a store of its own in a new file, which gets its name once it is whole. Until then it is
+FILE.part: if the link breaks, the same words go on with it."""
 import contextlib
 import os
 import re
 import socket
 import subprocess
+from concurrent.futures import ThreadPoolExecutor
 from typing import List, Optional, Sequence, Tuple
 
 from altctl import Refusal
@@ -25,7 +26,13 @@ def default_name() -> str:
 
 class Clone:
     def __init__(self, head: Link, file: str, name: str, tables: Sequence[int], say: Say):
-        self.head, self.file, self.name, self.tables, self.say = head, file, names.checked(name), sorted(set(tables)), say
+        self.head, self.file, self.name, self.tables, self.say = (
+            head,
+            file,
+            names.checked(name),
+            sorted(set(tables)),
+            say,
+        )
         self.part = f"{file}.part"
 
     def make(self) -> None:
@@ -33,8 +40,15 @@ class Clone:
         if os.path.exists(self.file):
             raise Fault(f"{self.file} is there already")
         token, settings = self._find()
-        while settings.get("at") is not None:
-            settings = self._page(token, settings)
+        written = None
+        with ThreadPoolExecutor(1) as writer:
+            while settings.get("at") is not None:
+                settings, text = self._page(token, settings)
+                if written is not None:
+                    written.result()
+                written = writer.submit(self._write, text)
+        if written is not None:
+            written.result()
         os.link(self.part, self.file)
         os.unlink(self.part)
 
@@ -47,8 +61,8 @@ class Clone:
             return token, settings
         if there.tokens:
             raise Fault(
-                f"HEAD has an office {self.name} already: choose another name by --office. If its clone is lost: altcarry forget HEAD "
-                f"--office {self.name}"
+                f"HEAD has an office {self.name} already: choose another name by --office. If its clone is lost: "
+                f"altcarry forget HEAD --office {self.name}"
             )
         if token is None or settings.get("at") != self._start():
             token, settings = self._begin()
@@ -61,7 +75,11 @@ class Clone:
             with contextlib.suppress(Fault), Link(self.part) as store:
                 name, settings = names.settings_of(store.store)
                 tokens = names.read_names(store.store, name).tokens
-                if name == self.name and (settings["tables"], settings["head"]) == (self.tables, self.head.place) and len(tokens) == 1:
+                if (
+                    name == self.name
+                    and (settings["tables"], settings["head"]) == (self.tables, self.head.place)
+                    and len(tokens) == 1
+                ):
                     return tokens[0], settings
         return None, {}
 
@@ -69,13 +87,14 @@ class Clone:
         return [self.tables[0] if self.tables else 0, 0]
 
     def _begin(self) -> Tuple[str, dict]:
-        """An empty clone, with the token that HEAD gets next. If that comes to nothing, the next try sends the same one."""
+        """An empty clone, with the token that HEAD gets next. If that comes to nothing, the next try sends the same
+        one."""
         with contextlib.suppress(FileNotFoundError):
             os.unlink(self.part)
         words = [program_path(), "create", self.part, str(BLOCKS)]
         subprocess.run(words, check=True, stdout=subprocess.DEVNULL)
         token, batch = names.new_token(), Batch()
-        settings = {"head": self.head.place, "tables": self.tables, "at": self._start()}
+        settings = {"office": self.name, "head": self.head.place, "tables": self.tables, "at": self._start()}
         names.renew(batch, self.name, None, [token], settings)
         with Link(self.part) as store:
             batch.carry_out(store)
@@ -91,8 +110,8 @@ class Clone:
         except Refusal as refusal:
             raise Fault(told(refusal, "HEAD")) from refusal
 
-    def _page(self, token: str, settings: dict) -> dict:
-        """Brings the next records, and commits them with the place that comes after them."""
+    def _page(self, token: str, settings: dict) -> Tuple[dict, str]:
+        """Reads the next records. Returns the place that comes after them, and the lines that bring both to the clone."""
         table, number = settings["at"]
         [rows] = self.head.store.answers_of([("next", f"top@{mark(self.name, token)}", table, number, PAGE)])
         if isinstance(rows, Refusal):
@@ -106,8 +125,7 @@ class Clone:
             batch.add("put", office_of(self.name), *SETTINGS, names.text_of(settings))
         wanted = [it for it in rows if not self.tables or int(it[0]) in self.tables]
         # A value stands in an answer as it stands in a put.
-        self._write("".join(f"put top {' '.join(it)}\n" for it in wanted) + batch.text())
-        return settings
+        return settings, "".join(f"put top {' '.join(it)}\n" for it in wanted) + batch.text()
 
     def _write(self, text: str) -> None:
         """Lines and a commit in one go: faster than to wait for answers."""

@@ -2,15 +2,17 @@
 
 | Name | In | Says |
 |---|---|---|
-| `.office.NAME`, an alternative under `top` | both | there is an office NAME; its checkpoint is named by the last step's *token* |
-| `.office.NAME.TOKEN`, a checkpoint of a design | both | the *mark*: the design as both sides know it, since that step |
+| `.office.NAME`, an alternative under `top` | both | there is an office NAME; its checkpoint is the last step's *token* |
+| `.office.NAME.TOKEN`, a checkpoint of a design | both | the *mark*: the design as both know it, since that step |
 | `.base.HASH`, a checkpoint of a design's parent | the clone | the base of the design as both sides know it |
 
-A step (a pull, a push) makes a token at random, and names it in one batch on each side, together with all that it changes there.
-So after an interruption the names tell what is done. If no token is on both sides, they are not a store and its clone, or one of
-them was put back from a backup.
+A step (a pull, a push) makes a token at random, and names it in one batch on each side, together with all that it
+changes there. So after an interruption the names tell what is done. If no token is on both sides, they are not a
+store and its clone, or one of them was put back from a backup.
 
-The clone's `.office.NAME` also has a record, 65535:0: HEAD's address, the tables that the clone has, and a push under way."""
+The clone's `.office.NAME` also has a record, 65535:0: HEAD's address, the tables that the clone has, and a push under
+way."""
+import contextlib
 import hashlib
 import json
 import re
@@ -51,7 +53,8 @@ def base_mark(design: str) -> str:
 
 
 def passing(design: str, token: str) -> str:
-    """The name of an alternative that a batch makes and drops again. It begins as its design does, as rules may go by that."""
+    """The name of an alternative that a batch makes and drops again. It begins as its design does, as rules may go by
+    that."""
     return f"{design[: LONGEST - 9]}.{token}"
 
 
@@ -66,8 +69,8 @@ def beside(design: str, name: str, taken) -> str:
 
 
 class Names(NamedTuple):
-    """The names of an office in a store: the parent of each alternative, the office's tokens, the tokens of its marks by design,
-    and all checkpoints by alternative."""
+    """The names of an office in a store: the parent of each alternative, the office's tokens, the tokens of its marks
+    by design, and all checkpoints by alternative."""
 
     parents: Dict[str, Optional[str]]
     tokens: List[str]
@@ -92,8 +95,8 @@ def read_names(store: Store, name: str) -> Names:
 
 
 def renew(batch: Batch, name: str, old: Optional[str], tokens: List[str], settings: Optional[dict] = None) -> None:
-    """Names the tokens of an office anew. The batch is refused, by 3 NoSuchCheckpoint, if `old` is none of them now. The
-    alternative is made again, so it keeps no old version of `top` in use."""
+    """Names the tokens of an office anew. The batch is refused, by 3 NoSuchCheckpoint, if `old` is none of them now.
+    The alternative is made again, so it keeps no old version of `top` in use."""
     office = office_of(name)
     if old is not None:
         batch.add("uncheck", office, old)
@@ -110,10 +113,13 @@ def text_of(settings: dict) -> bytes:
 
 
 def settings_of(store: Store):
-    """The name of the office whose clone a store is, and its settings."""
+    """The name of the office whose clone a store is, and its settings. It may have offices of its own, which have
+    none."""
     [rows] = store.answers_of([("alts",)])
-    offices = [alt for alt, _ in rows if alt.startswith(PREFIX)]
-    for office, value in zip(offices, (store.get(it, *SETTINGS) for it in offices)):
-        if value is not None:
-            return office[len(PREFIX) :], json.loads(value)
+    for office in [alt for alt, _ in rows if alt.startswith(PREFIX)]:
+        value = store.get(office, *SETTINGS)
+        with contextlib.suppress(ValueError, TypeError):
+            settings = json.loads(value)
+            if isinstance(settings, dict) and settings.get("office") == office[len(PREFIX) :]:
+                return settings["office"], settings
     raise Fault("this store is no clone: altcarry clone makes one")

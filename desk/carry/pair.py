@@ -13,8 +13,8 @@ NO_SUCH_CHECKPOINT = 3
 
 
 class Pair:
-    """HEAD and a clone of it, both open. `look` finds out what each has; `marks` then has the token of each design that both know,
-    and `token` that of the last step."""
+    """HEAD and a clone of it, both open. `look` finds out what each has; `marks` then has the token of each design
+    that both know, and `token` that of the last step."""
 
     def __init__(self, clone: Link, head: Link, say: Say = print):
         self.clone, self.head, self.say = clone, head, say
@@ -45,17 +45,19 @@ class Pair:
             found = self.there.marks.get(alt, [])
             is_pushed = alt == pushed[0] and pushed[1] in found
             if token not in found and (alt == "top" or found) and not is_pushed:
-                raise Fault(f"{alt} at HEAD is not the one that this clone has: HEAD or the clone was put back from a backup")
+                raise Fault(
+                    f"{alt} at HEAD is not the one that this clone has: HEAD or the clone was put back from a backup"
+                )
 
     def _refuse_stranger(self) -> None:
         if not self.there.tokens:
             raise Fault(
-                f"HEAD knows no office {self.name}: it is another store, or one that was put back from a backup of before the clone "
+                f"HEAD knows no office {self.name}: it is another store, or was put back from a backup of before the clone "
                 "was made. Nothing is changed."
             )
         raise Fault(
-            f"HEAD and this clone of the office {self.name} do not belong together: one of them was put back from a backup, or a copy of "
-            "the clone was used meanwhile. Nothing is changed."
+            f"HEAD and this clone of the office {self.name} do not belong together: one of them was put back from a backup, "
+            "or a copy of the clone was used meanwhile. Nothing is changed."
         )
 
     def is_there(self, design: str) -> bool:
@@ -137,7 +139,8 @@ class Pair:
                 self.here.checks[it] = sorted({*self.here.checks.get(it, []), MINE})
 
     def set_base(self, batch: Batch, design: str, parent: str, rows: Dict) -> None:
-        """Names the base of a design in the clone: its parent's mark, but for these values. The parent stays put back."""
+        """Names the base of a design in the clone: its parent's mark, but for these values. The parent stays put
+        back."""
         batch.aside(parent, self.check(parent))
         batch.set(parent, rows)
         self.name_base(batch, design, parent)

@@ -1,8 +1,9 @@
 """How HEAD's changes come to the clone.
 
-HEAD first gets a new mark on each design, in one batch; what differs between the old mark and the new one is read, however long that
-takes, and one batch in the clone brings it there and names the new mark. In the clone a design then is what it is at HEAD, with its
-own changes merged on top; if that gives conflicts, its own changes become a design beside it."""
+HEAD first gets a new mark on each design, in one batch; what differs between the old mark and the new one is read,
+however long that takes, and one batch in the clone brings it there and names the new mark. In the clone a design then
+is what it is at HEAD, with its own changes merged on top; if that gives conflicts, its own changes become a design
+beside it."""
 from typing import Dict, List, NamedTuple, Optional
 
 from carry import names
@@ -17,8 +18,8 @@ MOST_TRIES = 5
 
 
 class Incoming(NamedTuple):
-    """What came of a design: its parent at HEAD, what differs from the mark to its records (of a new one: from its parent's mark),
-    and from its parent's mark to its base."""
+    """What came of a design: its parent at HEAD, what differs from the mark to its records (of a new one: from its
+    parent's mark), and from its parent's mark to its base."""
 
     parent: Optional[str]
     rows: Differences
@@ -26,8 +27,8 @@ class Incoming(NamedTuple):
 
 
 class Local(NamedTuple):
-    """What a design of the clone has of its own: its changes since the mark, what differs from its parent's mark to its base as both
-    knew it, and to its base now."""
+    """What a design of the clone has of its own: its changes since the mark, what differs from its parent's mark to
+    its base as both knew it, and to its base now."""
 
     rows: Differences
     base: Differences
@@ -44,8 +45,8 @@ class Pull:
     # --- at HEAD ----------------------------------------------------------------------------------
 
     def fetch(self) -> None:
-        """Marks the designs at HEAD, and reads what came since the last mark. A base cannot be marked: it is read before and after,
-        and again if it has changed meanwhile."""
+        """Marks the designs at HEAD, and reads what came since the last mark. A base cannot be marked: it is read
+        before and after, and again if it has changed meanwhile."""
         pair = self.pair
         designs = [it for it in pair.carried() if pair.is_there(it)]
         designs += [it for it in self.asked if it not in pair.marks]
@@ -54,7 +55,9 @@ class Pull:
         for _ in range(MOST_TRIES):
             before = pair.differ(pair.head, *bases)
             self._freeze(designs)
-            known = [(pair.mark(it) if it in pair.marks else pair.mark(parents[it]), f"{it}@{self.frozen}") for it in designs]
+            known = [
+                (pair.mark(it) if it in pair.marks else pair.mark(parents[it]), f"{it}@{self.frozen}") for it in designs
+            ]
             found = pair.differ(pair.head, *bases, *known)
             if found[: len(bases)] == before:
                 break
@@ -121,7 +124,9 @@ class Pull:
         """A design that the clone does not have yet."""
         pair = self.pair
         if design in pair.here.parents:
-            raise Fault(f"{design} is at HEAD, and another design of this name is here: drop that, or give HEAD's another name")
+            raise Fault(
+                f"{design} is at HEAD, and another design of this name is here: drop that, or give HEAD's another name"
+            )
         pair.set_base(batch, design, came.parent, after(came.base))
         batch.add("new", design, came.parent, base_mark(design))
         batch.restore(came.parent)
@@ -159,7 +164,9 @@ class Pull:
     def _compare_before(self, design: str, rows: Differences) -> None:
         found = values(self.pair.clone.store, self.pair.mark(design), rows)
         if any(found[key] != before for key, (before, _) in rows.items()):
-            raise Fault(f"{design} at HEAD is not the one that this clone has: HEAD or the clone was put back from a backup")
+            raise Fault(
+                f"{design} at HEAD is not the one that this clone has: HEAD or the clone was put back from a backup"
+            )
 
     def _become(self, batch: Batch, design: str, came: Incoming, local: Local) -> None:
         """Makes a design of the clone what it is at HEAD, from the mark on."""
@@ -177,12 +184,14 @@ class Pull:
         batch.add("checkpoint", design, self.frozen)
 
     def _put_on_top(self, batch: Batch, design: str, came: Incoming, local: Local, fights: list) -> None:
-        """The clone's own changes, as a design below what HEAD has: merged and posted, or left there if there are conflicts."""
+        """The clone's own changes, as a design below what HEAD has: merged and posted, or left there if there are
+        conflicts."""
         pair, name = self.pair, passing(design, self.token)
         if fights:
             name = beside(design, pair.name, {*pair.here.parents, *pair.there.parents})
             self.said.append(
-                f"{design}: {len(came.rows)} changes came, and {len(fights)} of them are in conflict with your own. Your changes are "
+                f"{design}: {len(came.rows)} changes came, and {len(fights)} of them are in conflict with your own. "
+                "Your changes are "
                 f"the design {name} now: merge it, settle, and post it"
             )
         self._become(batch, design, came, local)
@@ -220,8 +229,8 @@ class Pull:
         batch.set(name, after(rows))
         self._become(batch, design, came, local)
         self.said.append(
-            f"{design}: {len(came.rows)} changes came, but it was merged both here and at HEAD. What you had is the design {name} beside it: "
-            "merge that, and drop or post the one and the other"
+            f"{design}: {len(came.rows)} changes came, but it was merged both here and at HEAD. What you had is the design "
+            f"{name} beside it: merge that, and drop or post the one and the other"
         )
 
     def _let_go(self, batch: Batch, design: str) -> None:
@@ -233,7 +242,9 @@ class Pull:
         pair.forget_base(batch, design, parent)
         if rows or before != now or has_own or is_parent:
             batch.add("uncheck", design, pair.check(design))
-            self.said.append(f"{design}: HEAD has dropped it. It stays here as a design of your own, since you have changed it")
+            self.said.append(
+                f"{design}: HEAD has dropped it. It stays here as a design of your own, since you have changed it"
+            )
             return
         batch.guard(design, pair.check(design), passing(design, self.token))
         batch.add("drop", design)
@@ -269,5 +280,3 @@ def waves(pair: Pair, asked: List[str]) -> List[List[str]]:
             if it not in levels.setdefault(depth, []):
                 levels[depth].append(it)
     return [levels[it] for it in sorted(levels)] or [[]]
-
-

@@ -1,4 +1,5 @@
-"""How a design's changes come to HEAD: as one batch, which is refused unless HEAD still has what the clone knows of it."""
+"""How a design's changes come to HEAD: as one batch, which is refused unless HEAD still has what the clone knows of
+it."""
 from typing import Dict, List, Optional
 
 from altctl import Refusal
@@ -15,8 +16,9 @@ CHANGED_BOTH = "{} was merged here, and changed or merged at HEAD meanwhile: pul
 
 
 class Push:
-    """A push of one design: `begin` notes in the clone what is to be sent, `send` sends it, and `end` notes that HEAD has it. The
-    clone's settings tell of a push that was interrupted, and `send` can be done again: HEAD takes it once."""
+    """A push of one design: `begin` notes in the clone what is to be sent, `send` sends it, and `end` notes that HEAD
+    has it. The clone's settings tell of a push that was interrupted, and `send` can be done again: HEAD takes it
+    once."""
 
     def __init__(self, pair: Pair, design: str, token: str, moves: bool):
         self.pair, self.design, self.token, self.moves = pair, design, token, moves
@@ -54,7 +56,9 @@ class Push:
         pair, design = self.pair, self.design
         pair.hold_mine([design])
         sent, later = pair.differ(
-            pair.clone, (pair.mark(design), f"{design}@{self.pending}"), (f"{design}@{self.pending}", f"{design}@{MINE}")
+            pair.clone,
+            (pair.mark(design), f"{design}@{self.pending}"),
+            (f"{design}@{self.pending}", f"{design}@{MINE}"),
         )
         batch = Batch()
         pair.renew_here(batch, [self.token])
@@ -84,7 +88,8 @@ class Push:
         for key, (before, _) in rows.items():
             if found[key] != before:
                 raise Fault(
-                    f"{key[0]}:{key[1]} has another value in HEAD's {known} than here: this is no clone of that store. Nothing is sent."
+                    f"{key[0]}:{key[1]} has another value in HEAD's {known} than here: this is no clone of that store. "
+                    "Nothing is sent."
                 )
 
     def send(self) -> Optional[str]:
@@ -117,13 +122,16 @@ class Push:
             raise Fault(told(refusal, "HEAD")) from refusal
 
     def _send_changes(self, rows: Differences) -> Optional[str]:
-        """As it is, if HEAD has not changed the design; merged, if that goes without a conflict; else as a design below it."""
+        """As it is, if HEAD has not changed the design; merged, if that goes without a conflict; else as a design
+        below it."""
         pair, design = self.pair, self.design
         for batch, ends_at in (self._plain(rows), NOT_MERGED), (self._merged(rows), UNSETTLED):
             try:
                 batch.carry_out(pair.head)
                 if ends_at == UNSETTLED:
-                    pair.say(f"{design}: HEAD had changed it meanwhile; the changes of both are merged there: pull brings them")
+                    pair.say(
+                        f"{design}: HEAD had changed it meanwhile; the changes of both are merged there: pull brings it"
+                    )
                 return None
             except Refusal as refusal:
                 if refusal.number == DENIED:
@@ -144,7 +152,8 @@ class Push:
         return batch
 
     def _merged(self, rows: Differences) -> Batch:
-        """Posted from a design below, which is merged first. Before, the design is put back for a moment to get the mark."""
+        """Posted from a design below, which is merged first. Before, the design is put back for a moment to get the
+        mark."""
         pair, design, batch, name = self.pair, self.design, self._batch(), passing(self.design, self.token)
         batch.add("new", name, design, pair.check(design))
         batch.set(name, after(rows))
@@ -179,9 +188,9 @@ class Push:
         raise Fault(f"no name for {design} at HEAD: try again")
 
     def _send_moved(self, rows: Differences) -> None:
-        """Of a design that was merged here with its parent's mark: HEAD merges it with that, too, and settles as was settled here.
-        The parent is put back for it within the batch. All is refused unless HEAD's design has the records and the base that both
-        know: a post of the design to that base shows it."""
+        """Of a design that was merged here with its parent's mark: HEAD merges it with that, too, and settles as was
+        settled here. The parent is put back for it within the batch. All is refused unless HEAD's design has the
+        records and the base that both know: a post of the design to that base shows it."""
         pair, design, parent = self.pair, self.design, self.pair.parent(self.design)
         [old_base] = pair.differ(pair.clone, (pair.mark(parent), pair.base(design)))
         base_rows = {key: (old, now) for key, (now, old) in old_base.items()}
@@ -229,7 +238,8 @@ def prepare(pair: Pair, design: str) -> Optional[Push]:
         [moved] = pair.differ(pair.clone, (pair.mark(parent), f"{design}@"))
         if moved:
             raise Fault(
-                f"{design} rests on another {parent} than HEAD's last one: merge it here, and push {parent} first if it was changed here"
+                f"{design} rests on another {parent} than HEAD's last one: merge it here, and push {parent} first if it "
+                "was changed here"
             )
         return Push(pair, design, token, False)
     rows, moved, ahead = pair.differ(
@@ -237,8 +247,8 @@ def prepare(pair: Pair, design: str) -> Optional[Push]:
     )
     if moved and ahead:
         raise Fault(
-            f"{design} was merged here with another {parent} than HEAD's last one: pull, merge {design} again, and push {parent} first if it "
-            "was changed here"
+            f"{design} was merged here with another {parent} than HEAD's last one: pull, merge {design} again, and push "
+            f"{parent} first if it was changed here"
         )
     return Push(pair, design, token, bool(moved)) if rows or moved else None
 
@@ -251,7 +261,9 @@ def refuse_others(pair: Pair, design: str) -> None:
     [rows] = differences(pair.clone.store, [(known, design)], [])
     others = sorted(key for key in rows if key[0] not in pair.tables)
     if others:
-        raise Fault(f"{others[0][0]}:{others[0][1]} is in a table that this clone does not have from HEAD: nothing is pushed")
+        raise Fault(
+            f"{others[0][0]}:{others[0][1]} is in a table that this clone does not have from HEAD: nothing is pushed"
+        )
 
 
 def finish(pair: Pair) -> None:
@@ -281,8 +293,8 @@ def complete(pair: Pair, push: Push) -> None:
     else:
         push.end_beside(beside_it)
         pair.say(
-            f"{push.design}: HEAD has changed it meanwhile, and not all of that fits. Your changes are the design {beside_it} under it, "
-            f"here and at HEAD: merge {beside_it}, settle, and post it"
+            f"{push.design}: HEAD has changed it meanwhile, and not all of that fits. Your changes are the design "
+            f"{beside_it} under it, here and at HEAD: merge {beside_it}, settle, and post it"
         )
     pair.note_there(push.token, [beside_it or push.design])
     pair.there.tokens[:] = [push.token]

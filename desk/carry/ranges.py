@@ -1,8 +1,9 @@
-"""Numbers for new features, taken at HEAD in ranges for a clone: an office gives its features numbers that nobody else gives.
+"""Numbers for new features, taken at HEAD in ranges for a clone: an office gives its features numbers that nobody
+else gives.
 
 | Record of `.numbers`, an alternative under `top` | Value |
 |---|---|
-| (64000, V) | JSON: of each table the first number that nobody has been given. It changes by a batch that removes V and puts V + 1 |
+| (64000, V) | JSON: of each table the first number that nobody was given. A batch that removes V and puts V + 1 changes it |
 | (64001, 0), in a clone | JSON: of each table the number at which the clone's range ends |
 
 HEAD gives a range before the clone notes it. If that is interrupted, these numbers are skipped, and are nobody's."""
@@ -36,8 +37,12 @@ def state(link: Link) -> State:
             raise found
         return State(None, {}, {})
     try:
-        values = [json.loads(link.store.get(OWN, int(rows[0][0]), int(rows[0][1]))) if rows else {} for rows in (found, ends)]
-        return State(int(found[0][1]) if found else 0, *({it: int(number) for it, number in values.items()} for values in values))
+        values = [
+            json.loads(link.store.get(OWN, int(rows[0][0]), int(rows[0][1]))) if rows else {} for rows in (found, ends)
+        ]
+        return State(
+            int(found[0][1]) if found else 0, *({it: int(number) for it, number in values.items()} for values in values)
+        )
     except (AttributeError, TypeError, ValueError):
         raise Fault(f"{OWN} has a record that is none of numbers") from None
 
@@ -55,7 +60,8 @@ def write(link: Link, old: State, firsts: Dict[str, int], ends: Dict[str, int]) 
 
 
 def take(clone: Link, head: Link, table: int, count: int) -> Tuple[int, int]:
-    """Sees that the clone has at least so many numbers of a table to give. Returns the first one, and that after the last."""
+    """Sees that the clone has at least so many numbers of a table to give. Returns the first one, and that after the
+    last."""
     here, name = state(clone), str(table)
     if here.ends.get(name, 0) - here.firsts.get(name, 0) >= count:
         return here.firsts[name], here.ends[name]
@@ -71,7 +77,9 @@ def take_there(head: Link, table: str, count: int) -> int:
         first = there.firsts.get(table) or free_number(head, int(table))
         if table in there.ends:
             if first + count > there.ends[table]:
-                raise Fault(f"HEAD is a clone itself, and its own range of table {table} is used up: take one there first")
+                raise Fault(
+                    f"HEAD is a clone itself, and its own range of table {table} is used up: take one there first"
+                )
         if first + count > LAST:
             raise Fault(f"table {table} has no numbers left")
         try:
@@ -84,7 +92,8 @@ def take_there(head: Link, table: str, count: int) -> int:
 
 
 def free_number(link: Link, table: int) -> int:
-    """The first number above those of the table's features in all alternatives: each round of questions leaves a sixteenth."""
+    """The first number above those of the table's features in all alternatives: each round of questions leaves a
+    sixteenth."""
     [rows] = link.store.answers_of([("alts",)])
     places = [(alt, it) for alt, _ in rows if alt != OWN for it in (table, table + GEOMETRY)]
     low, high = 0, LAST
@@ -93,7 +102,10 @@ def free_number(link: Link, table: int) -> int:
         marks = list(range(low + 1, high + 1, step))
         taken = [it for it in marks if it <= high]
         answers = link.store.answers_of([("next", alt, its, number, 1) for number in taken for alt, its in places])
-        found = [int(rows[0][1]) if rows and int(rows[0][0]) == its else -1 for rows, (_, its) in zip(answers, places * len(taken))]
+        found = [
+            int(rows[0][1]) if rows and int(rows[0][0]) == its else -1
+            for rows, (_, its) in zip(answers, places * len(taken))
+        ]
         highest = reached(taken, found, len(places))
         if highest is None:
             high = low

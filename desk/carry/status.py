@@ -8,9 +8,9 @@ from carry.versions import differences
 
 
 class Status(NamedTuple):
-    """A design of the clone or of HEAD. `ahead` counts the records that were changed here since the last step, `behind` those that
-    were changed at HEAD; None if that is not known. `state` is one of `same`, `ahead`, `behind`, `both`, `new here`, `only at HEAD`,
-    `dropped at HEAD`, `unknown`."""
+    """A design of the clone or of HEAD. `ahead` counts the records that were changed here since the last step,
+    `behind` those that were changed at HEAD; None if that is not known. `state` is one of `same`, `ahead`, `behind`,
+    `both`, `new here`, `only at HEAD`, `dropped at HEAD`, `unknown`."""
 
     design: str
     state: str
@@ -69,7 +69,9 @@ def offline(clone: Link) -> List[Status]:
     pairs = [(f"{it}@{names.mark(name, here.marks[it][0])}", it) for it in carried]
     counts = {it: len(rows) for it, rows in zip(carried, differences(clone.store, pairs, settings["tables"]))}
     new = [Status(it, "new here") for it in designs_of(here) if it not in here.marks]
-    states = [Status(it, "ahead" if counts[it] else "unknown", counts[it], push_is_under_way=it == pushed) for it in carried]
+    states = [
+        Status(it, "ahead" if counts[it] else "unknown", counts[it], push_is_under_way=it == pushed) for it in carried
+    ]
     return states + new
 
 
@@ -87,5 +89,3 @@ def text_of(it: Status) -> str:
     if it.push_is_under_way:
         words.append("a push of it was interrupted")
     return ", ".join(words)
-
-

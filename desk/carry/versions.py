@@ -1,4 +1,5 @@
-"""What differs between versions of a store, as dicts from key to the values before and after; None stands for no value."""
+"""What differs between versions of a store, as dicts from key to the values before and after; None stands for no
+value."""
 from typing import Dict, Iterable, List, Optional, Sequence, Tuple
 
 from altctl import Refusal, Store, decode
@@ -9,8 +10,8 @@ Differences = Dict[Key, Tuple[Value, Value]]
 
 
 def differences(store: Store, pairs: Sequence[Tuple[str, str]], tables: Iterable[int]) -> List[Differences]:
-    """What differs from the first version of each pair to the second, in these tables, or in all if there are none. All are asked
-    for at once."""
+    """What differs from the first version of each pair to the second, in these tables, or in all if there are none.
+    All are asked for at once."""
     parts = [(it,) for it in tables] or [()]
     answers = iter(store.answers_of([("diff", *pair, *part) for pair in pairs for part in parts]))
     found = []
@@ -51,10 +52,10 @@ def clashes(mine: Differences, theirs: Differences) -> List[Key]:
 
 
 class Rebase:
-    """How a design gets another base. It is at (`base`, `now`), and is to be at other ones: `base_rows` has what differs from the
-    old base to the new one, `rows` what differs from the present records to the ones that they are to be, and `now` the present
-    value at each key of `base_rows`. The merge that brings the new base in has the settlements `settled`, all for the design's
-    own side; after it, `rest` makes the records what they are to be."""
+    """How a design gets another base. It is at (`base`, `now`), and is to be at other ones: `base_rows` has what
+    differs from the old base to the new one, `rows` what differs from the present records to the ones that they are
+    to be, and `now` the present value at each key of `base_rows`. The merge that brings the new base in has the
+    settlements `settled`, all for the design's own side; after it, `rest` makes the records what they are to be."""
 
     def __init__(self, base_rows: Differences, rows: Differences, now: Dict[Key, Value]):
         self.settled, self.rest = {}, {}
