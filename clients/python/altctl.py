@@ -278,11 +278,9 @@ class Tunnel(Service):
     def end(self):
         with contextlib.suppress(BrokenPipeError):
             self.lines.close()
-        try:
-            self._command.wait(2)
-        except subprocess.TimeoutExpired:
-            self._command.kill()
-            self._command.wait()
+        # All answers have been read, so there is nothing to wait for; over a slow link the end would take its time.
+        self._command.terminate()
+        self._command.wait()
         self.answers.close()
         return 0, ""
 
