@@ -68,8 +68,8 @@ class Bench:
             subprocess.run(["ssh-keygen", "-q", "-t", "ed25519", "-N", "", "-f", f"{folder}/{it}"], check=True)
         os.makedirs("/run/sshd", exist_ok=True)
         Path(folder, "config").write_text(
-            f"ListenAddress {self.link.net}.2\nHostKey {folder}/host\nAuthorizedKeysFile {folder}/key.pub\nStrictModes no\n"
-            "UsePAM no\n"
+            f"ListenAddress {self.link.net}.2\nHostKey {folder}/host\nAuthorizedKeysFile {folder}/key.pub\n"
+            "StrictModes no\nUsePAM no\n"
             "PidFile none\nPermitRootLogin prohibit-password\n"
         )
         sshd = shutil.which("sshd", path=f"{os.environ['PATH']}:/usr/sbin")

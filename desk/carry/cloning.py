@@ -111,7 +111,7 @@ class Clone:
             raise Fault(told(refusal, "HEAD")) from refusal
 
     def _page(self, token: str, settings: dict) -> Tuple[dict, str]:
-        """Reads the next records. Returns the place that comes after them, and the lines that bring both to the clone."""
+        """Reads the next records. Returns the place after them, and the lines that bring both to the clone."""
         table, number = settings["at"]
         [rows] = self.head.store.answers_of([("next", f"top@{mark(self.name, token)}", table, number, PAGE)])
         if isinstance(rows, Refusal):

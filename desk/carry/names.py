@@ -2,7 +2,7 @@
 
 | Name | In | Says |
 |---|---|---|
-| `.office.NAME`, an alternative under `top` | both | there is an office NAME; its checkpoint is the last step's *token* |
+| `.office.NAME`, an alternative under `top` | both | there is an office; its checkpoint is the last step's *token* |
 | `.office.NAME.TOKEN`, a checkpoint of a design | both | the *mark*: the design as both know it, since that step |
 | `.base.HASH`, a checkpoint of a design's parent | the clone | the base of the design as both sides know it |
 

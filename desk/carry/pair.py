@@ -52,12 +52,12 @@ class Pair:
     def _refuse_stranger(self) -> None:
         if not self.there.tokens:
             raise Fault(
-                f"HEAD knows no office {self.name}: it is another store, or was put back from a backup of before the clone "
-                "was made. Nothing is changed."
+                f"HEAD knows no office {self.name}: it is another store, or was put back from a backup of before "
+                "the clone was made. Nothing is changed."
             )
         raise Fault(
-            f"HEAD and this clone of the office {self.name} do not belong together: one of them was put back from a backup, "
-            "or a copy of the clone was used meanwhile. Nothing is changed."
+            f"HEAD and this clone of the office {self.name} do not belong together: one of them was put back from a "
+            "backup, or a copy of the clone was used meanwhile. Nothing is changed."
         )
 
     def is_there(self, design: str) -> bool:

@@ -229,8 +229,8 @@ class Pull:
         batch.set(name, after(rows))
         self._become(batch, design, came, local)
         self.said.append(
-            f"{design}: {len(came.rows)} changes came, but it was merged both here and at HEAD. What you had is the design "
-            f"{name} beside it: merge that, and drop or post the one and the other"
+            f"{design}: {len(came.rows)} changes came, but it was merged both here and at HEAD. What you had is the "
+            f"design {name} beside it: merge that, and drop or post the one and the other"
         )
 
     def _let_go(self, batch: Batch, design: str) -> None:

@@ -238,8 +238,8 @@ def prepare(pair: Pair, design: str) -> Optional[Push]:
         [moved] = pair.differ(pair.clone, (pair.mark(parent), f"{design}@"))
         if moved:
             raise Fault(
-                f"{design} rests on another {parent} than HEAD's last one: merge it here, and push {parent} first if it "
-                "was changed here"
+                f"{design} rests on another {parent} than HEAD's last one: merge it here, and push {parent} first "
+                "if it was changed here"
             )
         return Push(pair, design, token, False)
     rows, moved, ahead = pair.differ(
@@ -247,8 +247,8 @@ def prepare(pair: Pair, design: str) -> Optional[Push]:
     )
     if moved and ahead:
         raise Fault(
-            f"{design} was merged here with another {parent} than HEAD's last one: pull, merge {design} again, and push "
-            f"{parent} first if it was changed here"
+            f"{design} was merged here with another {parent} than HEAD's last one: pull, merge {design} again, and "
+            f"push {parent} first if it was changed here"
         )
     return Push(pair, design, token, bool(moved)) if rows or moved else None
 

@@ -3,7 +3,7 @@ else gives.
 
 | Record of `.numbers`, an alternative under `top` | Value |
 |---|---|
-| (64000, V) | JSON: of each table the first number that nobody was given. A batch that removes V and puts V + 1 changes it |
+| (64000, V) | JSON: of each table the first number that nobody was given. A batch removes V and puts V + 1 |
 | (64001, 0), in a clone | JSON: of each table the number at which the clone's range ends |
 
 HEAD gives a range before the clone notes it. If that is interrupted, these numbers are skipped, and are nobody's."""
