@@ -1,6 +1,6 @@
 #!/usr/bin/env python3
 """Tests of `altcarry` over real stores, with the program's path in the variable ALTCTL, or else with the one that
-`./altctl` at the top builds. `tools/travels.py` tries it over a bad link."""
+`./altctl` at the top builds. `tools/faults/travels.py` tries it over a bad link."""
 import contextlib
 import getpass
 import itertools

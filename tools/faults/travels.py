@@ -1,7 +1,7 @@
 #!/usr/bin/env python3
 """Lets offices work with `altcarry` over a bad link, which is cut, while both sides are killed, and looks in the end
 whether all show the same `top`, and whether each acknowledged change is in it, or was changed or settled by name, and
-none came back: `tools/travels.py [ALTCTL] [ROUNDS] [SEED] [--worlds N]`. If not, the status is 1. It stands beside
+none came back: `tools/faults/travels.py [ALTCTL] [ROUNDS] [SEED] [--worlds N]`. If not, the status is 1. It stands beside
 the gate.
 
 HEAD is a service, and each of two offices has a clone, in some rounds with a service of its own. In each round people
@@ -26,7 +26,7 @@ from pathlib import Path
 sys.dont_write_bytecode = True
 import bad_link
 
-TOP = Path(__file__).resolve().parent.parent
+TOP = Path(__file__).resolve().parents[2]
 ALTSERVE, ALTCARRY = (str(TOP / "desk" / it) for it in ("altserve", "altcarry"))
 TABLES, KEYS, OFFICES = (7, 107), 12, ("anna", "berta")
 HANGS = 300  # seconds that nothing takes

@@ -1,5 +1,5 @@
 #!/usr/bin/env python3
-"""Measures what designs cost that travel: `tools/measure_travels.py [ALTCTL] [FEATURES]`. A clone of a map, a pull
+"""Measures what designs cost that travel: `tools/measure/measure_travels.py [ALTCTL] [FEATURES]`. A clone of a map, a pull
 and a push by `altcarry` through SSH with its compression, beside `git clone` of the same map as GeoJSON and copies of
 it as GeoPackage, over a link of 10 Mbit/s and 20 ms (bad_link.py). Bytes are those of all packets, both ways. Needs
 root, sshd, git, nc and python3-gdal."""
@@ -16,8 +16,8 @@ import time
 from pathlib import Path
 
 sys.dont_write_bytecode = True
-TOP = Path(__file__).resolve().parent.parent
-sys.path[:0] = [str(TOP / "clients" / "python")]
+TOP = Path(__file__).resolve().parents[2]
+sys.path[:0] = [str(TOP / "clients" / "python"), str(TOP / "tools" / "faults")]
 import bad_link
 from altctl import Store
 
