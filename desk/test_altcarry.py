@@ -3,6 +3,7 @@
 `./altctl` at the top builds. `tools/faults/travels.py` tries it over a bad link."""
 import contextlib
 import getpass
+import importlib.util
 import itertools
 import json
 import os
@@ -22,7 +23,7 @@ sys.path.insert(0, str(HERE))
 ALTCTL = os.environ["ALTCTL"] = os.path.abspath(os.environ.get("ALTCTL", HERE.parent / "altctl"))
 import carry
 from altctl import Ended, Store
-from carry import batch, cloning, names, pulling, pushing, ranges, status
+from carry import batch, cloning, pulling, pushing, ranges, status
 from carry.links import Fault, Link, ssh_words
 from carry.pair import Pair
 
@@ -709,10 +710,6 @@ class ServiceTests(CarryTest):
             self.assertEqual(getpass.getuser(), entry.planner)
 
     def test_an_office_that_may_not_post_leaves_a_design_at_head(self):
-        try:
-            import tomllib  # noqa: F401
-        except ImportError:
-            self.skipTest("no tomllib")
         self.rule({"change": [".office.anna", "top", "north*"], "drop": [".office.anna", "north.*"]})
         socket_path = self.serve(self.head)
         self.carry("clone", socket_path, self.field, "north", "--office", "anna")
@@ -724,16 +721,14 @@ class ServiceTests(CarryTest):
 
     def rule(self, rights):
         """Rules by which the tester has these rights, and no others."""
+        if not any(map(importlib.util.find_spec, ("tomllib", "tomli"))):
+            self.skipTest("neither tomllib nor tomli is there")
         text = ""
         for right, patterns in rights.items():
             text += f"[{right}]\n" + "".join(f'"{it}" = ["{getpass.getuser()}"]\n' for it in patterns)
         Path(f"{self.head}.rules").write_text(text)
 
     def test_the_rights_that_an_office_needs(self):
-        try:
-            import tomllib  # noqa: F401
-        except ImportError:
-            self.skipTest("no tomllib")
         self.rule(
             {"change": [".office.anna", "top", "north*"], "drop": [".office.anna", "north.*"], "post": ["north*"]}
         )

@@ -19,7 +19,7 @@ import tempfile
 import threading
 from collections import deque
 from operator import index
-from typing import NamedTuple, Optional
+from typing import Iterable, List, NamedTuple, Optional, Sequence, Union
 
 
 # How many lines are written ahead of their answers at most, and how many bytes a pipe holds at least.
@@ -270,9 +270,9 @@ class Service:
 class Tunnel(Service):
     """A connection to a service's socket elsewhere by the standard streams of a command: `ssh HOST nc -N -U PATH`."""
 
-    def __init__(self, words):
-        how = {"stdin": subprocess.PIPE, "stdout": subprocess.PIPE, "encoding": "ascii"}
-        self._command = subprocess.Popen(words, start_new_session=True, **how)
+    def __init__(self, words: Sequence[str]) -> None:
+        pipe = subprocess.PIPE
+        self._command = subprocess.Popen(words, stdin=pipe, stdout=pipe, encoding="ascii", start_new_session=True)
         self.lines, self.answers = self._command.stdin, self._command.stdout
 
     def end(self):
@@ -443,7 +443,7 @@ class Store:
         for answer in self._ask_many(lines, self._other.pipe):
             yield decode(answer[1]) if answer[0] == "value" else None
 
-    def answers_of(self, queries):
+    def answers_of(self, queries: Iterable[Sequence[object]]) -> List[Union[List[List[str]], Refusal]]:
         """The answers to queries, each the words of a line such as ("diff", "top", "north"), as lists of rows: each row the
         words behind its first one. In the place of a query that was refused stands its Refusal. Lines are written ahead of
         their answers: to a service, a few hundred queries take one round trip."""

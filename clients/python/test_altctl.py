@@ -21,7 +21,7 @@ sys.dont_write_bytecode = True
 HERE = Path(__file__).resolve().parent
 sys.path.insert(0, str(HERE))
 import example
-from altctl import Alternative, Change, Conflict, Copied, Ended, Record, Refusal, Store, Tally, decode, encode
+from altctl import Alternative, Change, Conflict, Copied, Ended, Record, Refusal, Store, Tally, Tunnel, decode, encode
 
 F_SETPIPE_SZ = 1031  # fcntl has the name from Python 3.10 on.
 ALTCTL = os.environ.get("ALTCTL", str(HERE.parent.parent / "altctl"))
@@ -789,6 +789,44 @@ class ServiceTests(unittest.TestCase):
             self.assertEqual([], list(other.list("north")))
             names = [it.name for it in other.alternatives()]
             self.assertEqual(["top", "north", ".service"], names)
+
+    def test_many_queries_are_answered_together(self):
+        with self.open() as service:
+            service.put_many("top", ((7, number, b"%d %%" % number) for number in range(3)))
+            service.new("north", "top")
+            service.checkpoint("north", "monday")
+        self.service.terminate()
+        self.service.wait()
+        due = [
+            [["7", "0", "0%20%25"], ["7", "1", "1%20%25"], ["7", "2", "2%20%25"]],
+            [["monday"]],
+            [],
+        ]
+        with Store(self.file, ALTCTL) as store:
+            asked = [("list", "top", 7), ("checks", "north"), ("checks", "south"), ("diff", "top", "north")]
+            found = store.answers_of(asked)
+            self.assertEqual((1, "NoSuchAlternative"), (found[2].number, found[2].name))
+            self.assertEqual(due, [found[0], found[1], found[3]])
+            self.assertEqual([[]] * 2000, store.answers_of([("list", "top", 8)] * 2000))
+            self.assertRaises(ValueError, store.answers_of, [("list", "top\ncommit")])
+
+    def test_a_command_leads_to_a_service(self):
+        passes = (
+            "import os, socket, sys, threading\n"
+            "it = socket.socket(socket.AF_UNIX); it.connect(sys.argv[1])\n"
+            "def back():\n"
+            "    while came := it.recv(4096): os.write(1, came)\n"
+            "threading.Thread(target=back, daemon=True).start()\n"
+            "while came := os.read(0, 4096): it.sendall(came)\n"
+        )
+        words = [sys.executable, "-c", passes, f"{self.file}.sock"]
+        with Store(Tunnel(words)) as far, self.open() as near:
+            with far.batch():
+                far.put_many("top", ((7, number, bytes(3000)) for number in range(50)))
+            self.assertEqual([bytes(3000)] * 50, list(near.get_many("top", ((7, number) for number in range(50)))))
+            self.assertEqual([bytes(3000)] * 50, list(far.get_many("top", ((7, number) for number in range(50)))))
+            self.assertEqual([[]] * 2000, far.answers_of([("list", "top", 8)] * 2000))
+        self.assertRaises(Ended, Store, Tunnel([sys.executable, "-c", "pass"]))
 
     def test_many_lines_one_by_one_and_in_a_batch(self):
         due = {(7, number): b"%d" % number for number in range(100)}
