@@ -454,6 +454,24 @@ class Store:
                 found += [self._whole_answer() for _ in portion]
         return found
 
+    def answer_lines(self, *words: object) -> List[str]:
+        """The rows of the answer to one query as lines, for those who pass many on as they are."""
+        found, asked = [], self._line(*words)
+        with self._turn:
+            self._write([asked])
+            for line in self._other.answers:
+                if line.startswith(("end ", "error ")):
+                    break
+                found.append(line)
+            else:
+                line = ""
+        if not line.endswith("\n"):
+            self.close()
+            raise Ended(0, "its output ended")
+        if line.startswith("error "):
+            raise refusal_of(line.split())
+        return found
+
     def _whole_answer(self):
         words, rows = self._read(), []
         while words[0] not in ("end", "error"):

@@ -809,6 +809,11 @@ class ServiceTests(unittest.TestCase):
             self.assertEqual(due, [found[0], found[1], found[3]])
             self.assertEqual([[]] * 2000, store.answers_of([("list", "top", 8)] * 2000))
             self.assertRaises(ValueError, store.answers_of, [("list", "top\ncommit")])
+            lines = ["record 7 1 1%20%25\n", "record 7 2 2%20%25\n"]
+            self.assertEqual(lines, store.answer_lines("next", "top", 7, 1, 5))
+            self.assertEqual([], store.answer_lines("list", "top", 8))
+            self.assertRaises(Refusal, store.answer_lines, "list", "south")
+            self.assertEqual(lines, store.answer_lines("next", "top", 7, 1, 5))
 
     def test_a_command_leads_to_a_service(self):
         passes = (

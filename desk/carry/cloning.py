@@ -16,7 +16,7 @@ from carry.names import SETTINGS, mark, office_of
 from carry.pair import Say, told
 
 BLOCKS = 1024  # to begin with: the file grows as it needs
-PAGE = 20000
+PAGE = 50000  # records that one question brings: what an interruption costs at most
 LAST_NUMBER, LAST_TABLE = 2**64 - 1, 2**16 - 1
 
 
@@ -113,9 +113,7 @@ class Clone:
     def _page(self, token: str, settings: dict) -> Tuple[dict, str]:
         """Reads the next records. Returns the place after them, and the lines that bring both to the clone."""
         table, number = settings["at"]
-        [rows] = self.head.store.answers_of([("next", f"top@{mark(self.name, token)}", table, number, PAGE)])
-        if isinstance(rows, Refusal):
-            raise rows
+        rows = self.head.store.answer_lines("next", f"top@{mark(self.name, token)}", table, number, PAGE)
         settings, batch = {**settings, "at": self._place_after(rows, table)}, Batch()
         if settings["at"] is None:
             del settings["at"]
@@ -123,9 +121,9 @@ class Clone:
             batch.add("checkpoint", "top", mark(self.name, token))
         else:
             batch.add("put", office_of(self.name), *SETTINGS, names.text_of(settings))
-        wanted = [it for it in rows if not self.tables or int(it[0]) in self.tables]
-        # A value stands in an answer as it stands in a put.
-        return settings, "".join(f"put top {' '.join(it)}\n" for it in wanted) + batch.text()
+        wanted = [it for it in rows if not self.tables or int(it.split()[1]) in self.tables]
+        # A value stands in an answer as it stands in a put, and has no space.
+        return settings, "".join(wanted).replace("record ", "put top ") + batch.text()
 
     def _write(self, text: str) -> None:
         """Lines and a commit in one go: faster than to wait for answers."""
@@ -138,7 +136,7 @@ class Clone:
         """The key at which the next page begins, or None after the last one."""
         if len(rows) < PAGE:
             return None
-        table, number = map(int, rows[-1][:2])
+        table, number = map(int, rows[-1].split()[1:3])
         if number == LAST_NUMBER:
             table, number = table + 1, -1
         if self.tables and table not in self.tables:
