@@ -20,27 +20,35 @@ class Gone(Exception):
 
 
 class History:
-    """What became of each value that was put: which others it supersedes, by key."""
+    """What became of each change of a record: which others it supersedes. A put is known by its value, which no other
+    one has, and a removal by a number of its own; who sees no value sees every removal so far."""
 
     def __init__(self):
-        self.values, self.count = {}, 0
+        self.changes, self.count = {}, 0
 
     def new_value(self, who):
         self.count += 1
         return f"{who}-{self.count}"
 
+    def seen(self, key, value):
+        """The changes that a planner sees who sees this value, or None."""
+        return {it for it in self.changes.get(key, ()) if it.startswith("~")} if value in (None, "~") else {value}
+
     def put(self, key, saw, value):
-        """A planner who saw a value put another one."""
-        self.values.setdefault(key, {}).setdefault(value, set()).update([saw] if saw else [])
+        """A planner who saw a value put another one, or removed it: None."""
+        if value is None:
+            value = self.new_value("~")
+        self.changes.setdefault(key, {}).setdefault(value, set()).update(self.seen(key, saw))
 
     def settle(self, key, kept, lost):
-        self.values[key][kept].add(lost)
+        for it in self.seen(key, kept):
+            self.changes[key][it] |= self.seen(key, lost) - {it}
 
-    def superseded(self, key, value):
-        """What a value supersedes, at once or by others."""
-        found, waiting = set(), [value]
+    def superseded(self, key, changes):
+        """What these changes supersede, at once or by others."""
+        found, waiting = set(), list(changes)
         while waiting:
-            new = self.values[key].get(waiting.pop(), set()) - found
+            new = self.changes[key][waiting.pop()] - found
             found |= new
             waiting += new
         return found
@@ -48,15 +56,14 @@ class History:
     def fault(self, top):
         """What is wrong with the records that `top` shows in the end, or None. Two people who settle the same at the
         same time may each keep what the other gives up: then it is settled once more, and either may be there."""
-        for key, known in self.values.items():
-            value = top.get(key)
-            if value not in known:
-                return f"{key} is {value}, which nobody put"
-            below = self.superseded(key, value)
-            lost = known.keys() - below - {value}
+        for key, known in self.changes.items():
+            shown = self.seen(key, top.get(key))
+            if not shown or not shown <= known.keys():
+                return f"{key} is {top.get(key)}, and nobody put that"
+            lost = known.keys() - self.superseded(key, shown) - shown
             if lost:
-                return f"{key} is {value}, and nothing there supersedes {lost}: {known}"
-        for key in top.keys() - self.values.keys():
+                return f"{key} is {top.get(key)}, and nothing there supersedes {lost}: {known}"
+        for key in top.keys() - self.changes.keys():
             return f"{key} was put by nobody"
         return None
 
@@ -200,11 +207,13 @@ class Planner:
     def edit(self, lines, design):
         for _ in range(self.chance.randrange(1, 6)):
             key = self.chance.choice(TABLES), self.chance.randrange(KEYS)
-            value = self.world.history.new_value(self.who)
-            saw = lines.get(design, key)
+            saw, value = lines.get(design, key), self.world.history.new_value(self.who)
+            line = f"put {design} {key[0]} {key[1]} {value}"
+            if saw is not None and self.chance.random() < 0.2:
+                line, value = f"remove {design} {key[0]} {key[1]}", None
             self.sure(
                 lines,
-                [f"put {design} {key[0]} {key[1]} {value}"],
+                [line],
                 lambda it: it.get(design, key) == value,
                 lambda: self.world.history.put(key, saw, value),
             )

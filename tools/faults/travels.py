@@ -270,7 +270,9 @@ class World:
         fault = self.history.fault(tops[0])
         if fault:
             raise Failure(fault)
-        self.count["values put"] += sum(map(len, self.history.values.values()))
+        known = [it for changes in self.history.changes.values() for it in changes]
+        self.count["values put"] += sum(not it.startswith("~") for it in known)
+        self.count["values removed"] += sum(it.startswith("~") for it in known)
 
     def top_of(self, place):
         with Lines(self, place) as lines:
