@@ -22,7 +22,7 @@ HERE = Path(__file__).resolve().parent
 sys.path.insert(0, str(HERE))
 ALTCTL = os.environ["ALTCTL"] = os.path.abspath(os.environ.get("ALTCTL", HERE.parent / "altctl"))
 import carry
-from altctl import Ended, Store
+from altctl import Ended, Refusal, Store
 from carry import batch, cloning, pulling, pushing, ranges, status
 from carry.links import Fault, Link, ssh_words
 from carry.pair import Pair
@@ -682,6 +682,64 @@ class InterruptionTests(CarryTest):
             self.assertEqual(self.records(self.head, "top"), self.records(self.field, "top"))
         self.assertLess(3, at)
 
+    def late(self, prepare, step, at, when):
+        """A batch to HEAD that is cut off comes there late: before batch `when` of the next try. Returns whether the step has
+        so many batches, and that one is HEAD's."""
+        self.start_again()
+        prepare()
+        waiting, count = [], itertools.count()
+        whole = batch.Batch.carry_out
+
+        def cut(made, link):
+            if next(count) == at:
+                waiting.append(made)
+                waiting.append(link.place == self.head)
+                raise Cut
+            whole(made, link)
+
+        def carry_out(made, link):
+            if next(count) == when and waiting[1] and link.place == self.head:
+                with contextlib.suppress(Refusal):
+                    whole(waiting[0], link)
+            whole(made, link)
+
+        with unittest.mock.patch.object(batch.Batch, "carry_out", cut), contextlib.suppress(Cut):
+            self.pair(step)
+        if not waiting:
+            return False
+        count = itertools.count()
+        with unittest.mock.patch.object(batch.Batch, "carry_out", carry_out), contextlib.suppress(Fault):
+            self.pair(step)
+        self.pair(step)
+        self.pair(lambda pair: pulling.pull(pair, []))
+        return True
+
+    def try_late(self, prepare, step):
+        self.start_again()
+        prepare()
+        self.pair(step)
+        self.pair(lambda pair: pulling.pull(pair, []))
+        due = self.look(), len(self.own_names(self.head))
+        for at in itertools.count():
+            for when in range(6):
+                if not self.late(prepare, step, at, when):
+                    return
+                self.assertEqual(due, (self.look(), len(self.own_names(self.head))), f"batch {at} comes before {when}")
+
+    def test_a_batch_of_a_pull_that_comes_late(self):
+        def prepare():
+            self.do(self.head, "put top 7 3 t", "put north 7 4 h")
+            self.do(self.field, "put north 7 5 f")
+
+        self.try_late(prepare, lambda pair: pulling.pull(pair, []))
+
+    def test_a_batch_of_a_push_that_comes_late(self):
+        def prepare():
+            self.do(self.head, "put north 7 4 h")
+            self.do(self.field, "put north 7 5 f")
+
+        self.try_late(prepare, lambda pair: pushing.push(pair, ["north"]))
+
     def test_a_push_that_was_interrupted_is_not_mixed_with_what_came_later(self):
         self.start_again()
         self.do(self.field, "put north 7 5 first")
@@ -757,6 +815,9 @@ class ServiceTests(CarryTest):
         self.assertIn("top: ahead, 1 changes to push", said)
         # HEAD may be found elsewhere.
         self.carry("pull", "--head", self.head, self.field)
+        # The clone remembers it.
+        self.carry("push", self.field, "top")
+        self.assertEqual("x", self.records(self.head, "top")["7:9"])
 
 
 class SshTests(CarryTest):

@@ -52,15 +52,17 @@ def serves(path: str) -> bool:
 
 
 class Link:
-    """An open store, and whether a service works on it. A file whose service runs is asked through its socket."""
+    """An open store, its whole address, and whether a service works on it. A file whose service runs is asked through
+    its socket."""
 
     def __init__(self, place: str, program: Optional[str] = None):
+        place = place if place.startswith("ssh:") else os.path.abspath(place.removeprefix("unix:"))
         self.place = place
         self.is_service = True
         if place.startswith("ssh:"):
             self.store = Store(Tunnel(ssh_words(place)))
-        elif place.startswith("unix:") or is_socket(place):
-            self.store = Store(f"unix:{place.removeprefix('unix:')}")
+        elif is_socket(place):
+            self.store = Store(f"unix:{place}")
         elif serves(f"{place}.sock"):
             self.store = Store(f"unix:{place}.sock")
         else:

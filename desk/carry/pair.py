@@ -9,7 +9,8 @@ from carry.names import MINE, Names, base_mark, mark
 from carry.versions import Differences, differences
 
 Say = Callable[[str], None]
-NO_SUCH_CHECKPOINT = 3
+NO_SUCH_CHECKPOINT, CHECKPOINT_EXISTS = 3, 4
+PULLS = "pulls"  # A checkpoint of HEAD's `.office.NAME` while a pull reads.
 
 
 class Pair:
@@ -101,6 +102,14 @@ class Pair:
     def renew_there(self, batch: Batch, *tokens: str) -> None:
         names.renew(batch, self.name, self.token, list(tokens))
 
+    def freeze_there(self, batch: Batch, token: str) -> None:
+        """HEAD's names while a pull reads. A pull that began before, and whose batch comes late, is refused then, and
+        so is this one if that batch has come."""
+        office = names.office_of(self.name)
+        batch.add("uncheck", office, self.token)
+        for it in (self.token, token, PULLS):
+            batch.add("checkpoint", office, it)
+
     def tidy(self) -> None:
         """Removes at HEAD what an earlier step has left there, but for the marks that the clone has."""
         extra = self.there.extra(self.name, self.marks, self.token)
@@ -157,7 +166,7 @@ class Pair:
 
 def told(refusal: Refusal, where: str) -> str:
     """What a refused batch means."""
-    if refusal.number == NO_SUCH_CHECKPOINT:
+    if refusal.number in (NO_SUCH_CHECKPOINT, CHECKPOINT_EXISTS):
         return f"{where} was changed by somebody else at this moment: try again"
     if refusal.number == 90:
         return f"you may not do that in {where}: {refusal}"

@@ -70,7 +70,7 @@ class Pull:
 
     def _freeze(self, designs: List[str]) -> None:
         batch, pair = Batch(), self.pair
-        pair.renew_there(batch, pair.token, self.token)
+        pair.freeze_there(batch, self.token)
         for it in designs:
             batch.add("checkpoint", it, self.frozen)
         pair.carry_out(pair.head, batch)

@@ -104,6 +104,10 @@ class Push:
             return self._send_changes(rows)
         return None
 
+    def arrived_at(self) -> List[str]:
+        """The design at HEAD that has this push, if it was there when HEAD was looked at."""
+        return [alt for alt, tokens in self.pair.there.marks.items() if self.token in tokens]
+
     def _batch(self) -> Batch:
         batch = Batch()
         self.pair.renew_there(batch, self.token)
@@ -281,12 +285,16 @@ def finish(pair: Pair) -> None:
 
 def complete(pair: Pair, push: Push) -> None:
     """Sends a push that was begun, unless HEAD has it, and notes that it has."""
-    having = [alt for alt, tokens in pair.there.marks.items() if push.token in tokens]
     try:
-        beside_it = push.send() if not having else having[0] if having != [push.design] else None
+        beside_it = None if push.arrived_at() else push.send()
     except (Fault, Refusal) as fault:
-        push.cancel()
-        raise fault if isinstance(fault, Fault) else Fault(told(fault, "HEAD")) from fault
+        # What was sent before a link broke may have come there in this moment.
+        pair.there = names.read_names(pair.head.store, pair.name)
+        if not push.arrived_at():
+            push.cancel()
+            raise fault if isinstance(fault, Fault) else Fault(told(fault, "HEAD")) from fault
+        beside_it = None
+    beside_it = beside_it or next((it for it in push.arrived_at() if it != push.design), None)
     if beside_it is None:
         push.end()
         pair.say(f"{push.design}: pushed")

@@ -23,6 +23,7 @@ from altctl import Store
 
 DESK = TOP / "desk"
 RATE, DELAY = 10e6, 0.01
+TIMES = 5
 
 
 def feature(number, chance):
@@ -85,18 +86,25 @@ class Bench:
         self.sshd.wait()
         self.link.close()
 
-    def take(self, what, *words, **variables):
-        before, begun = self.link.bytes, time.monotonic()
-        environment = {
-            **os.environ,
-            "ALTCTL": self.altctl,
-            "ALTCARRY_SSH": self.ssh,
-            "GIT_SSH_COMMAND": self.ssh,
-            **variables,
-        }
-        subprocess.run(words, check=True, env=environment, stdout=subprocess.DEVNULL, stderr=subprocess.DEVNULL)
-        seconds, count = time.monotonic() - begun, self.link.bytes - before
+    def take(self, what, *words):
+        """Runs a command, and says what it took."""
+        count, seconds = self.run(words)
         print(f"{what}: {count:,} bytes, {seconds:.1f} s", flush=True)
+
+    def take_often(self, what, prepare, *words):
+        """The medians of some runs, each after a change."""
+        found = []
+        for it in range(TIMES):
+            prepare(it)
+            found.append(self.run(words))
+        counts, seconds = (sorted(it)[TIMES // 2] for it in zip(*found))
+        print(f"{what}: {counts:,} bytes, {seconds:.1f} s, the medians of {TIMES}", flush=True)
+
+    def run(self, words):
+        before, begun = self.link.bytes, time.monotonic()
+        environment = {**os.environ, "ALTCTL": self.altctl, "ALTCARRY_SSH": self.ssh, "GIT_SSH_COMMAND": self.ssh}
+        subprocess.run(words, check=True, env=environment, stdout=subprocess.DEVNULL, stderr=subprocess.DEVNULL)
+        return self.link.bytes - before, time.monotonic() - begun
 
 
 def change(store, alt, count, seed, numbers):
@@ -109,51 +117,48 @@ def change(store, alt, count, seed, numbers):
             store.put(alt, table, number, value)
 
 
-def measure(bench, folder, altctl, count):
-    head, field = f"{folder}/head.alt", f"{folder}/field.alt"
-    altcarry, altgis = str(DESK / "altcarry"), str(DESK / "altgis")
-    environment = {**os.environ, "ALTCTL": altctl}
+def measure_peers(bench, folder, altctl):
+    altgis, environment = str(DESK / "altgis"), {**os.environ, "ALTCTL": altctl}
     for it in ("map.gpkg", "map.geojson"):
-        subprocess.run(
-            [altgis, "export", head, "top", f"{folder}/{it}"], check=True, env=environment, stdout=subprocess.DEVNULL
-        )
+        words = [altgis, "export", f"{folder}/head.alt", "top", f"{folder}/{it}"]
+        subprocess.run(words, check=True, env=environment, stdout=subprocess.DEVNULL)
         print(f"{it}: {os.path.getsize(f'{folder}/{it}'):,} bytes")
     repository = f"{folder}/repository"
     os.mkdir(repository)
     shutil.move(f"{folder}/map.geojson", repository)
     for words in (["init", "-q"], ["add", "."], ["-c", "user.name=a", "-c", "user.email=a@b", "commit", "-qm", "map"]):
         subprocess.run(["git", "-C", repository, *words], check=True)
-    service = subprocess.Popen(
-        [sys.executable, str(DESK / "altserve"), "--program", altctl, head], stderr=subprocess.DEVNULL
-    )
+    bench.take("git clone of the GeoJSON", "git", "clone", "-q", f"ssh://{bench.host}{repository}", f"{folder}/cloned")
+    copy = f"{bench.ssh} {bench.host} cat {folder}/map.gpkg >{folder}/copied.gpkg"
+    bench.take("copy of the GeoPackage", "sh", "-c", copy)
+    bench.take("copy of the GeoPackage, compressed (ssh -C)", "sh", "-c", copy.replace(" ssh ", " ssh -C "))
+
+
+def measure(bench, folder, altctl, count):
+    head, field, altcarry = f"{folder}/head.alt", f"{folder}/field.alt", str(DESK / "altcarry")
+    words = [sys.executable, str(DESK / "altserve"), "--program", altctl, head]
+    service = subprocess.Popen(words, stderr=subprocess.DEVNULL)
+
+    def change_top(seed):
+        with Store(f"unix:{head}.sock") as store:
+            change(store, "top", 500, 2 + seed, count)
+
+    def change_mine(seed):
+        chance = random.Random(seed)
+        values = (b'{"dn":%d,"name":"D","state":"planned"}' % chance.randrange(50, 200) for _ in range(100))
+        with Store(field, altctl) as store:
+            if seed == 0:
+                store.new("mine", "top")
+            store.put_many("mine", ((7, number, next(values)) for number in chance.sample(range(1, count + 1), 100)))
+            store.commit()
+
     try:
         while not os.path.exists(f"{head}.sock"):
             time.sleep(0.05)
         place = f"ssh://{bench.host}{head}.sock"
         bench.take("altcarry clone", altcarry, "clone", place, field, "north", "--office", "anna")
-        bench.take(
-            "git clone of the GeoJSON", "git", "clone", "-q", f"ssh://{bench.host}{repository}", f"{folder}/cloned"
-        )
-        copy = f"{bench.ssh} {bench.host} cat {folder}/map.gpkg >{folder}/copied.gpkg"
-        bench.take("copy of the GeoPackage", "sh", "-c", copy)
-        bench.take("copy of the GeoPackage, compressed (ssh -C)", "sh", "-c", copy.replace(" ssh ", " ssh -C "))
-        with Store(f"unix:{head}.sock") as store:
-            change(store, "top", 500, 2, count)
-        bench.take("altcarry pull after 500 changes", altcarry, "pull", field)
-        bench.take("altcarry pull of nothing", altcarry, "pull", field)
-        with Store(f"unix:{head}.sock") as store:
-            store.new("far", "top")
-        subprocess.run([altctl, "do", field, "new mine top", "commit"], check=True, stdout=subprocess.DEVNULL)
-        lines, chance = [], random.Random(3)
-        for number in chance.sample(range(1, count + 1), 100):
-            lines.append(
-                f'put mine 7 {number} {{"dn":{chance.randrange(50, 200)},"name":"D-{number}","state":"planned"}}'
-            )
-        subprocess.run([altctl, "do", field, *lines, "commit"], check=True, stdout=subprocess.DEVNULL)
-        bench.take("altcarry push of a new design of 100 changes", altcarry, "push", field, "mine")
-        lines = [it.replace("planned", "built") for it in lines]
-        subprocess.run([altctl, "do", field, *lines, "commit"], check=True, stdout=subprocess.DEVNULL)
-        bench.take("altcarry push of 100 changes", altcarry, "push", field, "mine")
+        bench.take_often("altcarry pull after 500 changes", change_top, altcarry, "pull", field)
+        bench.take_often("altcarry push of 100 changes", change_mine, altcarry, "push", field, "mine")
     finally:
         service.terminate()
         service.wait()
@@ -163,6 +168,7 @@ def main():
     parser = argparse.ArgumentParser(description=__doc__.split(":")[0])
     parser.add_argument("altctl", nargs="?", default=str(TOP / "altctl"))
     parser.add_argument("features", nargs="?", type=int, default=220000)
+    parser.add_argument("--alone", action="store_true", help="without what it is compared with")
     words = parser.parse_args()
     missing = bad_link.missing()
     if missing:
@@ -172,6 +178,8 @@ def main():
         make_map(f"{folder}/head.alt", altctl, words.features)
         bench = Bench(folder, altctl)
         try:
+            if not words.alone:
+                measure_peers(bench, folder, altctl)
             measure(bench, folder, altctl, words.features)
         finally:
             bench.close()
