@@ -309,7 +309,7 @@ class PullTests(CarryTest):
         self.do(self.field, "put south 7 4 mine")
         self.do(self.head, "drop north", "drop south")
         said = self.carry("pull", self.field)
-        self.assertIn("north: dropped at HEAD, and so here", said)
+        self.assertIn("north: HEAD has dropped it, so it is dropped here", said)
         self.assertIn("south: HEAD has dropped it. It stays here", said)
         self.assertEqual({"top", "south"}, set(self.designs(self.field)))
         self.assertEqual("mine", self.records(self.field, "south")["7:4"])
@@ -320,7 +320,7 @@ class PullTests(CarryTest):
     def test_a_design_that_head_has_made_anew_is_another_one(self):
         self.do(self.head, "drop north", "new north top", "put north 7 3 other")
         self.do(self.field, "put north 7 4 mine")
-        self.assertIn("north: HEAD has dropped it", self.carry("pull", self.field))
+        self.assertIn("north: HEAD has another design of this name now", self.carry("pull", self.field))
         self.do(self.field, "merge north")
         self.assertIn("HEAD has another design north", self.carry("push", self.field, "north", status=1))
         self.assertEqual("other", self.records(self.head, "north")["7:3"])
@@ -890,6 +890,20 @@ class StatusTests(CarryTest):
         rows = json.loads(self.carry("status", "--json", self.field))
         self.assertEqual(["top", "north", "mine", "south"], [it["design"] for it in rows])
         self.assertIn("north: both, 1 changes to push, 2 to pull, 1 in conflict", self.carry("status", self.field))
+
+    def test_status_of_a_push_that_was_interrupted(self):
+        self.clone("north")
+        self.do(self.field, "put north 7 3 field", "new mine top", "put mine 7 4 field")
+        for design, state in ("north", "ahead"), ("mine", "new here"):
+            with Link(self.field) as clone, Link(self.head) as head:
+                pair = Pair(clone, head, lambda text: None)
+                pair.look()
+                pushing.prepare(pair, design).begin()
+                found = {it.design: it for it in status.status(clone, head)}
+                self.assertEqual((state, True), (found[design].state, found[design].push_is_under_way))
+                pair.look()
+                pushing.finish(pair)
+                self.assertEqual("same", {it.design: it.state for it in status.status(clone, head)}[design])
 
     def test_a_store_may_be_a_clone_and_have_clones(self):
         self.clone("north")

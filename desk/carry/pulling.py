@@ -239,17 +239,18 @@ class Pull:
         rows, before, now = pair.differ(pair.clone, (pair.mark(design), design), *pair.base_pairs(design))
         has_own = [it for it in pair.here.checks[design] if not it.startswith(".")]
         is_parent = any(parent == design and it not in self.dropped for it, parent in pair.here.parents.items())
+        what = "another design of this name now" if design in pair.there.parents else "dropped it"
         pair.forget_base(batch, design, parent)
         if rows or before != now or has_own or is_parent:
             batch.add("uncheck", design, pair.check(design))
             self.said.append(
-                f"{design}: HEAD has dropped it. It stays here as a design of your own, since you have changed it"
+                f"{design}: HEAD has {what}. It stays here as a design of your own, since you have changed it"
             )
             return
         batch.guard(design, pair.check(design), passing(design, self.token))
         batch.add("drop", design)
         self.dropped.add(design)
-        self.said.append(f"{design}: dropped at HEAD, and so here")
+        self.said.append(f"{design}: HEAD has {what}, so it is dropped here")
 
 
 def pull(pair: Pair, asked: List[str]) -> None:

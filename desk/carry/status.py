@@ -34,11 +34,13 @@ def status(clone: Link, head: Optional[Link], say: Say = print) -> List[Status]:
     shown = [it for it in carried if pair.is_there(it)]
     mine = dict(zip(carried, pair.differ(clone, *((pair.mark(it), it) for it in carried))))
     theirs = dict(zip(shown, pair.differ(head, *((pair.mark(it), it) for it in shown))))
-    pushed = pair.settings.get("push", [None])[0]
+    pushed, pending = pair.settings.get("push", [None, None])[:2]
     found = []
     for it in designs_of(pair.here):
-        if it not in pair.marks or it == pushed and it not in theirs:
+        if it not in pair.marks or it == pushed and pair.marks[it] == pending:
             found.append(Status(it, "new here", push_is_under_way=it == pushed))
+        elif it == pushed and it not in theirs:
+            found.append(Status(it, "ahead", len(mine[it]), push_is_under_way=True))
         elif it not in theirs:
             found.append(Status(it, "dropped at HEAD"))
         else:
