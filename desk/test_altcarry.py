@@ -214,6 +214,12 @@ class CloneTests(CarryTest):
         self.assertIn("HEAD has no design south", self.carry("pull", self.field, "south", status=1))
         self.assertIn("this store is no clone", self.carry("pull", self.head, status=1))
 
+    def test_a_clone_that_was_made_gets_the_designs_that_are_asked_for_again(self):
+        self.assertIn("HEAD has no design norht", self.clone("norht", status=1))
+        self.assertIn("north: new here", self.clone("north"))
+        self.assert_same("north")
+        self.assertIn("is there already", self.clone("north", office="berta", status=1))
+
     def test_a_forgotten_office_leaves_nothing_at_head(self):
         self.clone("north")
         self.carry("forget", self.head, "--office", "anna")

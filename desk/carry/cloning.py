@@ -8,7 +8,7 @@ import subprocess
 from concurrent.futures import ThreadPoolExecutor
 from typing import List, Optional, Sequence, Tuple
 
-from altctl import Refusal
+from altctl import Ended, Refusal
 from carry import names
 from carry.batch import Batch
 from carry.links import Fault, Link, program_path
@@ -38,7 +38,9 @@ class Clone:
     def make(self) -> None:
         """Makes the store with `top` as it is at HEAD."""
         if os.path.exists(self.file):
-            raise Fault(f"{self.file} is there already")
+            if self._found(self.file)[0] is None:
+                raise Fault(f"{self.file} is there already")
+            return
         token, settings = self._find()
         written = None
         with ThreadPoolExecutor(1) as writer:
@@ -55,7 +57,7 @@ class Clone:
     def _find(self) -> Tuple[str, dict]:
         """The token and the settings of the part that is there, if it is one of this HEAD; else of a new one."""
         there = names.read_names(self.head.store, self.name)
-        token, settings = self._part_found()
+        token, settings = self._found(self.part)
         if token is not None and there.tokens == [token] == there.marks.get("top"):
             self.say("goes on where it was interrupted")
             return token, settings
@@ -69,10 +71,10 @@ class Clone:
         self._name_there(token)
         return token, settings
 
-    def _part_found(self) -> Tuple[Optional[str], dict]:
-        """The token and the settings of a part that these words have made before."""
-        if os.path.exists(self.part):
-            with contextlib.suppress(Fault), Link(self.part) as store:
+    def _found(self, file: str) -> Tuple[Optional[str], dict]:
+        """The token and the settings of a clone, or of a part of one, that these words have made before."""
+        if os.path.exists(file):
+            with contextlib.suppress(Fault, Ended), Link(file) as store:
                 name, settings = names.settings_of(store.store)
                 tokens = names.read_names(store.store, name).tokens
                 if (
