@@ -11,6 +11,7 @@ HERE = Path(__file__).resolve().parent
 sys.path[:0] = [str(HERE), str(HERE.parent / "clients" / "python")]
 from service_tests.test_backups import BackupTests
 from service_tests.test_batches import BatchTests
+from service_tests.test_changed import ChangedTests, LastChangesTests
 from service_tests.test_crashes import CrashTests
 from service_tests.test_devices import DeviceTests, SyncTests
 from service_tests.test_fairness import BoundTests, FairnessTests, LeavingTests

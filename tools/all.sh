@@ -58,6 +58,7 @@ if [ -n "$quick" ]; then
     try 600 faults/crashes.py -n 1
     try 600 ../desk/test_altserve.py StoreTests
     try 600 faults/kill_service.py "$tools/../altctl" 2
+    try 600 faults/travels.py "$tools/../altctl" 10 --worlds 5
 else
     # Over the libraries that are proved for the program. Without it the tests of the store in memory are skipped.
     if has_rt libaltstore; then
@@ -72,10 +73,12 @@ else
     try 600 faults/failed_sync.py
     if has_rt faults/refuse_allocations.sh; then try 1800 faults/refuse_allocations.sh; fi
     try 600 ../desk/test_altserve.py
-    try 600 ../desk/test_altgis.py
+    try 1200 ../desk/test_altgis.py
     try 600 ../desk/test_altdesk.py
+    try 900 ../desk/test_altcarry.py
     try 1800 release/test_package.py
     try 300 faults/kill_service.py "$tools/../altctl" 20
+    try 900 faults/travels.py "$tools/../altctl" 40
     try 300 faults/replicated.sh
     # The first time takes the longest by far: later it tries only what has changed.
     if has_rt gate/wrong_bodies.py; then try 14400 gate/wrong_bodies.py; fi

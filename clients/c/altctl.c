@@ -796,7 +796,7 @@ static const char *const refusals[] = {
     "ReadOnly"};
 static const char *const service_refusals[] = {
     "Denied", "NotDone", "Aborted", "NotInBatch", "TooLarge", "HeldTooLong", "HalfLine", "NotJournaled", "NoBackup",
-    "Stopped", "TooManyPlanners", "Unsure", "TooManyEntries"};
+    "Stopped", "TooManyPlanners", "Unsure", "TooManyEntries", "Changed"};
 
 #define COUNT(array) ((int)(sizeof(array) / sizeof *(array)))
 

@@ -80,6 +80,7 @@ enum {
     ALT_TOO_MANY_PLANNERS = 100,
     ALT_UNSURE = 101,
     ALT_TOO_MANY_ENTRIES = 102,
+    ALT_CHANGED = 103,
 
     /* There are no more rows. */
     ALT_DONE = -1,

@@ -146,11 +146,11 @@ def value_of(word: str) -> bytes:
     return spelled.encode("ascii").decode("unicode_escape").encode("latin-1")
 
 
-def portions(lines, most):
-    """Lines in portions of AHEAD at most, which have no more than `most` bytes together, or are one line."""
+def portions(lines, most, ahead=AHEAD):
+    """Lines in portions of `ahead` at most, which have no more than `most` bytes together, or are one line."""
     portion, size = [], 0
     for line in lines:
-        if portion and (len(portion) == AHEAD or size + len(line) >= most):
+        if portion and (len(portion) == ahead or size + len(line) >= most):
             yield portion
             portion, size = [], 0
         portion.append(line)
@@ -230,6 +230,8 @@ class Process:
     """A process of `altctl run`, which locks the file as long as it runs. It is in a session of its own: a Ctrl-C that ends a
     call here does not end it, and what was not committed is there still."""
 
+    ahead, pipe = AHEAD, PIPE
+
     def __init__(self, file, program, cache, wait, read_only, grow):
         os.stat(file)
         self._words = program, os.path.abspath(os.fsdecode(file))
@@ -269,6 +271,9 @@ class Process:
 class Service:
     """A connection to the service at a Unix socket."""
 
+    # A socket and a pipe of ssh hold this much at least, and the service keeps answers that nobody reads yet.
+    ahead, pipe = 1000, 32 << 10
+
     def __init__(self, path):
         self._socket = socket.socket(socket.AF_UNIX)
         try:
@@ -277,6 +282,11 @@ class Service:
             self._socket.close()
             raise
         self.lines, self.answers = (self._socket.makefile(mode, encoding="ascii", newline="\n") for mode in "wr")
+
+    def abort(self) -> None:
+        """Has each call that waits for an answer raise Ended."""
+        with contextlib.suppress(OSError):
+            self._socket.shutdown(socket.SHUT_RDWR)
 
     def end(self):
         """Ends the connection. A batch that was not committed is forgotten."""
@@ -287,18 +297,42 @@ class Service:
         return 0, ""
 
 
+class Tunnel(Service):
+    """A connection to a service's socket elsewhere by the standard streams of a command: `ssh HOST nc -N -U PATH`."""
+
+    def __init__(self, words: Sequence[str]) -> None:
+        pipe = subprocess.PIPE
+        self._command = subprocess.Popen(words, stdin=pipe, stdout=pipe, encoding="ascii", start_new_session=True)
+        self.lines, self.answers = self._command.stdin, self._command.stdout
+
+    def abort(self) -> None:
+        self._command.terminate()
+
+    def end(self):
+        with contextlib.suppress(BrokenPipeError):
+            self.lines.close()
+        # All answers have been read, so there is nothing to wait for; over a slow link the end would take its time.
+        self._command.terminate()
+        self._command.wait()
+        self.answers.close()
+        return 0, ""
+
+
 class Store:
     """An open store. The program locks its file (`flock`) as long as it runs: a second one raises BlockingIOError, or with
     `wait` it waits. With `read_only` the file is only read, beside other readers, and each command is refused (24 ReadOnly). With
     `grow` the store grows where a command would be refused for want of blocks (13 Full): as far as it can, or up to that many blocks.
 
     "unix:PATH" stands for a store that a service works on, for many planners at once. There each change is committed before its
-    method returns, except in a `with store.batch()`."""
+    method returns, except in a `with store.batch()`. A Tunnel leads to a service elsewhere."""
 
     def __init__(self, file, program="altctl", cache=None, wait=False, read_only=False, grow=False):
         self._rows, self._batch, self._is_open, self._turn = None, None, False, threading.RLock()
         is_service = isinstance(file, str) and file.startswith("unix:")
-        self._other = Service(file[5:]) if is_service else Process(file, program, cache, wait, read_only, grow)
+        if isinstance(file, Service):
+            self._other = file
+        else:
+            self._other = Service(file[5:]) if is_service else Process(file, program, cache, wait, read_only, grow)
         self._is_open = True
         try:
             self.free()
@@ -325,13 +359,20 @@ class Store:
         if status and not quietly:
             raise Ended(status, said)
 
+    def abort(self) -> None:
+        """Ends the connection to a service, even while another thread waits for an answer: its call raises Ended."""
+        if not isinstance(self._other, Service):
+            raise ValueError("only a connection to a service can be aborted")
+        self._other.abort()
+
     @contextlib.contextmanager
-    def batch(self):
+    def batch(self, seen: Optional[Dict[str, int]] = None) -> Iterator[None]:
         """Changes that a service applies together at the end of the `with`: all of them, or none. If an exception leaves the
-        `with`, or one of them is refused at its end, everything stays as it was. Queries are not possible in it."""
+        `with`, or one of them is refused at its end, everything stays as it was. Queries are not possible in it. `seen` is a dict
+        from alternatives to batches: if one has changed since that batch, all of it is refused (103 Changed)."""
         if not isinstance(self._other, Service) or self._batch is not None:
             raise ValueError("a batch is one of a service's store, and not in another one")
-        self._batch = ["begin"]
+        self._batch = [self._line("begin", *(f"{alt}={number:d}" for alt, number in (seen or {}).items()))]
         try:
             yield
             lines = [*self._batch, "commit"]
@@ -398,7 +439,7 @@ class Store:
                 self._hold(line)
             return
         asked = 0
-        for portion in portions(lines, most):
+        for portion in portions(lines, most, self._other.ahead):
             with self._turn:
                 self._write(portion)
                 answers = [self._read() for _ in portion]
@@ -439,8 +480,44 @@ class Store:
         written ahead of their answers."""
         words = self._line("get", alt)
         lines = (f"{words} {table:d} {number:d}" for table, number in keys)
-        for answer in self._ask_many(lines, PIPE):
+        for answer in self._ask_many(lines, self._other.pipe):
             yield decode(answer[1]) if answer[0] == "value" else None
+
+    def answers_of(self, queries: Iterable[Sequence[object]]) -> List[Union[List[List[str]], Refusal]]:
+        """The answers to queries, each the words of a line such as ("diff", "top", "north"), as lists of rows: each row the
+        words behind its first one. In the place of a query that was refused stands its Refusal. Lines are written ahead of
+        their answers: to a service, a few hundred queries take one round trip."""
+        found = []
+        for portion in portions([self._line(*words) for words in queries], self._other.pipe, self._other.ahead):
+            with self._turn:
+                self._write(portion)
+                found += [self._whole_answer() for _ in portion]
+        return found
+
+    def answer_lines(self, *words: object) -> List[str]:
+        """The rows of the answer to one query as lines, for those who pass many on as they are."""
+        found, asked = [], self._line(*words)
+        with self._turn:
+            self._write([asked])
+            for line in self._other.answers:
+                if line.startswith(("end ", "error ")):
+                    break
+                found.append(line)
+            else:
+                line = ""
+        if not line.endswith("\n"):
+            self.close()
+            raise Ended(0, "its output ended")
+        if line.startswith("error "):
+            raise refusal_of(line.split())
+        return found
+
+    def _whole_answer(self) -> Union[List[List[str]], Refusal]:
+        words, rows = self._read(), []
+        while words[0] not in ("end", "error"):
+            rows.append(words[1:])
+            words = self._read()
+        return rows if words[0] == "end" else refusal_of(words)
 
     def remove_many(self, alt: str, keys: Iterable[Key]) -> None:
         """Removes each record (table, number), as `put_many` puts them."""
@@ -582,6 +659,10 @@ class Store:
     def checkpoints(self, alt: str) -> Rows[str]:
         """The names of an alternative's checkpoints."""
         return self._list(lambda words: words[0], "checks", alt)
+
+    def batches(self) -> int:
+        """The number of the last batch that a service has committed."""
+        return int(self._ask("batches")[1])
 
     def whoami(self) -> str:
         """The name of the planner whom a service sees here."""

@@ -7,6 +7,7 @@ import io
 import os
 import random
 import shutil
+import signal
 import subprocess
 import sys
 import tempfile
@@ -21,7 +22,7 @@ sys.dont_write_bytecode = True
 HERE = Path(__file__).resolve().parent
 sys.path.insert(0, str(HERE))
 import example
-from altctl import Alternative, Change, Conflict, Copied, Ended, Record, Refusal, Store, Tally, decode, encode
+from altctl import Alternative, Change, Conflict, Copied, Ended, Record, Refusal, Store, Tally, Tunnel, decode, encode
 
 F_SETPIPE_SZ = 1031  # fcntl has the name from Python 3.10 on.
 ALTCTL = os.environ.get("ALTCTL", str(HERE.parent.parent / "altctl"))
@@ -774,6 +775,15 @@ class ServiceTests(unittest.TestCase):
     def open(self):
         return Store(f"unix:{self.file}.sock")
 
+    @contextlib.contextmanager
+    def stopped(self):
+        """The service stands still meanwhile."""
+        self.service.send_signal(signal.SIGSTOP)
+        try:
+            yield
+        finally:
+            self.service.send_signal(signal.SIGCONT)
+
     def test_each_change_is_there_for_others(self):
         with self.open() as one, self.open() as other:
             one.new("north", "top")
@@ -789,6 +799,52 @@ class ServiceTests(unittest.TestCase):
             self.assertEqual([], list(other.list("north")))
             names = [it.name for it in other.alternatives()]
             self.assertEqual(["top", "north", ".service"], names)
+
+    def test_many_queries_are_answered_together(self):
+        with self.open() as service:
+            service.put_many("top", ((7, number, b"%d %%" % number) for number in range(3)))
+            service.new("north", "top")
+            service.checkpoint("north", "monday")
+        self.service.terminate()
+        self.service.wait()
+        due = [
+            [["7", "0", "0%20%25"], ["7", "1", "1%20%25"], ["7", "2", "2%20%25"]],
+            [["monday"]],
+            [],
+        ]
+        with Store(self.file, ALTCTL) as store:
+            asked = [("list", "top", 7), ("checks", "north"), ("checks", "south"), ("diff", "top", "north")]
+            found = store.answers_of(asked)
+            self.assertEqual((1, "NoSuchAlternative"), (found[2].number, found[2].name))
+            self.assertEqual(due, [found[0], found[1], found[3]])
+            self.assertEqual([[]] * 2000, store.answers_of([("list", "top", 8)] * 2000))
+            self.assertRaises(ValueError, store.answers_of, [("list", "top\ncommit")])
+            lines = ["record 7 1 1%20%25\n", "record 7 2 2%20%25\n"]
+            self.assertEqual(lines, store.answer_lines("next", "top", 7, 1, 5))
+            self.assertEqual([], store.answer_lines("list", "top", 8))
+            self.assertRaises(Refusal, store.answer_lines, "list", "south")
+            self.assertEqual(lines, store.answer_lines("next", "top", 7, 1, 5))
+
+    def test_a_command_leads_to_a_service(self):
+        passes = (
+            "import os, socket, sys, threading\n"
+            "it = socket.socket(socket.AF_UNIX); it.connect(sys.argv[1])\n"
+            "def back():\n"
+            "    while came := it.recv(4096): os.write(1, came)\n"
+            "threading.Thread(target=back, daemon=True).start()\n"
+            "while came := os.read(0, 4096): it.sendall(came)\n"
+        )
+        words = [sys.executable, "-c", passes, f"{self.file}.sock"]
+        with Store(Tunnel(words)) as far, self.open() as near:
+            with far.batch():
+                far.put_many("top", ((7, number, bytes(3000)) for number in range(50)))
+            self.assertEqual([bytes(3000)] * 50, list(near.get_many("top", ((7, number) for number in range(50)))))
+            self.assertEqual([bytes(3000)] * 50, list(far.get_many("top", ((7, number) for number in range(50)))))
+            self.assertEqual([[]] * 2000, far.answers_of([("list", "top", 8)] * 2000))
+            threading.Timer(0.2, far.abort).start()
+            with self.assertRaises(Ended), self.stopped():
+                far.put("top", 7, 1, b"a")
+        self.assertRaises(Ended, Store, Tunnel([sys.executable, "-c", "pass"]))
 
     def test_many_lines_one_by_one_and_in_a_batch(self):
         due = {(7, number): b"%d" % number for number in range(100)}
@@ -858,6 +914,24 @@ class ServiceTests(unittest.TestCase):
             with store.batch():
                 pass
             self.assertEqual([], list(store.list("top")))
+
+    def test_a_batch_that_depends_on_what_was_seen(self):
+        with self.open() as one, self.open() as other:
+            one.new("north", "top")
+            seen = other.batches()
+            self.assertEqual(1, seen)
+            one.put("north", 7, 1, b"a")
+            with self.assertRaises(Refusal) as came, other.batch({"north": seen, "top": seen}):
+                other.put("north", 7, 1, b"b")
+            self.assertEqual((103, "Changed", "north 2"), (came.exception.number, came.exception.name, came.exception.detail))
+            with other.batch({"north": other.batches()}):
+                other.put("north", 7, 1, b"b")
+            self.assertEqual(b"b", one.get("north", 7, 1))
+
+    def test_a_call_that_waits_is_aborted(self):
+        with self.assertRaises(Ended), self.open() as store, self.stopped():
+            threading.Timer(0.2, store.abort).start()
+            store.put("top", 7, 1, b"a")
 
     def test_the_journal_is_read(self):
         with self.open() as store:

@@ -1,6 +1,6 @@
 """A batch: lines of one planner that take effect together or not at all."""
 import time
-from typing import List, Optional
+from typing import Dict, List, Optional
 
 from service import limits
 from service.limits import refusal
@@ -10,8 +10,10 @@ class Batch:
     """Lines of one planner. In the end it has the answers to all of them, or the position and the answer of the one that was
     refused; the position after the last line stands for `commit`."""
 
-    def __init__(self, person, lines=(), is_explicit=False, rules=None, source=None):
+    def __init__(self, person, lines=(), is_explicit=False, rules=None, source=None, seen: Optional[Dict[str, int]] = None):
         self.person, self.lines, self.is_explicit = person, list(lines), is_explicit
+        # Alternatives that must not have changed since the batch that its planner saw.
+        self.seen = seen or {}
         # Batches of one source are carried out in their order.
         self.source = self if source is None else source
         self.count, self.begun = len(self.lines), time.monotonic()
@@ -38,7 +40,7 @@ class Batch:
         if self.refused is None:
             self.refused = place, answer
             self.may_merge = any(it.startswith(b"merge ") for it in self.lines)
-            self.lines, self.bytes, self.answers = [], 0, None
+            self.lines, self.bytes, self.seen, self.answers = [], 0, {}, None
 
     def refuse_if_open(self, answer: bytes) -> None:
         """Refuses it as a whole, unless it is settled."""

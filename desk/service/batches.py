@@ -1,7 +1,6 @@
 """Batches of lines over one store. Each takes effect as a whole or not at all, and is durable before it is answered. Batches that
 wait together share a commit."""
 import errno
-import os
 import time
 from typing import Callable, Iterable, List, NamedTuple, Optional, Tuple
 
@@ -9,6 +8,7 @@ from service.batch import Batch, refused_place
 from service.entries import Effect, Entries, saved
 from service.journal import Broken, Journal
 from service.journal_log import Filter, Log
+from service.last_changes import LastChanges, independent
 from service.limits import refusal
 from service.lines import OWN
 from service.program import Ended
@@ -38,10 +38,6 @@ class Commit(NamedTuple):
     done: List[Done]
     entries: Entries
 
-    def settle(self) -> None:
-        for it in self.done:
-            it.batch.answers = it.answers
-
 
 class Batches:
     """The store with its journal, and the rules in force."""
@@ -58,6 +54,7 @@ class Batches:
         self.owners = f"{store.file}.owners"
         self._find_makers()
         self.changes = -1
+        self.last_changes = LastChanges(store.kept)
         # The batches that were sent last, and the commit that was asked for and has no answer yet.
         self.sent: List[Batch] = []
         self.asked: Optional[Commit] = None
@@ -130,13 +127,15 @@ class Batches:
         try:
             for it in batches:
                 self._look_at_rights(it)
+                self.look_at_changes(it)
             doubtful = [it for it in open_ones(batches) if it.is_doubtful]
             for it in doubtful if len(batches) > 1 else ():
                 # One that is refused would have all others carried out again.
                 self._try(self._probe, [it])
-            self._try(self._attempt, open_ones(batches))
+            self._try(self._attempt, independent(open_ones(batches), self.store.entries.parents))
             for batch in open_ones(batches):
                 # If the program ended, any of them may be the reason: those not settled are tried one by one.
+                self.look_at_changes(batch)
                 for _ in range(TRIES):
                     self._try(self._attempt, open_ones([batch]))
                 batch.refuse_if_open(refusal(99))
@@ -156,6 +155,12 @@ class Batches:
                 batch.refuse(place, refused)
                 return
 
+    def look_at_changes(self, batch: Batch) -> None:
+        """Refuses a batch if an alternative has changed since its planner saw it."""
+        refused = self.last_changes.refusal_of(batch, self.store.kept)
+        if refused is not None:
+            batch.refuse_if_open(refused)
+
     def _try(self, work: Callable[[List[Batch]], None], batches: List[Batch]) -> None:
         """Has batches carried out. If the program ends, those that have no effect and no refusal stay open."""
         if not batches:
@@ -169,8 +174,7 @@ class Batches:
             if asked is None:
                 refuse_last(self.sent, ended.answers)
             elif self.store.kept == asked.last:
-                self.store.entries = asked.entries
-                asked.settle()
+                self._take(asked)
         self.asked = None
 
     def _reopen(self) -> None:
@@ -268,14 +272,21 @@ class Batches:
             refuse_all(commit.done, answer)
             self._reopen()  # The journal has batches now that the store does not have.
             return
-        commit.settle()
-        self.store.entries, self.store.kept = commit.entries, commit.last
+        self.store.kept = commit.last
+        self._take(commit)
         now = time.monotonic()
         self.commit_seconds += 0.1 * (now - begun - self.commit_seconds)
         self.commits.note(now, len(commit.done), now - begun, synced - begun)
         if now - begun > SLOW_SECONDS:
             self.teller.tell("slow commit", f"batch {commit.last} took {now - begun:.3f} s, {synced - begun:.3f} s of it for the journal")
         self.journal.done(commit.last)
+
+    def _take(self, commit: Commit) -> None:
+        """Takes in what is in the store now."""
+        self.store.entries = commit.entries
+        for it in commit.done:
+            it.batch.answers = it.answers
+            self.last_changes.note(it.number, it.effect.touched)
 
     def _look_at_files(self) -> None:
         """Nothing is committed to a file that has lost its name."""

@@ -5,8 +5,9 @@ from collections import Counter
 from typing import Dict, List, NamedTuple, Optional, Set, Tuple
 
 from service.batch import Batch
+from service.last_changes import changed_by
 from service.limits import refusal
-from service.lines import OF_THE_STORE, RIGHTS, word
+from service.lines import word
 
 # The makers by the names of alternatives and checkpoints.
 Makers = Dict[str, Dict[str, str]]
@@ -50,15 +51,12 @@ class Entries:
         touched, records = set(), 0
         for place, (line, answer) in enumerate(zip(batch.lines, answers)):
             verb, *words = line.split(b" ", 3)
-            if RIGHTS[verb] not in OF_THE_STORE:
-                touched.add(words[0].decode())
+            touched |= changed_by(verb, words, self.parents)
             if verb in (b"put", b"remove"):
                 records += 1
             elif verb == b"merge":
                 records += int(answer.split(b" ")[1])
             elif verb == b"post" or verb in MAKERS:
-                if verb == b"post":
-                    touched.add(self.parents[words[0]].decode())
                 refused = self._take(verb, words, batch.person, rules)
                 if refused is not None:
                     return Effect((place, refused), touched, records)

@@ -47,6 +47,7 @@ REFUSALS = {
     100: "TooManyPlanners",
     101: "Unsure",
     102: "TooManyEntries",
+    103: "Changed",
 }
 
 

@@ -1,6 +1,6 @@
 """What a line is: a query of the store, a change and the right it requires, or a word of the service."""
 import re
-from typing import List, NamedTuple, Optional
+from typing import Dict, List, NamedTuple, Optional
 
 # The alternative whose only checkpoint names the last batch that is in the store.
 OWN = b".service"
@@ -47,9 +47,10 @@ RIGHTS = {verb: line.right for verb, line in LINES.items() if line.kind == "chan
 OF_THE_STORE = {"reclaim", "grow", "backup"}
 
 # Lines that the service itself answers.
-OWN_WORDS = {b"begin", b"commit", b"abort", b"rollback", b"whoami", b"backup", b"log", b"status"}
+OWN_WORDS = {b"begin", b"commit", b"abort", b"rollback", b"whoami", b"batches", b"backup", b"log", b"status"}
 
 NAME = re.compile(rb"[A-Za-z0-9_.-]{1,32}")
+SEEN = re.compile(rb"([A-Za-z0-9_.-]{1,32})=([0-9]{1,19})")
 
 
 def words_of(line: bytes) -> List[bytes]:
@@ -63,6 +64,13 @@ def line_of(words: List[bytes]) -> bytes:
     """The line that the program reads as these words. A CR that belongs to the last word has another one after it."""
     line = b" ".join(words)
     return line + b"\r" if line.endswith(b"\r") else line
+
+
+def seen_of(words: List[bytes]) -> Optional[Dict[str, int]]:
+    """The words behind `begin`, `ALT=BATCH` each; None if one is of another form, or names an alternative again."""
+    found = [SEEN.fullmatch(it) for it in words]
+    seen = {it[1].decode(): int(it[2]) for it in found if it}
+    return seen if len(seen) == len(words) else None
 
 
 def alternative_of(words: List[bytes]) -> Optional[bytes]:

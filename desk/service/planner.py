@@ -2,12 +2,12 @@
 import selectors
 import socket
 import time
-from typing import List, Optional, Union
+from typing import Dict, List, Optional, Union
 
 from service import limits
 from service.batch import Batch
 from service.limits import BAD_LINE, LONG_LINE, refusal
-from service.lines import OWN_WORDS, RIGHTS, ROWS, SINGLE, alternative_of, line_of, printable, words_of
+from service.lines import OWN_WORDS, RIGHTS, ROWS, SINGLE, alternative_of, line_of, printable, seen_of, words_of
 from service.unread import Unread
 
 # How many decisions on rights are remembered for a planner.
@@ -152,7 +152,7 @@ class Planner:
         verb = words[0]
         if self.batch is not None:
             self._hold(verb, words)
-        elif self.is_deaf and verb not in RIGHTS and words != [b"begin"]:
+        elif self.is_deaf and verb not in RIGHTS and verb != b"begin":
             return  # It would only be answered.
         elif verb in RIGHTS:
             refused = self._refusal_of(words)
@@ -160,9 +160,8 @@ class Planner:
             self._add(self._batch([line_of(words)], False) if refused is None else refused + b"\n")
         elif verb in SINGLE or verb in ROWS:
             self._add(Query(line_of(words), verb in ROWS))
-        elif words == [b"begin"]:
-            self.batch = self._batch([], True)
-            self._add(b"ok\n")
+        elif verb == b"begin":
+            self._begin(words[1:])
         elif words in ([b"commit"], [b"abort"], [b"rollback"]):
             # Each earlier line was a batch of its own, so it is committed, and nothing can be taken back.
             self._add(b"ok\n")
@@ -171,8 +170,23 @@ class Planner:
         else:
             self._add(BAD_LINE + b"\n")
 
-    def _batch(self, lines: List[bytes], is_explicit: bool) -> Batch:
-        return Batch(self.person, lines, is_explicit, self.server.rules, self)
+    def _batch(self, lines: List[bytes], is_explicit: bool, seen: Optional[Dict[str, int]] = None) -> Batch:
+        return Batch(self.person, lines, is_explicit, self.server.rules, self, seen)
+
+    def _begin(self, words: List[bytes]) -> None:
+        """Begins a batch. What its planner saw is held like its lines."""
+        seen = seen_of(words)
+        if seen is None:
+            self._add(BAD_LINE + b"\n")
+            return
+        size = sum(len(it) + limits.LINE_COST for it in words)
+        fits = not size or self.server.users.may_hold(self.person.uid, size)
+        self.batch = self._batch([], True, seen if fits else None)
+        if fits:
+            self._keep(self.batch, size)
+        else:
+            self.batch.refuse(0, refusal(94))
+        self._add(b"ok\n")
 
     def _hold(self, verb: bytes, words: List[bytes]) -> None:
         """A line within a batch."""
@@ -197,8 +211,7 @@ class Planner:
                 self._refuse(refused)
                 return
             batch.hold(line)
-            batch.held += size
-            self.server.users.hold(self.person.uid, size)
+            self._keep(batch, size)
 
     def _refuse(self, answer: bytes) -> None:
         """Refuses a line, and the batch that it belongs to."""
@@ -211,6 +224,11 @@ class Planner:
         batch.count += 1
         if batch.count > 2 * limits.BATCH_LINES:
             self.close()
+
+    def _keep(self, batch: Batch, size: int) -> None:
+        """What was added to it counts among what is held."""
+        batch.held += size
+        self.server.users.hold(self.person.uid, size)
 
     def _release(self, batch: Batch) -> None:
         """Its lines no longer count among those that are held."""

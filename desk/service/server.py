@@ -2,7 +2,6 @@
 
 It is a single thread. While the program is at work, lines of other planners wait in their sockets, and form the next group. In
 each round every planner has a turn, and whoever was served goes to the end."""
-import os
 import selectors
 import socket
 import time
@@ -204,7 +203,10 @@ class Server:
         answers = iter(self.batches.ask([it.line for _, it in asked if isinstance(it, Query)]))
         for planner, it in asked:
             if isinstance(it, Batch):
+                self.batches.look_at_changes(it)
                 planner.settled(it)
+            elif isinstance(it, Word):
+                self._answer_word(planner, it.words)
             else:
                 planner.answer(next(answers) + b"\n" if isinstance(it, Query) else it if isinstance(it, bytes) else it.text())
 
@@ -247,6 +249,8 @@ class Server:
         person = planner.person
         if verb == b"whoami" and not others:
             planner.answer(" ".join(["planner", person.name, str(person.uid), *sorted(person.groups)]).encode() + b"\n")
+        elif verb == b"batches" and not others:
+            planner.answer(b"batches %d\n" % self.batches.store.kept)
         elif verb == b"status" and not others:
             planner.answer("".join(f"{it}\n" for it in status_lines(self.figures())).encode())
         elif verb == b"log":
@@ -395,7 +399,9 @@ def ended(request: Request) -> bytes:
 
 def is_short(request: Request) -> bool:
     """Whether its answer is known already, or one line that the program gives at once."""
-    return isinstance(request, (bytes, Forgotten)) or isinstance(request, Query) and not request.has_rows or is_empty(request)
+    if isinstance(request, Query):
+        return not request.has_rows
+    return isinstance(request, (bytes, Forgotten)) or is_empty(request) or isinstance(request, Word) and request.words == [b"batches"]
 
 
 def is_empty(request: Request) -> bool:

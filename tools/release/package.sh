@@ -73,8 +73,8 @@ Priority: optional
 Description: version managed map store
  Many designs of one network in one file, edited side by side, merged record
  by record and committed. It has the program altctl, its clients for C, C++
- and Python, the service altserve for many planners at once, and altgis,
- which brings maps in and out.
+ and Python, the service altserve for many planners at once, altcarry for
+ offices far away, and altgis, which brings maps in and out.
 END
 echo 'activate-noawait ldconfig' >"$root/DEBIAN/triggers"
 date_all "$root"

@@ -17,10 +17,11 @@ files() {
 644 clients/lines.json share/zonegrater/clients/lines.json
 link ../../../share/zonegrater/clients/python/altctl.py lib/python3/dist-packages/altctl.py
 755 desk/altserve share/zonegrater/desk/altserve
+755 desk/altcarry share/zonegrater/desk/altcarry
 755 desk/altgis share/zonegrater/desk/altgis
-644 desk/maps.py share/zonegrater/desk/maps.py
 644 desk/places.py share/zonegrater/desk/places.py
 link ../share/zonegrater/desk/altserve bin/altserve
+link ../share/zonegrater/desk/altcarry bin/altcarry
 link ../share/zonegrater/desk/altgis bin/altgis
 644 README.md share/doc/zonegrater/README.md
 644 CHANGELOG.md share/doc/zonegrater/CHANGELOG.md
@@ -40,7 +41,7 @@ link libaltstore.so.0 lib/libaltstore.so
 644 clients/python/altstore.py share/zonegrater/clients/python/altstore.py
 link ../../../share/zonegrater/clients/python/altstore.py lib/python3/dist-packages/altstore.py
 END
-    for it in desk/service/*.py; do
+    for it in desk/carry/*.py desk/gis/*.py desk/maps/*.py desk/service/*.py; do
         echo "644 $it share/zonegrater/$it"
     done
     for it in docs/*.md docs/pictures/*.svg; do

@@ -143,7 +143,7 @@ class PackageTests(unittest.TestCase):
 
     def test_files_have_fixed_owners_and_modes(self):
         for it in self.entries:
-            is_run = it.isdir() or it.name.endswith(("/bin/altctl", "/desk/altserve", "/desk/altgis"))
+            is_run = it.isdir() or it.name.endswith(("/bin/altctl", "/desk/altserve", "/desk/altgis", "/desk/altcarry"))
             due = 0o777 if it.issym() else 0o755 if is_run else 0o644
             self.assertEqual((0, 0, oct(due)), (it.uid, it.gid, oct(it.mode)), it.name)
         names = [it.name for it in self.entries]
@@ -191,6 +191,7 @@ class PackageTests(unittest.TestCase):
 
     def test_the_service_is_there(self):
         self.assertIn("usage: altserve", run("altserve", "--help", env=self.variables))
+        self.assertIn("usage: altcarry", run("altcarry", "--help", env=self.variables))
         if not subprocess.run([sys.executable, "-c", "from osgeo import gdal"], stderr=subprocess.DEVNULL).returncode:
             self.assertIn("usage: altgis", run("altgis", "--help", env=self.variables))
 
