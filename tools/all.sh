@@ -70,7 +70,6 @@ else
     try 600 faults/crashes.py
     try 300 faults/space.py
     try 600 faults/failing_device.py
-    try 600 faults/failed_sync.py
     if has_rt faults/refuse_allocations.sh; then try 1800 faults/refuse_allocations.sh; fi
     try 600 ../desk/test_altserve.py
     try 1200 ../desk/test_altgis.py

@@ -54,8 +54,6 @@ class Call(NamedTuple):
 
 
 WRITE, LENGTH, SYNC = range(3)
-# The block that names the slot in use.
-SELECTOR = 1
 
 
 def recorded(file):
@@ -100,14 +98,9 @@ class Disk:
         if call.place % BLOCK or call.size % BLOCK:
             raise Failure(f"{call.size} bytes are written at {call.place}")
         for at in range(0, call.size, BLOCK):
-            block, written = (call.place + at) // BLOCK, call.text[at : at + BLOCK]
-            if not self.is_rewritten(block, written):
-                self.held.setdefault(block, [self.lasting(block)]).append(written)
+            block = (call.place + at) // BLOCK
+            self.held.setdefault(block, [self.lasting(block)]).append(call.text[at : at + BLOCK])
         self.length = max(self.length, call.place + call.size)
-
-    def is_rewritten(self, block, written):
-        """Whether the selector is written as it was synced, which every opening does: that leaves it as it is, torn or not."""
-        return block == SELECTOR and block not in self.held and written == self.lasting(block)
 
     def lengthen(self, length):
         if length < self.length:

@@ -4,7 +4,6 @@
    FAIL_ON=1      so do all calls after it
    FAIL_TORN=N    a write that fails leaves its first N bytes in the file
    FAIL_BLOCK=N   each read of this block fails, but for the first one
-   FAIL_LOCK=N    each lock of a file fails with this error number
    FAILED=PATH    is made where a call fails */
 #define _GNU_SOURCE
 #include <errno.h>
@@ -64,16 +63,6 @@ ssize_t pwrite(int file, const void *from, size_t count, off_t offset)
     if (torn > 0)
         syscall(SYS_pwrite64, file, from, (size_t)torn < count ? (size_t)torn : count, offset);
     return fail();
-}
-
-int flock(int file, int operation)
-{
-    int error = (int)number("FAIL_LOCK", 0);
-    if (error == 0)
-        return (int)syscall(SYS_flock, file, operation);
-    fail();
-    errno = error;
-    return -1;
 }
 
 int fsync(int file)

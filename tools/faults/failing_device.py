@@ -12,7 +12,6 @@ file: the store stays as it was, and before the header's write the new file is n
 It needs a C compiler, and a program that is linked against glibc. It stands beside the gate, as `tools/faults/space.py`
 does.
 """
-import errno
 import os
 import sys
 import tempfile
@@ -48,7 +47,7 @@ def try_calls(folder, library, fails_on, torn, options):
 def read_queries(altctl, file, variables=None):
     """What each record is answered, and the list."""
     lines = [f"get top 1 {number}" for number in range(1, RECORDS + 1)] + ["list top", "free"]
-    return start(altctl, ["run", "--cache", "0", "--read-only", file], lines, variables=variables)
+    return start(altctl, ["run", "--cache", "0", file], lines, variables=variables)
 
 
 def try_blocks(folder, library):
@@ -78,60 +77,6 @@ def try_blocks(folder, library):
         expect("the file is as it was", True, it.read() == before)
     os.remove(file)
     return len(lost)
-
-
-def try_merges(folder, library):
-    """Fails one call after another of a merge that settles all conflicts by a side, alone or with all after it. It ends the session if
-    it is answered that the device failed, and otherwise it is done, or refused and nothing has changed. Gives how many were."""
-    file, failed = os.path.join(folder, "store"), os.path.join(folder, "failed")
-    create(ALTCTL, file)
-    lines = ["put top 1 1 a", "new x top", "put top 1 1 b", "put x 1 1 c", "commit"]
-    expect("a conflict", (0, ["ok"] * 5, ""), start(ALTCTL, ["run", file], lines))
-    before, merge = read(file), ["merge x all=theirs", "get x 1 1"]
-    ends = {0: [], 1: []}
-    for fails_on in ends:
-        is_there = True
-        while is_there:
-            number = len(ends[fails_on]) + 1
-            variables = preloaded(library, failed=failed, fail_call=number, fail_on=fails_on)
-            came = start(PROGRAM, ["run", "--cache", "0", "--buffer", "0", file], merge, variables=variables)
-            ends[fails_on].append(came)
-            with open(file, "r+b") as it:
-                it.write(before)
-            is_there = os.path.exists(failed)
-            if is_there:
-                os.remove(failed)
-    done, device = (0, ["ok 1", "value b"], ""), (3, ["error 15 Device"], "altctl: stopped\n")
-    unsettled, unread = (0, ["error 9 Unsettled 1", "value c"], ""), (0, ["ok 1", "error 15 Device"], "")
-    opening = [(1, [], f"altctl: cannot open {file}\n"), (1, [], "altctl: 15 Device\n")]
-    for fails_on, all_ends in ends.items():
-        expect(f"a merge without a fault, fails_on {fails_on}", done, all_ends[-1])
-        due = [*opening, device, done, unread] if fails_on else [*opening, unsettled, device, done, unread]
-        expect(f"how a merge ends, fails_on {fails_on}", [], [end for end in all_ends if end not in due])
-        expect(f"which ends there are, fails_on {fails_on}", [], [end for end in due if end not in all_ends])
-    os.remove(file)
-    return sum(map(len, ends.values())) - 2
-
-
-def try_locks(folder, library):
-    """Fails the lock of a file: nothing is done without it, unless the words say so. Gives how many runs were refused."""
-    file, failed, refused = os.path.join(folder, "store"), os.path.join(folder, "failed"), 0
-    create(ALTCTL, file)
-    before = read(file)
-    jobs = [["do", file, "put top 1 1 v", "commit"], ["check", file], ["tree", file], ["copy", file, f"{file}.copy"]]
-    for error in (errno.ENOLCK, errno.EOPNOTSUPP):
-        variables = preloaded(library, failed=failed, fail_lock=error)
-        for words in [*jobs, *([words[0], "--wait", *words[1:]] for words in jobs)]:
-            how = f"{words}, where a lock fails by error {error}"
-            expect(how, (1, [], f"altctl: cannot lock {file}\n"), start(PROGRAM, words, variables=variables))
-            expect(f"{how}: the file, and a copy", (before, False), (read(file), os.path.exists(f"{file}.copy")))
-            expect(f"{how}: it failed", True, os.path.exists(failed))
-            os.remove(failed)
-            refused += 1
-        free = start(PROGRAM, ["do", "--no-lock", file, "free"], variables=variables)
-        expect("no lock is asked for", (0, ["free 30"], "", False), (*free, os.path.exists(failed)))
-    os.remove(file)
-    return refused
 
 
 def make_copied(file):
@@ -216,14 +161,11 @@ def main():
             options = [[], ["--buffer", "1"], ["--buffer", "2"], ["--buffer", "64"]]
             stops = sum(try_calls(folder, library, *fault, given) for given in options for fault in faults)
             blocks = try_blocks(folder, library)
-            locks = try_locks(folder, library)
-            merges = try_merges(folder, library)
             copies = sum(try_copy_calls(folder, library, *fault) for fault in faults) + try_copy_blocks(folder, library)
     except Failure as failure:
         print(f"failing_device: {failure}", file=sys.stderr)
         return 1
-    print(f"failing_device: nothing is lost: {stops} runs and {copies} copies were stopped at a call, {blocks} blocks could not be read,")
-    print(f"    {merges} merges met a fault, and {locks} runs got no lock")
+    print(f"failing_device: nothing is lost: {stops} runs and {copies} copies were stopped at a call, and {blocks} blocks could not be read")
     return 0
 
 

@@ -174,7 +174,7 @@ def try_small_disk(altctl, folder):
         filler = leave_free(folder, stops)
         how = f"with {stops} blocks left"
         status, answers, faults = start(altctl, ["run", file], LINES)
-        stopped = check_answers(file, status, answers, faults, how)
+        stopped = check_answers(status, answers, faults, how)
         after = shown_after(altctl, file, answers, how)
         os.remove(filler)
         finish(altctl, file, after, how)

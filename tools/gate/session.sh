@@ -60,20 +60,12 @@ session() {
     program "$1" 0 run "$2"
 }
 
-# That a file is for its owner alone to read and write.
-is_private() {
-    echo 600 >due
-    stat -c %a "$1" >came
-    compare "the mode of $1" due came
-}
-
 # Makes a store.
 create() {
     : >lines
     echo "created $2" >output
     : >faults
     program "create $1 $2" 0 create "$1" "$2"
-    is_private "$1"
 }
 
 # --- each line, and merges -----------------------------------------------------------------------
@@ -485,7 +477,7 @@ end 1
 > commit
 ok
 END
-checked_free 'check of a store whose long values went' 61
+checked_free 'check of a store whose long values went' 60
 
 # The longest line of an answer: three values of 4,000 bytes of which none stands for itself.
 create longest 64
@@ -741,7 +733,6 @@ copied() {
     program "$name" 0 copy "$from" "$to" "$@"
     compare "$name: the file" before "$from"
     has_bytes "$to" $((4096 * size))
-    is_private "$to"
 }
 
 # Root may write a file that says otherwise, unless this is taken from it.
@@ -1148,22 +1139,6 @@ for words in 'copy store made' 'copy /dev/stdin made'; do
     compare "$words <store: what was made" spelled_copy made
     rm -f made
 done
-# So may it of a session with --read-only: the bytes of the store are its lines then, and each is refused.
-: >output
-: >output.came
-cp spelled store
-redirected 'run --read-only store <store' '<store >answers.came 2>faults.came' run --read-only store
-grep -a -v -x 'error 2[234] [A-Za-z]*' answers.came >output.came || :
-compare 'run --read-only store <store: other answers' output output.came
-compare 'run --read-only store <store: the file' spelled store
-# With --read-only the words for growing are taken, and nothing grows.
-printf '%s\n' 'put top 9 1 a' 'grow 96' blocks >lines
-printf '%s\n' 'error 24 ReadOnly' 'error 24 ReadOnly' 'blocks 64' >output
-program 'run --read-only --grow' 0 run --read-only --grow --grow-to 128 store
-compare 'run --read-only --grow: the file' spelled store
-: >lines
-: >faults
-echo 1 >status
 # By another name of it, and by a lock that takes the number of a closed input.
 : >output
 echo 1 >status

@@ -7,7 +7,8 @@ use std::process::ExitCode;
 use std::rt::Env;
 use std::{env, io};
 use vm_cli::{
-    Cleared, Console, Progress, RealFiles, lock, refuse_lock, refuse_words, run_words, stop,
+    Cleared, Console, Locking, Progress, RealFiles, lock, refuse_in_use, refuse_words, run_words,
+    stop,
 };
 
 fn main(rt: HostRuntime) -> ExitCode {
@@ -18,7 +19,7 @@ fn main(rt: HostRuntime) -> ExitCode {
     let status = match words(&rt) {
         Ok(words) => match lock(&rt, words.as_slice()) {
             // The lock lasts until the answers are given.
-            Ok(_lock) => run_words(
+            Locking::Held(_lock) => run_words(
                 rt.alloc(),
                 words.as_slice(),
                 &mut files,
@@ -26,7 +27,7 @@ fn main(rt: HostRuntime) -> ExitCode {
                 &mut Cleared::new(rt.stdout(), &progress),
                 &mut errors,
             ),
-            Err(why) => refuse_lock(why, &mut errors),
+            Locking::InUse(file) => refuse_in_use(file, &mut errors),
         },
         Err(error) if error.kind() == ErrorKind::OutOfMemory => stop(&mut errors),
         Err(_) => refuse_words(&mut errors),

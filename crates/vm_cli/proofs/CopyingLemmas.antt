@@ -1,5 +1,5 @@
 -- What becomes of a copy, from what its parts did.
-use Rattle.std.proofs.Common.{◌≡◌, ◌≢◌, ◌⊎◌, ◌-◌, ◌≤◌, ◌∙◌, ℕ, Bool, true, false, List, Option, Some, None, ap, ap₂, arith, inl, inr, refl, sym, subst}
+use Rattle.std.proofs.Common.{◌≡◌, ◌≢◌, ◌⊎◌, ◌-◌, ◌∙◌, ℕ, Bool, true, false, List, Option, Some, None, ap, ap₂, arith, inl, inr, refl, sym, subst}
 use Rattle.std.proofs.lemmas.Slice.Eq.{bytes_eq-Decides}
 use Rattle.std.specs.Str.{bytes_eq}
 use Rattle.clap.specs.Words.{Text}
@@ -8,7 +8,7 @@ use Rattle.vm_types.specs.declared.refusal.Refusal.TheVariants.{AlreadyAStore, B
 use Rattle.vm_types.specs.State.{Seen, State, opened}
 use Rattle.vm_disk.specs.Disk.{Contents, DiskState, Goes}
 use Rattle.vm_disk.specs.declared.disk.Disk.{Ghosts}
-use Rattle.vm_store.specs.Copies.{ComesBefore, IsOfCopy, in_blocks}
+use Rattle.vm_store.specs.Copies.{IsOfCopy, in_blocks}
 use Rattle.vm_store.specs.NewStore.{IsBadSize}
 use Rattle.vm_store.specs.Recovery.{OpensAs}
 use Rattle.vm_store.specs.Refused.{IsStore}
@@ -23,13 +23,13 @@ apart_from : (name other : List ℕ) (files : List ℕ → Option Contents) (con
 apart_from name other files contents there absent is = let no : None ≡ Some contents = sym absent ∙ ap files is ∙ there in cc
 
 -- why a copy is refused, from what its call says of each refusal
-pub why_none : (blocks : ℕ) (start end : DiskState) (refusal : Refusal) → IsOfCopy refusal → refusal ≢ Failed → (refusal ≡ BadSize → IsBadSize blocks start.blocks)
-    → (ComesBefore refusal → end ≡ start) → (refusal ≡ AlreadyAStore → IsStore start.now.contents) → refusal ≢ Device → refusal ≢ Full → RefusesCopy blocks start end refusal
-why_none blocks start end refusal of well size untouched already device enough = elim of [
+pub why_none : (blocks : ℕ) (start : DiskState) (refusal : Refusal) → IsOfCopy refusal → refusal ≢ Failed → (refusal ≡ BadSize → IsBadSize blocks start.blocks)
+    → (refusal ≡ AlreadyAStore → IsStore start.now.contents) → refusal ≢ Device → refusal ≢ Full → RefusesCopy blocks start refusal
+why_none blocks start refusal of well size already device enough = elim of [
   | inl is ↦ absurd (well is)
-  | inr (inl is) ↦ subst (RefusesCopy blocks start end) (sym is) (size is, untouched (inr (inl is)))
-  | inr (inr (inl is)) ↦ subst (RefusesCopy blocks start end) (sym is) (untouched (inr (inr is)))
-  | inr (inr (inr (inl is))) ↦ subst (RefusesCopy blocks start end) (sym is) (already is)
+  | inr (inl is) ↦ subst (RefusesCopy blocks start) (sym is) (size is)
+  | inr (inr (inl is)) ↦ subst (RefusesCopy blocks start) (sym is) tt
+  | inr (inr (inr (inl is))) ↦ subst (RefusesCopy blocks start) (sym is) (already is)
   | inr (inr (inr (inr (inl is)))) ↦ absurd (device is)
   | inr (inr (inr (inr (inr is)))) ↦ absurd (enough is)
 ]
@@ -49,14 +49,12 @@ copied_from Reads Opens Denied name seen used found mid left back exit old new b
       told = elim makes.told [
         | inl small ↦ inl small
         | inr (inl denied) ↦ inr (inl denied)
-        | inr (inr (opens, enough, absent, lays)) ↦ inr (inr (
+        | inr (inr (opens, absent, lays)) ↦ inr (inr (
           opens,
-          enough,
           absent,
           record {
             start = lays.start;
             end = lays.end;
-            size = lays.size;
             zero = lays.zero;
             lent = lays.lent;
             copies = record {
@@ -79,17 +77,15 @@ pub copied_between : (Reads Opens Reads' Opens' : Type 0) (Denied Denied' : Text
 copied_between Reads Opens Reads' Opens' Denied Denied' from name seen used found back exit first old mid new before after errors errors' contents reads opens denied same takes there kept makes = record {
   told = elim makes.told [
     | inl (read, few, as_before, told) ↦ inl (reads read, few, still as_before, told)
-    | inr (inl (one, enough, none, told)) ↦ inr (inl (opens one, enough, denied name none, told))
-    | inr (inr (one, enough, absent, lays)) ↦
+    | inr (inl (one, none, told)) ↦ inr (inl (opens one, denied name none, told))
+    | inr (inr (one, absent, lays)) ↦
         let apart = apart_from from name first.files contents there (sym (same name) ∙ absent) in
         inr (inr (
           opens one,
-          enough,
           sym (same name) ∙ absent,
           record {
             start = lays.start;
             end = lays.end;
-            size = lays.size;
             zero = lays.zero;
             lent = record {
               fresh = lays.lent.fresh;
@@ -127,18 +123,16 @@ copied_between Reads Opens Reads' Opens' Denied Denied' from name seen used foun
 -- a file is made with a copy, whose size is this, too
 module _ (Reads Opens : Type 0) (Denied : Text → Type 0) (name : Text) (s : State) (blocks blocks' used used' : ℕ) (x x' : DiskState) (exit : Exit) (old mid new : PlaceState)
     (before after errors errors' : Option (List ℕ)) (same_blocks : blocks ≡ blocks') (same_used : used ≡ used') where
-  pub laid : (start end : DiskState) → Opens → used ≤ blocks → Creates name blocks (Some start) old mid → start.honest ≡ true → TakesBack name end mid new
+  pub laid : (start end : DiskState) → Opens → Creates name blocks (Some start) old mid → start.honest ≡ true → TakesBack name end mid new
       → CopiesOnto (in_blocks s blocks) used x x' start end exit before after errors errors' → MakesCopy Reads Opens Denied name (in_blocks s blocks') used' x x' exit old new before after errors errors'
-  laid start end opens enough creates was back copies = subst (λ u. MakesCopy Reads Opens Denied name (in_blocks s blocks') u x x' exit old new before after errors errors') same_used
+  laid start end opens creates was back copies = subst (λ u. MakesCopy Reads Opens Denied name (in_blocks s blocks') u x x' exit old new before after errors errors') same_used
       (subst (λ b. MakesCopy Reads Opens Denied name (in_blocks s b) used x x' exit old new before after errors errors') same_blocks (record {
         told = inr (inr (
           opens,
-          enough,
           creates.absent,
           record {
             start = start;
             end = end;
-            size = (creates.zero was).0;
             zero = (creates.zero was).1;
             lent = record { fresh = creates.fresh; honest = back.honest; holds = back.holds; came = back.came };
             copies = copies;

@@ -51,13 +51,12 @@ module _ {D : Type 0} (members : Ghosts D) where
     pub shows : opens.seen ≡ seen
     pub used_are : used ≡ seen.blocks - spare_of opens.holds.rests
 
--- why a copy of this many blocks is refused on a disk that went from the one state to the other: for want of memory, or since the disk
--- has fewer, and no call was made of it; or it has a store
-abbrev pub RefusesCopy : ℕ → DiskState → DiskState → Refusal → Type 0
-RefusesCopy blocks start end Memory = end ≡ start
-RefusesCopy blocks start end BadSize = IsBadSize blocks start.blocks × (end ≡ start)
-RefusesCopy blocks start end AlreadyAStore = IsStore start.now.contents
-RefusesCopy blocks start end refusal = ⊥
+-- why a copy of this many blocks on a disk is refused: for want of memory; or the disk has fewer, or it has a store
+abbrev pub RefusesCopy : ℕ → DiskState → Refusal → Type 0
+RefusesCopy blocks start Memory = Unit {0}
+RefusesCopy blocks start BadSize = IsBadSize blocks start.blocks
+RefusesCopy blocks start AlreadyAStore = IsStore start.now.contents
+RefusesCopy blocks start refusal = ⊥
 
 -- a store was to be copied from a disk that went from the first to the second state to one that went from the third to the last: what is
 -- told with this end, if the copy shows this and `used` blocks are in use. It was copied; or it is told why not; or a call of one of the
@@ -66,7 +65,7 @@ abbrev pub ToldOfCopy : (seen : Seen) (used : ℕ) → DiskState → DiskState �
     → Option (List ℕ) → Option (List ℕ) → Option (List ℕ) → Option (List ℕ) → Type 0
 ToldOfCopy seen used s s' start end exit before after errors errors' =
     (IsCopy seen end.now × Tells Done exit before after (copied_text seen.blocks used))
-    ⊎ (((refusal : Refusal) × RefusesCopy seen.blocks start end refusal × Tells Refused exit errors errors' (refused_text refusal))
+    ⊎ (((refusal : Refusal) × RefusesCopy seen.blocks start refusal × Tells Refused exit errors errors' (refused_text refusal))
     ⊎ ((exit ≡ Stopped) × (s.failures + start.failures < s'.failures + end.failures)))
 
 -- the same, of the disk that was made: at each moment it is as it was, at most synced, or it was no store and a crash shows at most the copy
@@ -79,7 +78,6 @@ pub record CopiesOnto (seen : Seen) (used : ℕ) (s s' start end : DiskState) (e
 pub record LaysCopy (name : Text) (seen : Seen) (used : ℕ) (s s' : DiskState) (exit : Exit) (new : PlaceState) (before after errors errors' : Option (List ℕ)) : Type 0 where
   pub start : DiskState
   pub end : DiskState
-  pub size : start.blocks ≡ seen.blocks
   pub zero : start.now.contents ≡ replicate seen.blocks (replicate BLOCK_SIZE 0)
   pub lent : WasLent name start end new
   pub copies : CopiesOnto seen used s s' start end exit before after errors errors'
@@ -89,11 +87,10 @@ pub record LaysCopy (name : Text) (seen : Seen) (used : ℕ) (s s' : DiskState) 
 -- place gave no disk of a name
 pub record MakesCopy (Reads Opens : Type 0) (Denied : Text → Type 0) (name : Text) (seen : Seen) (used : ℕ) (s s' : DiskState) (exit : Exit) (old new : PlaceState)
     (before after errors errors' : Option (List ℕ)) : Type 0 where
-  -- it is told that the copy is too small, and no file was asked for; or else that the file could not be made; or there was none, and it
-  -- was made
+  -- it is told that the copy is too small, or that the file could not be made; or there was none, and it was made
   pub told : (Reads × (seen.blocks < used) × (new.files name ≡ old.files name) × Tells Refused exit errors errors' (refused_text Full))
-      ⊎ ((Opens × (used ≤ seen.blocks) × Denied name × Tells Refused exit errors errors' (file_text (codes "altctl: cannot create ") name))
-      ⊎ (Opens × (used ≤ seen.blocks) × (old.files name ≡ None) × LaysCopy name seen used s s' exit new before after errors errors'))
+      ⊎ ((Opens × Denied name × Tells Refused exit errors errors' (file_text (codes "altctl: cannot create ") name))
+      ⊎ (Opens × (old.files name ≡ None) × LaysCopy name seen used s s' exit new before after errors errors'))
   -- a file that was there is as it was
   pub stays : (contents : Contents) → old.files name ≡ Some contents → new.files name ≡ Some contents
   pub others : KeepsOthers name old new

@@ -14,8 +14,6 @@ use Rattle.vm_cli.specs.Branches.{Branch, drawing}
 use Rattle.vm_cli.specs.Words.{Wanted, altctl, asked_of}
 use Rattle.vm_cli.specs.Words.Wanted.{check, copy, create, do_lines, draw, run}
 use Rattle.vm_cli.specs.declared.program.Exit.{Exit}
-use Rattle.vm_cli.specs.declared.program.file_lock.NoLock.{NoLock}
-use Rattle.vm_cli.specs.declared.program.file_lock.NoLock.TheVariants.{Memory as NoMemory, InUse, CannotOpen, CannotLock}
 use Rattle.vm_cli.specs.declared.program.store_counts.Counts.{Counts}
 use Rattle.vm_cli.specs.declared.program.task.InMemory.{InMemory}
 use Rattle.vm_cli.specs.declared.program.Exit.TheVariants.{Done, LineRefused, Refused, WrongWords, Stopped}
@@ -61,10 +59,6 @@ file_text what file = named_text what file (10 ∷ [])
 -- another process has locked a file
 abbrev pub in_use_text : Text → List ℕ
 in_use_text file = named_text (codes "altctl: ") file (codes " is in use" ++ 10 ∷ [])
-
--- the system does not lock a file
-abbrev pub unlocked_text : Text → List ℕ
-unlocked_text file = file_text (codes "altctl: cannot lock ") file
 
 -- a disk is no store, or cannot become one
 abbrev pub refused_text : Refusal → List ℕ
@@ -176,12 +170,9 @@ EndsSaying in_errors meant text status errors errors' =
 abbrev pub RefusesWords : {F : Type 0} → (F → Option (List ℕ)) → ℕ → F → F → Type 0
 RefusesWords in_errors status errors errors' = EndsSaying in_errors 2 unreadable_text status errors errors'
 
--- the file is not locked as the words ask, and the errors are told why: the status is 1, or 3 if memory could not be allocated
-abbrev pub RefusesLock : {F : Type 0} → (F → Option (List ℕ)) → NoLock → ℕ → F → F → Type 0
-RefusesLock in_errors NoMemory status errors errors' = (status ≡ 3) × WritesStart (in_errors errors) (in_errors errors') stopped_text
-RefusesLock in_errors (InUse file) status errors errors' = EndsSaying in_errors 1 (in_use_text file.now) status errors errors'
-RefusesLock in_errors (CannotOpen file) status errors errors' = EndsSaying in_errors 1 (file_text (codes "altctl: cannot open ") file.now) status errors errors'
-RefusesLock in_errors (CannotLock file) status errors errors' = EndsSaying in_errors 1 (unlocked_text file.now) status errors errors'
+-- another process has locked the file, and the errors are told so: the status is 1
+abbrev pub RefusesInUse : {F : Type 0} → (F → Option (List ℕ)) → Text → ℕ → F → F → Type 0
+RefusesInUse in_errors file status errors errors' = EndsSaying in_errors 1 (in_use_text file) status errors errors'
 
 -- where memory was wanting for the words, nothing was written to the output or said to the errors, and the program stops
 abbrev pub StopsUnsaid : {W F : Type 0} → Error → Exit → W → W → F → F → Type 0

@@ -16,7 +16,6 @@ pub mod PartLemmas
 pub mod Runs
 pub mod SettledLemmas
 pub mod ShapeLemmas
-pub mod SmallerLemmas
 pub mod SoundLemmas
 pub mod Steps
 pub mod WellFormed

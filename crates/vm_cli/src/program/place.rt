@@ -4,7 +4,6 @@ ghost use Rattle.vm_disk.specs.Between.{Between};
 ghost use Rattle.vm_cli.specs.Places.{PlaceState, CreatesIn, FindsIn, TakesBackIn, WasHonest, names_in};
 
 use crate::program::progress::{Progress, Watched};
-use crate::program::selector::rewrite_selector;
 use std::fs::File;
 use std::marker::PhantomData;
 use std::os::fd::AsRawFd;
@@ -156,7 +155,7 @@ impl<'a, R: Files<File = File>, W: World> RealFiles<'a, R, W> {
         FileDisk::create(Watched::new(made, self.progress), blocks).ok()
     }
 
-    /// Opens an existing file as a disk, once its selector was written again.
+    /// Opens an existing file as a disk.
     fn found(&mut self, file: &str) -> Option<FileDisk<Watched<'a, SystemFile<W>>>>
         ensures denied { names_denied self.new ≡ names_denied self.old }
         ensures to_write { asked_to_write self.new ≡ asked_to_write self.old + 1 }
@@ -164,15 +163,12 @@ impl<'a, R: Files<File = File>, W: World> RealFiles<'a, R, W> {
         ensures notes { NotesFound file.now self.old self.new }
         ensures honest { FindsReal W.held W.torn file.now result self.old self.new }
     {
-        let Some(mut found) = SystemFile::open(self.rt, file, &self.opened) else {
+        let Some(found) = SystemFile::open(self.rt, file, &self.opened) else {
             self.events.note(&Event::Missed);
             return None;
         };
         self.opened.note(&());
         self.events.note(&Event::Found(Snapshot::of(&found)));
-        let Ok(()) = rewrite_selector(&mut found) else {
-            return None;
-        };
         FileDisk::open(Watched::new(found, self.progress)).ok()
     }
 

@@ -1,4 +1,4 @@
-use Rattle.std.proofs.Common.{◌≡◌, ◌≢◌, ◌∙◌, ap, arith, inl, inr, length, rules, sym}
+use Rattle.std.proofs.Common.{◌≡◌, ◌≢◌, ◌∙◌, arith, inl, inr, length, rules, sym}
 use Rattle.vm_types.specs.declared.refusal.Refusal.TheVariants.{AlreadyAStore, BadSize, Device}
 use Rattle.vm_cli.proofs.CopyingLemmas.{why_none}
 use Rattle.vm_cli.proofs.FilesLemmas.{enough_blocks}
@@ -14,8 +14,8 @@ returns-in-Err-clause-told g c enough honest well s holds there =
     let said = c.in-Err.ensures in
     let size = said.bad_size well in
     let device : c.in-Err.refusal ≢ Device = search rules in
-    let why = why_none c.args.size.blocks start (g.T.Disk.state c.in-Err.disk) c.in-Err.refusal (said.refusals honest s holds)
-    (λ is. let failed = said.failed.0 is in cc) size.0 (λ first. ap g.T.Disk.state (said.untouched first).0)
+    let why = why_none c.args.size.blocks start c.in-Err.refusal (said.refusals honest s holds)
+    (λ is. let failed = said.failed.0 is in cc) size.0
     (λ is. record {
       least = enough_blocks c.args.size.blocks start.blocks (length start.now.contents)
           (λ bad. let no : AlreadyAStore ≡ BadSize = sym is ∙ size.1 bad in absurd cc) (g.met.T.Disk.whole c.args.disk (said.both.target.earlier there));
