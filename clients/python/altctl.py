@@ -301,12 +301,13 @@ class Store:
             raise Ended(status, said)
 
     @contextlib.contextmanager
-    def batch(self):
+    def batch(self, seen=None):
         """Changes that a service applies together at the end of the `with`: all of them, or none. If an exception leaves the
-        `with`, or one of them is refused at its end, everything stays as it was. Queries are not possible in it."""
+        `with`, or one of them is refused at its end, everything stays as it was. Queries are not possible in it. `seen` is a dict
+        from alternatives to batches: if one has changed since that batch, all of it is refused (101 Changed)."""
         if not isinstance(self._other, Service) or self._batch is not None:
             raise ValueError("a batch is one of a service's store, and not in another one")
-        self._batch = ["begin"]
+        self._batch = [self._line("begin", *(f"{alt}={number:d}" for alt, number in (seen or {}).items()))]
         try:
             yield
             lines = [*self._batch, "commit"]
@@ -546,6 +547,10 @@ class Store:
     def checkpoints(self, alt):
         """The names of an alternative's checkpoints."""
         return self._list(lambda words: words[0], "checks", alt)
+
+    def batches(self):
+        """The number of the last batch that a service has committed."""
+        return int(self._ask("batches")[1])
 
     def whoami(self):
         """The name of the planner whom a service sees here."""

@@ -24,10 +24,11 @@ class Fatal(Exception):
 
 class Batch:
     """Lines of one planner. In the end it has the answers to all of them, or the position and the answer of the one that was
-    refused; the position after the last line stands for `commit`."""
+    refused; the position after the last line stands for `commit`. `seen` has, for alternatives that must not have changed, the
+    batch that the planner saw them at."""
 
-    def __init__(self, person, lines=(), is_explicit=False):
-        self.person, self.lines, self.is_explicit = person, list(lines), is_explicit
+    def __init__(self, person, lines=(), is_explicit=False, seen=None):
+        self.person, self.lines, self.is_explicit, self.seen = person, list(lines), is_explicit, seen or {}
         self.count, self.size, self.begun = len(self.lines), sum(map(len, self.lines)), time.monotonic()
         self.answers, self.refused = None, None
 
@@ -77,6 +78,8 @@ class Batches:
         self.file, self.altctl, self.lock = file, altctl, lock
         self.words = [altctl, "run", *options, "--", file]
         self.program, self.parents, self.kept = None, {}, 0
+        # The last batch that changed each alternative; of those not named, nothing is known up to batch `followed`.
+        self.changed, self.followed = {}, 0
         self.has_rollback, self.has_copy = False, True
         self.backups = f"{file}.backups"
         for it in glob.glob(f"{glob.escape(self.backups)}/.*"):
@@ -87,6 +90,7 @@ class Batches:
             found = self.journal.next - 1
             say(f"{file}.journal ends at batch {found}, and the store holds batch {self.kept}: it goes on after that")
         self.journal.opened(self.kept)
+        self.followed = self.kept
 
     # --- the program ------------------------------------------------------------------------------
 
@@ -136,6 +140,7 @@ class Batches:
         """Starts the program again, which drops everything uncommitted, and journals which batches are in the store."""
         self.program.end(kills=True)
         self._open()
+        self.changed, self.followed = {}, self.kept
         try:
             self.journal.opened(self.kept)
         except (OSError, Broken) as fault:
@@ -178,7 +183,11 @@ class Batches:
 
     def carry_out(self, batches):
         """Carries out batches and commits them together. If there are several, each has one line."""
-        self._try(batches)
+        for batch in batches:
+            self._refuse_unseen(batch)
+        batches = [it for it in batches if not it.is_settled()]
+        if batches:
+            self._try(batches)
         for batch in batches:
             # If the program ended, any of them may be the reason: those not settled are tried one by one.
             for _ in range(TRIES):
@@ -186,6 +195,13 @@ class Batches:
                     self._try([batch])
             if not batch.is_settled():
                 batch.refuse(batch.count, refusal(99))
+
+    def _refuse_unseen(self, batch):
+        """Refuses a batch if an alternative has changed since its planner saw it."""
+        for alternative, number in batch.seen.items():
+            changed = self.changed.get(alternative, self.followed)
+            if changed > number:
+                batch.refuse(batch.count, refusal(101, alternative, changed))
 
     def _try(self, batches):
         """Carries out batches. If the program ends, those that have no effect and no refusal stay unsettled."""
@@ -219,7 +235,8 @@ class Batches:
     def _commit(self, done, last):
         try:
             time = now()
-            self.journal.write([self._entry(number, time, batch) for number, batch in done], last)
+            entries = [self._entry(number, time, batch) for number, batch in done]
+            self.journal.write([line for line, _ in entries], last)
         except Broken as fault:
             raise Fatal(f"{self.file}.journal: {fault}") from None
         except OSError as fault:
@@ -231,10 +248,12 @@ class Batches:
         if answers != [b"ok"]:
             raise Ended(answers)
         self.kept = last
+        self.changed.update({it: number for (number, _), (_, touched) in zip(done, entries) for it in touched})
         self.journal.done(last)
 
     def _entry(self, number, time, batch):
-        """The journal line of a batch that was carried out. It also brings `parents` up to date."""
+        """The journal line of a batch that was carried out, and the alternatives that it changed. It also brings `parents` up to
+        date."""
         touched, records = set(), 0
         for line, answer in zip(batch.lines, batch.answers):
             verb, *words = line.split(b" ")
@@ -250,7 +269,7 @@ class Batches:
                 touched.add(self.parents[words[0]].decode())
             if words and verb != b"grow":
                 touched.add(words[0].decode())
-        return entry(number, time, batch.person, touched, records, map(printable, batch.lines))
+        return entry(number, time, batch.person, touched, records, map(printable, batch.lines)), touched
 
     # --- copies -----------------------------------------------------------------------------------
 

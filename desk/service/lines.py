@@ -25,15 +25,22 @@ RIGHTS = {
 OF_THE_STORE = {"reclaim", "grow", "backup"}
 
 # Lines that the service itself answers.
-OWN_WORDS = {b"begin", b"commit", b"abort", b"rollback", b"whoami", b"backup", b"log"}
+OWN_WORDS = {b"begin", b"commit", b"abort", b"rollback", b"whoami", b"batches", b"backup", b"log"}
 
 NAME = re.compile(rb"[A-Za-z0-9_.-]{1,32}")
+SEEN = re.compile(rb"([A-Za-z0-9_.-]{1,32})=([0-9]{1,19})")
 
 
 def words_of(line):
     """The words of a line; none if the line has no answer."""
     words = [it for it in line.removesuffix(b"\r").split(b" ") if it]
     return [] if words and words[0].startswith(b"#") else words
+
+
+def seen_of(words):
+    """The words behind `begin`, `ALT=BATCH` each, as a dict; None if one is of another form."""
+    found = [SEEN.fullmatch(it) for it in words]
+    return {it[1].decode(): int(it[2]) for it in found} if all(found) else None
 
 
 def alternative_of(words):

@@ -8,7 +8,7 @@ from collections import deque
 from service import limits
 from service.batches import Batch
 from service.limits import BAD_LINE, LONG_LINE, refusal
-from service.lines import OWN, OWN_WORDS, RIGHTS, ROWS, SINGLE, alternative_of, names_own, words_of
+from service.lines import OWN, OWN_WORDS, RIGHTS, ROWS, SINGLE, alternative_of, names_own, seen_of, words_of
 
 # How many decisions on rights are remembered for a planner.
 MOST_DENIALS = 1000
@@ -142,8 +142,8 @@ class Planner:
             self._add(self._refusal_of(words) or Batch(self.person, [b" ".join(words)]))
         elif verb in SINGLE or verb in ROWS:
             self._add(Query(b" ".join(words), verb in ROWS))
-        elif words == [b"begin"]:
-            self.batch = Batch(self.person, is_explicit=True)
+        elif verb == b"begin" and (seen := seen_of(words[1:])) is not None:
+            self.batch = Batch(self.person, is_explicit=True, seen=seen)
             self._add(b"ok")
         elif words in ([b"commit"], [b"abort"], [b"rollback"]):
             # Each earlier line was a batch of its own, so it is committed, and nothing can be taken back.

@@ -230,6 +230,8 @@ class Server:
         person = planner.person
         if verb == b"whoami" and not others:
             planner.answer(" ".join(["planner", person.name, str(person.uid), *sorted(person.groups)]).encode() + b"\n")
+        elif verb == b"batches" and not others:
+            planner.answer(b"batches %d\n" % self.batches.kept)
         elif verb == b"log" and all(map(FILTER.fullmatch, others)):
             Log(self, planner, others)
         elif verb == b"backup" and len(others) == 1 and BACKUP.fullmatch(others[0]):
@@ -270,4 +272,5 @@ def is_short(request):
 
 
 def is_single(request):
-    return isinstance(request, Batch) and len(request.lines) == 1
+    """Whether it is a batch that may share a commit: it has one line, and does not depend on what others changed."""
+    return isinstance(request, Batch) and len(request.lines) == 1 and not request.seen
