@@ -13,7 +13,6 @@ than `.places`, whoever has put it, `diff .places DESIGN` tells so. The fewer th
 Bounds are rounded outwards. Large features come first, and among those of like size the near ones are together, by the Morton code
 of their middles. All numbers are little-endian."""
 import contextlib
-import math
 from array import array
 
 import numpy
@@ -31,20 +30,33 @@ PAGE = numpy.dtype([("number", "<u8"), ("box", "<f4", 4)])
 HEAD = numpy.dtype(("<f4", 4))
 PER_PAGE, PER_HEAD = maps.LONGEST // PAGE.itemsize, maps.LONGEST // HEAD.itemsize
 MOST_PAGES = 120  # that one window reads
+FARTHEST = 1e12  # No coordinate system counts so far, and from 1e38 on a bound would be infinite.
 IS_THERE = 4
 STRAIGHT = range(1, 8)  # Points to collections: of these the bounds are those of their points. A curve goes beyond them.
 
 
+def geometry_of(value):
+    """A geometry from WKB. Raises Fault if it cannot be drawn: GEOS does not return from a point that is no number."""
+    fault = geometry_fault(value)
+    try:
+        geometry = None if fault else ogr.CreateGeometryFromWkb(value)
+    except RuntimeError:
+        geometry = None
+    if geometry is None:
+        raise maps.Fault(fault or "its bytes are no geometry")
+    if geometry.IsEmpty():
+        raise maps.Fault("it has no points")
+    if max(map(abs, geometry.GetEnvelope())) > FARTHEST:
+        raise maps.Fault(f"it has a coordinate beyond {FARTHEST:g}")
+    return geometry
+
+
 def parsed(value):
     """A geometry from WKB, or None where there is none that can be drawn."""
-    if geometry_fault(value):
-        return None
     try:
-        geometry = ogr.CreateGeometryFromWkb(value)
-    except RuntimeError:
+        return geometry_of(value) if value else None
+    except maps.Fault:
         return None
-    is_empty = geometry is None or geometry.IsEmpty() or not all(map(math.isfinite, geometry.GetEnvelope()))
-    return None if is_empty else geometry
 
 
 def box_of(value):
@@ -98,8 +110,9 @@ class Index:
 
     def __init__(self, store, table):
         self._store, self._table = store, PAGES + table
-        heads = [numpy.frombuffer(it.value, HEAD) for it in store.list(OWN, HEADS + table)]
-        self.pages = numpy.concatenate([numpy.empty((0, 4), "<f4"), *heads]).astype(float)
+        heads = [entries_of(it.value, HEAD) for it in store.list(OWN, HEADS + table)]
+        pages = numpy.concatenate([numpy.empty((0, 4), "<f4"), *heads]).astype(float)
+        self.pages = numpy.clip(numpy.nan_to_num(pages), -FARTHEST, FARTHEST)
 
     def bounds(self):
         return union(self.pages)
@@ -123,7 +136,12 @@ class Index:
         """The entries of pages: neighbours are read as a range."""
         runs = numpy.split(pages, numpy.nonzero(numpy.diff(pages) > 1)[0] + 1) if len(pages) else []
         rows = (it for run in runs for it in self._store.list(OWN, self._table, int(run[0]), int(run[-1])))
-        return numpy.concatenate([numpy.empty(0, PAGE), *(numpy.frombuffer(it.value, PAGE) for it in rows)])
+        return numpy.concatenate([numpy.empty(0, PAGE), *(entries_of(it.value, PAGE) for it in rows)])
+
+
+def entries_of(value, kind):
+    """The entries of a record of the index, however long somebody has made it."""
+    return numpy.frombuffer(value[: len(value) // kind.itemsize * kind.itemsize], kind)
 
 
 def scanned(store, at, table):
@@ -215,6 +233,7 @@ def records_of(store, table, mark, is_there):
     else:
         entries, others = known.read(numpy.arange(len(known.pages))), moved(store, OWN, mark, table)
         stay = ~numpy.isin(entries["number"], numpy.fromiter(others, "<u8", len(others)))
+        stay &= (numpy.abs(entries["box"]) <= FARTHEST).all(axis=1)
         fresh = Places.of(others)
         numbers = numpy.concatenate([entries["number"][stay], fresh.numbers])
         boxes = numpy.concatenate([entries["box"][stay].astype(float), fresh.boxes])

@@ -4,6 +4,7 @@ the variable ALTCTL, or else with the one that `./altctl` at the top builds. `--
 Where a browser or a module is not there, a line says that they are skipped."""
 import contextlib
 import http.client
+import http.server
 import json
 import os
 import re
@@ -45,7 +46,9 @@ sys.path.insert(0, str(HERE))
 import maps
 import places
 from altctl import Refusal, Store
-from designs import Designs, typed
+from designs import Designs
+from edits import carry_out
+from values import typed
 
 ALTCTL = os.path.abspath(os.environ.get("ALTCTL", HERE.parent / "altctl"))
 PICTURES = HERE.parent / "docs" / "pictures"
@@ -120,7 +123,7 @@ class Browser:
     def give_back(self):
         """Lets another test have it, with nothing of this one."""
         if self.is_open:
-            self.driver.delete_all_cookies()
+            self.driver.execute_script("sessionStorage.clear()")
             self.driver.get("about:blank")
             self.driver.get_log("browser")
             IDLE.append(self)
@@ -244,7 +247,7 @@ class DeskTest(unittest.TestCase):
     def desk(self, file=None, *options):
         """Starts a desk. Gives its process and its address."""
         words = [sys.executable, str(HERE / "altdesk"), "--program", ALTCTL, *options, file or self.file]
-        program, said = self.launch(words, "?token=")
+        program, said = self.launch(words, "#token=")
         return program, re.search(r"http://\S+", said)[0]
 
     def browser(self, width=1120, height=680):
@@ -362,20 +365,58 @@ class TwoPeopleTests(DeskTest):
         self.assertEqual({"south"}, {it.line.split()[1] for it in store.log()})
 
 
-class DoorTests(DeskTest):
-    """Who gets in, and to what."""
+class Counter(threading.Thread):
+    """A socket that passes lines on to a service and its answers back, and counts both."""
+
+    def __init__(self, path, service):
+        super().__init__(daemon=True)
+        self.lines, self.service, self.listener = 0, service, socket.socket(socket.AF_UNIX)
+        self.listener.bind(path)
+        self.listener.listen()
+        self.start()
+
+    def run(self):
+        with contextlib.suppress(OSError):  # It is closed at the end.
+            while True:
+                ends = self.listener.accept()[0], socket.socket(socket.AF_UNIX)
+                ends[1].connect(self.service)
+                for one, other in (ends, ends[::-1]):
+                    threading.Thread(target=self.pass_on, args=(one, other), daemon=True).start()
+
+    def pass_on(self, one, other):
+        with one, contextlib.suppress(OSError):
+            while came := one.recv(1 << 16):
+                self.lines += came.count(b"\n")
+                self.came(came)
+                other.sendall(came)
+            other.shutdown(socket.SHUT_RDWR)
+
+    def came(self, came):
+        """What some tests do with what came, before it is passed on."""
+
+    def stop(self):
+        with contextlib.suppress(OSError):
+            self.listener.shutdown(socket.SHUT_RDWR)
+        self.listener.close()
+
+
+class AskingTest(DeskTest):
+    """Asks the desk as a page does, without a browser."""
 
     def setUp(self):
         super().setUp()
         self.first, url = self.desk()
-        self.port, self.token = re.fullmatch(r"http://127\.0\.0\.1:(\d+)/\?token=(\S{32})", url).groups()
+        self.port, self.token = re.fullmatch(r"http://127\.0\.0\.1:(\d+)/#token=(\S{32})", url).groups()
+
+    def epoch(self):
+        return json.loads(self.ask("/api/state", self.token)[1])["epoch"]
 
     def ask(self, path, token=None, body=None, **headers):
         """The status and the text of an answer. The path is sent as it is."""
         there = http.client.HTTPConnection("127.0.0.1", int(self.port), timeout=60)
         with contextlib.closing(there):
             there.putrequest("GET" if body is None else "POST", path, skip_host=True)
-            given = {"Host": f"127.0.0.1:{self.port}", **({"Cookie": f"altdesk-{self.port}={token}"} if token else {})}
+            given = {"Host": f"127.0.0.1:{self.port}", **({"X-Desk-Token": token} if token else {})}
             if body is not None:
                 given.update({"Content-Type": "application/json", "Content-Length": str(len(body))})
             for name, value in {**given, **{it.replace("_", "-"): value for it, value in headers.items()}}.items():
@@ -385,29 +426,55 @@ class DoorTests(DeskTest):
             self.headers = answer.headers
             return answer.status, answer.read().decode()
 
+
+class DoorTests(AskingTest):
+    """Who gets in, and to what."""
+
     def test_the_token_lets_in(self):
-        self.assertEqual(200, self.ask(f"/?token={self.token}")[0])
-        cookie = self.headers["Set-Cookie"]
-        for it in (f"altdesk-{self.port}={self.token}", "HttpOnly", "SameSite=Strict"):
-            self.assertIn(it, cookie)
-        self.assertIn("default-src 'none'", self.headers["Content-Security-Policy"])
         status, text = self.ask("/api/state", self.token)
         self.assertEqual((200, ["top", "north", "south"]), (status, [it["name"] for it in json.loads(text)["tree"]]))
-        # One of a desk that was here before doesn't keep out who has this one's address.
-        self.assertEqual(200, self.ask(f"/?token={self.token}", "old")[0])
+        self.assertIn("default-src 'none'", self.headers["Content-Security-Policy"])
 
     def test_without_it_nothing_is_told_or_done(self):
         for token in (None, "", "x", self.token[:-1], self.token + "x", self.token.swapcase(), "%C3%A4", "\u00e4"):
-            for path in ("/", "/desk.js", "/leaflet.js", "/api/state", "/api/nothing", "/nothing"):
+            for path in ("/api/state", "/api/history?table=7&number=1", "/api/nothing", "/nothing"):
                 self.assertEqual(403, self.ask(path, token)[0], (path, token))
                 self.assertNotIn("north", self.ask(path, token)[1])
-        self.assertEqual(403, self.ask("/?token=x")[0])
         self.assertEqual(403, self.ask(f"/api/state?token={self.token}")[0])
+        # A cookie would be sent to each port of this machine, so none lets in.
+        self.assertEqual(403, self.ask("/api/state", Cookie=f"altdesk-{self.port}={self.token}")[0])
         self.assertEqual(403, self.ask("/api/batch", "x", b'{"do":"drop","at":"north","seen":9}')[0])
         self.assertEqual(["top", "north", "south", ".service"], [it.name for it in self.store().alternatives()])
 
+    def test_the_page_itself_has_no_secret(self):
+        for path in ("/", "/desk.css", "/leaflet.js", f"/?token={self.token}"):
+            status, text = self.ask(path)
+            self.assertEqual((200, False, None), (status, self.token in text, self.headers["Set-Cookie"]), path)
+
+    def test_the_token_stands_in_no_words_and_no_file_that_others_may_read(self):
+        # A browser that leaves what it was given, and who may read it.
+        seen = Path(self.folder, "seen")
+        browser = Path(self.folder, "browser")
+        browser.write_text(f"#!/bin/sh\nfile=${{1#file://}}\nstat -c %a $file $(dirname $file) >{seen}.part\ncat $file >>{seen}.part; echo >>{seen}.part\n"
+                           f"echo $1 >>{seen}.part; mv {seen}.part {seen}; sleep 60\n")
+        browser.chmod(0o755)
+        words = [sys.executable, str(HERE / "altdesk"), "--program", ALTCTL, "--open", self.socket]
+        program, said = self.launch(words, "#token=", env={**os.environ, "BROWSER": f"{browser} %s"})
+        token = re.search(r"#token=(\S+)", said)[1]
+        late = time.monotonic() + LONGEST_WAIT
+        while not seen.exists():
+            self.assertLess(time.monotonic(), late)
+            time.sleep(0.05)
+        *modes, page, address = seen.read_text().split("\n")[:-1]
+        self.assertEqual((["600", "700"], True, False), (modes, token in page, token in address))
+        told = [Path(it, "cmdline").read_bytes() for it in map(str, Path("/proc").glob("[0-9]*")) if os.access(f"{it}/cmdline", os.R_OK)]
+        self.assertEqual([], [it for it in told if token.encode() in it])
+        program.terminate()
+        program.wait()
+        self.assertFalse(os.path.exists(address.replace("file://", "")))
+
     def test_pages_from_elsewhere_get_nothing(self):
-        drop = b'{"do":"drop","at":"north","seen":9}'
+        drop = json.dumps({"do": "drop", "at": "north", "seen": 9, "epoch": self.epoch()}).encode()
         self.assertEqual(403, self.ask("/api/state", self.token, Host="evil.example")[0])
         self.assertEqual(403, self.ask("/api/state", self.token, Host="127.0.0.1.evil.example:80")[0])
         self.assertEqual(403, self.ask("/api/state", self.token, Host="")[0])
@@ -441,7 +508,7 @@ class DoorTests(DeskTest):
         self.first.wait()
         service = self.serve()
         _, url = self.desk(self.socket)
-        self.port, self.token = re.search(r":(\d+)/\?token=(\S+)", url).groups()
+        self.port, self.token = re.search(r":(\d+)/#token=(\S+)", url).groups()
         self.assertEqual(200, self.ask("/api/state", self.token)[0])
         for sent in (signal.SIGKILL, signal.SIGTERM):
             service.send_signal(sent)
@@ -462,8 +529,203 @@ class DoorTests(DeskTest):
 
     def test_a_browser_with_a_wrong_token_sees_nothing(self):
         browser = self.browser()
-        browser.driver.get(f"http://127.0.0.1:{self.port}/?token=wrong")
-        self.assertEqual("Open the address that altdesk has printed: it has the token.", browser.text("body"))
+        browser.driver.get(f"http://127.0.0.1:{self.port}/#token=wrong")
+        browser.says("Open the address that altdesk has printed: it has the token.")
+        self.assertEqual([], browser.all("#tree tr"))
+
+    def test_another_port_is_not_told_the_token(self):
+        """A page of another port, which the browser holds for the same site, gets neither cookie nor header."""
+        came = []
+
+        class Other(http.server.BaseHTTPRequestHandler):
+            def do_GET(self):
+                came.append(str(self.headers))
+                self.send_response(200)
+                self.end_headers()
+                self.wfile.write(b"<!doctype html><title>other</title>")
+
+            def log_message(self, *_):
+                pass
+
+        with http.server.HTTPServer(("127.0.0.1", 0), Other) as server:
+            threading.Thread(target=server.serve_forever, daemon=True).start()
+            browser = self.browser()
+            browser.open(f"http://127.0.0.1:{self.port}/#token={self.token}")
+            self.assertEqual("", browser.run("return document.cookie"))
+            browser.driver.get(f"http://127.0.0.1:{server.server_port}/")
+            browser.until(lambda: browser.driver.title == "other")
+            self.assertEqual(0, browser.run("return sessionStorage.length"))
+            ask = "return fetch(arguments[0], { headers: { 'X-Desk-Token': 'x' } }).then(() => 'answered', () => 'refused')"
+            self.assertEqual("refused", browser.run(ask, f"http://127.0.0.1:{self.port}/api/state"))
+            server.shutdown()
+        self.assertTrue(came)
+        self.assertNotIn(self.token, "".join(came))
+
+
+class BadRecordTests(AskingTest):
+    """Records that nobody has made with a map in mind: the desk goes on, and shows them as bad."""
+
+    GOOD = 5
+    BAD = {
+        1: course((2600000, 1200000), (float("nan"), 1200010), (2600050, 1200000)),
+        2: course((2600000, 1200000), (1e39, 1200010)),
+        3: course((-1e39, -1e39), (2600050, 1200000)),
+        4: b"long 2000000000000 0",
+        6: b"long x y",
+        7: b"long 9000 18446744073709551615",
+        8: b"\x01\x02",
+        9: course((2600000, float("inf")), (2600050, 1200000)),
+    }
+
+    def fill(self):
+        super().fill()
+        with Store(self.file, ALTCTL) as store:
+            for number, value in self.BAD.items():
+                store.put("north", 107, number, value)
+            store.put("north", 7, 4, b"long 5000000 77")
+            store.put("north", 7, 6, b"[" * 3900)
+            store.put("north", 0, 8, b'{"name": 8, "fields": "none"}')
+            store.put("north", 0, 9, b"long x y")
+            store.commit()
+
+    def found(self, path):
+        def no_number(text):
+            raise AssertionError(f"{path} tells {text}, which is no JSON")
+
+        status, text = self.ask(f"/api/{path}", self.token)
+        self.assertEqual(200, status, text)
+        return json.loads(text, parse_constant=no_number)
+
+    def shows_all(self):
+        for number in self.BAD:
+            now = self.found(f"feature?at=north&table=7&number={number}")["now"]
+            self.assertEqual((None, True), (now["course"], bool(now["bad"])), number)
+        good = self.found("feature?at=north&table=7&number=5")["now"]
+        self.assertEqual(({"dn": "110", "mat": "PVC"}, []), (good["attributes"], good["bad"]))
+        window = self.found("window?at=north&box=2599000,1199000,2602000,1201000")["features"]
+        self.assertEqual({"5", "10", "11", "12"}, {it["properties"]["number"] for it in window if it["geometry"]} - {*map(str, self.BAD)})
+        bounds = self.found("design?at=north")["bounds"]
+        self.assertTrue(2599000 < bounds[0] < bounds[2] < 2602000, bounds)
+
+    def test_the_desk_goes_on(self):
+        self.shows_all()
+        # They come to top, and into an index that somebody has spoilt.
+        store = self.store()
+        store.post("north")
+        places.renew(store, True)
+        store.put(places.OWN, 65107, 0, b"no page of an index")
+        store.put(places.OWN, 65007, 1, struct.pack("<Q4f", 5, *[float("nan")] * 4) + b"and more")
+        self.found("window?at=north&box=2599000,1199000,2602000,1201000")
+        store.drop(places.OWN)
+        self.shows_all()
+
+    def test_a_bad_record_is_shown_as_bad(self):
+        browser = self.browser()
+        browser.open(f"http://127.0.0.1:{self.port}/#token={self.token}")
+        browser.choose_design("north")
+        browser.find(1)
+        self.assertIn("bad: its course cannot be drawn: it has a coordinate that is not finite", browser.text("#view tbody"))
+        browser.find(4)
+        self.assertIn("bad: 7:4 is no head of a longer value", browser.text("#view tbody"))
+        self.assertEqual([], browser.faults())
+
+
+class UnseenTests(DeskTest):
+    """What came since a person looked is not written over."""
+
+    def test_after_a_line_that_was_refused(self):
+        browser, other = self.browser(), None
+        browser.open(self.desk()[1])
+        other = self.store()
+        browser.choose_design("north")
+        with self.assertRaises(Refusal):
+            other.put("nowhere", 7, 1, b"x")
+        time.sleep(3)  # A desk that looks now must not take the refused line for a batch.
+        browser.click("#do-drop")
+        browser.until(lambda: browser.all("#question-yes")[0].is_displayed())
+        other.put("north", 7, 5, attributes(dn=50, mat="PVC"))
+        browser.confirm()
+        browser.says("north or its parent has changed meanwhile: look at it again")
+        self.assertEqual(attributes(dn=50, mat="PVC"), other.get("north", 7, 5))
+
+    def test_between_the_look_and_the_batch(self):
+        self.serve()
+        store, other = self.store(), self.store()
+        other.put("north", 7, 4, attributes(dn=50, mat="PVC"))
+        other.checkpoint("north", "before")
+        designs = Designs(store)
+        designs.refresh()
+        designs.design("north")
+        seen = {"at": "north", "epoch": designs.epoch, "seen": designs.batch}
+        other.put("north", 7, 5, attributes(dn=50, mat="PVC"))
+        now = {"before": {"dn": "110", "mat": "PVC"}, "values": {"dn": "75"}, "table": 7, "number": "6"}
+        wanted = [{"do": "drop"}, {"do": "back", "name": "before"}, {"do": "post"}, {"do": "merge", "choices": {}}]
+        wanted += [{"do": "edit", **now}, {"do": "undo", "table": 7, "number": "4"}]
+        for it in wanted:
+            with self.assertRaises(Refusal, msg=str(it)) as caught:
+                carry_out(designs, {**seen, **it})
+            self.assertEqual(101, caught.exception.number, it)
+        self.assertEqual(attributes(dn=50, mat="PVC"), other.get("north", 7, 5))
+        designs.refresh()
+        for it in wanted[:4]:
+            with self.assertRaises(maps.Fault, msg=str(it)):
+                carry_out(designs, {**seen, **it})
+        carry_out(designs, {**seen, **wanted[4]})  # Another feature has changed, and not this one.
+        self.assertEqual(attributes(dn=75, mat="PVC"), other.get("north", 7, 6))
+        self.assertEqual(attributes(dn=50, mat="PVC"), other.get("north", 7, 5))
+
+    def test_a_store_that_was_worked_on_without_a_service(self):
+        service = self.serve()
+        browser = self.browser()
+        browser.open(self.desk(self.socket)[1])
+        browser.choose_design("north")
+        browser.click("#do-drop")
+        browser.until(lambda: browser.all("#question-yes")[0].is_displayed())
+        service.terminate()
+        service.wait()
+        with Store(self.file, ALTCTL) as store:
+            store.put("north", 7, 5, attributes(dn=50, mat="PVC"))
+            store.commit()
+        self.serve()
+        browser.confirm()
+        browser.until(lambda: browser.all("#said.fault"))
+        self.assertEqual(attributes(dn=50, mat="PVC"), self.store().get("north", 7, 5))
+
+
+class SlowJournal(Counter):
+    """Answers no `log` as long as it is slow."""
+
+    is_slow = threading.Event()
+    asked = threading.Event()
+
+    def came(self, came):
+        if came.startswith(b"log ") or b"\nlog " in came:
+            self.asked.set()
+            self.is_slow.wait()
+
+
+class JournalTests(AskingTest):
+    def test_nobody_waits_for_a_slow_journal(self):
+        SlowJournal.is_slow.clear()
+        self.addCleanup(SlowJournal.is_slow.set)
+        slow = SlowJournal(f"{self.socket}.slow", self.socket)
+        self.addCleanup(slow.stop)
+        _, url = self.desk(f"{self.socket}.slow")
+        self.port, self.token = re.search(r":(\d+)/#token=(\S+)", url).groups()
+        epoch, other = self.epoch(), self.store()
+        seen = json.loads(self.ask("/api/design?at=north", self.token)[1])["batch"]
+        other.put("north", 7, 5, attributes(dn=50, mat="PVC"))
+        self.assertTrue(SlowJournal.asked.wait(LONGEST_WAIT))
+        begun = time.monotonic()
+        for path in ("state", "design?at=south", "window?at=north&box=2599000,1199000,2602000,1201000", "design?at=north"):
+            self.assertEqual(200, self.ask(f"/api/{path}", self.token)[0], path)
+        now = json.loads(self.ask("/api/feature?at=north&table=7&number=5", self.token)[1])["now"]
+        self.assertEqual("50", now["attributes"]["dn"])
+        # What the journal has not told yet is not written over either.
+        drop = json.dumps({"do": "drop", "at": "north", "seen": seen, "epoch": epoch}).encode()
+        self.assertEqual(409, self.ask("/api/batch", self.token, drop)[0])
+        self.assertLess(time.monotonic() - begun, LONGEST_WAIT)
+        self.assertEqual(attributes(dn=50, mat="PVC"), other.get("north", 7, 5))
 
 
 class PageTests(DeskTest):
@@ -562,6 +824,23 @@ class PageTests(DeskTest):
         browser.confirm()
         browser.says("south or its parent has changed meanwhile: look at it again")
         self.assertEqual(attributes(dn=110, mat="PVC"), self.store().get("south", 7, 1))
+
+    def test_fields_may_be_named_as_what_every_object_has(self):
+        fields = [{"name": it, "type": "String"} for it in ("dn", "constructor", "toString", "__proto__")]
+        given = {"name": "ducts", "crs": "EPSG:2056", "geometry": "Line String", "fields": fields, "id": None}
+        with Store(self.file, ALTCTL) as store:
+            store.put("north", 0, 7, maps.to_text(given).encode())
+            store.put("north", 7, 6, b'{"__proto__":"mine","dn":"110"}')
+            store.commit()
+        browser = self.browser()
+        browser.open(self.desk()[1])
+        browser.choose_design("north")
+        browser.edit(6, dn=125)
+        browser.confirm()
+        browser.says("Changed ducts 6.")
+        shown = [it.text for it in browser.all("#view tbody th")], [it.text for it in browser.all("#view tbody td:last-child")]
+        self.assertEqual({"dn": "125", "constructor": "–", "toString": "–", "__proto__": "mine"}, dict(list(zip(*shown))[:4]))
+        self.assertEqual(b'{"__proto__":"mine","dn":"125"}', self.store().get("north", 7, 6))
 
     def test_more_conflicts_than_are_shown(self):
         with Store(self.file, ALTCTL) as store:
@@ -791,37 +1070,6 @@ class DesignsTests(DeskTest):
         self.assertEqual(["7", 7], [typed("7", None, "6"), typed("7", None, 6)])
 
 
-class Counter(threading.Thread):
-    """A socket that passes lines on to a service and its answers back, and counts both."""
-
-    def __init__(self, path, service):
-        super().__init__(daemon=True)
-        self.lines, self.service, self.listener = 0, service, socket.socket(socket.AF_UNIX)
-        self.listener.bind(path)
-        self.listener.listen()
-        self.start()
-
-    def run(self):
-        with contextlib.suppress(OSError):  # It is closed at the end.
-            while True:
-                ends = self.listener.accept()[0], socket.socket(socket.AF_UNIX)
-                ends[1].connect(self.service)
-                for one, other in (ends, ends[::-1]):
-                    threading.Thread(target=self.pass_on, args=(one, other), daemon=True).start()
-
-    def pass_on(self, one, other):
-        with one, contextlib.suppress(OSError):
-            while came := one.recv(1 << 16):
-                self.lines += came.count(b"\n")
-                other.sendall(came)
-            other.shutdown(socket.SHUT_RDWR)
-
-    def stop(self):
-        with contextlib.suppress(OSError):
-            self.listener.shutdown(socket.SHUT_RDWR)
-        self.listener.close()
-
-
 class ManyFeaturesTests(DeskTest):
     """A hundred thousand ducts, and one that is as long as the whole map."""
 
@@ -869,7 +1117,8 @@ class ManyFeaturesTests(DeskTest):
         # Now a few pages, and the ducts about this one, among them the long one.
         self.assertLess(self.counted(), 800)
         box = [2600000, 1200000, 2600160, 1200060]
-        window = "return fetch('/api/window?at=north&box=' + arguments[0]).then((it) => it.json())"
+        window = "const headers = { 'X-Desk-Token': sessionStorage.getItem('token') };"
+        window += "return fetch('/api/window?at=north&box=' + arguments[0], { headers }).then((it) => it.json())"
         found = browser.run(window, ",".join(map(str, box)))
         status = {it["properties"]["number"]: it["properties"]["status"] for it in found["features"]}
         due = {**{str(it): "same" for it in (1, 2, 301)}, "200000": "added", "302": "removed"}
@@ -897,7 +1146,7 @@ class DemoTests(DeskTest):
 
     def test_one_command_starts_it_all(self):
         words = [sys.executable, str(HERE / "demo"), self.file, "--open", *([] if shutil.which("gmt") else ["--made-up"])]
-        demo, said = self.launch(words, "?token=", env={**os.environ, "ALTCTL": ALTCTL})
+        demo, said = self.launch(words, "#token=", env={**os.environ, "ALTCTL": ALTCTL})
         url = re.search(r"http://\S+", said)[0]
         browser = self.browser(1120, 640)
         browser.open(url)

@@ -253,6 +253,11 @@ class Service:
             raise
         self.lines, self.answers = (self._socket.makefile(mode, encoding="ascii", newline="\n") for mode in "wr")
 
+    def abort(self):
+        """Has each call that waits for an answer raise Ended."""
+        with contextlib.suppress(OSError):
+            self._socket.shutdown(socket.SHUT_RDWR)
+
     def end(self):
         """Ends the connection. A batch that was not committed is forgotten."""
         with contextlib.suppress(BrokenPipeError):
@@ -299,6 +304,12 @@ class Store:
         status, said = self._other.end()
         if status and not quietly:
             raise Ended(status, said)
+
+    def abort(self):
+        """Ends the connection to a service, even while another thread waits for an answer: its call raises Ended."""
+        if not isinstance(self._other, Service):
+            raise ValueError("only a connection to a service can be aborted")
+        self._other.abort()
 
     @contextlib.contextmanager
     def batch(self, seen=None):

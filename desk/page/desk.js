@@ -48,13 +48,25 @@ function say(text, isFault = false) {
   $("said").classList.toggle("fault", isFault);
 }
 
-async function ask(path, words, how) {
-  const answer = await fetch(`/api/${path}?${new URLSearchParams(words)}`, how);
+async function ask(path, words, how = {}) {
+  const headers = { ...how.headers, "X-Desk-Token": desk.token };
+  const answer = await fetch(`/api/${path}?${new URLSearchParams(words)}`, { ...how, headers });
   if (answer.status === 403) throw new Error(await answer.text());
   const told = await answer.json();
   if (!answer.ok) throw new Error(told.fault);
   return told;
 }
+
+// The address that altdesk prints has the token behind the #. It stays with this tab, for no other page or port to read.
+function takeToken() {
+  const given = new URLSearchParams(location.hash.slice(1)).get("token");
+  if (given) sessionStorage.setItem("token", given);
+  desk.token = sessionStorage.getItem("token") || "";
+  history.replaceState(null, "", "/");
+}
+
+// A field's value of its own: a field may be named as what every object has.
+const own = (side, name) => (side && Object.hasOwn(side.attributes, name) ? side.attributes[name] : undefined);
 
 // Runs what may fail, and says so.
 async function trying(work) {
@@ -97,22 +109,27 @@ function sample(style) {
 const isBusy = () => desk.isSending || $("question").open;
 
 async function poll() {
+  let pause = POLL;
   if (!document.hidden && !isBusy()) {
-    const state = await trying(() => ask("state", {}));
+    // The answer comes with the next batch.
+    const state = await trying(() => ask("state", desk.state ? { after: desk.state.batch } : {}));
     if (state && !isBusy()) await trying(() => take(state));
+    if (state) pause = 100;
   }
-  setTimeout(poll, POLL);
+  setTimeout(poll, pause);
 }
 
 // Takes a state, and says what others have done.
 async function take(state, own) {
   const before = desk.state;
+  if (before?.epoch === state.epoch && state.batch < before.batch) return; // An answer that was overtaken.
   desk.state = state;
   const news = state.news.filter((it) => before && it.batch > before.batch && it.batch !== own);
   if (news.length) $("news").textContent = news.map((it) => `${it.time.slice(11, 16)} ${it.planner}: ${it.text}`).join("; ");
   const row = state.tree.find((it) => it.name === desk.at) || state.tree[0];
   if (before?.batch !== state.batch) showTree();
-  if (desk.design?.name !== row.name || desk.design.stamp !== row.stamp) await open(row.name);
+  const isKnown = before?.epoch === state.epoch && desk.design?.name === row.name && desk.design.stamp === row.stamp;
+  if (!isKnown) await open(row.name);
 }
 
 // Shows a design. Until it has come nothing can be done with it.
@@ -149,7 +166,7 @@ function keepChoices(old, design) {
 
 async function carryOut(it, done) {
   desk.isSending = true;
-  const body = JSON.stringify({ at: desk.at, seen: desk.design.batch, ...it });
+  const body = JSON.stringify({ at: desk.at, seen: desk.design.batch, epoch: desk.state.epoch, ...it });
   const how = { method: "POST", headers: { "Content-Type": "application/json" }, body };
   const told = await trying(() => ask("batch", {}, how));
   const state = told && (await trying(() => ask("state", {})));
@@ -314,7 +331,7 @@ function showFeature() {
   const line = (name, old, its, cell) => make("tr", {}, make("th", { scope: "row" }, name), make("td", {}, old ?? "–"),
     make("td", { class: old !== its ? "differs" : "" }, cell ?? its ?? "–"));
   const lines = [...names].map((name) => {
-    const [old, its] = [before, now].map((side) => side?.attributes[name]);
+    const [old, its] = [before, now].map((side) => own(side, name));
     return line(name, old, its, desk.edits ? make("input", { name, value: its ?? "", "aria-label": name }) : null);
   });
   const head = make("tr", {}, ...["", "Before", "Now"].map((it) => make("th", { scope: "col" }, it)));
@@ -346,7 +363,7 @@ async function undoChange() {
 
 // A course in words: for instance `line, 9 points`.
 function about(side) {
-  if (!side?.course) return "–";
+  if (!side?.course) return side?.bad.length ? `bad: ${side.bad.join("; ")}` : "–";
   const kind = side.course.type.replace("String", "").toLowerCase();
   return `${kind}, ${(side.course.coordinates || []).flat(Infinity).length / 2} points`;
 }
@@ -362,7 +379,7 @@ async function showHistory() {
 async function save(form) {
   const edited = desk.feature;
   const { table, number, now, layer } = edited;
-  const values = Object.fromEntries([...new FormData(form)].filter(([name, text]) => text !== (now.attributes[name] ?? "")));
+  const values = Object.fromEntries([...new FormData(form)].filter(([name, text]) => text !== (own(now, name) ?? "")));
   const what = Object.entries(values).map(([name, text]) => `${name} = ${text || "nothing"}`).join(", ");
   if (!what) return say("Nothing has changed.");
   if (!await question(`Change ${layer} ${number} in ${desk.at}: ${what}?`, "Change it")) return;
@@ -411,7 +428,7 @@ function conflict(it) {
     const cells = values.map((text) => make("td", { class: text !== values[0] ? "differs" : "" }, text));
     return make("tr", {}, make("th", { scope: "row" }, title), ...cells);
   };
-  const lines = it.what === "course" ? [line("course", about)] : [...names].map((key) => line(key, (side) => side.attributes[key]));
+  const lines = it.what === "course" ? [line("course", about)] : [...names].map((key) => line(key, (side) => own(side, key)));
   const head = Object.entries(heads).map(([side, text]) => make("th", { scope: "col" }, sample(SIDES[side]), text));
   const table = make("table", {}, make("thead", {}, make("tr", {}, make("td"), ...head)), make("tbody", {}, ...lines));
   const label = `Show ${it.layer} ${it.number} on the map`;
@@ -482,7 +499,7 @@ async function back(checkpoints) {
   if (name) await carryOut({ do: "back", name }, `${desk.at} is as at the checkpoint ${name}.`);
 }
 
-history.replaceState(null, "", "/");
+takeToken();
 fill($("legend"), ...Object.entries(STYLES).map(([status, style]) => make("li", {}, sample(style), WORDS[status])));
 $("find").onsubmit = (event) => {
   event.preventDefault();

@@ -1,0 +1,84 @@
+"""Attributes and geometries as people read them, and as they type them. What is in a store may be anything: a value that cannot be
+shown is told to be bad, and why."""
+import contextlib
+import json
+import math
+
+from osgeo import gdal, ogr, osr
+
+import maps
+import places
+from maps.systems import crs_from_text
+
+gdal.UseExceptions()
+ogr.UseExceptions()
+osr.UseExceptions()
+
+LITERALS = {"Integer": int, "Integer64": int, "Real": (int, float), "value": (type(None), bool, int, float, str, list, dict)}
+
+
+def geojson(geometry, tolerance=0):
+    """A geometry that can be drawn, simplified to a tolerance."""
+    if geometry is None:
+        return None
+    if tolerance:
+        with contextlib.suppress(RuntimeError):  # GEOS refuses some, which are drawn as they are.
+            geometry = geometry.GetLinearGeometry().SimplifyPreserveTopology(tolerance) or geometry
+    geometry.FlattenTo2D()
+    return json.loads(geometry.GetLinearGeometry().ExportToJson())
+
+
+def text_of(value):
+    """A value of JSON as a person reads it."""
+    return value if isinstance(value, str) else json.dumps(value, ensure_ascii=False)
+
+
+def attributes_of(value):
+    """The attributes of a feature as names and texts. What is no JSON object is one text."""
+    try:
+        return {name: text_of(it) for name, it in json.loads(value).items()}
+    except (AttributeError, ValueError, RecursionError):
+        return {"value": value.decode("utf-8", "backslashreplace")}
+
+
+def typed(text, field, old):
+    """The value that a text in a form stands for: by the type of its field, or else by the value before."""
+    kind = field["type"] if field else "String" if isinstance(old, str) else "value"
+    due = list if kind.endswith("List") else LITERALS.get(kind)
+    if not due:
+        return text
+    try:
+        value = json.loads(text, parse_constant=int) if text else None  # `NaN` is no number here, nor for int.
+    except (ValueError, RecursionError):
+        value = ...
+    if value is not None and not isinstance(value, due):
+        raise maps.Fault(f"{text} is no {kind}")
+    return value
+
+
+def side_of(records, feature, keys, is_on_map):
+    """A feature as the records of a version have it, None if it has none: attributes, course, and what of it is bad."""
+    if not any(it in records for it in keys):
+        return None
+    bad, found = [], {}
+    for key in keys:
+        try:
+            found[key] = maps.value_at(records, *key)
+        except (maps.Fault, ValueError) as fault:
+            bad.append(str(fault))
+    course = None
+    if is_on_map and found.get(keys[-1]):
+        try:
+            course = geojson(places.geometry_of(found[keys[-1]]))
+        except maps.Fault as fault:
+            bad.append(f"its course cannot be drawn: {fault}")
+    return {"attributes": attributes_of(found.get(feature) or b"{}"), "course": course, "bad": bad}
+
+
+def aspect_of(crs, bounds):
+    """How wide a unit is beside its height: with degrees, as it is in the middle of the map."""
+    try:
+        is_round = crs and bounds and crs_from_text(crs).IsGeographic()
+    except maps.Fault:
+        is_round = False
+    return max(math.cos(math.radians((bounds[1] + bounds[3]) / 2)), 0.01) if is_round else 1

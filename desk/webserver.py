@@ -1,0 +1,238 @@
+"""The server of the desk's page: who gets in, and the questions that the page asks. One thread asks the service, one question after
+another, and a second one reads its journal, which may take long."""
+import asyncio
+import contextlib
+import hmac
+import secrets
+from concurrent.futures import ThreadPoolExecutor
+from pathlib import Path
+
+from aiohttp import web
+
+import maps
+from altctl import Ended, Refusal, Store
+from designs import Designs, history
+from edits import CHANGED, carry_out
+from news import Journal, told
+
+HERE = Path(__file__).resolve().parent
+LEAFLET = Path("/usr/share/javascript/leaflet")
+HOST = "127.0.0.1"
+PAGES = {
+    "/": (HERE / "page" / "desk.html", "text/html"),
+    "/desk.js": (HERE / "page" / "desk.js", "text/javascript"),
+    "/desk.css": (HERE / "page" / "desk.css", "text/css"),
+    "/leaflet.js": (LEAFLET / "leaflet.min.js", "text/javascript"),
+    "/leaflet.css": (LEAFLET / "leaflet.css", "text/css"),
+}
+HEADERS = {
+    "Cache-Control": "no-store",
+    "Content-Security-Policy": "default-src 'none'; script-src 'self'; style-src 'self'; connect-src 'self'; "
+    "img-src 'self' data:; base-uri 'none'; form-action 'none'; frame-ancestors 'none'",
+    "Referrer-Policy": "no-referrer",
+    "X-Content-Type-Options": "nosniff",
+}
+# The page sends the token in this header. A cookie would go to every other port of this machine.
+TOKEN = "X-Desk-Token"
+LOOK_SECONDS = 0.3  # between two looks at the journal
+WAIT_SECONDS = 20  # that a page waits for news
+SHORT_SECONDS = 2  # that an answer waits for the journal to tell of its own batch
+TRIES = 5  # of a batch, if others change the same design meanwhile
+# What refusals mean to those at the desk.
+REFUSALS = {
+    1: "there is no such design any more",
+    2: "a design of this name is there already",
+    3: "there is no such checkpoint any more",
+    4: "a checkpoint of this name is there already",
+    6: "top has no parent",
+    7: "there are designs below it: drop these first",
+    8: "the parent has changed since the last merge: merge first",
+    9: "there are conflicts to settle first",
+    10: "the conflicts have changed meanwhile: look at them again",
+    12: "there are too many designs and checkpoints: drop some",
+    13: "the store is full: it has to grow",
+    22: "a name has 1 to 32 letters, digits, _, - and .",
+    90: "you may not do that here",
+    CHANGED: "others change it all the time: try it again",
+}
+
+
+def state(designs, file):
+    designs.store.batches()  # It tells if the service is not there any more.
+    news = [told(it) for it in designs.news[-5:]]
+    its = {"file": file, "planner": designs.planner, "batch": designs.batch, "epoch": designs.epoch}
+    return {**its, "tree": designs.tree(), "news": news}
+
+
+class Desk:
+    def __init__(self, path, port):
+        self.path, self.port = path, port
+        self.token = secrets.token_urlsafe(24)
+        self.thread, self.journal_thread = ThreadPoolExecutor(1), ThreadPoolExecutor(1)
+        self.designs, self.journal, self.arrived = None, None, asyncio.Event()
+
+    def address(self):
+        # What stands behind `#` stays in the browser.
+        return f"http://{HOST}:{self.port}/#token={self.token}"
+
+    def application(self):
+        made = web.Application(middlewares=[self.guard])
+        made.router.add_routes([web.get(path, self.page) for path in PAGES])
+        asked = {
+            "design": lambda designs, it: designs.about(it["at"]),
+            "parent": lambda designs, it: designs.parent_changes(it["at"]),
+            "window": lambda designs, it: designs.design(it["at"]).window(*map(float, it["box"].split(","))),
+            "feature": lambda designs, it: designs.feature(it["at"], (int(it["table"]), int(it["number"]))),
+        }
+        made.router.add_routes([web.get(f"/api/{name}", self.query(work)) for name, work in asked.items()])
+        made.router.add_get("/api/state", self.state)
+        made.router.add_get("/api/history", self.history)
+        made.router.add_post("/api/batch", self.batch)
+        made.cleanup_ctx.append(self.following)
+        return made
+
+    # --- who gets in --------------------------------------------------------------------------------
+
+    @web.middleware
+    async def guard(self, request, handler):
+        """Lets in who has the token, from the page's own address: a page elsewhere has another Origin, and where a name of its
+        own leads here, another Host. The page itself has no secret, and is given to all."""
+        given = request.headers.get(TOKEN, "").encode("utf-8", "replace")
+        host = request.headers.get("Host", "")
+        if host.split(":")[0] not in (HOST, "localhost") or request.headers.get("Origin") not in (None, f"http://{host}"):
+            answer = web.Response(status=403, text="This is for the desk's own page.")
+        elif request.path not in PAGES and not hmac.compare_digest(given, self.token.encode()):
+            answer = web.Response(status=403, text="Open the address that altdesk has printed: it has the token.")
+        else:
+            try:
+                answer = await handler(request)
+            except web.HTTPException as fault:
+                answer = web.Response(status=fault.status, text=fault.reason)
+        answer.headers.update(HEADERS)
+        return answer
+
+    async def page(self, request):
+        file, kind = PAGES[request.path]
+        return web.Response(body=file.read_bytes(), content_type=kind, charset="utf-8")
+
+    # --- questions ------------------------------------------------------------------------------------
+
+    def query(self, work):
+        async def answer(request):
+            return await self.reply(self.asked(lambda designs: work(designs, request.query)))
+
+        return answer
+
+    async def state(self, request):
+        """The state, once a batch came after the one that the page knows, or after a while."""
+
+        async def found():
+            known = request.query.get("after")
+            if known is not None and self.designs is not None and self.designs.batch == int(known):
+                self.arrived.clear()
+                with contextlib.suppress(asyncio.TimeoutError):
+                    await asyncio.wait_for(self.arrived.wait(), WAIT_SECONDS)
+            return await self.asked(lambda designs: state(designs, self.path))
+
+        return await self.reply(found())
+
+    async def history(self, request):
+        async def found():
+            feature = int(request.query["table"]), int(request.query["number"])
+            return await self.of_journal(lambda: history(self.journal.store, feature))
+
+        return await self.reply(found())
+
+    async def batch(self, request):
+        if request.content_type != "application/json":
+            raise web.HTTPUnsupportedMediaType
+        try:
+            it = await request.json()
+        except ValueError:
+            raise web.HTTPBadRequest
+        # What was begun is done, also where the browser has gone.
+        return await self.reply(asyncio.shield(asyncio.ensure_future(self.carried_out(it))))
+
+    async def carried_out(self, it):
+        for tries in range(1, TRIES + 1):
+            try:
+                await self.asked(lambda designs: carry_out(designs, it))
+                break
+            except Refusal as refusal:
+                if refusal.number != CHANGED or tries == TRIES:
+                    raise
+                await self.catch_up()
+        await self.catch_up()
+        return {"batch": self.designs and self.designs.batch}
+
+    async def reply(self, work):
+        """The answer to a question."""
+        try:
+            return web.json_response(await work)
+        except (maps.Fault, Refusal) as fault:
+            text = str(fault) if isinstance(fault, maps.Fault) else REFUSALS.get(fault.number, f"the store refused it: {fault}")
+            return web.json_response({"fault": text}, status=409)
+        except (KeyError, TypeError, ValueError, AttributeError) as fault:
+            return web.json_response({"fault": f"not a question of the desk: {fault!r}"}, status=400)
+        except (OSError, Ended):
+            text = "The service is not there. What was asked of it last may be done or not: look once it is back."
+            return web.json_response({"fault": text}, status=503)
+
+    async def asked(self, work):
+        return await asyncio.get_running_loop().run_in_executor(self.thread, self.ask, work)
+
+    def ask(self, work):
+        try:
+            if self.designs is None:
+                designs = Designs(Store(f"unix:{self.path}"))
+                designs.refresh()
+                self.designs = designs
+            return work(self.designs)
+        except (OSError, Ended):
+            self.designs = None
+            raise
+
+    # --- the journal ------------------------------------------------------------------------------------
+
+    async def of_journal(self, work):
+        return await asyncio.get_running_loop().run_in_executor(self.journal_thread, self.ask_journal, work)
+
+    def ask_journal(self, work):
+        try:
+            if self.journal is None:
+                self.journal = Journal(Store(f"unix:{self.path}"))
+            return work()
+        except (OSError, Ended):
+            self.journal = None
+            raise
+
+    async def look(self):
+        """Tells the designs what others have done since the last look."""
+        news = await self.of_journal(lambda: self.journal.look())
+        if news:
+            await self.asked(lambda designs: designs.take(news))
+            self.arrived.set()
+
+    async def catch_up(self):
+        """Waits for the batches up to now, but not for long."""
+        with contextlib.suppress(asyncio.TimeoutError):
+            await asyncio.wait_for(asyncio.shield(asyncio.ensure_future(self.look())), SHORT_SECONDS)
+
+    async def following(self, _):
+        """Follows the journal as long as the server runs."""
+
+        async def follow():
+            while True:
+                try:
+                    await self.look()
+                except (OSError, Ended, Refusal):
+                    self.arrived.set()  # The pages that wait ask themselves, and are told.
+                await asyncio.sleep(LOOK_SECONDS)
+
+        task = asyncio.ensure_future(follow())
+        yield
+        task.cancel()
+        if self.journal is not None:
+            self.journal.store.abort()  # Its thread need not wait for a long answer.
+        with contextlib.suppress(asyncio.CancelledError):
+            await task
