@@ -1,6 +1,9 @@
 """What differs from one version of a store to another, as records and as features."""
 import maps
 from maps import GEOMETRY, PARTS
+from styles import STYLES
+
+NAMES = {0: "layer", STYLES: "style"}  # of tables that have no features
 
 
 class Changes:
@@ -69,7 +72,7 @@ class Changes:
         return "course" if key[0] - GEOMETRY in self.layers else "attributes" if key[0] in self.layers else "record"
 
     def name(self, table):
-        return self.layers[table]["name"] if table in self.layers else "layer" if table == 0 else f"table {table}"
+        return self.layers[table]["name"] if table in self.layers else NAMES.get(table, f"table {table}")
 
     def row(self, feature):
         # A number may have more digits than JavaScript has.

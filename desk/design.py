@@ -3,13 +3,15 @@ import numpy
 
 import maps
 import places
+import styles
 from altctl import Conflict
 from changes import Changes
+from density import cells
 from maps import GEOMETRY
 from places import box_of
-from values import geojson, side_of
+from values import attributes_of, geojson, side_of
 
-MOST_COURSES = 20000  # geometries of a design that stay in memory
+MOST_COURSES = 20000  # geometries of a design that stay in memory, and attributes
 MOST_FEATURES = 3000  # in a window
 PIXELS = 2000  # that a window has across, at most
 
@@ -19,7 +21,7 @@ class Design:
 
     def __init__(self, store, alt, parent, index):
         self.store, self.alt, self.parent, self.base = store, alt, parent, f"{alt}@" if parent else alt
-        self.stale, self.courses = set(), {}
+        self.stale, self.courses, self.texts, self.styles = set(), {}, {}, None
         self.mine = Changes(store, self.base, alt)
         self.conflicts = {(it.table, it.number): it for it in store.conflicts(alt)} if parent else {}
         self.layers = {it: layer for it, layer in self.mine.layers.items() if store.get(alt, 0, it) is not None}
@@ -45,6 +47,8 @@ class Design:
             theirs = mine and self.parent and next(self.store.diff(self.base, self.parent, key[0], key[1], key[1]), None)
             if theirs and theirs.after != mine.after:
                 self.conflicts[key] = Conflict(*key, mine.before, theirs.after, mine.after)
+            self.texts.pop(key, None)
+            self.styles = None if key[0] == styles.STYLES else self.styles
         moved = [it for it in keys if it[0] - GEOMETRY in self.on_map]
         records = maps.read(self.store, self.alt, moved)
         for table, number in moved:
@@ -76,7 +80,7 @@ class Design:
     def sides(self, feature, at):
         """A feature as a version has it, None where it has none."""
         keys = self.mine.keys_of(feature)
-        return side_of(maps.read(self.store, at, keys), feature, keys, feature[0] in self.mine.layers)
+        return side_of(maps.read(self.store, at, keys), feature, keys, self.mine.layers.get(feature[0]))
 
     def box(self, feature):
         key = feature[0] + GEOMETRY, feature[1]
@@ -91,27 +95,47 @@ class Design:
         found = [it.bounds() for group in (self.places, self.others) for it in group.values()]
         return places.union(numpy.array([it for it in found if it]).reshape(-1, 4))
 
-    def window(self, *window):
-        """The features in a window: those that are changed go first, and then the largest."""
-        found, keys, sizes, is_about = 0, [], [], False
-        for table in self.on_map:
-            numbers, boxes, about = self.places[table].window(*window)
-            stays = ~numpy.isin(numbers, numpy.array([*self.moved[table], *self.beside[table]], "<u8"))
-            others, more, count = self.others[table].window(*window)
-            numbers, boxes = numpy.concatenate([numbers[stays], others]), numpy.concatenate([boxes[stays], more])
-            size = (boxes[:, 2:] - boxes[:, :2]).max(axis=1, initial=0)
-            size[numpy.isin(numbers, self.changed[table])] += 1e300
-            keys += [(table, it) for it in numbers.tolist()]
-            sizes.append(size)
-            is_about |= about > len(stays)
-            found += max(about - int((~stays).sum()) + count, len(numbers))
+    def style_of(self, table):
+        if self.styles is None:
+            self.styles = styles.read(self.store, self.alt, sorted(self.layers))
+        return self.styles.get(table, styles.PLAIN)
+
+    def style_record(self, table, style):
+        if table not in self.layers:
+            raise maps.Fault(f"{self.alt} has no layer in table {table} any more")
+        return styles.record_of(table, style)
+
+    def window(self, box, off=()):
+        """The features in a window, but those of layers that are off: those that are changed go first, and then the largest. Of
+        each layer it tells how many there are, and where they lie if not all are drawn."""
+        found = {table: self._in_window(table, box) for table in sorted(self.on_map - set(off))}
+        keys = [(table, it) for table, (numbers, *_) in found.items() for it in numbers.tolist()]
         if len(keys) > MOST_FEATURES:
-            largest = numpy.argpartition(-numpy.concatenate(sizes), MOST_FEATURES)[:MOST_FEATURES]
+            sizes = numpy.concatenate([it[1] for it in found.values()])
+            largest = numpy.argpartition(-sizes, MOST_FEATURES)[:MOST_FEATURES]
             keys = [keys[it] for it in largest.tolist()]
         self._read_courses(keys)
-        tolerance = (window[2] - window[0]) / PIXELS
+        tolerance = (box[2] - box[0]) / PIXELS
         features = [self.on_window(it, tolerance) for it in keys]
-        return {"type": "FeatureCollection", "features": features, "found": found, "is_about": is_about}
+        drawn = {table: sum(it[0] == table for it in keys) for table in found}
+        layers = [
+            {"table": table, "name": self.layers[table]["name"], "found": count, "is_about": is_about, "drawn": drawn[table]}
+            for table, (_, _, count, is_about) in found.items()
+        ]
+        dense = {it["table"]: cells(self.places[it["table"]], box) for it in layers if it["found"] > it["drawn"]}
+        told = {"found": sum(it["found"] for it in layers), "is_about": any(it["is_about"] for it in layers)}
+        return {"type": "FeatureCollection", "features": features, **told, "layers": layers, "density": dense}
+
+    def _in_window(self, table, box):
+        """The numbers of a layer's features in a window, their sizes, how many there are, and whether that is a guess."""
+        numbers, boxes, about = self.places[table].window(*box)
+        stays = ~numpy.isin(numbers, numpy.array([*self.moved[table], *self.beside[table]], "<u8"))
+        others, more, count = self.others[table].window(*box)
+        is_about = about > len(stays)
+        numbers, boxes = numpy.concatenate([numbers[stays], others]), numpy.concatenate([boxes[stays], more])
+        size = (boxes[:, 2:] - boxes[:, :2]).max(axis=1, initial=0)
+        size[numpy.isin(numbers, self.changed[table])] += 1e300
+        return numbers, size, max(about - int((~stays).sum()) + count, len(numbers)), is_about
 
     def _read_courses(self, keys):
         if len(self.courses) > MOST_COURSES:
@@ -119,7 +143,21 @@ class Design:
         due = [(table + GEOMETRY, number) for table, number in keys if (table, number) not in self.courses]
         records = {**self.gone, **maps.read(self.store, self.alt, due)}
         self.courses.update({(table - GEOMETRY, number): places.safe_value(records, (table, number)) for table, number in due})
+        self._read_texts([it for it in keys if self.style_of(it[0])["by"] or self.style_of(it[0])["label"]])
+
+    def _read_texts(self, keys):
+        """Reads the attributes that styles need."""
+        if len(self.texts) > MOST_COURSES:
+            self.texts = {}
+        due = [it for it in keys if it not in self.texts]
+        records = maps.read(self.store, self.alt, due)
+        for key in due:
+            self.texts[key] = attributes_of(places.safe_value(records, key) or b"{}", self.mine.layers[key[0]])
 
     def on_window(self, key, tolerance):
         properties = {**self.mine.row(key), "status": self.status.get(key, "same")}
+        style = self.style_of(key[0])
+        for name in ("by", "label"):
+            if style[name]:
+                properties[name] = self.texts[key].get(style[name])
         return {"type": "Feature", "properties": properties, "geometry": geojson(places.parsed(self.courses[key]), tolerance)}

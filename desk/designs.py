@@ -7,19 +7,24 @@ than are followed. Where a store has no index, the bounds of all features are re
 import contextlib
 import secrets
 
+import descriptions
 import maps
 import places
 from altctl import Refusal
 from changes import Changes
 from design import Design
-from maps import GEOMETRY
-from news import MOST_LINES, Journal, News, told
-from values import aspect_of
+from descriptions import Descriptions
+from finding import Finder
+from news import MOST_LINES, Journal, News
+from numbering import Numbers
+from values import aspect_of, metres_of
 
-OWN = ".service"
+# The alternatives that programs keep for themselves: no designs.
+OWN = {".service", places.OWN, descriptions.OWN, ".numbers", ".layers"}
 MOST_MOVED = 1000  # features that lie elsewhere than the index says, before it is renewed
 MOST_DESIGNS = 4  # that stay in memory
-MOST_CONFLICTS = 100  # shown with their sides
+MOST_CONFLICTS = 100  # on a page of them
+MOST_COMPARED = 1000  # features whose courses are drawn where two designs are compared
 
 
 class Designs:
@@ -29,11 +34,13 @@ class Designs:
     def __init__(self, store):
         self.store, self.batch, self.parents, self.news, self.rows = store, None, {}, [], None
         self.planner, self.epoch, self.journal = store.whoami(), secrets.token_hex(8), Journal(store)
+        self.about_designs, self.numbers, self.finder = Descriptions(), Numbers(), Finder()
         self._forget(0)
 
     def _forget(self, batch):
         """Lets everything be read anew."""
         self.designs, self.counts, self.touched, self.floor, self.indexes = {}, {}, {}, batch, {}
+        self.indexed = batch  # The last batch that may have changed the index.
 
     def refresh(self):
         """Reads the journal on, and looks what its batches have changed."""
@@ -46,9 +53,8 @@ class Designs:
         if self.batch is not None and news.batch <= self.batch:
             return
         self.rows, self.batch = None, news.batch
-        self.parents = {it.name: it.parent for it in self.store.alternatives()}
-        self.has_index = self.parents.pop(places.OWN, None) is not None
-        self.parents.pop(OWN, None)
+        parents = {it.name: it.parent for it in self.store.alternatives()}
+        self.parents, self.has_index = {name: it for name, it in parents.items() if name not in OWN}, places.OWN in parents
         if not news.is_whole or not all(map(self._follow, news.entries)):
             self._forget(self.batch)
         self.news = (self.news + news.entries)[-20:]
@@ -59,9 +65,13 @@ class Designs:
         if verb in ("grow", "reclaim"):
             return True
         alt = words[0]
-        if places.OWN in words[:2]:
-            if verb == "new":  # The index is made anew: where features lie is read again.
+        if alt in OWN or (verb in ("checkpoint", "uncheck") and words[1] in OWN):
+            if (verb, alt) == ("new", places.OWN):  # The index is made anew: where features lie is read again.
                 self.designs, self.indexes = {}, {}
+            if alt == places.OWN:
+                self.indexed = entry.batch
+            if alt == descriptions.OWN:
+                self.about_designs.forget()
             return True
         if verb == "drop" or alt not in self.parents:
             return False
@@ -137,6 +147,7 @@ class Designs:
             changed, conflicts = self._count(name)
             checks = list(self.store.checkpoints(name))
             its = {"changed": changed, "conflicts": conflicts, "checkpoints": checks, "stamp": self.stamp(name)}
+            its["about"] = self.about_designs.read(self.store).get(name, {})
             rows.append({"name": name, "parent": self.parents[name], "depth": depth, **its})
             for child, parent in self.parents.items():
                 if parent == name:
@@ -159,17 +170,25 @@ class Designs:
         """All of a design but its map."""
         design = self.design(alt)
         bounds = design.bounds()
-        shown = design.on_map
-        layers = [{"table": table, "name": it["name"], "is_on_map": table in shown} for table, it in design.layers.items()]
-        keys = sorted(design.conflicts)
-        conflicts = [self.conflict(alt, design, key) for key in keys[:MOST_CONFLICTS]]
-        told = {"conflicts": conflicts, "conflicts_in_all": len(keys), "records": len(design.mine.rows)}
+        layers = [self._layer(design, table, it) for table, it in sorted(design.layers.items())]
+        told = {"conflicts_in_all": len(design.conflicts), "records": len(design.mine.rows), "conflicts": self.conflicts(alt, 0)}
         told.update({"name": alt, "parent": self.parents[alt], "batch": self.batch, "stamp": self.stamp(alt), "layers": layers})
         changes = design.mine.listed(design.status)
-        return {**told, "bounds": bounds, "aspect": aspect_of(design.crs, bounds), "changes": changes}
+        size = {"bounds": bounds, "aspect": aspect_of(design.crs, bounds), "metres": metres_of(design.crs)}
+        return {**told, **size, "changes": changes}
+
+    def _layer(self, design, table, it):
+        told = {"table": table, "name": it["name"], "is_on_map": table in design.on_map, "geometry": it["geometry"], "crs": it["crs"]}
+        fields = [{"name": field["name"], "type": field["type"]} for field in it["fields"]]
+        return {**told, "fields": fields, "style": design.style_of(table)}
+
+    def conflicts(self, alt, first):
+        """A page of the conflicts, with their features as base, parent and design have them."""
+        design = self.design(alt)
+        keys = sorted(design.conflicts)[first : first + MOST_CONFLICTS]
+        return [self.conflict(alt, design, key) for key in keys]
 
     def conflict(self, alt, design, key):
-        """A record in conflict, with its feature as base, parent and design have it."""
         feature = design.mine.feature_of(key) or key
         versions = {"base": design.base, "parent": design.parent, "mine": alt}
         sides = {name: design.sides(feature, at) for name, at in versions.items()}
@@ -180,21 +199,23 @@ class Designs:
         parent = self.parents[self.known(alt)]
         return Changes(self.store, f"{alt}@", parent).listed({}) if parent else []
 
-    def feature(self, alt, feature):
-        """A feature: before, now, and with what types its fields are edited."""
+    def compared(self, alt, other):
+        """How two designs differ: what another one has that this one has not, or has otherwise. Of the first ones the courses
+        are told, too."""
+        changes = Changes(self.store, self.known(alt), self.known(other))
+        listed, on_map = changes.listed({}), self.design(alt).on_map | self.design(other).on_map
+        for it in [it for it in listed if it["table"] in on_map][:MOST_COMPARED]:
+            feature = it["table"], int(it["number"])
+            sides = self.design(alt).sides(feature, alt), self.design(other).sides(feature, other)
+            it["before"], it["now"] = (side and side["course"] for side in sides)
+        return listed
+
+    def feature(self, alt, feature, other=None):
+        """A feature: before, now, and with what types its fields are edited. Before is what another design has, if one is said."""
         design = self.design(alt)
-        before, now = (design.sides(feature, at) for at in (design.base, alt))
+        before, now = (design.sides(feature, at) for at in (design.base if other is None else self.known(other), alt))
         if before is None and now is None:
             raise maps.Fault(f"{alt} has no {design.mine.name(feature[0])} {feature[1]}")
-        names = [it["name"] for it in design.layers[feature[0]]["fields"]] if feature[0] in design.layers else []
-        told = {"before": before, "now": now, "fields": names, "bounds": design.box(feature) if names else None}
+        fields = [{"name": it["name"], "type": it["type"]} for it in design.mine.layers.get(feature[0], {"fields": []})["fields"]]
+        told = {"before": before, "now": now, "fields": fields, "bounds": design.box(feature), "other": other}
         return {**design.mine.row(feature), "status": design.status.get(feature, "same"), **told}
-
-
-def history(store, feature):
-    """Who may have changed a feature, and when, as the journal tells it."""
-    found = {}
-    for table in (feature[0], feature[0] + GEOMETRY):
-        for it in store.log(record=f"{table}:{feature[1]}", last=50):
-            found[it.batch, " ".join(it.line.split()[:2])] = it
-    return [told(it) for _, it in sorted(found.items(), reverse=True)]

@@ -1,81 +1,149 @@
 """What a person asks the desk to do: each is a batch, and is refused if what the person saw has changed. The desk looks at what it
 knows, and the service at what came since: each batch names the alternatives that it rests on, with the batch at which they were
 looked at."""
-import json
-
 import maps
+from features import changed_features, split_feature
 from maps import Fault
-from values import typed
 
 CHANGED = 101  # The service refuses a batch by this number if an alternative has changed meanwhile.
+MOST_STEPS = 200  # that can be undone
 
 
-def merge(designs, alt, it):
+class Step:
+    """What one batch of a person has made of some records, so that it can be undone and done again."""
+
+    def __init__(self, text, before, after):
+        self.text, self.before, self.after = text, before, after
+
+
+class Person:
+    """Somebody at the desk: the steps that can be undone and done again in each design, and the choices for conflicts."""
+
+    def __init__(self):
+        self.steps, self.undone, self.choices = {}, {}, {}
+
+    def done(self, alt, step):
+        self.steps[alt] = [*self.steps.get(alt, []), step][-MOST_STEPS:]
+        self.undone[alt] = []
+
+    def told(self):
+        """What the next undo and the next redo of each design would be."""
+        last = {what: {alt: its[-1].text for alt, its in of.items() if its} for what, of in (("undo", self.steps), ("redo", self.undone))}
+        return last
+
+
+def merge(designs, alt, it, person):
     """Merges with the choices that were made, and the rest by one side where that is said."""
     design = designs.design(alt)
-    sides = {key: it["choices"].get(f"{key[0]}:{key[1]}", it.get("rest")) for key in design.conflicts}
+    choices = {**person.choices.get(alt, {}), **it.get("choices", {})}
+    sides = {key: choices.get(f"{key[0]}:{key[1]}", it.get("rest")) for key in design.conflicts}
     still_open = sum(side not in ("mine", "theirs") for side in sides.values())
     if still_open:
         raise Fault(f"{still_open} conflicts have no choice yet")
     with as_seen(designs, alt, designs.parents[alt]):
         designs.store.merge(alt, sides)
+    person.choices.pop(alt, None)
 
 
-def edit(designs, alt, it):
-    """Gives fields of a feature other values, if it still has those that the person saw."""
-    key = int(it["table"]), int(it["number"])
-    design = designs.design(alt)
-    records = maps.read(designs.store, alt, [key])
-    side = design.sides(key, alt)
-    if side is None or side["attributes"] != it["before"] or key[0] not in design.layers:
-        raise Fault("it has changed meanwhile: look at it again")
-    fields = {field["name"]: field for field in design.layers[key[0]]["fields"]}
-    values = attributes_at(records, key)
-    for name, text in it["values"].items():
-        values[name] = typed(text, fields.get(name), values.get(name))
-    update = maps.Update(records)
-    update.set(*key, maps.to_text(values).encode())
-    change(designs, alt, update)
+def change(designs, alt, it, person):
+    """Draws, changes and removes features, if they are still as the person saw them."""
+    update, text = changed_features(designs, alt, it["features"])
+    send(designs, alt, update, text, person)
 
 
-def attributes_at(records, key):
-    """The attributes of a feature, to be changed."""
-    try:
-        return dict(json.loads(maps.value_at(records, *key) or b"{}"))
-    except (TypeError, ValueError, RecursionError) as fault:
-        raise Fault(f"its attributes are no JSON object: {fault}") from None
+def split(designs, alt, it, person):
+    update, text = split_feature(designs, alt, it)
+    send(designs, alt, update, text, person)
 
 
-def undo(designs, alt, it):
+def take_back(designs, alt, it, person):
     """Gives a feature what it has in the base."""
+    feature = int(it["table"]), int(it["number"])
     design = designs.design(alt)
-    keys = design.mine.keys_of((int(it["table"]), int(it["number"])))
+    keys = design.mine.keys_of(feature)
     base, now = (maps.read(designs.store, at, keys) for at in (design.base, alt))
-    update = maps.Update(now)
+    update = maps.Update(dict(now))
     for key in set(keys) & set(base):
         update.set(*key, maps.value_at(base, *key))
-    change(designs, alt, update)
+    send(designs, alt, update, f"{design.mine.name(feature[0])} {feature[1]} as in the base", person)
 
 
-def post(designs, alt, _):
+def undo(designs, alt, _, person):
+    """Undoes the person's last step in a design, if nobody has changed its records since."""
+    step = turn_back(designs, alt, person.steps.get(alt), "before", "after")
+    person.undone.setdefault(alt, []).append(step)
+
+
+def redo(designs, alt, _, person):
+    step = turn_back(designs, alt, person.undone.get(alt), "after", "before")
+    person.steps.setdefault(alt, []).append(step)
+
+
+def turn_back(designs, alt, steps, to, since):
+    if not steps:
+        raise Fault("there is nothing more to undo" if to == "before" else "there is nothing to do again")
+    wanted, expected = getattr(steps[-1], to), getattr(steps[-1], since)
+    designs.known(alt)
+    now = dict(zip(expected, designs.store.get_many(alt, expected)))
+    if now != expected:
+        raise Fault(f"somebody has changed that since ({steps[-1].text}), so it stays as it is")
+    put_records(designs, alt, wanted)
+    return steps.pop()
+
+
+def style(designs, alt, it, person):
+    """Keeps the style of a layer in the design, as a record."""
+    key, value = designs.design(alt).style_record(int(it["table"]), it["style"])
+    update = maps.Update(maps.read(designs.store, alt, [key]))
+    update.set(*key, value)
+    send(designs, alt, update, f"the style of {designs.design(alt).mine.name(key[1])}", person)
+
+
+def post(designs, alt, _it, _person):
     with as_seen(designs, alt, designs.parents[alt]):
         designs.store.post(alt)
 
 
-def drop(designs, alt, _):
+def drop(designs, alt, _it, _person):
     with as_seen(designs, alt):
         designs.store.drop(alt)
 
 
-def back(designs, alt, it):
+def back(designs, alt, it, _person):
     with as_seen(designs, alt):
         designs.store.back(alt, it["name"])
 
 
-def change(designs, alt, update):
+def choose(designs, alt, it, person):
+    """Keeps choices for conflicts until the merge is sent. They are for the conflicts as the person saw them."""
+    its = person.choices.setdefault(alt, {})
+    for key, side in it["choices"].items():
+        if side in ("mine", "theirs"):
+            its[key] = side
+        else:
+            its.pop(key, None)
+
+
+def describe(designs, alt, it, _person):
+    """Gives a design a title, an owner, a status and a note."""
+    designs.about_designs.write(designs.store, alt, it)
+
+
+def send(designs, alt, update, text, person):
+    """Sends an update of records as a batch, and keeps how to undo it."""
+    gone = update.gone()
+    before = dict(zip([*update.put, *gone], designs.store.get_many(alt, [*update.put, *gone])))
+    after = {**update.put, **dict.fromkeys(gone)}
+    put_records(designs, alt, after)
+    person.done(alt, Step(text, before, after))
+
+
+def put_records(designs, alt, records):
+    """Puts records, and removes those that are to have no value."""
+    is_there = dict(zip(records, designs.store.get_many(alt, records)))
     with as_seen(designs, alt):
-        designs.store.put_many(alt, ((*at, value) for at, value in update.put.items()))
-        designs.store.remove_many(alt, update.gone())
+        designs.store.put_many(alt, ((*key, value) for key, value in records.items() if value is not None))
+        designs.store.remove_many(alt, (key for key, value in records.items() if value is None and is_there[key] is not None))
 
 
 def as_seen(designs, *alts):
@@ -85,21 +153,27 @@ def as_seen(designs, *alts):
 
 ACTIONS = {
     "merge": merge,
-    "edit": edit,
+    "change": change,
+    "split": split,
+    "take-back": take_back,
     "undo": undo,
+    "redo": redo,
+    "style": style,
     "post": post,
     "drop": drop,
     "back": back,
-    "new": lambda designs, alt, it: designs.store.new(it["name"], alt),
-    "checkpoint": lambda designs, alt, it: designs.store.checkpoint(alt, it["name"]),
+    "choose": choose,
+    "describe": describe,
+    "new": lambda designs, alt, it, _: designs.store.new(it["name"], alt),
+    "checkpoint": lambda designs, alt, it, _: designs.store.checkpoint(alt, it["name"]),
 }
 # These go by what the person saw as a whole, and are not done where that has changed.
-BY_SIGHT = {"merge", "post", "drop", "back", "undo"}
+BY_SIGHT = {"merge", "post", "drop", "back", "take-back", "choose"}
 
 
-def carry_out(designs, it):
+def carry_out(designs, it, person):
     alt = designs.known(it["at"])
     is_by_sight = it["do"] in BY_SIGHT
     if is_by_sight and (designs.epoch != it["epoch"] or designs.stamp(alt) > it["seen"]):
         raise Fault(f"{alt} or its parent has changed meanwhile: look at it again")
-    ACTIONS[it["do"]](designs, alt, it)
+    ACTIONS[it["do"]](designs, alt, it, person)

@@ -2,7 +2,9 @@
 """Tests of the desk in a headless Chromium, over real stores and the service: `desk/test_altdesk.py`, with the program's path in
 the variable ALTCTL, or else with the one that `./altctl` at the top builds. `--pictures` writes those of docs/pictures anew.
 Where a browser or a module is not there, a line says that they are skipped."""
+import base64
 import contextlib
+import gzip
 import http.client
 import http.server
 import json
@@ -27,7 +29,7 @@ PACKAGES = "python3-selenium chromium chromium-driver python3-aiohttp python3-gd
 try:
     import aiohttp
     import numpy
-    from osgeo import gdal
+    from osgeo import gdal, ogr
     from selenium import webdriver
     from selenium.webdriver.common.action_chains import ActionChains
     from selenium.webdriver.common.by import By
@@ -47,7 +49,9 @@ import maps
 import places
 from altctl import Refusal, Store
 from designs import Designs
-from edits import carry_out
+from edits import Person, carry_out
+from features import Late
+from history import history
 from values import typed
 
 ALTCTL = os.path.abspath(os.environ.get("ALTCTL", HERE.parent / "altctl"))
@@ -60,6 +64,11 @@ MOST_BYTES = 150_000
 def course(*points):
     """A line as WKB."""
     return struct.pack("<BII", 1, 2, len(points)) + b"".join(struct.pack("<dd", *it) for it in points)
+
+
+def place(x, y):
+    """A point as WKB."""
+    return struct.pack("<BIdd", 1, 1, x, y)
 
 
 def attributes(**values):
@@ -312,7 +321,8 @@ class TwoPeopleTests(DeskTest):
         self.assertEqual(["160", "160"], [it.text for it in anna.all("#view tbody tr:first-child td")])
         anna.click("#who")
         history = anna.until(lambda: [it.text for it in anna.all("#history li")])
-        due = ["post south", "merge south", "post north", "edited south", "edited north"]
+        # The merge of south has kept its own value, so it changed nothing.
+        due = ["post south", "post north", "edited south", "edited north"]
         self.assertEqual(due, [it.split(": ")[1] for it in history])
         store = self.store()
         self.assertEqual(attributes(dn=160, mat="PVC"), store.get("top", 7, 5))
@@ -562,6 +572,515 @@ class DoorTests(AskingTest):
         self.assertNotIn(self.token, "".join(came))
 
 
+class PlanningTest(DeskTest):
+    """A town of chambers in rows, with ducts between those of a row."""
+
+    FIELDS = {"dn": "Integer", "mat": "String", "laid": "Date"}
+
+    def fill(self):
+        subprocess.run([ALTCTL, "create", self.file, "1024"], check=True, stdout=subprocess.DEVNULL)
+        fields = [{"name": name, "type": kind} for name, kind in self.FIELDS.items()]
+        ducts = {"name": "ducts", "crs": "EPSG:2056", "geometry": "Line String", "fields": fields, "id": None}
+        named = [{"name": "name", "type": "String"}]
+        chambers = {"name": "chambers", "crs": "EPSG:2056", "geometry": "Point", "fields": named, "id": None}
+        with Store(self.file, ALTCTL) as store:
+            store.put("top", 0, 7, maps.to_text(ducts).encode())
+            store.put("top", 0, 8, maps.to_text(chambers).encode())
+            for number in range(1, 13):
+                store.put("top", 8, number, attributes(name=f"RB-{4700 + number:06}"))
+                store.put("top", 108, number, place(*self.chamber(number)))
+            for number in (1, 2, 5, 6):
+                store.put("top", 7, number, attributes(dn=110, mat="PVC"))
+                store.put("top", 107, number, course(self.chamber(number), self.chamber(number + 1)))
+            store.new("north", "top")
+            store.new("south", "top")
+            store.commit()
+
+    @staticmethod
+    def chamber(number):
+        return 2600000.25 + 40 * ((number - 1) % 4), 1200000.5 + 30 * ((number - 1) // 4)
+
+    def opened(self, design="north", *size):
+        browser = self.browser(*size)
+        browser.open(self.desk()[1])
+        browser.choose_design(design)
+        return browser
+
+    def pixel(self, browser, at):
+        """Where a place of the map is on the page, by the scale that the map says and two places that it draws."""
+        script = """const dots = [...document.querySelectorAll('#map path')].filter((it) => /a/.test(it.getAttribute('d')) && it.getAttribute('fill') !== 'none');
+            return dots.map((it) => { const box = it.getBoundingClientRect(); return [(box.left + box.right) / 2, (box.top + box.bottom) / 2]; })"""
+        dots = browser.until(lambda: [it for it in [browser.run(script)] if len(it) >= 12])[0]
+        west, east = min(it[0] for it in dots), max(it[0] for it in dots)
+        north, south = min(it[1] for it in dots), max(it[1] for it in dots)
+        (x1, y1), (x2, y2) = self.chamber(1), self.chamber(12)
+        return west + (at[0] - x1) / (x2 - x1) * (east - west), south - (at[1] - y1) / (y2 - y1) * (south - north)
+
+    def press_at(self, browser, at, by=(0, 0), twice=False):
+        x, y = self.pixel(browser, at)
+        actions = ActionChains(browser.driver)
+        pointer = actions.w3c_actions.pointer_action
+        pointer.move_to_location(round(x + by[0]), round(y + by[1])).click()
+        if twice:
+            pointer.click()
+        actions.perform()
+
+    def press(self, browser, *keys):
+        ActionChains(browser.driver).send_keys(*keys).perform()
+
+    def press_with_control(self, browser, key):
+        ActionChains(browser.driver).key_down(Keys.CONTROL).send_keys(key).key_up(Keys.CONTROL).perform()
+
+    def course_of(self, store, alt, number, table=107):
+        return store.get(alt, table, number)
+
+
+class DrawingTests(PlanningTest):
+    def test_a_duct_from_chamber_to_chamber_is_drawn_undone_and_done_again(self):
+        browser = self.opened()
+        store = self.store()
+        browser.click("#draw")
+        # A few pixels beside the chambers, and a bend between them.
+        self.press_at(browser, self.chamber(5), (5, -4))
+        self.press_at(browser, (2600020, 1200045))
+        self.press_at(browser, self.chamber(10), (-4, 5))
+        browser.click("#end-drawing")
+        browser.one("#view input[name=dn]").send_keys("125")
+        self.assertEqual(["PVC"], [it.get_attribute("value") for it in browser.all("#list-mat option")])
+        browser.one("#view input[name=mat]").send_keys("HDPE")
+        browser.click("#save")
+        browser.says("Drew a new feature of ducts.")
+        drawn = [it.number for it in store.list("north", 7) if it.number > 6]
+        self.assertEqual(1, len(drawn))
+        self.assertEqual({"dn": 125, "mat": "HDPE"}, json.loads(store.get("north", 7, drawn[0])))
+        points = ogr.CreateGeometryFromWkb(store.get("north", 107, drawn[0])).GetPoints()
+        self.assertEqual((self.chamber(5), self.chamber(10)), (points[0], points[-1]), "it ends in the chambers exactly")
+        self.assertEqual(3, len(points))
+        self.assertLess(abs(points[1][0] - 2600020) + abs(points[1][1] - 1200045), 1)
+        browser.until(lambda: browser.all("path.is-added"))
+        browser.click("#undo-step")
+        browser.says("Undone: drew ducts")
+        self.assertEqual([], list(store.changes("north")))
+        browser.until(lambda: not browser.all("path.is-added"))
+        self.press_with_control(browser, "y")
+        browser.says("Done again: drew ducts")
+        self.assertEqual(points, ogr.CreateGeometryFromWkb(store.get("north", 107, drawn[0])).GetPoints())
+        self.assertEqual([], browser.faults())
+
+    def test_two_designs_do_not_draw_one_number(self):
+        browser, store = self.opened(), self.store()
+        for design in ("north", "south", "north"):
+            browser.choose_design(design)
+            browser.click("#draw")
+            browser.run("document.getElementById('draw-layer')")
+            self.press_at(browser, self.chamber(9))
+            self.press_at(browser, self.chamber(12))
+            browser.click("#end-drawing")
+            browser.click("#save")
+            browser.says("Drew a new feature of ducts.")
+        numbers = [it.number for alt in ("north", "south") for it in store.changes(alt) if it.table == 7]
+        self.assertEqual((3, 3), (len(numbers), len(set(numbers))))
+
+    def test_a_chamber_is_drawn_by_one_click(self):
+        browser, store = self.opened(), self.store()
+        browser.run("document.getElementById('draw-layer').value = 8")
+        browser.click("#draw")
+        self.press_at(browser, (2600060, 1200015))
+        browser.one("#view input[name=name]").send_keys("RB-9")
+        browser.click("#save")
+        browser.says("Drew a new feature of chambers.")
+        self.assertEqual(b'{"name":"RB-9"}', store.get("north", 8, 13))
+
+    def test_bends_are_moved_and_snap(self):
+        browser, store = self.opened(), self.store()
+        browser.find(5)
+        browser.click("#whole")
+        browser.click("#reshape")
+        x, y = self.pixel(browser, self.chamber(10))
+        bend = browser.one("#bend-0-1")
+        box = bend.rect
+        by = round(x - box["x"] - box["width"] / 2) + 4, round(y - box["y"] - box["height"] / 2) + 3
+        # Leaflet takes the first few pixels for the beginning of a drag, and moves nothing by them.
+        drag = ActionChains(browser.driver).click_and_hold(bend).move_by_offset(4, 4).pause(0.1).move_by_offset(*by).pause(0.1)
+        drag.release().perform()
+        browser.click("#keep-course")
+        browser.says("Moved ducts 5.")
+        self.assertEqual(course(self.chamber(5), self.chamber(10)), store.get("north", 107, 5))
+        self.assertEqual(attributes(dn=110, mat="PVC"), store.get("north", 7, 5))
+        browser.until(lambda: browser.all("path.is-changed"))
+
+    def test_a_line_is_split_near_a_click(self):
+        browser, store = self.opened(), self.store()
+        browser.find(5)
+        browser.click("#whole")
+        browser.click("#split")
+        middle = (self.chamber(5)[0] + 20, self.chamber(5)[1])
+        self.press_at(browser, middle, (0, 3))
+        browser.says("Split ducts 5.")
+        new = max(it.number for it in store.list("north", 7))
+        parts = [ogr.CreateGeometryFromWkb(store.get("north", 107, it)).GetPoints() for it in (5, new)]
+        self.assertEqual((self.chamber(5), self.chamber(6)), (parts[0][0], parts[1][-1]))
+        self.assertEqual(parts[0][-1], parts[1][0])
+        self.assertLess(abs(parts[0][-1][0] - middle[0]), 1)
+        self.assertEqual(middle[1], parts[0][-1][1])
+        self.assertEqual(store.get("north", 7, 5), store.get("north", 7, new))
+
+    def test_a_feature_is_deleted_and_comes_back(self):
+        browser, store = self.opened(), self.store()
+        browser.find(5)
+        browser.click("#delete")
+        browser.confirm()
+        browser.says("Deleted ducts 5.")
+        self.assertEqual([None, None], list(store.get_many("north", [(7, 5), (107, 5)])))
+        browser.until(lambda: browser.all("path.is-removed"))
+        self.press_with_control(browser, "z")
+        browser.says("Undone: removed ducts 5.")
+        self.assertEqual([], list(store.changes("north")))
+
+    def test_what_somebody_has_changed_since_is_not_undone(self):
+        browser, other = self.opened(), self.store()
+        browser.edit(5, dn=125)
+        browser.confirm()
+        browser.says("Changed ducts 5.")
+        other.put("north", 7, 5, attributes(dn=160, mat="PVC"))
+        browser.click("#undo-step")
+        browser.says("somebody has changed that since")
+        self.assertEqual(attributes(dn=160, mat="PVC"), other.get("north", 7, 5))
+
+    def test_what_is_no_value_or_course_is_refused(self):
+        self.serve()
+        store = self.store()
+        designs, person = Designs(store), Person()
+        designs.refresh()
+        seen = {"at": "north", "epoch": designs.epoch, "seen": designs.batch, "do": "change"}
+        line = {"type": "LineString", "coordinates": [[0, 0], [9, 9]]}
+        bad = [{"values": {"dn": "1.5"}}, {"values": {"dn": "x"}}, {"course": {"type": "Point", "coordinates": [1, 2]}}]
+        bad += [{"course": {"type": "LineString", "coordinates": [[0, 0], [1e39, 0]]}}, {"course": {"type": "Circle"}}, {"course": "x"}]
+        for it in bad:
+            with self.assertRaises(maps.Fault, msg=str(it)):
+                carry_out(designs, {**seen, "features": [{"table": 7, "course": line, **it}]}, person)
+        with self.assertRaises(maps.Fault):
+            carry_out(designs, {**seen, "features": [{"table": 9, "course": line}]}, person)
+        self.assertEqual([], list(store.changes("north")))
+        # Of a batch with two features one of which is late nothing is made.
+        late = {"table": 7, "number": "5", "before": {"attributes": {}, "course": None}, "values": {"dn": "1"}}
+        with self.assertRaises(Late) as caught:
+            carry_out(designs, {**seen, "features": [{"table": 7, "course": line}, late]}, person)
+        self.assertEqual("110", caught.exception.now["7:5"]["attributes"]["dn"])
+        self.assertEqual([], list(store.changes("north")))
+
+    def test_an_edit_that_comes_too_late_is_shown_beside_the_other(self):
+        browser, other = self.opened(), self.store()
+        browser.edit(5, dn=125)
+        browser.until(lambda: browser.all("#question-yes")[0].is_displayed())
+        other.put("north", 7, 5, attributes(dn=110, mat="HDPE"))
+        browser.confirm()
+        browser.says("it has changed meanwhile")
+        rows = [[it.text for it in row.find_elements(By.CSS_SELECTOR, "th, td")] for row in browser.all("#late tbody tr")]
+        self.assertEqual([["dn", "110", "110", "125"], ["mat", "PVC", "HDPE", "PVC"]], sorted(rows))
+        chosen = {it.get_attribute("name"): it.get_attribute("value") for it in browser.all("#late input:checked")}
+        self.assertEqual({"dn": "mine", "mat": "theirs"}, chosen, "what one side alone changed is chosen")
+        browser.picture("desk-late")
+        browser.click("#late-save")
+        browser.says("Changed ducts 5.")
+        self.assertEqual({"dn": 125, "mat": "HDPE"}, json.loads(other.get("north", 7, 5)))
+
+    def test_a_whole_task_by_keyboard(self):
+        browser, store = self.opened(), self.store()
+
+        def go(name):
+            for _ in range(120):
+                if browser.run("return document.activeElement.id") == name:
+                    return
+                self.press(browser, Keys.TAB)
+            self.fail(f"the tabulator doesn't come to {name}")
+
+        browser.run("document.activeElement.blur()")
+        # Find a chamber, and draw a duct from it to where the map is moved by arrows.
+        go("find-text")
+        self.press(browser, "RB-004701", Keys.ENTER)
+        browser.until(lambda: browser.text("#view h3").startswith("chambers 1:"))
+        go("draw")
+        self.press(browser, Keys.ENTER)
+        browser.until(lambda: browser.run("return document.activeElement.id") == "map")
+        self.press(browser, Keys.ENTER)
+        self.press(browser, Keys.ARROW_RIGHT)
+        time.sleep(0.5)
+        self.press(browser, Keys.ENTER)
+        self.press(browser, "f")
+        browser.until(lambda: browser.run("return document.activeElement.name") == "dn")
+        self.press(browser, "63", Keys.ENTER)
+        browser.says("Drew a new feature of ducts.")
+        number = max(it.number for it in store.list("north", 7))
+        points = ogr.CreateGeometryFromWkb(store.get("north", 107, number)).GetPoints()
+        self.assertEqual((self.chamber(1), 2, {"dn": 63}), (points[0], len(points), json.loads(store.get("north", 7, number))))
+        # Move its end by keys, and take both back.
+        go("find-number")
+        self.press(browser, str(number), Keys.ENTER)
+        browser.until(lambda: browser.text("#view h3").startswith(f"ducts {number}:"))
+        go("reshape")
+        self.press(browser, Keys.ENTER)
+        browser.until(lambda: browser.run("return document.activeElement.id") == "bend-0-0")
+        self.press(browser, Keys.TAB)
+        go("bend-0-1")
+        self.press(browser, Keys.ARROW_UP, Keys.ARROW_UP)
+        self.press(browser, Keys.ENTER)
+        browser.says(f"Moved ducts {number}.")
+        moved = ogr.CreateGeometryFromWkb(store.get("north", 107, number)).GetPoints()
+        self.assertEqual(points[0], moved[0])
+        self.assertGreater(moved[1][1], points[1][1])
+        browser.run("document.activeElement.blur()")
+        self.press_with_control(browser, "z")
+        browser.says("Undone: changed ducts")
+        self.press_with_control(browser, "z")
+        browser.says("Undone: drew ducts")
+        self.assertEqual([], list(store.changes("north")))
+        # Post by keys.
+        go("do-post")
+        self.press(browser, Keys.ENTER)
+        browser.until(lambda: browser.all("#question-yes")[0].is_displayed())
+        self.press(browser, Keys.ENTER)
+        browser.says("Posted north into top.")
+
+
+class LookingTests(PlanningTest):
+    def test_layers_styles_and_labels(self):
+        browser, store = self.opened(), self.store()
+        self.assertEqual(["all 4 here are drawn", "all 12 here are drawn"], [it.text for it in browser.all("#layers small")])
+        browser.click("#layer-8")
+        browser.until(lambda: browser.all("#layers small")[1].text == "off")
+        browser.until(lambda: len(browser.all("#map path.is-same")) == 4)
+        browser.click("#layer-8")
+        browser.click("#style-7")
+        browser.one("#style-by")
+        browser.run("""const set = (id, value) => { const it = document.getElementById(id); it.value = value;
+            it.dispatchEvent(new Event('input')); it.dispatchEvent(new Event('change')); };
+            set('style-colour', '#cc79a7'); set('style-width', 4); set('style-pattern', 'dashed'); set('style-by', 'mat');""")
+        browser.click("#style-values")
+        browser.one("#value-0-colour")
+        browser.click("#keep-style")
+        browser.says("Kept the style of ducts in north.")
+        style = json.loads(store.get("north", 300, 7))
+        self.assertEqual(("#cc79a7", 4, "dashed", "mat", ["PVC"]), (*[style[it] for it in ("colour", "width", "pattern", "by")], list(style["values"])))
+        drawn = "return [...document.querySelectorAll('#map path.is-same')].map((it) => it.getAttribute('stroke'))"
+        browser.until(lambda: browser.run(drawn).count("#0072B2") == 4)
+        # It is the design's, and comes to top by a post; undone, it is gone.
+        self.assertIsNone(store.get("top", 300, 7))
+        browser.click("#undo-step")
+        browser.says("Undone: the style of ducts.")
+        self.assertIsNone(store.get("north", 300, 7))
+        browser.until(lambda: "#0072B2" not in browser.run(drawn))
+        store.put("north", 300, 8, b'{"label":"name","symbol":"square"}')
+        browser.until(lambda: "RB-004712" in [it.text for it in browser.all(".label")])
+        browser.until(lambda: len(browser.all("#map .symbol svg rect")) == 12)
+
+    def test_a_style_that_is_none_is_plain(self):
+        browser, store = self.opened(), self.store()
+        for value in (b"x", b"[]", b'{"colour":"url(http://a/b)","width":"9e9","symbol":7,"values":{"a":3}}', b"[" * 3000):
+            store.put("north", 300, 7, value)
+            browser.until(lambda: not browser.all("#said.fault"))
+        time.sleep(1)
+        browser.until(lambda: len(browser.all("#map path.is-same[stroke='#7A828A']")) == 16)
+
+    def test_what_is_found(self):
+        browser = self.opened()
+        browser.one("#find-text").send_keys("rb-0047", Keys.ENTER)
+        self.assertEqual("12 features have “rb-0047”.", browser.text("#found"))
+        browser.click("#found-4")
+        browser.until(lambda: browser.text("#view h3") == "chambers 5: as in the base")
+        # What the design has otherwise, and what it has not.
+        store = self.store()
+        store.put("north", 8, 5, attributes(name="MH-1"))
+        store.remove_many("north", [(8, 6), (108, 6)])
+        box = browser.one("#find-text")
+        box.clear()
+        box.send_keys("RB-004705", Keys.ENTER)
+        browser.until(lambda: browser.text("#found") == "0 features have “RB-004705”.")
+        box.clear()
+        box.send_keys("mh-1", Keys.ENTER)
+        browser.until(lambda: browser.text("#view h3") == "chambers 5: changed")
+        browser.run("document.getElementById('find-field').value = 'mat'")
+        box.clear()
+        box.send_keys("110", Keys.ENTER)
+        browser.until(lambda: browser.text("#found") == "0 features have “110”.")
+
+    def test_of_several_that_lie_there_one_is_chosen(self):
+        browser, store = self.opened(), self.store()
+        store.put_many("north", [(7, 50, attributes(dn=1)), (107, 50, course(self.chamber(5), self.chamber(6)))])
+        browser.until(lambda: browser.all("path.is-added"))
+        self.press_at(browser, (self.chamber(5)[0] + 20, self.chamber(5)[1]), (0, 1))
+        browser.until(lambda: len(browser.all("#view li button")) == 2)
+        self.assertEqual({"ducts 5: as in the base", "ducts 50: added"}, {it.text for it in browser.all("#view li button")})
+        browser.click("#here-1")
+        browser.one("#view table")
+
+    def test_scale_and_place(self):
+        browser = self.opened()
+        x, y = self.pixel(browser, self.chamber(7))
+        actions = ActionChains(browser.driver)
+        actions.w3c_actions.pointer_action.move_to_location(round(x), round(y))
+        actions.perform()
+        east, north = map(float, browser.until(lambda: browser.text("#place")).split(","))
+        self.assertLess(abs(east - self.chamber(7)[0]) + abs(north - self.chamber(7)[1]), 1)
+        # The bar is as long as it says: two chambers that are 40 m apart give the size of a metre.
+        pixels = (self.pixel(browser, self.chamber(2))[0] - self.pixel(browser, self.chamber(1))[0]) / 40
+        metres = int(browser.text("#scale .bar").split()[0])
+        self.assertLess(abs(browser.one("#scale .bar").rect["width"] - metres * pixels), 2)
+        number = int(browser.text("#scale span:last-child").replace(",", "").split(":")[1])
+        self.assertLess(abs(number * 0.0254 / 96 * pixels - 1), 0.02)
+        for _ in range(40):
+            self.press(browser, "+")
+            browser.run("document.getElementById('map').focus()")
+        number = int(browser.text("#scale span:last-child").replace(",", "").split(":")[1])
+        self.assertGreaterEqual(number, 200)
+
+    def test_what_is_said_of_a_design(self):
+        browser, store = self.opened(), self.store()
+        browser.click("#view-about")
+        browser.one("#about-title").send_keys("Station road, <b>phase</b> 1")
+        browser.one("#about-owner").send_keys("anna")
+        browser.run("document.getElementById('about-status').value = 'for approval'")
+        browser.one("#about-note").send_keys("Two ducts.")
+        browser.click("#about-save")
+        browser.says("Kept what is said of north.")
+        browser.until(lambda: "Station road, <b>phase</b> 1" in browser.text("#tree") and "anna, for approval" in browser.text("#tree"))
+        told = [json.loads(it.value) for it in store.list(".designs", 1)]
+        self.assertEqual([{"name": "north", "title": "Station road, <b>phase</b> 1", "owner": "anna", "status": "for approval", "note": "Two ducts."}], told)
+        self.assertNotIn(".designs", browser.text("#tree"))
+        self.assertEqual([], list(store.changes("north")))
+        # What no desk has written is told as nothing.
+        store.put(".designs", 1, 5, b"[" * 3000)
+        store.put(".designs", 1, 6, b'{"name":7}')
+        browser.choose_design("south")
+
+    def test_two_designs_are_compared(self):
+        with Store(self.file, ALTCTL) as store:
+            store.put("north", 7, 5, attributes(dn=125, mat="PVC"))
+            store.put("south", 107, 6, course(self.chamber(6), self.chamber(11)))
+            store.remove_many("south", [(7, 1), (107, 1)])
+            store.commit()
+        browser = self.opened("south")
+        browser.click("#view-compared")
+        browser.run("document.getElementById('other').value = 'north'")
+        browser.click("#compare")
+        self.assertEqual("From north to south: 1 removed, 2 changed.", browser.text("#differences-told"))
+        rows = [it.text for it in browser.all("#differences li button")]
+        self.assertEqual(["ducts 1: removed (attributes, course)", "ducts 5: changed (attributes)", "ducts 6: changed (course)"], rows)
+        browser.picture("desk-compared")
+        browser.click("#differences li:nth-child(2) button")
+        browser.until(lambda: [it.text for it in browser.all("#view thead th")] == ["", "north", "south"])
+        self.assertEqual(["125", "110"], [it.text for it in browser.all("#view tbody tr:first-child td")])
+
+    def test_a_link_opens_a_feature(self):
+        browser = self.opened()
+        browser.find(5)
+        browser.until(lambda: "feature=7%3A5" in browser.driver.current_url)
+        link = browser.driver.current_url
+        self.assertNotIn("token", link)
+        browser.driver.get("about:blank")
+        browser.driver.get(link)
+        browser.until(lambda: browser.text("#view h3") == "ducts 5: as in the base" and browser.text("#chosen").startswith("north"))
+
+    def test_choices_are_kept_until_they_are_sent(self):
+        with Store(self.file, ALTCTL) as store:
+            for alt, dn in (("north", 125), ("top", 160)):
+                store.put_many(alt, ((7, number, attributes(dn=dn, mat="PVC")) for number in (1, 2)))
+            store.commit()
+        browser = self.opened()
+        browser.click("#view-conflicts")
+        # Of a record's fields those that differ come first, and the others are folded.
+        self.assertEqual(["dn"], [it.text for it in browser.all("#conflict-7\\:1 > table th[scope=row]")])
+        self.assertEqual("1 fields are the same", browser.text("#conflict-7\\:1 summary"))
+        browser.click("[id='theirs-7:1']")
+        time.sleep(0.5)
+        browser.driver.refresh()
+        browser.until(lambda: browser.text("#chosen").startswith("north"))
+        browser.click("#view-conflicts")
+        self.assertEqual(["theirs-7:1"], [it.get_attribute("id") for it in browser.all("fieldset input:checked")])
+        browser.click("#next-conflict")
+        browser.says("ducts 1: attributes")
+        browser.click("#next-conflict")
+        browser.says("ducts 2: attributes")
+        browser.click("[id='mine-7:2']")
+        browser.click("#do-merge")
+        browser.confirm()
+        browser.says("Merged top into north.")
+        found = [json.loads(it)["dn"] for it in self.store().get_many("north", [(7, 1), (7, 2)])]
+        self.assertEqual([160, 125], found)
+
+    def test_only_batches_that_changed_a_feature_are_its_history(self):
+        self.serve()
+        store = self.store()
+        store.put("south", 7, 2, attributes(dn=1))
+        store.post("south")
+        store.merge("north")
+        store.put("north", 7, 1, attributes(dn=75))
+        store.put("north", 7, 1, attributes(dn=75))
+        store.new("west", "north")
+        store.merge("west")
+        store.post("north")
+        store.merge("south")
+        store.put("top", 107, 1, course((0, 0), (1, 1)))
+        told = [it["text"] for it in history(store, {"north": "top", "south": "top", "top": None}, (7, 1))]
+        self.assertEqual(["edited top", "merge south", "post north", "edited north"], told)
+        told = [it["text"] for it in history(store, {"north": "top", "south": "top", "top": None}, (7, 2))]
+        self.assertEqual(["post north", "merge north", "post south", "edited south"][1:], told)
+
+    def test_a_page_is_printed(self):
+        browser = self.opened()
+        browser.click("#view-print")
+        browser.run("document.getElementById('print-scale').value = 500; document.getElementById('print-title').value = 'Station road'")
+        browser.click("#lay-out")
+        browser.until(lambda: "1 : 500" in browser.text("#block"))
+        self.assertEqual(["ducts", "chambers"], [it.text for it in browser.all("#block li")])
+        pdf = base64.b64decode(browser.driver.execute_cdp_cmd("Page.printToPDF", {"preferCSSPageSize": True, "printBackground": True})["data"])
+        path = os.path.join(self.folder, "plan.pdf")
+        Path(path).write_bytes(pdf)
+        self.assertEqual(1, len(re.findall(rb"/Type\s*/Page\b", pdf)), "one page")
+        box = re.search(rb"/MediaBox\s*\[\s*0 0 ([0-9.]+) ([0-9.]+)\]", pdf)
+        self.assertEqual((842, 595), (round(float(box[1])), round(float(box[2]))), "A4, on its side")
+        # On the paper 40 m are 80 mm: by what the page has there, 96 pixels being an inch.
+        across = (self.pixel(browser, self.chamber(2))[0] - self.pixel(browser, self.chamber(1))[0]) * 25.4 / 96
+        self.assertLess(abs(across - 80), 0.6)
+        browser.picture("desk-print")
+        browser.click("#print-leave")
+        browser.until(lambda: browser.all("#tree button")[0].is_displayed())
+
+
+class WhatIsNotDrawnTests(AskingTest):
+    def fill(self):
+        super().fill(12, 16384)
+        with Store(self.file, ALTCTL) as store:
+            store.put("top", 0, 8, layer("cables"))
+            store.put_many("top", ((it[0] + 1, *it[1:]) for number in range(1, 6001) for it in duct(number)))
+            store.drop("north")
+            store.new("north", "top")
+            store.commit()
+
+    def test_each_layer_says_how_much_is_drawn_and_where_the_rest_is(self):
+        status, text = self.ask("/api/window?at=north&box=2599000,1199000,2619000,1202000", self.token)
+        told = json.loads(text)
+        its = {it["name"]: (it["found"], it["drawn"]) for it in told["layers"]}
+        self.assertEqual((200, 12, 6000), (status, its["ducts"][0], its["cables"][0]))
+        self.assertEqual(3000, its["ducts"][1] + its["cables"][1])
+        self.assertEqual(3000, len(told["features"]))
+        cells = told["density"]["8"]
+        self.assertLess(abs(sum(it[4] for it in cells) - 6000), 600)
+        self.assertTrue(all(2599000 <= it[0] < it[2] and it[1] < it[3] for it in cells))
+        status, text = self.ask("/api/window?at=north&box=2599000,1199000,2619000,1202000&off=8", self.token)
+        self.assertEqual((["ducts"], 12, {}), ([it["name"] for it in json.loads(text)["layers"]], len(json.loads(text)["features"]), json.loads(text)["density"]))
+
+    def test_answers_are_compressed(self):
+        path = "/api/window?at=north&box=2599000,1199000,2619000,1202000"
+        there = http.client.HTTPConnection("127.0.0.1", int(self.port), timeout=60)
+        with contextlib.closing(there):
+            there.request("GET", path, headers={"X-Desk-Token": self.token, "Accept-Encoding": "gzip"})
+            answer = there.getresponse()
+            packed = answer.read()
+        self.assertEqual("gzip", answer.headers["Content-Encoding"])
+        self.assertLess(3 * len(packed), len(gzip.decompress(packed)))
+
+
 class BadRecordTests(AskingTest):
     """Records that nobody has made with a map in mind: the desk goes on, and shows them as bad."""
 
@@ -658,19 +1177,21 @@ class UnseenTests(DeskTest):
         designs.design("north")
         seen = {"at": "north", "epoch": designs.epoch, "seen": designs.batch}
         other.put("north", 7, 5, attributes(dn=50, mat="PVC"))
-        now = {"before": {"dn": "110", "mat": "PVC"}, "values": {"dn": "75"}, "table": 7, "number": "6"}
+        before = {it: designs.feature("north", (7, 6))["now"][it] for it in ("attributes", "course")}
+        edit = {"features": [{"before": before, "values": {"dn": "75"}, "table": 7, "number": "6"}]}
         wanted = [{"do": "drop"}, {"do": "back", "name": "before"}, {"do": "post"}, {"do": "merge", "choices": {}}]
-        wanted += [{"do": "edit", **now}, {"do": "undo", "table": 7, "number": "4"}]
+        wanted += [{"do": "change", **edit}, {"do": "take-back", "table": 7, "number": "4"}]
+        person = Person()
         for it in wanted:
             with self.assertRaises(Refusal, msg=str(it)) as caught:
-                carry_out(designs, {**seen, **it})
+                carry_out(designs, {**seen, **it}, person)
             self.assertEqual(101, caught.exception.number, it)
         self.assertEqual(attributes(dn=50, mat="PVC"), other.get("north", 7, 5))
         designs.refresh()
         for it in wanted[:4]:
             with self.assertRaises(maps.Fault, msg=str(it)):
-                carry_out(designs, {**seen, **it})
-        carry_out(designs, {**seen, **wanted[4]})  # Another feature has changed, and not this one.
+                carry_out(designs, {**seen, **it}, person)
+        carry_out(designs, {**seen, **wanted[4]}, person)  # Another feature has changed, and not this one.
         self.assertEqual(attributes(dn=75, mat="PVC"), other.get("north", 7, 6))
         self.assertEqual(attributes(dn=50, mat="PVC"), other.get("north", 7, 5))
 
@@ -986,7 +1507,7 @@ class DesignsTests(DeskTest):
             self.assertEqual(anew.about(alt), {**self.designs.about(alt), "stamp": anew.stamp(alt)})
             self.assertEqual(anew.parent_changes(alt), self.designs.parent_changes(alt))
             window = anew.design(alt).bounds()
-            known, new = (sorted(map(repr, it.design(alt).window(*window)["features"])) for it in (self.designs, anew))
+            known, new = (sorted(map(repr, it.design(alt).window(window)["features"])) for it in (self.designs, anew))
             self.assertEqual(new, known)
         self.assertEqual([{**it, "stamp": 0} for it in anew.tree()], [{**it, "stamp": 0} for it in self.designs.tree()])
 
@@ -1135,7 +1656,7 @@ class ManyFeaturesTests(DeskTest):
         designs.refresh()
         self.assertEqual(0, len(designs.design("top").moved[7]))
         self.assertEqual({}, places.moved(other, places.OWN, "top", 7))
-        self.assertEqual(1201, designs.design("top").window(2600000, 1198999, 2601300, 1199001)["found"])
+        self.assertEqual(1201, designs.design("top").window((2600000, 1198999, 2601300, 1199001))["found"])
 
 
 class DemoTests(DeskTest):
@@ -1152,7 +1673,7 @@ class DemoTests(DeskTest):
         browser.open(url)
         browser.choose_design("north")
         browser.until(lambda: browser.all("path.is-conflict"))
-        browser.run("map.setZoom(map.getZoom() + 0.5, { animate: false })")
+        browser.until(lambda: browser.text("#scale"))
         browser.picture("desk-map")
         browser.click("#view-conflicts")
         browser.click("[id^=look-107]")

@@ -33,12 +33,25 @@ def text_of(value):
     return value if isinstance(value, str) else json.dumps(value, ensure_ascii=False)
 
 
-def attributes_of(value):
+def attributes_of(value, layer):
     """The attributes of a feature as names and texts. What is no JSON object is one text."""
     try:
         return {name: text_of(it) for name, it in json.loads(value).items()}
     except (AttributeError, ValueError, RecursionError):
         return {"value": value.decode("utf-8", "backslashreplace")}
+
+
+def attributes_at(records, key, layer):
+    """The attributes of a feature among records by the names of its fields, to be changed."""
+    try:
+        return dict(json.loads(maps.value_at(records, *key) or b"{}"))
+    except (TypeError, ValueError, RecursionError) as fault:
+        raise maps.Fault(f"its attributes are no JSON object: {fault}") from None
+
+
+def packed_attributes(layer, attributes):
+    """The value of a record that has these attributes."""
+    return maps.to_text(attributes).encode()
 
 
 def typed(text, field, old):
@@ -56,23 +69,46 @@ def typed(text, field, old):
     return value
 
 
-def side_of(records, feature, keys, is_on_map):
-    """A feature as the records of a version have it, None if it has none: attributes, course, and what of it is bad."""
+def is_plain(geometry):
+    """Whether a course on the page has all of a geometry: no heights, no measures, no arcs."""
+    return not geometry.Is3D() and not geometry.IsMeasured() and not geometry.HasCurveGeometry(False)
+
+
+def side_of(records, feature, keys, layer):
+    """A feature as the records of a version have it, None if it has none: attributes, course, and what of it is bad. A course that
+    the page does not have as a whole is none to be edited."""
     if not any(it in records for it in keys):
         return None
     bad, found = [], {}
     for key in keys:
         try:
             found[key] = maps.value_at(records, *key)
-        except (maps.Fault, ValueError) as fault:
+        except maps.Fault as fault:
             bad.append(str(fault))
-    course = None
-    if is_on_map and found.get(keys[-1]):
+    course, is_whole = None, True
+    if layer and found.get(keys[-1]):
         try:
-            course = geojson(places.geometry_of(found[keys[-1]]))
+            geometry = places.geometry_of(found[keys[-1]])
+            is_whole = is_plain(geometry)
+            course = geojson(geometry)
         except maps.Fault as fault:
             bad.append(f"its course cannot be drawn: {fault}")
-    return {"attributes": attributes_of(found.get(feature) or b"{}"), "course": course, "bad": bad}
+    attributes = attributes_of(found.get(feature) or b"{}", layer)
+    return {"attributes": attributes, "course": course, "bad": bad, "is_whole": is_whole and not bad}
+
+
+DEGREE = 111_320.0  # metres of a degree from north to south
+
+
+def metres_of(crs):
+    """How many metres a unit of the map is, from north to south. Without a coordinate system it is taken for one."""
+    try:
+        system = crs_from_text(crs) if crs else None
+    except maps.Fault:
+        system = None
+    if system is None:
+        return 1.0
+    return DEGREE if system.IsGeographic() else system.GetLinearUnits() or 1.0
 
 
 def aspect_of(crs, bounds):

@@ -11,8 +11,11 @@ from aiohttp import web
 
 import maps
 from altctl import Ended, Refusal, Store
-from designs import Designs, history
-from edits import CHANGED, carry_out
+from designs import Designs
+from edits import CHANGED, Person, carry_out
+from features import Late
+from finding import read_texts
+from history import history
 from news import Journal, told
 
 HERE = Path(__file__).resolve().parent
@@ -20,8 +23,8 @@ LEAFLET = Path("/usr/share/javascript/leaflet")
 HOST = "127.0.0.1"
 PAGES = {
     "/": (HERE / "page" / "desk.html", "text/html"),
-    "/desk.js": (HERE / "page" / "desk.js", "text/javascript"),
-    "/desk.css": (HERE / "page" / "desk.css", "text/css"),
+    **{f"/{it.name}": (it, "text/javascript") for it in sorted((HERE / "page").glob("*.js"))},
+    **{f"/{it.name}": (it, "text/css") for it in sorted((HERE / "page").glob("*.css"))},
     "/leaflet.js": (LEAFLET / "leaflet.min.js", "text/javascript"),
     "/leaflet.css": (LEAFLET / "leaflet.css", "text/css"),
 }
@@ -37,6 +40,7 @@ TOKEN = "X-Desk-Token"
 LOOK_SECONDS = 0.3  # between two looks at the journal
 WAIT_SECONDS = 20  # that a page waits for news
 SHORT_SECONDS = 2  # that an answer waits for the journal to tell of its own batch
+LONG = 1000  # bytes of an answer that is sent compressed
 TRIES = 5  # of a batch, if others change the same design meanwhile
 # What refusals mean to those at the desk.
 REFUSALS = {
@@ -57,19 +61,49 @@ REFUSALS = {
 }
 
 
-def state(designs, file):
+def state(designs, file, person):
     designs.store.batches()  # It tells if the service is not there any more.
     news = [told(it) for it in designs.news[-5:]]
     its = {"file": file, "planner": designs.planner, "batch": designs.batch, "epoch": designs.epoch}
-    return {**its, "tree": designs.tree(), "news": news}
+    return {**its, "tree": designs.tree(), "news": news, "steps": person.told()}
+
+
+def feature_of(it):
+    return int(it["table"]), int(it["number"])
+
+
+def window(designs, it):
+    off = {int(table) for table in it.get("off", "").split(",") if table}
+    return designs.design(it["at"]).window(tuple(map(float, it["box"].split(",", 3))), off)
+
+
+def found(designs, it):
+    table = it.get("table")
+    return designs.finder.find(designs, designs.known(it["at"]), it["text"], it.get("field"), table and int(table))
+
+
+# What the page asks of the designs.
+QUESTIONS = {
+    "design": lambda designs, it: designs.about(it["at"]),
+    "parent": lambda designs, it: designs.parent_changes(it["at"]),
+    "conflicts": lambda designs, it: designs.conflicts(it["at"], int(it["first"])),
+    "window": window,
+    "feature": lambda designs, it: designs.feature(it["at"], feature_of(it), it.get("other")),
+    "compared": lambda designs, it: designs.compared(it["at"], it["other"]),
+}
+# These need the texts of the design's tables.
+OF_TEXTS = {
+    "find": found,
+    "values": lambda designs, it: designs.finder.values(designs, designs.known(it["at"]), int(it["table"])),
+}
 
 
 class Desk:
     def __init__(self, path, port):
         self.path, self.port = path, port
         self.token = secrets.token_urlsafe(24)
-        self.thread, self.journal_thread = ThreadPoolExecutor(1), ThreadPoolExecutor(1)
-        self.designs, self.journal, self.arrived = None, None, asyncio.Event()
+        self.thread, self.journal_thread, self.texts_thread = (ThreadPoolExecutor(1) for _ in range(3))
+        self.designs, self.journal, self.person = None, None, Person()
 
     def address(self):
         # What stands behind `#` stays in the browser.
@@ -78,13 +112,9 @@ class Desk:
     def application(self):
         made = web.Application(middlewares=[self.guard])
         made.router.add_routes([web.get(path, self.page) for path in PAGES])
-        asked = {
-            "design": lambda designs, it: designs.about(it["at"]),
-            "parent": lambda designs, it: designs.parent_changes(it["at"]),
-            "window": lambda designs, it: designs.design(it["at"]).window(*map(float, it["box"].split(","))),
-            "feature": lambda designs, it: designs.feature(it["at"], (int(it["table"]), int(it["number"]))),
-        }
-        made.router.add_routes([web.get(f"/api/{name}", self.query(work)) for name, work in asked.items()])
+        made.router.add_routes([web.get(f"/api/{name}", self.query(work)) for name, work in QUESTIONS.items()])
+        made.router.add_routes([web.get(f"/api/{name}", self.text_query(work)) for name, work in OF_TEXTS.items()])
+        made.router.add_get("/api/choices", self.query(lambda _, it: self.person.choices.get(it["at"], {})))
         made.router.add_get("/api/state", self.state)
         made.router.add_get("/api/history", self.history)
         made.router.add_post("/api/batch", self.batch)
@@ -109,6 +139,8 @@ class Desk:
             except web.HTTPException as fault:
                 answer = web.Response(status=fault.status, text=fault.reason)
         answer.headers.update(HEADERS)
+        if isinstance(answer, web.Response) and answer.body and len(answer.body) > LONG:
+            answer.enable_compression()
         return answer
 
     async def page(self, request):
@@ -123,6 +155,38 @@ class Desk:
 
         return answer
 
+    def text_query(self, work):
+        async def found(it):
+            await self.catch_up()
+            await self.read_texts(it["at"])
+            return await self.asked(lambda designs: work(designs, it))
+
+        async def answer(request):
+            return await self.reply(found(request.query))
+
+        return answer
+
+    async def read_texts(self, alt):
+        """Reads the texts of a design's tables on a connection of their own: that may take a few seconds."""
+
+        def read(missing):
+            with Store(f"unix:{self.path}") as store:
+                return {source: read_texts(store, source, layer) for source, layer in missing.items()}
+
+        async with self.reading:
+            for _ in range(TRIES):
+                missing = await self.asked(lambda designs: designs.finder.missing(designs, designs.known(alt)))
+                if not missing:
+                    break
+                texts = await asyncio.get_running_loop().run_in_executor(self.texts_thread, read, missing)
+                await self.asked(lambda designs: designs.finder.take(texts))
+
+    async def read_ahead(self):
+        """Reads the texts before somebody looks for one, if an index says what designs have in common."""
+        with contextlib.suppress(OSError, Ended, Refusal, maps.Fault):  # Who asks is told.
+            if await self.asked(lambda designs: designs.has_index):
+                await self.read_texts("top")
+
     async def state(self, request):
         """The state, once a batch came after the one that the page knows, or after a while."""
 
@@ -132,14 +196,14 @@ class Desk:
                 self.arrived.clear()
                 with contextlib.suppress(asyncio.TimeoutError):
                     await asyncio.wait_for(self.arrived.wait(), WAIT_SECONDS)
-            return await self.asked(lambda designs: state(designs, self.path))
+            return await self.asked(lambda designs: state(designs, self.path, self.person))
 
         return await self.reply(found())
 
     async def history(self, request):
         async def found():
-            feature = int(request.query["table"]), int(request.query["number"])
-            return await self.of_journal(lambda: history(self.journal.store, feature))
+            feature, parents = feature_of(request.query), await self.asked(lambda designs: designs.parents)
+            return await self.of_journal(lambda: history(self.journal.store, parents, feature))
 
         return await self.reply(found())
 
@@ -156,7 +220,7 @@ class Desk:
     async def carried_out(self, it):
         for tries in range(1, TRIES + 1):
             try:
-                await self.asked(lambda designs: carry_out(designs, it))
+                await self.asked(lambda designs: carry_out(designs, it, self.person))
                 break
             except Refusal as refusal:
                 if refusal.number != CHANGED or tries == TRIES:
@@ -169,6 +233,8 @@ class Desk:
         """The answer to a question."""
         try:
             return web.json_response(await work)
+        except Late as late:
+            return web.json_response({"fault": str(late), "now": late.now}, status=409)
         except (maps.Fault, Refusal) as fault:
             text = str(fault) if isinstance(fault, maps.Fault) else REFUSALS.get(fault.number, f"the store refused it: {fault}")
             return web.json_response({"fault": text}, status=409)
@@ -220,6 +286,7 @@ class Desk:
 
     async def following(self, _):
         """Follows the journal as long as the server runs."""
+        self.arrived, self.reading = asyncio.Event(), asyncio.Lock()  # Of the loop that runs now.
 
         async def follow():
             while True:
@@ -229,10 +296,10 @@ class Desk:
                     self.arrived.set()  # The pages that wait ask themselves, and are told.
                 await asyncio.sleep(LOOK_SECONDS)
 
-        task = asyncio.ensure_future(follow())
+        tasks = [asyncio.ensure_future(follow()), asyncio.ensure_future(self.read_ahead())]
         yield
-        task.cancel()
+        for task in tasks:
+            task.cancel()
         if self.journal is not None:
             self.journal.store.abort()  # Its thread need not wait for a long answer.
-        with contextlib.suppress(asyncio.CancelledError):
-            await task
+        await asyncio.gather(*tasks, return_exceptions=True)

@@ -1,0 +1,43 @@
+// The server: what the page asks it, and the token that lets the page in.
+import { desk } from "./shared.js";
+
+// The address that altdesk prints has the token behind the #. It stays with this tab and with others of this page, for no other page
+// or port to read. The rest behind the # says what to show: a design, and a feature of it.
+const tabs = new BroadcastChannel("desk");
+
+export async function begin() {
+  const given = new URLSearchParams(location.hash.slice(1));
+  if (given.get("token")) sessionStorage.setItem("token", given.get("token"));
+  if (!sessionStorage.getItem("token")) await askOtherTabs();
+  tabs.onmessage = ({ data }) => data === "token?" && tabs.postMessage({ token: sessionStorage.getItem("token") });
+  given.delete("token");
+  history.replaceState(null, "", `/${given.size ? `#${given}` : ""}`);
+  return given;
+}
+
+// A link that is opened in a tab of its own is let in by those that are.
+function askOtherTabs() {
+  return new Promise((done) => {
+    setTimeout(done, 300);
+    tabs.onmessage = ({ data }) => {
+      if (data.token) sessionStorage.setItem("token", data.token);
+      if (data.token) done();
+    };
+    tabs.postMessage("token?");
+  });
+}
+
+export async function ask(path, words, how = {}) {
+  const headers = { ...how.headers, "X-Desk-Token": sessionStorage.getItem("token") || "" };
+  const answer = await fetch(`/api/${path}?${new URLSearchParams(words)}`, { ...how, headers });
+  if (answer.status === 403) throw new Error(await answer.text());
+  const told = await answer.json();
+  if (!answer.ok) throw Object.assign(new Error(told.fault), { now: told.now });
+  return told;
+}
+
+// Sends what a person does, with what the person saw.
+export function send(it) {
+  const body = JSON.stringify({ at: desk.at, seen: desk.design.batch, epoch: desk.state.epoch, ...it });
+  return ask("batch", {}, { method: "POST", headers: { "Content-Type": "application/json" }, body });
+}

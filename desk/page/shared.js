@@ -1,0 +1,14 @@
+// What is shown just now. The modules read it, and desk.js puts it in its place.
+export const desk = {
+  at: "top", // the design
+  view: "changes", // what the panel shows
+  state: null, // the tree of designs, and what others have done
+  design: null, // all of the design but its map
+  feature: null, // the feature in the panel
+  edits: false, // whether its form is open
+  choices: new Map(), // for conflicts
+  made: [], // earlier choices, to be taken back
+};
+
+export const WORDS = { added: "added", changed: "changed", removed: "removed", conflict: "in conflict", same: "as in the base" };
+export const MOST_ROWS = 500;
