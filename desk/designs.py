@@ -15,12 +15,13 @@ from changes import Changes
 from design import Design
 from descriptions import Descriptions
 from finding import Finder
+from maps import numbers
 from news import MOST_LINES, Journal, News
 from numbering import Numbers
 from values import aspect_of, metres_of
 
 # The alternatives that programs keep for themselves: no designs.
-OWN = {".service", places.OWN, descriptions.OWN, ".numbers", ".layers"}
+OWN = {".service", places.OWN, descriptions.OWN, numbers.OWN}
 MOST_MOVED = 1000  # features that lie elsewhere than the index says, before it is renewed
 MOST_DESIGNS = 4  # that stay in memory
 MOST_CONFLICTS = 100  # on a page of them

@@ -6,7 +6,7 @@ from osgeo import ogr
 import maps
 from maps import GEOMETRY, Fault
 from places import geometry_of
-from values import attributes_at, geojson, is_plain, packed_attributes, typed
+from values import is_plain, typed
 
 # The types of geometry that a layer of a type has, too.
 ALSO = {"Multi Line String": "LINESTRING", "Multi Polygon": "POLYGON", "Multi Point": "POINT"}
@@ -58,13 +58,13 @@ def read_all(store, at, features):
 
 def set_feature(update, layer, key, it):
     """Gives a feature its attributes and its course. What is not said stays."""
-    (table, number), fields = key, {field["name"]: field for field in layer["fields"]}
-    attributes = attributes_at(update.old, key, layer)
+    (table, number), names = key, maps.Fields(layer)
+    attributes = names.named(maps.value_at(update.old, *key) or b"{}")
     for name, text in it.get("values", {}).items():
-        attributes[name] = typed(text, fields.get(name), attributes.get(name))
+        attributes[name] = typed(text, names.by_name.get(name), attributes.get(name))
     shape = table + GEOMETRY, number
     course = wkb_of(it["course"], layer) if "course" in it else maps.value_at(update.old, *shape)
-    update.set(table, number, packed_attributes(layer, attributes))
+    update.set(table, number, names.packed(attributes))
     if course is not None:
         update.set(*shape, course)
 

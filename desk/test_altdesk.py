@@ -300,7 +300,7 @@ class TwoPeopleTests(DeskTest):
 
         berta.click("#do-merge")
         berta.says("1 conflicts have no choice yet.")
-        cells = [it.text for it in berta.all("fieldset tbody tr:first-child td")]
+        cells = [it.text for it in berta.all("fieldset > table tbody tr:first-child td")]
         self.assertEqual(["110", "125", "160"], cells)
         berta.click("#view fieldset button")
         berta.click("input[value=theirs]")

@@ -9,6 +9,7 @@ from osgeo import gdal, ogr, osr
 import maps
 import places
 from maps.systems import crs_from_text
+from maps.types import fault_of
 
 gdal.UseExceptions()
 ogr.UseExceptions()
@@ -36,36 +37,33 @@ def text_of(value):
 def attributes_of(value, layer):
     """The attributes of a feature as names and texts. What is no JSON object is one text."""
     try:
-        return {name: text_of(it) for name, it in json.loads(value).items()}
-    except (AttributeError, ValueError, RecursionError):
+        return {name: text_of(it) for name, it in maps.Fields(layer or maps.NO_LAYER).named(value).items()}
+    except maps.Fault:
         return {"value": value.decode("utf-8", "backslashreplace")}
-
-
-def attributes_at(records, key, layer):
-    """The attributes of a feature among records by the names of its fields, to be changed."""
-    try:
-        return dict(json.loads(maps.value_at(records, *key) or b"{}"))
-    except (TypeError, ValueError, RecursionError) as fault:
-        raise maps.Fault(f"its attributes are no JSON object: {fault}") from None
-
-
-def packed_attributes(layer, attributes):
-    """The value of a record that has these attributes."""
-    return maps.to_text(attributes).encode()
 
 
 def typed(text, field, old):
     """The value that a text in a form stands for: by the type of its field, or else by the value before."""
     kind = field["type"] if field else "String" if isinstance(old, str) else "value"
     due = list if kind.endswith("List") else LITERALS.get(kind)
+    if field and kind != "String" and not text:
+        return None
     if not due:
-        return text
+        return checked(text, field)
     try:
         value = json.loads(text, parse_constant=int) if text else None  # `NaN` is no number here, nor for int.
     except (ValueError, RecursionError):
         value = ...
     if value is not None and not isinstance(value, due):
         raise maps.Fault(f"{text} is no {kind}")
+    return checked(value, field)
+
+
+def checked(value, field):
+    """The value, if the field can have it."""
+    fault = fault_of(field, value) if field else None
+    if fault:
+        raise maps.Fault(fault)
     return value
 
 

@@ -223,9 +223,8 @@ class Desk:
                 await self.asked(lambda designs: carry_out(designs, it, self.person))
                 break
             except Refusal as refusal:
-                if refusal.number != CHANGED or tries == TRIES:
+                if refusal.number != CHANGED or tries == TRIES or not await self.catch_up():
                     raise
-                await self.catch_up()
         await self.catch_up()
         return {"batch": self.designs and self.designs.batch}
 
@@ -280,9 +279,12 @@ class Desk:
             self.arrived.set()
 
     async def catch_up(self):
-        """Waits for the batches up to now, but not for long."""
-        with contextlib.suppress(asyncio.TimeoutError):
+        """Waits for the batches up to now, but not for long. False if that was too short."""
+        try:
             await asyncio.wait_for(asyncio.shield(asyncio.ensure_future(self.look())), SHORT_SECONDS)
+            return True
+        except asyncio.TimeoutError:
+            return False
 
     async def following(self, _):
         """Follows the journal as long as the server runs."""
