@@ -5,7 +5,7 @@ import maps
 from features import changed_features, split_feature
 from maps import Fault
 
-CHANGED = 101  # The service refuses a batch by this number if an alternative has changed meanwhile.
+CHANGED = 103  # The service refuses a batch by this number if an alternative has changed meanwhile.
 MOST_STEPS = 200  # that can be undone
 
 

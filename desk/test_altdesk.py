@@ -1185,7 +1185,7 @@ class UnseenTests(DeskTest):
         for it in wanted:
             with self.assertRaises(Refusal, msg=str(it)) as caught:
                 carry_out(designs, {**seen, **it}, person)
-            self.assertEqual(101, caught.exception.number, it)
+            self.assertEqual(103, caught.exception.number, it)
         self.assertEqual(attributes(dn=50, mat="PVC"), other.get("north", 7, 5))
         designs.refresh()
         for it in wanted[:4]:

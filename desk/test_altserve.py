@@ -425,13 +425,13 @@ class BatchTests(ServiceTest):
             # A line that is refused takes no number.
             self.assertEqual(["error 1 NoSuchAlternative", "batches 2"], one.ask("put nowhere 7 1 x", "batches"))
             self.assertEqual(["ok"], other.ask("put a 7 1 theirs"))
-            late = ["ok", "error 91 NotDone 2", "error 101 Changed a 3"]
+            late = ["ok", "error 91 NotDone 2", "error 103 Changed a 3"]
             self.assertEqual(late, one.ask("begin a=2 top=2", "put a 7 1 mine", "commit"))
             self.assertEqual(["value theirs", "batches 3"], one.ask("get a 7 1", "batches"))
             self.assertEqual(["ok"] * 3, one.ask("begin a=3 top=2", "put a 7 1 mine", "commit"))
             # A post changes the parent, and what changes elsewhere does not count.
             self.assertEqual(["ok"] * 2, other.ask("post a", "put a 7 2 x"))
-            self.assertEqual("error 101 Changed top 5", one.ask("begin top=4", "put top 7 1 mine", "commit")[-1])
+            self.assertEqual("error 103 Changed top 5", one.ask("begin top=4", "put top 7 1 mine", "commit")[-1])
             self.assertEqual(["ok"] * 3, one.ask("begin b=2", "put b 7 1 mine", "commit"))
             for words in ("begin a", "begin a=", "begin a=-1", "begin a=1 b", "batches now"):
                 self.assertEqual(["error 22 BadLine"], one.ask(words), words)
@@ -440,7 +440,7 @@ class BatchTests(ServiceTest):
         self.start()
         with self.planner() as one:
             self.assertEqual(["batches 7"], one.ask("batches"))
-            self.assertEqual("error 101 Changed b 7", one.ask("begin b=6", "put b 7 1 x", "commit")[-1])
+            self.assertEqual("error 103 Changed b 7", one.ask("begin b=6", "put b 7 1 x", "commit")[-1])
             self.assertEqual(["ok"] * 3, one.ask("begin b=7", "put b 7 1 x", "commit"))
 
     def test_how_large_a_batch_may_be(self):

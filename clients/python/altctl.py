@@ -315,7 +315,7 @@ class Store:
     def batch(self, seen=None):
         """Changes that a service applies together at the end of the `with`: all of them, or none. If an exception leaves the
         `with`, or one of them is refused at its end, everything stays as it was. Queries are not possible in it. `seen` is a dict
-        from alternatives to batches: if one has changed since that batch, all of it is refused (101 Changed)."""
+        from alternatives to batches: if one has changed since that batch, all of it is refused (103 Changed)."""
         if not isinstance(self._other, Service) or self._batch is not None:
             raise ValueError("a batch is one of a service's store, and not in another one")
         self._batch = [self._line("begin", *(f"{alt}={number:d}" for alt, number in (seen or {}).items()))]

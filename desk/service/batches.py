@@ -201,7 +201,7 @@ class Batches:
         for alternative, number in batch.seen.items():
             changed = self.changed.get(alternative, self.followed)
             if changed > number:
-                batch.refuse(batch.count, refusal(101, alternative, changed))
+                batch.refuse(batch.count, refusal(103, alternative, changed))
 
     def _try(self, batches):
         """Carries out batches. If the program ends, those that have no effect and no refusal stay unsettled."""

@@ -38,7 +38,7 @@ REFUSALS = {
     98: "NoBackup",
     99: "Stopped",
     100: "TooManyPlanners",
-    101: "Changed",
+    103: "Changed",
 }
 
 
