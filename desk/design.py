@@ -9,7 +9,7 @@ from changes import Changes
 from density import cells
 from maps import GEOMETRY
 from places import box_of
-from values import attributes_of, geojson, side_of
+from values import Course, attributes_of, side_of
 
 MOST_COURSES = 20000  # geometries of a design that stay in memory, and attributes
 MOST_FEATURES = 3000  # in a window
@@ -142,7 +142,8 @@ class Design:
             self.courses = {}
         due = [(table + GEOMETRY, number) for table, number in keys if (table, number) not in self.courses]
         records = {**self.gone, **maps.read(self.store, self.alt, due)}
-        self.courses.update({(table - GEOMETRY, number): places.safe_value(records, (table, number)) for table, number in due})
+        for table, number in due:
+            self.courses[table - GEOMETRY, number] = Course(places.parsed(places.safe_value(records, (table, number))))
         self._read_texts([it for it in keys if self.style_of(it[0])["by"] or self.style_of(it[0])["label"]])
 
     def _read_texts(self, keys):
@@ -160,4 +161,4 @@ class Design:
         for name in ("by", "label"):
             if style[name]:
                 properties[name] = self.texts[key].get(style[name])
-        return {"type": "Feature", "properties": properties, "geometry": geojson(places.parsed(self.courses[key]), tolerance)}
+        return {"type": "Feature", "properties": properties, "geometry": self.courses[key].at(tolerance)}

@@ -9,6 +9,7 @@ import http.client
 import http.server
 import json
 import os
+import random
 import re
 import shutil
 import signal
@@ -53,6 +54,7 @@ from edits import Person, carry_out
 from features import Late
 from history import history
 from values import typed
+from webserver import REFUSALS
 
 ALTCTL = os.path.abspath(os.environ.get("ALTCTL", HERE.parent / "altctl"))
 PICTURES = HERE.parent / "docs" / "pictures"
@@ -1045,6 +1047,76 @@ class LookingTests(PlanningTest):
         browser.picture("desk-print")
         browser.click("#print-leave")
         browser.until(lambda: browser.all("#tree button")[0].is_displayed())
+
+
+class TogetherTests(PlanningTest):
+    """Two planners at the same ducts of one design."""
+
+    ROUNDS = 100
+
+    def plan(self, seed, counts, said):
+        """One of them: counts ducts up, moves their ends by a metre, draws, and deletes and takes that back."""
+        chance, person = random.Random(seed), Person()
+        with Store(f"unix:{self.socket}") as store:
+            designs = Designs(store)
+            for _ in range(self.ROUNDS):
+                number, what = chance.choice((1, 2, 5, 6)), chance.choice(("count", "count", "move", "draw", "delete"))
+                try:
+                    self.act(designs, person, number, what)
+                    counts.append((number, what))
+                except (maps.Fault, Refusal) as fault:
+                    said.append(REFUSALS.get(fault.number) if isinstance(fault, Refusal) else str(fault))
+
+    def act(self, designs, person, number, what):
+        designs.refresh()
+        now = designs.feature("north", (7, number))["now"]
+        if now is None:
+            raise maps.Fault("it is deleted just now")
+        before = {"table": 7, "number": str(number), "before": now}
+        points = (now["course"] or {}).get("coordinates")
+        its = {
+            "count": lambda: {**before, "values": {"dn": str(int(now["attributes"]["dn"]) + 1)}},
+            "move": lambda: {**before, "course": {"type": "LineString", "coordinates": [points[0], [points[1][0] + 1, points[1][1]]]}},
+            "draw": lambda: {"table": 7, "course": {"type": "LineString", "coordinates": [[0, 0], [1, 1]]}, "values": {"mat": "drawn"}},
+            "delete": lambda: {**before, "remove": True},
+        }[what]()
+        self.carry_out(designs, {"do": "change", "features": [its]}, person)
+        if what == "delete":
+            self.carry_out(designs, {"do": "undo"}, person)
+
+    @staticmethod
+    def carry_out(designs, it, person):
+        """As the server does it: tried again if others have changed the design between the look and the batch."""
+        for _ in range(1000):
+            try:
+                return carry_out(designs, {"at": "north", "epoch": designs.epoch, "seen": designs.batch, **it}, person)
+            except Refusal as refusal:
+                if refusal.number != 103:
+                    raise
+                designs.refresh()
+        raise AssertionError("it never came to an end")
+
+    def test_nothing_is_lost_and_each_refusal_says_why(self):
+        self.serve()
+        counts, said = [], []
+        both = [threading.Thread(target=self.plan, args=(seed, counts, said)) for seed in (1, 2)]
+        for it in both:
+            it.start()
+        for it in both:
+            it.join()
+        store = self.store()
+        self.assertGreater(len(counts), self.ROUNDS)
+        self.assertEqual(2 * self.ROUNDS, len(counts) + len(said))
+        self.assertTrue(all(said), said)
+        layer = maps.layers(store, "north")[7]
+        found = {it.number: maps.Fields(layer).named(it.value) for it in store.list("north", 7)}
+        for number in (1, 2, 5, 6):
+            self.assertEqual(110 + counts.count((number, "count")), found[number]["dn"], number)
+            end = ogr.CreateGeometryFromWkb(store.get("north", 107, number)).GetPoints()[-1]
+            self.assertEqual((self.chamber(number + 1)[0] + counts.count((number, "move")), self.chamber(number + 1)[1]), end)
+        drawn = sum(what == "draw" for _, what in counts)
+        self.assertEqual(drawn, sum(it.get("mat") == "drawn" for it in found.values()))
+        self.assertEqual(4 + drawn, len(found))
 
 
 class WhatIsNotDrawnTests(AskingTest):

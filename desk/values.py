@@ -18,15 +18,41 @@ osr.UseExceptions()
 LITERALS = {"Integer": int, "Integer64": int, "Real": (int, float), "value": (type(None), bool, int, float, str, list, dict)}
 
 
-def geojson(geometry, tolerance=0):
-    """A geometry that can be drawn, simplified to a tolerance."""
-    if geometry is None:
-        return None
-    if tolerance:
-        with contextlib.suppress(RuntimeError):  # GEOS refuses some, which are drawn as they are.
-            geometry = geometry.GetLinearGeometry().SimplifyPreserveTopology(tolerance) or geometry
+FEW = 8  # points of a course that is not worth being simplified
+
+
+def flat(geometry):
+    """A geometry as the page draws it: without heights, measures and arcs."""
+    geometry = geometry.GetLinearGeometry()
     geometry.FlattenTo2D()
-    return json.loads(geometry.GetLinearGeometry().ExportToJson())
+    return geometry
+
+
+def geojson(geometry):
+    """A geometry that can be drawn, as a whole."""
+    return json.loads(flat(geometry).ExportToJson())
+
+
+class Course:
+    """A geometry to be drawn, None for none. One with few points is made into GeoJSON once."""
+
+    def __init__(self, geometry):
+        self._flat = geometry and flat(geometry)
+        self._whole = geojson(geometry) if geometry and count_points(self._flat) <= FEW else None
+
+    def at(self, tolerance):
+        """The course, simplified to a tolerance."""
+        if self._whole is not None or self._flat is None:
+            return self._whole
+        simple = None
+        with contextlib.suppress(RuntimeError):  # GEOS refuses some, which are drawn as they are.
+            simple = self._flat.SimplifyPreserveTopology(tolerance)
+        return json.loads((simple or self._flat).ExportToJson())
+
+
+def count_points(geometry):
+    parts = geometry.GetGeometryCount()
+    return sum(count_points(geometry.GetGeometryRef(it)) for it in range(parts)) if parts else geometry.GetPointCount()
 
 
 def text_of(value):

@@ -40,6 +40,7 @@ TOKEN = "X-Desk-Token"
 LOOK_SECONDS = 0.3  # between two looks at the journal
 WAIT_SECONDS = 20  # that a page waits for news
 SHORT_SECONDS = 2  # that an answer waits for the journal to tell of its own batch
+AHEAD_SECONDS = 5  # that the first map has before texts are read for finding
 LONG = 1000  # bytes of an answer that is sent compressed
 TRIES = 5  # of a batch, if others change the same design meanwhile
 # What refusals mean to those at the desk.
@@ -183,6 +184,7 @@ class Desk:
 
     async def read_ahead(self):
         """Reads the texts before somebody looks for one, if an index says what designs have in common."""
+        await asyncio.sleep(AHEAD_SECONDS)
         with contextlib.suppress(OSError, Ended, Refusal, maps.Fault):  # Who asks is told.
             if await self.asked(lambda designs: designs.has_index):
                 await self.read_texts("top")

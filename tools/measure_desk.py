@@ -1,0 +1,137 @@
+#!/usr/bin/env python3
+"""Measures the desk over a made-up network: how long it takes to show the first map, a design, a window of about 300 features, and
+what is found, each asked for as the page does. `tools/measure_desk.py [--chambers N] [--store FILE]`: N chambers (30,000), 2 ducts
+and 3 cables for each, and service points, 7.3 features a chamber in all. It needs what `desk/altdesk` does."""
+import argparse
+import json
+import os
+import random
+import re
+import struct
+import subprocess
+import sys
+import tempfile
+import time
+import urllib.parse
+import urllib.request
+from pathlib import Path
+from typing import Iterator, List, Tuple
+
+sys.dont_write_bytecode = True
+TOP = Path(__file__).resolve().parent.parent
+sys.path[:0] = [str(TOP / "desk"), str(TOP / "clients" / "python")]
+import maps
+from altctl import Store
+
+ALTCTL = os.environ.get("ALTCTL", str(TOP / "altctl"))
+BLOCKS = 400_000
+LAYERS = {1: ("chambers", "Point"), 2: ("ducts", "Line String"), 3: ("cables", "Line String"), 4: ("service points", "Point")}
+FIELDS = [f"f{n}" for n in range(8)]
+Record = Tuple[int, int, bytes]
+
+
+def layer(table: int) -> dict:
+    fields = [{"name": "label", "type": "String"}, {"name": "dn", "type": "Integer"}]
+    fields += [{"name": it, "type": "String"} for it in FIELDS]
+    name, geometry = LAYERS[table]
+    return maps.numbered({"name": name, "crs": "EPSG:2056", "geometry": geometry, "fields": fields, "id": None})
+
+
+def point(x: float, y: float) -> bytes:
+    return struct.pack("<BIdd", 1, 1, x, y)
+
+
+def line(*points: Tuple[float, float]) -> bytes:
+    return struct.pack("<BII", 1, 2, len(points)) + b"".join(struct.pack("<dd", *it) for it in points)
+
+
+def network(chambers: int) -> Iterator[Record]:
+    """The records of a network of streets."""
+    chance, across = random.Random(7), int(chambers**0.5)
+    fields = maps.Fields(layer(1))
+
+    def feature(table: int, number: int, label: str, geometry: bytes) -> Iterator[Record]:
+        its = {"label": label, "dn": chance.choice((50, 110, 160)), **{it: chance.choice(("PVC", "HDPE", "laid 1998")) for it in FIELDS}}
+        yield table, number, fields.packed(its)
+        yield table + maps.GEOMETRY, number, geometry
+
+    place = lambda n: (2600000 + 35 * (n % across), 1200000 + 30 * (n // across))
+    for n in range(chambers):
+        (x, y), to = place(n), place(n + 1) if (n + 1) % across else place(n + across)
+        yield from feature(1, n + 1, f"CH-{n + 1:06}", point(x, y))
+        for copy in range(2):
+            yield from feature(2, 2 * n + copy + 1, f"RB-{2 * n + copy + 1:06}", line((x, y + copy), (to[0], to[1] + copy)))
+        for copy in range(3 if n % 3 else 2):
+            yield from feature(3, 3 * n + copy + 1, f"CB-{3 * n + copy + 1:06}", line((x, y - copy), (to[0], to[1] - copy)))
+        for copy in range(2 if n % 3 else 1):
+            yield from feature(4, 2 * n + copy + 1, f"SP-{2 * n + copy + 1:06}", point(x + 7 + 9 * copy, y + 6))
+
+
+def make(file: str, chambers: int) -> None:
+    subprocess.run([ALTCTL, "create", file, str(BLOCKS)], check=True, stdout=subprocess.DEVNULL)
+    with Store(file, ALTCTL) as store:
+        for table in LAYERS:
+            store.put("top", 0, table, maps.to_text(layer(table)).encode())
+        store.put_many("top", network(chambers))
+        for name in ("north", "south"):
+            store.new(name, "top")
+        fields = maps.Fields(layer(2))
+        store.put_many("north", ((2, n, fields.packed({"label": f"NEW-{n}", "dn": 63})) for n in range(1, 400, 2)))
+        store.commit()
+    subprocess.run([sys.executable, str(TOP / "desk" / "altgis"), "index", file], check=True, env={**os.environ, "ALTCTL": ALTCTL})
+
+
+class Asking:
+    def __init__(self, url: str):
+        self.base, self.token = url.split("/#token=")
+
+    def ask(self, path: str, **words: str) -> Tuple[float, dict]:
+        wanted = urllib.request.Request(f"{self.base}/api/{path}?{urllib.parse.urlencode(words)}", headers={"X-Desk-Token": self.token})
+        begun = time.monotonic()
+        with urllib.request.urlopen(wanted) as answer:
+            told = json.load(answer)
+        return time.monotonic() - begun, told
+
+
+def measured(asking: Asking) -> None:
+    def say(what: str, seconds: List[float], more: str = "") -> None:
+        print(f"{what:<40} {sorted(seconds)[len(seconds) // 2]:8.3f} s {more}", flush=True)
+
+    state, _ = asking.ask("state")
+    design, told = asking.ask("design", at="top")
+    box = ",".join(map(str, told["bounds"]))
+    window, shown = asking.ask("window", at="top", box=box)
+    say("first map", [state + design + window], f"{len(shown['features'])} features of {shown['found']}")
+    seconds, told = asking.ask("find", at="top", text="RB-004711")
+    say("first find, with reading the texts", [seconds], f"{len(told['found'])} found")
+    one, told = asking.ask("design", at="north")
+    two, _ = asking.ask("window", at="north", box=box)
+    say("a design, never seen", [one + two], f"{len(told['changes'])} changes")
+    say("a design, seen before", [asking.ask("design", at="north")[0] + asking.ask("window", at="north", box=box)[0] for _ in range(9)])
+    near = [asking.ask("window", at="north", box=f"{2600000 + 300 * n},1200500,{2600230 + 300 * n},1200730") for n in range(9)]
+    say("a window", [it for it, _ in near], f"{len(near[0][1]['features'])} features")
+    for text in ("RB-004711", "new-77", "nowhere"):
+        found = [asking.ask("find", at="north", text=text) for _ in range(9)]
+        say(f"find {text}", [it for it, _ in found], f"{len(found[0][1]['found'])} found")
+
+
+def main() -> None:
+    parser = argparse.ArgumentParser(description=__doc__.split(":")[0])
+    parser.add_argument("--chambers", type=int, default=30_000)
+    parser.add_argument("--store", help="where the store is kept, for another time")
+    words = parser.parse_args()
+    with tempfile.TemporaryDirectory() as folder:
+        file = words.store or f"{folder}/network.alt"
+        if not os.path.exists(file):
+            make(file, words.chambers)
+        desk = subprocess.Popen([sys.executable, str(TOP / "desk" / "altdesk"), "--program", ALTCTL, file], stdout=subprocess.PIPE, text=True)
+        try:
+            url = next(it for it in map(lambda it: re.search(r"http://\S+", it), desk.stdout) if it)[0]
+            measured(Asking(url))
+        finally:
+            desk.terminate()
+            desk.wait()
+
+
+if __name__ == "__main__":
+    main()
