@@ -7,6 +7,7 @@ import styles
 from altctl import Conflict
 from changes import Changes
 from density import cells
+from joining import clashes
 from maps import GEOMETRY
 from places import box_of
 from values import Course, attributes_of, side_of
@@ -22,6 +23,7 @@ class Design:
     def __init__(self, store, alt, parent, index):
         self.store, self.alt, self.parent, self.base = store, alt, parent, f"{alt}@" if parent else alt
         self.stale, self.courses, self.texts, self.styles = set(), {}, {}, None
+        self._clashes = None  # The conflicts that were looked at, and those of them that need a choice.
         self.mine = Changes(store, self.base, alt)
         self.conflicts = {(it.table, it.number): it for it in store.conflicts(alt)} if parent else {}
         self.layers = {it: layer for it, layer in self.mine.layers.items() if store.get(alt, 0, it) is not None}
@@ -57,8 +59,8 @@ class Design:
         self._survey()
 
     def _survey(self):
-        """Finds the status of features, and where those lie that the index does not know so."""
-        self.status = {**self.mine.kinds, **{self.mine.feature_of(it) or it: "conflict" for it in self.conflicts}}
+        """Finds where features lie that the index does not know so."""
+        changed = {*self.mine.kinds, *(self.mine.feature_of(it) or it for it in self.conflicts)}
         shown = [(it[0] - GEOMETRY, it[1]) for it in self.mine.rows if it[0] - GEOMETRY in self.on_map]
         gone = [(it[0] + GEOMETRY, it[1]) for it in shown if self.mine.rows[it[0] + GEOMETRY, it[1]].after is None]
         self.gone = maps.with_parts(self.store, self.base, {it: self.mine.rows[it].before for it in gone})
@@ -67,13 +69,27 @@ class Design:
         for table, moved in self.moved.items():
             beside = self.beside[table]
             known = {**moved, **beside}
-            due = [number for its_table, number in self.status if its_table == table and number not in known]
+            due = [number for its_table, number in changed if its_table == table and number not in known]
             records = maps.read(self.store, self.alt, [(table + GEOMETRY, it) for it in due])
             beside.update({it: box_of(places.safe_value(records, (table + GEOMETRY, it))) for it in due})
             lost = {number: box for (its_table, number), box in boxes.items() if its_table == table + GEOMETRY}
             self.others[table] = places.Places.of({**beside, **moved, **lost})
-        arrays = {table: [number for its_table, number in self.status if its_table == table] for table in self.on_map}
+        arrays = {table: [number for its_table, number in changed if its_table == table] for table in self.on_map}
         self.changed = {table: numpy.array(numbers, "<u8") for table, numbers in arrays.items()}
+
+    # --- conflicts ------------------------------------------------------------------------------
+
+    @property
+    def to_choose(self):
+        """The conflicts that need a choice, with the fields that do. They are looked at once, as long as they stay the same."""
+        if self._clashes is None or self._clashes[0] != self.conflicts:
+            self._clashes = dict(self.conflicts), clashes(self.store, self.alt, self.conflicts)
+        return self._clashes[1]
+
+    @property
+    def status(self):
+        """Whether features are added, changed, removed or in conflict."""
+        return {**self.mine.kinds, **{self.mine.feature_of(it) or it: "conflict" for it in self.to_choose}}
 
     # --- features -------------------------------------------------------------------------------
 
@@ -116,7 +132,8 @@ class Design:
             keys = [keys[it] for it in largest.tolist()]
         self._read_courses(keys)
         tolerance = (box[2] - box[0]) / PIXELS
-        features = [self.on_window(it, tolerance) for it in keys]
+        status = self.status
+        features = [self.on_window(it, tolerance, status.get(it, "same")) for it in keys]
         drawn = {table: sum(it[0] == table for it in keys) for table in found}
         layers = [
             {"table": table, "name": self.layers[table]["name"], "found": count, "is_about": is_about, "drawn": drawn[table]}
@@ -155,8 +172,8 @@ class Design:
         for key in due:
             self.texts[key] = attributes_of(places.safe_value(records, key) or b"{}", self.mine.layers[key[0]])
 
-    def on_window(self, key, tolerance):
-        properties = {**self.mine.row(key), "status": self.status.get(key, "same")}
+    def on_window(self, key, tolerance, status):
+        properties = {**self.mine.row(key), "status": status}
         style = self.style_of(key[0])
         for name in ("by", "label"):
             if style[name]:

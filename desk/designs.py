@@ -172,7 +172,8 @@ class Designs:
         design = self.design(alt)
         bounds = design.bounds()
         layers = [self._layer(design, table, it) for table, it in sorted(design.layers.items())]
-        told = {"conflicts_in_all": len(design.conflicts), "records": len(design.mine.rows), "conflicts": self.conflicts(alt, 0)}
+        told = {"conflicts_in_all": len(design.to_choose), "joined": len(design.conflicts) - len(design.to_choose)}
+        told.update({"records": len(design.mine.rows), "conflicts": self.conflicts(alt, 0)})
         told.update({"name": alt, "parent": self.parents[alt], "batch": self.batch, "stamp": self.stamp(alt), "layers": layers})
         changes = design.mine.listed(design.status)
         size = {"bounds": bounds, "aspect": aspect_of(design.crs, bounds), "metres": metres_of(design.crs)}
@@ -186,14 +187,15 @@ class Designs:
     def conflicts(self, alt, first):
         """A page of the conflicts, with their features as base, parent and design have them."""
         design = self.design(alt)
-        keys = sorted(design.conflicts)[first : first + MOST_CONFLICTS]
+        keys = sorted(design.to_choose)[first : first + MOST_CONFLICTS]
         return [self.conflict(alt, design, key) for key in keys]
 
     def conflict(self, alt, design, key):
         feature = design.mine.feature_of(key) or key
         versions = {"base": design.base, "parent": design.parent, "mine": alt}
         sides = {name: design.sides(feature, at) for name, at in versions.items()}
-        return {**design.mine.row(feature), "key": f"{key[0]}:{key[1]}", "what": design.mine.what(key), "sides": sides}
+        its = {"key": f"{key[0]}:{key[1]}", "what": design.mine.what(key), "fields": design.to_choose[key]}
+        return {**design.mine.row(feature), **its, "sides": sides}
 
     def parent_changes(self, alt):
         """What a merge would bring in: how the parent differs from the design's base."""

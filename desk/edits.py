@@ -1,9 +1,11 @@
 """What a person asks the desk to do: each is a batch, and is refused if what the person saw has changed. The desk looks at what it
 knows, and the service at what came since: each batch names the alternatives that it rests on, with the batch at which they were
 looked at."""
+import joining
 import maps
 from features import changed_features, split_feature
 from maps import Fault
+from maps.merging import SIDES
 
 CHANGED = 103  # The service refuses a batch by this number if an alternative has changed meanwhile.
 MOST_STEPS = 200  # that can be undone
@@ -26,22 +28,24 @@ class Person:
         self.steps[alt] = [*self.steps.get(alt, []), step][-MOST_STEPS:]
         self.undone[alt] = []
 
+    def chosen(self, alt, design):
+        """The choices for those conflicts that are still as they were."""
+        its = self.choices.get(alt, {})
+        return {key: side for key, (side, it) in its.items() if design.conflicts.get((it.table, it.number)) == it}
+
     def told(self):
         """What the next undo and the next redo of each design would be."""
-        last = {what: {alt: its[-1].text for alt, its in of.items() if its} for what, of in (("undo", self.steps), ("redo", self.undone))}
-        return last
+        both = {"undo": self.steps, "redo": self.undone}
+        return {what: {alt: its[-1].text for alt, its in of.items() if its} for what, of in both.items()}
 
 
 def merge(designs, alt, it, person):
     """Merges with the choices that were made, and the rest by one side where that is said."""
     design = designs.design(alt)
-    choices = {**person.choices.get(alt, {}), **it.get("choices", {})}
-    sides = {key: choices.get(f"{key[0]}:{key[1]}", it.get("rest")) for key in design.conflicts}
-    still_open = sum(side not in ("mine", "theirs") for side in sides.values())
-    if still_open:
-        raise Fault(f"{still_open} conflicts have no choice yet")
-    with as_seen(designs, alt, designs.parents[alt]):
-        designs.store.merge(alt, sides)
+    chosen = {**person.chosen(alt, design), **it.get("choices", {})}
+    sides = {tuple(map(int, key.split(":"))): side for key, side in chosen.items() if side in SIDES}
+    rest = it["rest"] if it.get("rest") in SIDES else None
+    joining.merge(designs.store, alt, design.conflicts, sides, rest, lambda: as_seen(designs, alt, designs.parents[alt]))
     person.choices.pop(alt, None)
 
 
@@ -116,12 +120,12 @@ def back(designs, alt, it, _person):
 
 def choose(designs, alt, it, person):
     """Keeps choices for conflicts until the merge is sent. They are for the conflicts as the person saw them."""
-    its = person.choices.setdefault(alt, {})
+    its, conflicts = person.choices.setdefault(alt, {}), designs.design(alt).conflicts
     for key, side in it["choices"].items():
-        if side in ("mine", "theirs"):
-            its[key] = side
-        else:
-            its.pop(key, None)
+        its.pop(key, None)
+        conflict = conflicts.get(tuple(map(int, key.split(":"))))
+        if side in SIDES and conflict is not None:
+            its[key] = side, conflict
 
 
 def describe(designs, alt, it, _person):

@@ -115,7 +115,7 @@ class Desk:
         made.router.add_routes([web.get(path, self.page) for path in PAGES])
         made.router.add_routes([web.get(f"/api/{name}", self.query(work)) for name, work in QUESTIONS.items()])
         made.router.add_routes([web.get(f"/api/{name}", self.text_query(work)) for name, work in OF_TEXTS.items()])
-        made.router.add_get("/api/choices", self.query(lambda _, it: self.person.choices.get(it["at"], {})))
+        made.router.add_get("/api/choices", self.query(self.choices))
         made.router.add_get("/api/state", self.state)
         made.router.add_get("/api/history", self.history)
         made.router.add_post("/api/batch", self.batch)
@@ -155,6 +155,9 @@ class Desk:
             return await self.reply(self.asked(lambda designs: work(designs, request.query)))
 
         return answer
+
+    def choices(self, designs, it):
+        return self.person.chosen(it["at"], designs.design(it["at"]))
 
     def text_query(self, work):
         async def found(it):

@@ -31,7 +31,9 @@ export async function readChoices() {
 
 export function fillConflicts() {
   const { conflicts, conflicts_in_all: count, name, parent } = desk.design;
-  if (!count) return fill($("view"), make("p", {}, "There is no conflict."));
+  const { joined } = desk.design;
+  const told = joined ? `${name} and ${parent} have changed different fields in ${joined} ${joined === 1 ? "record" : "records"}, which a merge joins.` : "";
+  if (!count) return fill($("view"), make("p", { id: "open" }, "There is no conflict."), told && make("p", { id: "joined" }, told));
   const all = (side, text) => button(`all-${side}`, text, () => choose(toChoose(), side));
   const undo = button("undo", "Undo the last choice", takeBack, { disabled: !desk.made.length });
   const text = `${name} and ${parent} have both changed these. ${openChoices()} of ${toChoose().length} have no choice yet.`;
@@ -40,7 +42,7 @@ export function fillConflicts() {
     button("more-conflicts", `Show ${Math.min(left, 100)} more`, () => trying(readMore))] : [];
   const steps = make("div", { class: "buttons" }, button("previous-conflict", "Previous", () => step(-1)), button("next-conflict", "Next", () => step(1)));
   const buttons = make("div", { class: "buttons" }, all("mine", `All as in ${name}`), all("theirs", `All as in ${parent}`), undo);
-  return fill($("view"), make("p", { id: "open" }, text), buttons, steps, ...conflicts.map(conflict), ...rest);
+  return fill($("view"), make("p", { id: "open" }, text), told && make("p", { id: "joined" }, told), buttons, steps, ...conflicts.map(conflict), ...rest);
 }
 
 async function readMore() {
@@ -71,7 +73,8 @@ function conflict(it) {
   const line = (title, values) => make("tr", {}, make("th", { scope: "row" }, title),
     ...values.map((text) => make("td", { class: text !== values[0] ? "differs" : "" }, text)));
   const fields = it.what === "course" ? [["course", valuesOf(about)]] : names.map((key) => [key, valuesOf((side) => own(side, key))]);
-  const differs = ([, values]) => new Set(values).size > 1;
+  // First those that need a choice; what one side alone has changed is joined, and folded.
+  const differs = ([title, values]) => (it.fields && it.what === "attributes" ? it.fields.includes(title) : new Set(values).size > 1);
   const head = () => make("thead", {}, make("tr", {}, make("td"),
     ...Object.entries(heads).map(([side, text]) => make("th", { scope: "col" }, sample(SIDES[side]), text))));
   const table = (some) => make("table", {}, head(), make("tbody", {}, ...some.map((its) => line(...its))));
@@ -79,7 +82,7 @@ function conflict(it) {
   const same = fields.filter((its) => !differs(its));
   const shown = first.length ? first : same;
   const folded = first.length && same.length
-    ? make("details", {}, make("summary", {}, `${same.length} fields are the same`), table(same)) : null;
+    ? make("details", {}, make("summary", {}, `${same.length} fields need no choice`), table(same)) : null;
   const label = `Show ${it.layer} ${it.number} on the map`;
   const look = make("button", { id: `look-${it.key}`, type: "button", "aria-label": label, onclick: () => lookAt(it) }, "On the map");
   return choice(it.key, `${it.layer} ${it.number}: ${it.what}`, table(shown), folded, look);
