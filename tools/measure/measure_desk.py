@@ -1,6 +1,6 @@
 #!/usr/bin/env python3
 """Measures the desk over a made-up network: how long it takes to show the first map, a design, a window of about 300 features, and
-what is found, each asked for as the page does. `tools/measure_desk.py [--chambers N] [--store FILE]`: N chambers (30,000), 2 ducts
+what is found, each asked for as the page does. `tools/measure/measure_desk.py [--chambers N] [--store FILE]`: N chambers (30,000), 2 ducts
 and 3 cables for each, and service points, 7.3 features a chamber in all. It needs what `desk/altdesk` does."""
 import argparse
 import json
@@ -18,7 +18,7 @@ from pathlib import Path
 from typing import Iterator, List, Tuple
 
 sys.dont_write_bytecode = True
-TOP = Path(__file__).resolve().parent.parent
+TOP = Path(__file__).resolve().parents[2]
 sys.path[:0] = [str(TOP / "desk"), str(TOP / "clients" / "python")]
 import maps
 from altctl import Store
