@@ -796,7 +796,7 @@ static const char *const refusals[] = {
     "ReadOnly"};
 static const char *const service_refusals[] = {
     "Denied", "NotDone", "Aborted", "NotInBatch", "TooLarge", "HeldTooLong", "HalfLine", "NotJournaled", "NoBackup",
-    "Stopped", "TooManyPlanners"};
+    "Stopped", "TooManyPlanners", NULL, NULL, "Changed"};
 
 #define COUNT(array) ((int)(sizeof(array) / sizeof *(array)))
 
@@ -804,7 +804,7 @@ const char *alt_error_name(int error)
 {
     if (error >= 0 && error < COUNT(refusals))
         return refusals[error];
-    if (error >= 90 && error < 90 + COUNT(service_refusals))
+    if (error >= 90 && error < 90 + COUNT(service_refusals) && service_refusals[error - 90] != NULL)
         return service_refusals[error - 90];
     return error < 0 && error > -COUNT(own_errors) ? own_errors[-error][0] : "unknown";
 }

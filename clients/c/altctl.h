@@ -78,6 +78,7 @@ enum {
     ALT_NO_BACKUP = 98,
     ALT_STOPPED = 99,
     ALT_TOO_MANY_PLANNERS = 100,
+    ALT_CHANGED = 103,
 
     /* There are no more rows. */
     ALT_DONE = -1,
