@@ -9,6 +9,7 @@ from pathlib import Path
 sys.dont_write_bytecode = True
 HERE = Path(__file__).resolve().parent
 sys.path[:0] = [str(HERE), str(HERE.parent / "clients" / "python")]
+from service_tests.test_backups import BackupTests
 from service_tests.test_batches import BatchTests
 from service_tests.test_changed import ChangedTests, LastChangesTests
 from service_tests.test_crashes import CrashTests
@@ -19,6 +20,7 @@ from service_tests.test_journal import JournalTests
 from service_tests.test_limits import DocumentTests, UnreadTests
 from service_tests.test_lines import LineTests
 from service_tests.test_log import IndexTests, LogTests
+from service_tests.test_restore import RestoreTests
 from service_tests.test_rules import RulesTests
 from service_tests.test_signals import ShortageTests, SignalTests
 from service_tests.test_sockets import SocketTests

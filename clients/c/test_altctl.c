@@ -743,6 +743,7 @@ static void errors_have_names(void)
     SAME_TEXT("LongLine", alt_error_name(ALT_LONG_LINE));
     SAME_TEXT("Denied", alt_error_name(ALT_DENIED));
     SAME_TEXT("TooManyPlanners", alt_error_name(ALT_TOO_MANY_PLANNERS));
+    SAME_TEXT("TooManyEntries", alt_error_name(ALT_TOO_MANY_ENTRIES));
     SAME_TEXT("Changed", alt_error_name(ALT_CHANGED));
     SAME_TEXT("ALT_DONE", alt_error_name(ALT_DONE));
     SAME_TEXT("ALT_IN_BATCH", alt_error_name(ALT_IN_BATCH));

@@ -2,11 +2,13 @@
 import errno
 import os
 import re
+import signal
 import stat
 import subprocess
 import time
-from typing import List
+from typing import Callable, Iterable, List
 
+from service.batch import Batch
 from service.journal import sync_folder
 from service.limits import refusal
 from service.store import Store
@@ -14,6 +16,14 @@ from service.store import Store
 NAME = re.compile(rb"[A-Za-z0-9_][A-Za-z0-9_.-]{0,31}")
 # The name of a copy that is not complete: of which backup, and by which process.
 PART = re.compile(r"\.[A-Za-z0-9_][A-Za-z0-9_.-]{0,31}\.[0-9]+\.part")
+
+
+# Once the second program has read this much of the store, it has read the slot.
+READ_BYTES = 64 << 10
+# The status of a program whose device failed.
+STOPPED = 3
+# Blocks that have to be free for a record that is to change.
+MARGIN = 17
 
 
 class Backups:
@@ -34,27 +44,15 @@ class Backups:
         finally:
             os.close(folder)
 
-    def make(self, name: str) -> bytes:
-        """Makes a backup, and returns the answer to the line that asked for it."""
-        part = f"{self.folder}/.{name}.{os.getpid()}.part"
-        begun = time.monotonic()
-        try:
-            os.makedirs(self.folder, mode=0o700, exist_ok=True)
-            self._copy(part)
-            size = synced(part)
-            os.replace(part, f"{self.folder}/{name}")
-            sync_folder(part)
-        except OSError as fault:
-            if os.path.lexists(part):
-                os.unlink(part)
-            return refusal(98, errno.errorcode.get(fault.errno, "EIO"))
-        return b"ok %d %.3f" % (size, time.monotonic() - begun)
+    def begin(self, name: str) -> "Copy":
+        """Begins a backup beside the batches."""
+        os.makedirs(self.folder, mode=0o700, exist_ok=True)
+        return Copy(self.store, f"{self.folder}/.{name}.{os.getpid()}.part", f"{self.folder}/{name}")
 
-    def _copy(self, part: str) -> None:
-        """Copies by the program if it can, under the lock that is held here, else the file as it is, which holds nothing uncommitted."""
+    def copy_alone(self, part: str) -> None:
+        """Copies while nothing else is done: by the program if it can, under the lock that is held here, else the file as it is,
+        which holds nothing uncommitted."""
         file = self.store.file
-        if not self.store.is_in_place():
-            raise OSError(errno.ESTALE, "another file has the name of the store")
         if self.has_copy:
             status = quietly([self.store.altctl, "copy", "--no-lock", "--", file, part])
             self.has_copy = status != 2
@@ -62,6 +60,106 @@ class Backups:
                 return
         if self.has_copy or quietly(["cp", "--reflink=auto", "--", file, part]):
             raise OSError(errno.EIO, "it could not be copied")
+
+
+class Copy:
+    """A backup that is made while batches go on. A second program reads the committed state that it found at its start.
+
+    That is safe as long as no block of that state is written again. A commit writes only free blocks and the slot that is not in
+    use, so one commit may come before the second program has read the slot. Blocks become free only when the program marks, and
+    that it does for a line `reclaim`, or if fewer than 17 blocks are free for each record that is to change. So the free blocks
+    are watched: if there may have been too few, the copy is made again while nothing else is done."""
+
+    def __init__(self, store: Store, part: str, name: str):
+        if not store.is_in_place():
+            raise OSError(errno.ESTALE, "another file has the name of the store")
+        self.store, self.part, self.name, self.begun = store, part, name, time.monotonic()
+        self.free, self.commits, self.is_spoiled, self.starts = free_blocks(store), 0, False, store.starts
+        # How much the second program had read when it had opened the store, and whether it has read the slot.
+        self.before, self.is_open = None, False
+        words = [store.altctl, "copy", "--no-lock", "--", store.file, part]
+        nothing = subprocess.DEVNULL
+        self.process = subprocess.Popen(words, stdin=nothing, stdout=nothing, stderr=nothing, start_new_session=True)
+        self.end = os.pidfd_open(self.process.pid)
+
+    def may_commit(self) -> bool:
+        """Whether a group of batches may be carried out now."""
+        return self.commits == 0 or self.is_open or self._has_read_slot() or self.process.poll() is not None
+
+    def _has_read_slot(self) -> bool:
+        # It makes its file only after it has read the whole tree of blocks.
+        self.is_open = os.path.lexists(self.part)
+        if self.is_open:
+            return True
+        process, store = f"/proc/{self.process.pid}", os.fstat(self.store.lock)
+        try:
+            with open(f"{process}/io") as file:
+                count = int(file.readline().split()[1])
+            if self.before is None:
+                files = [os.stat(f"{process}/fd/{it}") for it in os.listdir(f"{process}/fd")]
+                self.before = count if any(os.path.samestat(store, it) for it in files) else None
+        except (OSError, IndexError):
+            return False
+        self.is_open = self.before is not None and count - self.before > READ_BYTES
+        return self.is_open
+
+    def note(self, batches: Iterable[Batch], commits: int) -> None:
+        """Notes that batches were carried out, by so many commits: those that could not share one have one each."""
+        self.is_spoiled = self.is_spoiled or self.commits == 0 and commits > 1 and not self.is_open
+        self.commits += commits
+        changed = 0
+        for batch in batches:
+            for line, answer in zip(batch.lines, batch.answers or []):
+                verb = line.split(b" ", 1)[0]
+                changed += int(answer.split()[1]) if verb == b"merge" and answer.startswith(b"ok ") else 1
+                self.is_spoiled = self.is_spoiled or verb == b"reclaim"
+            # Of a refused batch it is not known here how far it came.
+            changed += batch.count if batch.answers is None else 0
+            self.is_spoiled = self.is_spoiled or batch.answers is None and batch.may_merge
+        # Each change took up to 17, and the last one may have looked for as many for all of them.
+        self.is_spoiled = self.is_spoiled or self.free - 2 * MARGIN * (changed + 1) < MARGIN
+        self.free = free_blocks(self.store)
+
+    def finish(self, copy_alone: Callable[[str], None]) -> bytes:
+        """Gives the copy its name once it is whole, and returns the answer to the line that asked for it."""
+        try:
+            os.close(self.end)
+            status = self.process.wait()
+            if status == STOPPED:
+                raise OSError(errno.EIO, "a device failed, or there is no space")
+            # The opening of a program that was started again has marked.
+            if status or self.is_spoiled or self.store.starts != self.starts:
+                remove(self.part)
+                copy_alone(self.part)
+            size = synced(self.part)
+            os.replace(self.part, self.name)
+            sync_folder(self.part)
+        except OSError as fault:
+            remove(self.part)
+            return refused(fault)
+        return b"ok %d %.3f" % (size, time.monotonic() - self.begun)
+
+    def stop(self) -> None:
+        """Gives it up."""
+        os.killpg(self.process.pid, signal.SIGKILL)
+        self.process.wait()
+        os.close(self.end)
+        remove(self.part)
+
+
+def free_blocks(store: Store) -> int:
+    """The number of free blocks."""
+    [answer] = store.program.ask([b"free"])
+    return int(answer.split()[1]) if answer.startswith(b"free ") else 0
+
+
+def remove(path: str) -> None:
+    if os.path.lexists(path):
+        os.unlink(path)
+
+
+def refused(fault: OSError) -> bytes:
+    return refusal(98, errno.errorcode.get(fault.errno, "EIO"))
 
 
 def quietly(words: List[str]) -> int:

@@ -21,6 +21,8 @@ class Batch:
         self.answers, self.refused = None, None
         # The rules that have allowed its lines. They are looked at again if others are in force when it is carried out.
         self.rules = rules
+        # Whether it was refused and has a line `merge`.
+        self.may_merge = False
         # What its lines count for among all that is held.
         self.held = 0
         # It is tried by itself first if one of the last batches of its planner had others carried out again.
@@ -37,6 +39,7 @@ class Batch:
         """Notes the refused line, and forgets all lines."""
         if self.refused is None:
             self.refused = place, answer
+            self.may_merge = any(it.startswith(b"merge ") for it in self.lines)
             self.lines, self.bytes, self.seen, self.answers = [], 0, {}, None
 
     def refuse_if_open(self, answer: bytes) -> None:

@@ -1,7 +1,6 @@
 """Batches of lines over one store. Each takes effect as a whole or not at all, and is durable before it is answered. Batches that
 wait together share a commit."""
 import errno
-import os
 import time
 from typing import Callable, Iterable, List, NamedTuple, Optional, Tuple
 
@@ -199,9 +198,8 @@ class Batches:
             begun = time.monotonic()
             last = self.journal.next + len(batches) - 1
             lines = [line for batch in batches for line in batch.lines]
-            stamp = [b"drop " + OWN, b"new %s top" % OWN, b"checkpoint %s %d" % (OWN, last)]
             self.sent = batches
-            answers = self.store.program.ask(lines + stamp)
+            answers = self.store.program.ask(lines + stamp_of(last))
             fault = next((it for it in answers[len(lines) :] if it != b"ok"), None)
             entries = self.store.entries.copy()
             done = self._judged(batches, answers, entries) if fault is None else None
@@ -295,6 +293,11 @@ class Batches:
         for path, is_there in (self.store.file, self.store.is_in_place()), (self.path, self.journal.is_in_place()):
             if not is_there:
                 raise Fatal(f"{path} was moved, removed or replaced while the service was at work")
+
+
+def stamp_of(number: int) -> List[bytes]:
+    """The lines that put the number of the last batch into the store."""
+    return [b"drop " + OWN, b"new %s top" % OWN, b"checkpoint %s %d" % (OWN, number)]
 
 
 def open_ones(batches: Iterable[Batch]) -> List[Batch]:

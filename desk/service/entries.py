@@ -7,6 +7,7 @@ from typing import Dict, List, NamedTuple, Optional, Set, Tuple
 from service.batch import Batch
 from service.last_changes import changed_by
 from service.limits import refusal
+from service.lines import word
 
 # The makers by the names of alternatives and checkpoints.
 Makers = Dict[str, Dict[str, str]]
@@ -64,9 +65,10 @@ class Entries:
     def _take(self, verb: bytes, words: List[bytes], person, rules) -> Optional[bytes]:
         if verb == b"post":
             return rules.refusal_of_post(person, words[0], self.parents[words[0]])
-        self.note(verb, words, person.name)
+        who = word(person.name)
+        self.note(verb, words, who)
         most = rules.most_entries(person) if verb in (b"new", b"checkpoint") else None
-        return None if most is None or self.counts[person.name] <= most else refusal(102, most)
+        return None if most is None or self.counts[who] <= most else refusal(102, most)
 
     def note(self, verb: bytes, words: List[bytes], who: str) -> None:
         """Notes what somebody's line has made or removed."""

@@ -3,7 +3,6 @@
 The line of a batch is synced before its commit is asked for, and `done` follows the commit. `opened` is written whenever the
 program has been started. It names the last batch in the store: of the batches above it, those with higher numbers are not in the
 store. So journal and store agree wherever a crash came."""
-import json
 import os
 import re
 import time

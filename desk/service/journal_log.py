@@ -8,6 +8,7 @@ from typing import Iterable, Iterator, List, NamedTuple, Optional, Tuple
 
 from service.journal import DONE, OPENED, PART, line_feed_before
 from service.journal_index import HEADS, OPENINGS, OVERLAP, PORTION, WIDE, WIDE_VERBS, Index, Part, part_end, pieces, places, record_key
+from service.lines import word
 
 STRING = re.compile(rb'"([^"\\]*(?:\\.[^"\\]*)*)"(,|\]\}\n)')
 # No head of a batch is longer.
@@ -231,7 +232,7 @@ def next_head(text: bytes, at: int, wanted: Filter, ranges) -> Optional[Head]:
             continue
         names = [it.strip(b'"') for it in found["alternatives"].split(b",")]
         if alternative is None or alternative in names:
-            return Head(number, found["time"], who, found["uid"], names, found.end())
+            return Head(number, found["time"], word(who.decode("utf-8")).encode("ascii"), found["uid"], names, found.end())
     return None
 
 

@@ -90,3 +90,8 @@ def names_own(words: List[bytes]) -> bool:
 def printable(line: bytes) -> str:
     """A line for the program as text. Bytes that are not printable, which only a value can have, are written with `%`."""
     return re.sub(rb"[^ -~]", lambda it: b"%%%02X" % it[0][0], line.removesuffix(b"\r")).decode("ascii")
+
+
+def word(text: str) -> str:
+    """A name or a rule as one word: other bytes are written as in a value."""
+    return re.sub(rb"[^!-~]|%", lambda it: b"%%%02X" % it[0][0], text.encode("utf-8", "surrogateescape")).decode("ascii")

@@ -26,7 +26,7 @@ from typing import List, NamedTuple, Optional
 
 from service import limits
 from service.limits import refusal
-from service.lines import OF_THE_STORE, OWN, RIGHTS, alternative_of, names_own
+from service.lines import OF_THE_STORE, OWN, RIGHTS, alternative_of, names_own, word
 
 OF_ALTERNATIVES = {"change", "new", "post", "drop"}
 TOP = b"top"
@@ -56,11 +56,6 @@ def group_name(gid):
         return grp.getgrgid(gid).gr_name
     except KeyError:
         return str(gid)
-
-
-def printed(letter):
-    """A letter of a rule as it is told: as in a value, so that it is part of a word."""
-    return letter if "!" <= letter <= "}" and letter != "%" or letter == "~" else "".join(f"%{it:02X}" for it in letter.encode())
 
 
 class Unreadable(Exception):
@@ -122,7 +117,7 @@ class Rules:
         matching = [it for it in rule if fnmatch.fnmatchcase(name, it)]
         if any(has(person, rule[it]) for it in matching):
             return None
-        return right, "".join(map(printed, (matching or ["~"])[0]))
+        return right, word(matching[0]) if matching else "~"
 
     def refusal_of(self, person, words, parents) -> Optional[bytes]:
         """Why a person may not make a change, or None. `parents` are those of the alternatives that are known."""

@@ -2,7 +2,6 @@
 
 It is a single thread. While the program is at work, lines of other planners wait in their sockets, and form the next group. In
 each round every planner has a turn, and whoever was served goes to the end."""
-import os
 import selectors
 import socket
 import time
@@ -10,7 +9,7 @@ from collections import Counter, deque
 from typing import Callable, Dict, List, Optional, Tuple
 
 from service import limits
-from service.backups import NAME, Backups
+from service.backups import NAME, Backups, Copy, refused
 from service.batch import Batch
 from service.batches import Batches
 from service.journal_log import filter_of
@@ -43,6 +42,9 @@ class Server:
         self.users, self.planners = Users(), {}
         # Planners with requests, with lines that are not looked at yet, with answers to be sent, and with a log, each in turns.
         self.waiting, self.unseen, self.touched, self.logs = {}, {}, {}, deque()
+        # The backup that is under way, and those that are wanted, this one first.
+        self.copy: Optional[Copy] = None
+        self.wanted = deque()
         # Until this time the next group may wait for this many planners.
         self.expected, self.gathers_until = 0, 0.0
         self.is_listening, self.begun = False, time.monotonic()
@@ -212,12 +214,12 @@ class Server:
         """Carries out small batches and commits them together. There are as many as take about as long as their commit."""
         least, most = limits.GROUP_LINES
         lines = min(max(least, int(self.batches.commit_seconds / self.batches.line_seconds)), most)
-        group = self._in_turns(is_small, limits.GROUP, lines)
+        group = self._in_turns(is_small, limits.GROUP, lines) if self._may_commit() else []
         if not group:
             return
         begun = time.monotonic()
         try:
-            self.batches.carry_out([batch for _, batch in group])
+            self._carry_out([batch for _, batch in group])
         finally:
             for planner, batch in group:
                 planner.settled(batch)
@@ -228,10 +230,12 @@ class Server:
 
     def _carry_out_long(self) -> None:
         """Carries out one request that does not belong in a group."""
-        for planner, request in self._in_turns(lambda it: not is_short(it) and not is_small(it), 1, 1):
+        may_commit = self._may_commit()
+        fits = lambda it: not is_short(it) and not is_small(it) and (may_commit or not isinstance(it, Batch))  # noqa: E731
+        for planner, request in self._in_turns(fits, 1, 1):
             if isinstance(request, Batch):
                 try:
-                    self.batches.carry_out([request])
+                    self._carry_out([request])
                 finally:
                     planner.settled(request)
             elif isinstance(request, Query):
@@ -253,8 +257,12 @@ class Server:
             self._begin_log(planner, others)
         elif verb == b"backup" and len(others) == 1 and NAME.fullmatch(others[0]):
             denial = self.rules.denial(person, "backup")
-            answer = self.backups.make(others[0].decode()) if denial is None else refusal(90, *denial)
-            planner.answer(answer + b"\n")
+            if denial is not None:
+                planner.answer(refusal(90, *denial) + b"\n")
+            else:
+                planner.job = self.wanted
+                self.wanted.append((planner, others[0].decode()))
+                self._begin_backup()
         else:
             planner.answer(BAD_LINE + b"\n")
 
@@ -286,6 +294,38 @@ class Server:
             "memory_bytes": memory(),
             "up_seconds": now - self.begun,
         }
+
+    # --- backups ----------------------------------------------------------------------------------
+
+    def _begin_backup(self) -> None:
+        """Begins the next backup that is wanted, if none is under way."""
+        while self.wanted and self.copy is None:
+            planner, name = self.wanted[0]
+            try:
+                self.copy = self.backups.begin(name)
+                self.selector.register(self.copy.end, selectors.EVENT_READ, self._end_backup)
+            except OSError as fault:
+                self._answer_backup(refused(fault))
+
+    def _end_backup(self, _events: int) -> None:
+        copy, self.copy = self.copy, None
+        self.selector.unregister(copy.end)
+        self._answer_backup(copy.finish(self.backups.copy_alone))
+        self._begin_backup()
+
+    def _answer_backup(self, answer: bytes) -> None:
+        planner, _ = self.wanted.popleft()
+        planner.job = None
+        planner.answer(answer + b"\n")
+
+    def _may_commit(self) -> bool:
+        return self.copy is None or self.copy.may_commit()
+
+    def _carry_out(self, batches: List[Batch]) -> None:
+        commits = self.batches.commits.count
+        self.batches.carry_out(batches)
+        if self.copy is not None:
+            self.copy.note(batches, self.batches.commits.count - commits)
 
     # --- the journal ------------------------------------------------------------------------------
 
@@ -333,6 +373,10 @@ class Server:
     def refuse_waiting(self) -> None:
         """Refuses requests that wait, as many as there is time for; none of them was begun."""
         until = time.monotonic() + END_SECONDS
+        if self.copy is not None:
+            self.copy.stop()
+        while self.wanted:
+            self._answer_backup(refusal(99))
         for planner in list(self.planners):
             planner.job = None
             if planner.first is None and planner.is_exhausted() and not planner.has_ended:

@@ -30,6 +30,8 @@ class Store:
         self.file, self.altctl, self.lock, self.say = file, altctl, lock, say
         self.words = [altctl, "run", *options, "--", file]
         self.entries, self.kept, self.has_rollback = Entries(), 0, False
+        # How often the program was started.
+        self.starts = 0
         self.program = self._start()
 
     # --- the program ------------------------------------------------------------------------------
@@ -41,7 +43,7 @@ class Store:
         except OSError as fault:
             raise Fatal(f"it could not be synced: {fault}. The next start shows what the device has") from None
         for _ in range(TRIES):
-            self.program = self._started()
+            self.program, self.starts = self._started(), self.starts + 1
             try:
                 self.has_rollback = self.program.ask([b"rollback"]) == [b"ok"]
                 self._look()

@@ -175,7 +175,8 @@ class ServiceTest(unittest.TestCase):
 
     def program(self):
         """The process of the program that the service has started."""
-        [child] = Path(f"/proc/{self.service.pid}/task/{self.service.pid}/children").read_text().split()
+        children = Path(f"/proc/{self.service.pid}/task/{self.service.pid}/children").read_text().split()
+        [child] = [it for it in children if b"\0run\0" in Path(f"/proc/{it}/cmdline").read_bytes()]
         return int(child)
 
     @contextlib.contextmanager

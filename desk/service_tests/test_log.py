@@ -4,7 +4,6 @@ import os
 import random
 import subprocess
 import sys
-import time
 import unittest
 from pathlib import Path
 
@@ -30,7 +29,8 @@ def wanted(path, planner=None, alternative=None, record=None, last=None, after=0
                 continue
             names = verb in ("put", "remove") and f"{int(words[1])}:{int(words[2])}" == record
             if record is None or names or verb in WIDE:
-                found.append(f"entry {batch['batch']} {batch['time']} {batch['who']} {line}")
+                who = batch["who"].replace("\u00fc", "%C3%BC")
+                found.append(f"entry {batch['batch']} {batch['time']} {who} {line}")
     return found if last is None else found[len(found) - min(last, len(found)) :]
 
 
