@@ -66,7 +66,8 @@ def box_of(value):
             found = bounds_of(value)
         except Bad:
             return None
-        return found and (found[0], found[2], found[1], found[3])
+        is_near = found and max(map(abs, found)) <= FARTHEST
+        return (found[0], found[2], found[1], found[3]) if is_near else None
     geometry = parsed(value) if value else None
     if geometry is None:
         return None

@@ -1087,6 +1087,8 @@ class LookingTests(PlanningTest):
         # On the paper 40 m are 80 mm: by what the page has there, 96 pixels being an inch.
         across = (self.pixel(browser, self.chamber(2))[0] - self.pixel(browser, self.chamber(1))[0]) * 25.4 / 96
         self.assertLess(abs(across - 80), 0.6)
+        browser.size(1070, 790)
+        browser.run("scrollTo(0, 0)")
         browser.picture("desk-print")
         browser.click("#print-leave")
         browser.until(lambda: browser.all("#tree button")[0].is_displayed())

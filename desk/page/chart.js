@@ -33,7 +33,7 @@ export function makeMap({ bounds, aspect, metres }) {
 }
 
 export const corners = ([west, south, east, north]) => [[south, west], [north, east]];
-export const whole = (bounds) => map.fitBounds(corners(bounds || [0, 0, 1, 1]), { animate: false });
+export const whole = (bounds) => map.fitBounds(corners(bounds || [0, 0, 1, 1]), { animate: false, padding: [20, 20] });
 export const zoomTo = (bounds) => bounds && map.fitBounds(L.latLngBounds(corners(bounds)).pad(0.4), { animate: false });
 
 export function showMap() {
@@ -54,8 +54,9 @@ export async function showWindow() {
   const drawn = L.geoJSON(told, {
     style: (feature) => styleOf(feature.properties),
     pointToLayer: (feature, at) => pointOf(feature.properties, at),
-    onEachFeature: ({ properties: { label } }, layer) => {
-      if (hasLabels && label) layer.bindTooltip(label, { permanent: true, direction: "center", className: "label" });
+    onEachFeature: ({ properties: { label }, geometry }, layer) => {
+      const place = geometry?.type === "Point" ? { direction: "right", offset: [6, 0] } : { direction: "center" };
+      if (hasLabels && label) layer.bindTooltip(label, { permanent: true, className: "label", ...place });
     },
   });
   features?.remove();
@@ -99,7 +100,7 @@ export function showScale() {
   const text = length < 1000 ? `${length} m` : `${length / 1000} km`;
   const bar = make("span", { class: "bar" }, text);
   bar.style.width = `${length / (number * PIXEL)}px`;
-  fill($("scale"), bar, make("span", {}, `1 : ${Math.round(number).toLocaleString("en")}`));
+  fill($("scale"), bar, make("span", {}, `1 : ${Number(number.toPrecision(3)).toLocaleString("en")}`));
 }
 
 function showPlace({ lng, lat }) {

@@ -9,8 +9,7 @@ import { redo, split, undo } from "./steps.js";
 
 const PEN = { color: "#CC79A7", weight: 4, opacity: 1, interactive: false };
 const SNAPS = ["a chamber or point", "an end", "a bend", "a line"];
-const HELP = "Click, or press Enter, to set a point at the cross; arrows move the map, with Shift in small steps. " +
-  "Backspace takes the last one back, a double click or F ends, Escape cancels.";
+const HELP = "Click, or Enter at the cross, sets a point; Backspace takes one back; a double click or F ends; Escape cancels.";
 const NUDGE = { ArrowLeft: [-1, 0], ArrowRight: [1, 0], ArrowUp: [0, -1], ArrowDown: [0, 1] };
 let mode = null; // what the tool does: draw, split or move
 let layer, points, course, sketch, handles;

@@ -61,7 +61,14 @@ export function pointOf(properties, at) {
   return L.marker(at, { icon, keyboard: false });
 }
 
-export const drawnAs = (look) => ({ color: look.colour, weight: look.width, dashArray: DASHES[look.pattern] });
+// A layer as the map draws it, for lists and the legend: its symbol if it has points, else a line.
+export function sampleOf({ geometry, style }, look = {}) {
+  const its = { ...style, ...look };
+  if (!/Point/.test(geometry)) return sample({ color: its.colour, weight: its.width, dashArray: DASHES[its.pattern] });
+  const shape = SYMBOLS[its.symbol](5);
+  for (const [name, value] of Object.entries({ fill: its.colour, transform: "translate(22 6)" })) shape.setAttribute(name, value);
+  return svg("svg", { "aria-hidden": "true", viewBox: "0 0 44 12" }, shape);
+}
 
 // --- the list of layers ---------------------------------------------------------------------------
 
@@ -69,7 +76,7 @@ export const drawnAs = (look) => ({ color: look.colour, weight: look.width, dash
 export function showLayers(drawn = []) {
   const counts = new Map(drawn.map((it) => [it.table, it]));
   fill($("layers"), ...desk.design.layers.map((layer) => {
-    const { table, name, style } = layer;
+    const { table, name } = layer;
     const toggle = () => {
       if (!off.delete(table)) off.add(table);
       sessionStorage.setItem("off", JSON.stringify([...off]));
@@ -78,7 +85,7 @@ export function showLayers(drawn = []) {
     const box = make("input", { type: "checkbox", id: `layer-${table}`, checked: !off.has(table), onchange: toggle });
     const change = button(`style-${table}`, "Style", () => trying(() => showStyle(layer)), { "aria-label": `Style of ${name}` });
     const count = counts.get(table);
-    return make("li", {}, make("label", {}, box, " ", sample(drawnAs(style)), name), change, make("small", {}, about(layer, count)));
+    return make("li", {}, make("label", {}, box, " ", sampleOf(layer), name), change, make("small", {}, about(layer, count)));
   }));
 }
 

@@ -103,9 +103,10 @@ class Copy:
         self.is_open = self.before is not None and count - self.before > READ_BYTES
         return self.is_open
 
-    def note(self, batches: Iterable[Batch]) -> None:
-        """Notes that batches were carried out."""
-        self.commits += 1
+    def note(self, batches: Iterable[Batch], commits: int) -> None:
+        """Notes that batches were carried out, by so many commits: those that could not share one have one each."""
+        self.is_spoiled = self.is_spoiled or self.commits == 0 and commits > 1 and not self.is_open
+        self.commits += commits
         changed = 0
         for batch in batches:
             for line, answer in zip(batch.lines, batch.answers or []):

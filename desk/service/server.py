@@ -322,9 +322,10 @@ class Server:
         return self.copy is None or self.copy.may_commit()
 
     def _carry_out(self, batches: List[Batch]) -> None:
+        commits = self.batches.commits.count
         self.batches.carry_out(batches)
         if self.copy is not None:
-            self.copy.note(batches)
+            self.copy.note(batches, self.batches.commits.count - commits)
 
     # --- the journal ------------------------------------------------------------------------------
 

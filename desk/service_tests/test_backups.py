@@ -4,7 +4,10 @@ import subprocess
 import sys
 import threading
 from pathlib import Path
+from unittest import mock
 
+from service import backups
+from service.backups import Copy
 from service_tests.support import ALTCTL, LONG, ServiceTest
 
 # A program whose copy ends only once there is a file `go`. It notes each copy, and reads the store itself first, as a program would.
@@ -129,3 +132,12 @@ class BackupTests(ServiceTest):
             is_over.set()
             for it in writers:
                 it.join()
+
+    def test_several_commits_before_the_slot_is_read(self):
+        for commits, is_open, spoils in ([1], False, False), ([2], False, True), ([2], True, False), ([1, 2], True, False):
+            copy = Copy.__new__(Copy)
+            copy.store, copy.free, copy.commits, copy.is_spoiled, copy.is_open = None, 1000, 0, False, is_open
+            with mock.patch.object(backups, "free_blocks", return_value=1000):
+                for it in commits:
+                    copy.note([], it)
+            self.assertEqual((sum(commits), spoils), (copy.commits, copy.is_spoiled), (commits, is_open))

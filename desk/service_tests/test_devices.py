@@ -1,5 +1,4 @@
 """The device fails, or the program ends, at the worst moment."""
-import json
 import os
 import signal
 import sys
@@ -83,7 +82,7 @@ class DeviceTests(ServiceTest):
             if self.service is None:
                 self.start("--program", str(self.faulty))
             number = len(self.records_now()) + 1
-            with self.planner() as one, self.planner() as other:
+            with self.planner() as one, self.planner():
                 self.fail(what)
                 one.send("begin", f"put top 1 {number} a", "commit")
                 self.assertEqual(["ok", "error 91 NotDone 2", "error 101 Unsure"], one.read(3), what)

@@ -6,7 +6,6 @@ import socket
 import subprocess
 import time
 
-from service import limits
 from service_tests.support import ALTCTL, LONG, ServiceTest
 
 

@@ -7,7 +7,7 @@ import subprocess
 import unittest
 from pathlib import Path
 
-from service_tests.support import LONG, ServiceTest, entries, kept_batches
+from service_tests.support import LONG, ServiceTest, entries
 
 
 class JournalTests(ServiceTest):

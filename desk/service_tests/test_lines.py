@@ -1,7 +1,6 @@
 """Tests of the service: lines."""
 import os
 import signal
-import socket
 import subprocess
 import unittest
 

@@ -2,7 +2,6 @@
 import grp
 import os
 import signal
-import sys
 import time
 import unittest
 

@@ -1,7 +1,6 @@
 """What the service tells about itself."""
 import os
 import re
-import signal
 import subprocess
 import sys
 import time

@@ -54,15 +54,21 @@ class History:
         return found
 
     def fault(self, top):
-        """What is wrong with the records that `top` shows in the end, or None. Two people who settle the same at the
-        same time may each keep what the other gives up: then it is settled once more, and either may be there."""
+        """What is wrong with the records that `top` shows in the end, or None. Each value that was put is there, or
+        what is there supersedes it, or a removal does. No removal supersedes what is there, unless that supersedes it, too:
+        two people who settle the same at the same time may each keep what the other gives up, and then either may be
+        there. Two removals are one change, and to put and to remove again is none, so a removal need not be superseded.
+        """
         for key, known in self.changes.items():
-            shown = self.seen(key, top.get(key))
+            shown, removals = self.seen(key, top.get(key)), self.seen(key, None)
             if not shown or not shown <= known.keys():
                 return f"{key} is {top.get(key)}, and nobody put that"
-            lost = known.keys() - self.superseded(key, shown) - shown
+            lost = known.keys() - self.superseded(key, shown | removals) - shown - removals
             if lost:
                 return f"{key} is {top.get(key)}, and nothing there supersedes {lost}: {known}"
+            later = removals - shown - self.superseded(key, shown)
+            if shown & self.superseded(key, later):
+                return f"{key} is {top.get(key)}, which was removed by {later}: {known}"
         for key in top.keys() - self.changes.keys():
             return f"{key} was put by nobody"
         return None
