@@ -252,6 +252,23 @@ class BringingTests(AltgisCase):
             it.join(120)
         self.assertEqual(list(range(1, 20001, 1000)), sorted(found))
 
+    def test_a_clone_gives_only_the_numbers_of_its_range(self):
+        """Also when its alternative for numbers is made anew, as after an import into top."""
+        self.create(64)
+        with Store(self.store, ALTCTL) as store:
+            store.new(numbers.OWN, "top")
+            store.put(numbers.OWN, numbers.STATE, 1, b'{"7": 5001}')
+            store.put(numbers.OWN, numbers.ENDS, 0, b'{"7": 5011}')
+            store.commit()
+            self.assertEqual(range(5001, 5009), numbers.take(store, 7, 8, False))
+            with self.assertRaisesRegex(maps.Fault, "altcarry pull --numbers 7"):
+                numbers.take(store, 7, 3, False)
+            numbers.renew(store, False)
+            self.assertEqual(range(5009, 5011), numbers.take(store, 7, 2, False))
+            with self.assertRaisesRegex(maps.Fault, "altcarry pull --numbers 7"):
+                numbers.take(store, 7, 1, False)
+            self.assertEqual(range(1, 1001), numbers.take(store, 8, 1, False))
+
     def test_through_a_service(self):
         """An import that is full and grows, numbers, and a merge by field."""
         self.create(128)
