@@ -58,7 +58,6 @@ if [ -n "$quick" ]; then
     try 600 faults/crashes.py -n 1
     try 600 ../desk/test_altserve.py StoreTests
     try 600 faults/kill_service.py "$tools/../altctl" 2
-    try 600 faults/travels.py "$tools/../altctl" 10 --worlds 5
 else
     # Over the libraries that are proved for the program. Without it the tests of the store in memory are skipped.
     if has_rt libaltstore; then
