@@ -304,7 +304,7 @@ class SafetyTests(AltgisCase):
         def show(store):
             """What the desk shows of the design: those on the map, and of each bad one its record."""
             design = designs.Design(store, "top", None, lambda table: None)
-            shown = [it["properties"]["number"] for it in design.window(-9e37, -9e37, 9e37, 9e37)["features"]]
+            shown = [it["properties"]["number"] for it in design.window((-9e37, -9e37, 9e37, 9e37))["features"]]
             return shown, [design.sides(key if key[0] == 7 else (7, key[1]), "top") for key in bad]
 
         shown, sides = self.ask(show)
@@ -312,6 +312,9 @@ class SafetyTests(AltgisCase):
         for key, side in zip(bad, sides):
             self.assertIsNone(side["course"])
             if key[0] == 7 and 200 <= key[1] < 2**63 and bad[key] != b'{"dn":"wide"}':
-                self.assertEqual({"value": bad[key].decode("utf-8", "backslashreplace")}, side["attributes"])
+                # Of a value that cannot be put together the desk says why.
+                is_head = bad[key].startswith(b"long ")
+                due = {} if is_head else {"value": bad[key].decode("utf-8", "backslashreplace")}
+                self.assertEqual((due, is_head), (side["attributes"], bool(side["bad"])), key)
         whole = ogr.CreateGeometryFromWkb(LINE)
         self.assertEqual(whole.ExportToWkt(), places.parsed(LINE).ExportToWkt())

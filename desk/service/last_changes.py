@@ -10,8 +10,8 @@ MOST = 50_000
 
 
 class LastChanges:
-    """Of alternatives that are not followed it is only known that no batch above a number has changed them. In the beginning that
-    is the last batch in the store."""
+    """Of alternatives that are not followed it is only known that no batch above a number has changed them. In the
+    beginning that is the last batch in the store."""
 
     def __init__(self, kept: int):
         self.followed_since = kept
@@ -26,8 +26,8 @@ class LastChanges:
             self.followed_since = self.batches.pop(next(iter(self.batches)))
 
     def refusal_of(self, batch: Batch, kept: int) -> Optional[bytes]:
-        """Why a batch is refused if the store is at batch `kept`: an alternative has changed since its planner saw it. Nobody can
-        have seen a later batch than that, unless the file was replaced by an older one."""
+        """Why a batch is refused if the store is at batch `kept`: an alternative has changed since its planner saw it.
+        Nobody can have seen a later batch than that, unless the file was replaced by an older one."""
         for name, seen in batch.seen.items():
             changed = self.batches.get(name, self.followed_since)
             if not changed <= seen <= kept:
@@ -44,8 +44,8 @@ def changed_by(verb: bytes, words: List[bytes], parents: Dict[bytes, bytes]) -> 
 
 
 def independent(batches: List[Batch], parents: Dict[bytes, bytes]) -> List[Batch]:
-    """Batches that may share a commit: all but those that depend on an alternative which an earlier one may change, as only the
-    commit shows whether it does, and what the same planners sent after those."""
+    """Batches that may share a commit: all but those that depend on an alternative which an earlier one may change, as
+    only the commit shows whether it does, and what the same planners sent after those."""
     if not any(it.seen for it in batches):
         return batches
     parents, changed, late, found = dict(parents), set(), set(), []

@@ -169,5 +169,6 @@ class LastChangesTests(unittest.TestCase):
 
     def test_batches_of_one_planner_stay_in_order(self):
         source = object()
-        batches = [self.batch("put a 7 1 x"), self.batch("put b 7 1 x", source=source, a=1), self.batch("put c 7 1 x", source=source)]
+        batches = [self.batch("put a 7 1 x"), self.batch("put b 7 1 x", source=source, a=1)]
+        batches.append(self.batch("put c 7 1 x", source=source))
         self.assertEqual(batches[:1], independent(batches, {}))
