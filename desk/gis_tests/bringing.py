@@ -10,13 +10,15 @@ import threading
 import time
 from pathlib import Path
 
-from gis_tests.cases import ALTCTL, DESK, DUCTS, THREE, AltgisCase, change, field, program, write
+from gis_tests.cases import ALTCTL, DESK, DUCTS, THREE, AltgisCase, change, field, write
 from osgeo import gdal, ogr
 
 import designs
+import joining
 import maps
 from altctl import Refusal, Store
 from maps import Fields, numbers, types
+from values import typed
 
 POINT = "POINT (1 2)"
 
@@ -170,8 +172,8 @@ class BringingTests(AltgisCase):
             ("Integer", "4000000000"),
             ("Binary", "x"),
         ):
-            self.assertRaises(maps.Fault, designs.typed, text, one(kind), None)
-        self.assertIsNone(designs.typed("", one("Date"), None))
+            self.assertRaises(maps.Fault, typed, text, one(kind), None)
+        self.assertIsNone(typed("", one("Date"), None))
         kinds = {it: getattr(ogr, f"OFT{it}") for it in good}
         write(self.file("a.gpkg"), "a", [field("x", ogr.OFTString)], [])
         for table, (kind, value) in enumerate(good.items(), 1):
@@ -304,11 +306,6 @@ class BringingTests(AltgisCase):
 
     def test_the_desk_merges_by_field(self):
         """What both sides changed in other fields needs no choice; a choice is for a record's clashes alone."""
-        try:
-            import aiohttp  # noqa: F401
-        except ImportError:
-            self.skipTest("aiohttp is not there (apt install python3-aiohttp)")
-        desk = program("altdesk")
         write(self.file("a.gpkg"), "ducts", DUCTS, points(3))
         self.bring(self.file("a.gpkg"), "ducts")
         with Store(self.service()) as store:
@@ -319,9 +316,10 @@ class BringingTests(AltgisCase):
                     store.put(alt, 7, number, fields.packed({"dn": dn, "mat": mat}))
             seen = designs.Designs(store)
             seen.refresh()
+            conflicts = seen.design("north").conflicts
             with self.assertRaisesRegex(maps.Fault, "1 conflicts have no choice yet"):
-                desk.merge(seen, "north", {"choices": {}})
-            desk.merge(seen, "north", {"choices": {"7:2": "mine"}})
+                joining.merge(store, "north", conflicts, {}, None, store.batch)
+            joining.merge(store, "north", conflicts, {(7, 2): "mine"}, None, store.batch)
             found = [fields.named(store.get("north", 7, it)) for it in (1, 2)]
         self.assertEqual([{"dn": 5, "mat": "clay"}, {"dn": 6, "mat": "steel"}], found)
 
