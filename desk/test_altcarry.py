@@ -406,7 +406,7 @@ class PushTests(CarryTest):
     def test_a_design_that_was_merged_here_is_so_at_head(self):
         self.do(self.head, "put top 7 1 top", "put top 7 2 top", "put top 7 3 top")
         self.carry("pull", self.field)
-        # 7:1 is settled, and 7:2 goes back to what it was: neither is to be a conflict or to be lost at HEAD.
+        # 7:1 is settled, and 7:2 goes back to what it was: neither may be a conflict, or be lost, at HEAD.
         self.do(self.field, "merge north 7:1=mine", "put north 7 2 pipe", "put north 7 4 field")
         self.do(self.head, "put top 7 9 later")
         self.carry("push", self.field, "north")

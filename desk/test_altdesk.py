@@ -210,7 +210,7 @@ class Browser:
             write_small(self.driver.get_screenshot_as_png(), str(PICTURES / f"{name}.png"))
 
     def faults(self):
-        """What the console tells but for answers of the server that are no 200, which tests look for themselves."""
+        """What the console tells, except answers of the server that are no 200, which tests look for themselves."""
         said = [it["message"] for it in self.driver.get_log("browser")]
         return [it for it in said if "Failed to load resource" not in it]
 
@@ -1016,7 +1016,7 @@ class LookingTests(PlanningTest):
             for alt, values in (("north", dict(dn=125, mat="HDPE")), ("top", dict(dn=110, mat="PE"))):
                 store.put(alt, 7, 5, attributes(**values))
             store.put("top", 107, 5, bend)
-            # Here each side has changed another field, so nothing is to be chosen.
+            # Here each side has changed another field, so there is nothing to choose.
             store.put("north", 7, 6, attributes(dn=125, mat="PVC"))
             store.put("top", 7, 6, attributes(dn=110, mat="PE"))
             store.commit()

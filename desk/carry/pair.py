@@ -111,7 +111,7 @@ class Pair:
             batch.add("checkpoint", office, it)
 
     def tidy(self) -> None:
-        """Removes at HEAD what an earlier step has left there, but for the marks that the clone has."""
+        """Removes at HEAD what an earlier step has left there, except the marks that the clone has."""
         extra = self.there.extra(self.name, self.marks, self.token)
         if not extra and self.there.tokens == [self.token]:
             return
@@ -148,7 +148,7 @@ class Pair:
                 self.here.checks[it] = sorted({*self.here.checks.get(it, []), MINE})
 
     def set_base(self, batch: Batch, design: str, parent: str, rows: Dict) -> None:
-        """Names the base of a design in the clone: its parent's mark, but for these values. The parent stays put
+        """Names the base of a design in the clone: its parent's mark, except at these values. The parent stays put
         back."""
         batch.aside(parent, self.check(parent))
         batch.set(parent, rows)

@@ -16,7 +16,7 @@ CHANGED_BOTH = "{} was merged here, and changed or merged at HEAD meanwhile: pul
 
 
 class Push:
-    """A push of one design: `begin` notes in the clone what is to be sent, `send` sends it, and `end` notes that HEAD
+    """A push of one design: `begin` notes in the clone what will be sent, `send` sends it, and `end` notes that HEAD
     has it. The clone's settings tell of a push that was interrupted, and `send` can be done again: HEAD takes it
     once."""
 

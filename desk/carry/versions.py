@@ -52,10 +52,10 @@ def clashes(mine: Differences, theirs: Differences) -> List[Key]:
 
 
 class Rebase:
-    """How a design gets another base. It is at (`base`, `now`), and is to be at other ones: `base_rows` has what
-    differs from the old base to the new one, `rows` what differs from the present records to the ones that they are
-    to be, and `now` the present value at each key of `base_rows`. The merge that brings the new base in has the
-    settlements `settled`, all for the design's own side; after it, `rest` makes the records what they are to be."""
+    """How a design gets another base. `base_rows` has what differs from its old base to the new one, `rows` what
+    differs from its present records to those that it ends with, and `now` the present value at each key of `base_rows`.
+    The merge that brings the new base in has the settlements `settled`, all for the design's own side; after it, `rest`
+    makes the records what the design ends with."""
 
     def __init__(self, base_rows: Differences, rows: Differences, now: Dict[Key, Value]):
         self.settled, self.rest = {}, {}

@@ -105,7 +105,7 @@ class Import:
             raise Fault(f"table {table} has records, and they are no layer")
 
     def _layer(self, there):
-        """The layer as it is to be, with numbers for its fields and the links that were asked for."""
+        """The layer that the import leaves, with numbers for its fields and the links that were asked for."""
         new = {**self._source.described, "name": self.name}
         if there:
             new = (maps.replaced if self._words.sync else maps.joined)(maps.numbered(there), new)

@@ -1,6 +1,6 @@
 """Features of a GeoPackage written by SQL, many at once. GDAL has made the file and its layers before, and makes the
 index of places afterwards. A value that is not as its field says, and a geometry that has more than x and y, is left to
-GDAL: NotPlain tells that the file is to be written anew by it."""
+GDAL: NotPlain tells that GDAL has to write the file anew."""
 import functools
 import struct
 import sys

@@ -102,5 +102,5 @@ class Source:
 def id_of(text: str, field: Optional[str]) -> int:
     if not re.fullmatch(r"0|[1-9][0-9]{0,18}", text) or int(text) > MOST_ID:
         where = "as its fid" if field is None else f"in the field {field}"
-        raise Fault(f"an id is to be 0 to {MOST_ID}, and a feature has {text or 'none'} {where}")
+        raise Fault(f"an id must be 0 to {MOST_ID}, and a feature has {text or 'none'} {where}")
     return int(text)

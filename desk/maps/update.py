@@ -1,11 +1,11 @@
-"""What makes of the records that are there those that are to be."""
+"""What turns the records that are there into those that are wanted."""
 from typing import Callable, Optional
 
 from maps.records import GEOMETRY, MOST_PARTS, PARTS, Fault, first_part, part_keys, records_of, value_at
 
 
 class Update:
-    """What makes of the records that are there, `old`, those that are to be: records to put, and keys to remove. A
+    """What turns the records that are there, `old`, into those that are wanted: records to put, and keys to remove. A
     record that stays or changes is taken out of `old`. `firsts` has the FIRST / 1,000 of each longer value of the new
     map. Attributes of which `is_same` tells that they are the same, though written otherwise, stay as they are."""
 

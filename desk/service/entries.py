@@ -47,7 +47,7 @@ class Entries:
 
     def take(self, batch: Batch, answers: List[bytes], rules) -> Effect:
         """Takes in what a batch has changed. Only now is it known which parents its alternatives have, so a line may still need a
-        right that its planner lacks. What was taken in is to be dropped then."""
+        right that its planner lacks. The caller then drops what was taken in."""
         touched, records = set(), 0
         for place, (line, answer) in enumerate(zip(batch.lines, answers)):
             verb, *words = line.split(b" ", 3)

@@ -207,8 +207,9 @@ class SyncTests(ServiceTest):
             self.assertEqual(["ok"], one.ask("put top 1 3 a"))
         self.assertEqual(["1 put top 1 1 a", "3 put top 1 3 a"], self.log())
 
-    def test_the_journal_cannot_tell_that_the_program_was_started_again(self):
-        self.start_failing("fdatasync", True)
+    def stop_at_a_new_start(self, call, is_journals):
+        """Has a call fail from the moment on at which the program is killed: the service can't start it again, and ends."""
+        self.start_failing(call, is_journals)
         with self.planner() as one:
             self.assertEqual(["ok"], one.ask("put top 1 1 a"))
             Path(self.fault).touch()
@@ -216,14 +217,11 @@ class SyncTests(ServiceTest):
             self.assertEqual(["error 99 Stopped"], one.ask("put top 1 2 a"))
         self.assertEqual(3, self.ended())
 
+    def test_the_journal_cannot_tell_that_the_program_was_started_again(self):
+        self.stop_at_a_new_start("fdatasync", True)
+
     def test_the_store_cannot_be_synced_before_a_start_of_the_program(self):
-        self.start_failing("fsync", False)
-        with self.planner() as one:
-            self.assertEqual(["ok"], one.ask("put top 1 1 a"))
-            Path(self.fault).touch()
-            os.kill(self.program(), signal.SIGKILL)
-            self.assertEqual(["error 99 Stopped"], one.ask("put top 1 2 a"))
-        self.assertEqual(3, self.ended())
+        self.stop_at_a_new_start("fsync", False)
         self.assertIn("could not be synced", self.said.read_text())
 
     def test_each_start_of_the_program_sees_what_the_device_has(self):

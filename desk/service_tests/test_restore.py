@@ -15,7 +15,7 @@ class RestoreTests(ServiceTest):
         return subprocess.run(words, stdout=subprocess.PIPE, stderr=subprocess.PIPE, timeout=120, text=True)
 
     def shown(self, one):
-        """All that a store shows, but for the service's alternative."""
+        """All that a store shows, except the service's alternative."""
         rows = one.rows("alts")
         names = [it.split()[1] for it in rows[:-1] if it.split()[1] != ".service"]
         return {line: one.rows(line) for name in names for line in (f"list {name}", f"list {name}@", f"checks {name}") if line != "list top@"}
