@@ -11,12 +11,13 @@ import descriptions
 import maps
 import places
 from altctl import Refusal
+from carry.names import PREFIX
 from changes import Changes
 from design import Design
 from descriptions import Descriptions
 from finding import Finder
 from maps import numbers
-from news import MOST_LINES, Journal, News
+from news import MOST_LINES, STEP, Journal, News
 from numbering import Numbers
 from values import aspect_of, metres_of
 
@@ -26,6 +27,23 @@ MOST_MOVED = 1000  # features that lie elsewhere than the index says, before it 
 MOST_DESIGNS = 4  # that stay in memory
 MOST_CONFLICTS = 100  # on a page of them
 MOST_COMPARED = 1000  # features whose courses are drawn where two designs are compared
+
+
+def is_own(name):
+    """Whether an alternative is one that a program keeps for itself, or that of a field office or of an import."""
+    return name in OWN or name.startswith((PREFIX, maps.IMPORTS))
+
+
+def is_own_line(line):
+    """Whether a line of the journal is about such an alternative, or about a checkpoint that a program has set."""
+    verb, *words = line.split()
+    return bool(words) and (is_own(words[0]) or verb in ("checkpoint", "uncheck") and words[1].startswith("."))
+
+
+def without_steps(entries):
+    """The lines of the journal that people read. Of a pull or a push of a field office that is the one that names the office anew."""
+    steps = {it.batch for it in entries if it.line.startswith(STEP)}
+    return [it for it in entries if it.line.startswith(STEP) or it.batch not in steps and not is_own_line(it.line)]
 
 
 class Designs:
@@ -55,10 +73,12 @@ class Designs:
             return
         self.rows, self.batch = None, news.batch
         parents = {it.name: it.parent for it in self.store.alternatives()}
-        self.parents, self.has_index = {name: it for name, it in parents.items() if name not in OWN}, places.OWN in parents
+        self.parents, self.has_index = {name: it for name, it in parents.items() if not is_own(name)}, places.OWN in parents
         if not news.is_whole or not all(map(self._follow, news.entries)):
             self._forget(self.batch)
-        self.news = (self.news + news.entries)[-20:]
+        for it in without_steps(news.entries):
+            if not self.news or self.news[-1].line != it.line:
+                self.news = [*self.news, it][-20:]
 
     def _follow(self, entry):
         """Marks what a line has changed. False where that cannot be told."""
@@ -66,7 +86,9 @@ class Designs:
         if verb in ("grow", "reclaim"):
             return True
         alt = words[0]
-        if alt in OWN or (verb in ("checkpoint", "uncheck") and words[1] in OWN):
+        if verb == "post" and alt.startswith(maps.IMPORTS):
+            return False
+        if is_own_line(entry.line):
             if (verb, alt) == ("new", places.OWN):  # The index is made anew: where features lie is read again.
                 self.designs, self.indexes = {}, {}
             if alt == places.OWN:
@@ -146,7 +168,7 @@ class Designs:
 
         def add(name, depth):
             changed, conflicts = self._count(name)
-            checks = list(self.store.checkpoints(name))
+            checks = [it for it in self.store.checkpoints(name) if not it.startswith(".")]
             its = {"changed": changed, "conflicts": conflicts, "checkpoints": checks, "stamp": self.stamp(name)}
             its["about"] = self.about_designs.read(self.store).get(name, {})
             rows.append({"name": name, "parent": self.parents[name], "depth": depth, **its})

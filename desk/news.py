@@ -3,6 +3,7 @@ on a connection of its own, and shows what it knows until the rest has come."""
 from typing import NamedTuple
 
 MOST_LINES = 1000  # followed line by line
+STEP = "new .office."  # A line of each pull and push of a field office.
 
 
 class News(NamedTuple):
@@ -38,4 +39,6 @@ def told(entry):
     verb, *words = entry.line.split()
     what = " ".join(words[:3] if verb == "new" else words[:2] if verb in ("checkpoint", "uncheck", "back") else words[:1])
     text = {"put": f"edited {what}", "remove": f"removed from {what}"}.get(verb, f"{verb} {what}")
+    if entry.line.startswith(STEP):
+        text = f"the office {words[0].split('.')[2]} pulled or pushed"
     return {"batch": entry.batch, "time": entry.time, "planner": entry.planner, "text": text}

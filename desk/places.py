@@ -61,18 +61,27 @@ def parsed(value):
 
 def box_of(value):
     """The bounds of a geometry: west, south, east, north. None where it has none."""
-    if value and value[:1] == b"\1" and int.from_bytes(value[1:5], "little") in STRAIGHT:
+    if value and is_straight(value):
         try:
-            found = bounds_of(value)
+            return box_within(bounds_of(value))
         except Bad:
             return None
-        is_near = found and max(map(abs, found)) <= FARTHEST
-        return (found[0], found[2], found[1], found[3]) if is_near else None
     geometry = parsed(value) if value else None
     if geometry is None:
         return None
     west, east, south, north = geometry.GetEnvelope()
     return west, south, east, north
+
+
+def is_straight(value):
+    """Whether the bounds of a geometry are those of its points."""
+    return value[:1] == b"\1" and int.from_bytes(value[1:5], "little") in STRAIGHT
+
+
+def box_within(found):
+    """The bounds of points in the order of `box_of`, None where there are none or they are too far away."""
+    is_near = found and max(map(abs, found)) <= FARTHEST
+    return (found[0], found[2], found[1], found[3]) if is_near else None
 
 
 def union(boxes):
@@ -104,6 +113,23 @@ class Places:
         """The features in a window, their bounds, and about how many there are."""
         inside = touching(self.boxes, *window)
         return self.numbers[inside], self.boxes[inside], int(inside.sum())
+
+
+class Found:
+    """The bounds of the features of a table that are put, as they are found."""
+
+    def __init__(self):
+        self._numbers, self._boxes = array("Q"), array("d")
+
+    def add(self, number, value, bounds):
+        """Adds a feature by its geometry, the bounds of whose points are known, or None if it has none."""
+        box = value and (box_within(bounds) if is_straight(value) else box_of(value))
+        if box:
+            self._numbers.append(number)
+            self._boxes.extend(box)
+
+    def places(self):
+        return Places(self._numbers, self._boxes)
 
 
 class Index:
@@ -198,9 +224,9 @@ def spread(numbers):
     return spread
 
 
-def renew(store, is_service):
-    """Makes the index anew for what `top` shows, with the bounds that the old one knows. A checkpoint holds that state meanwhile,
-    as others may change it."""
+def renew(store, is_service, fresh=None):
+    """Makes the index anew for what `top` shows, with the bounds that the old one knows, and those of whole tables that `fresh`
+    has. A checkpoint holds that state meanwhile, as others may change it."""
     try:
         store.checkpoint("top", OWN)
     except Refusal as refusal:
@@ -211,7 +237,7 @@ def renew(store, is_service):
     is_there = OWN in {it.name for it in store.alternatives()}
     try:
         tables = maps.layers(store, f"top@{OWN}")
-        records = [it for table in tables for it in records_of(store, table, f"top@{OWN}", is_there)]
+        records = [it for table in tables for it in records_of(store, table, f"top@{OWN}", is_there, fresh or {})]
         with store.batch() if is_service else contextlib.nullcontext():
             if is_there:
                 store.drop(OWN)
@@ -225,19 +251,19 @@ def renew(store, is_service):
     store.commit()
 
 
-def records_of(store, table, mark, is_there):
+def records_of(store, table, mark, is_there, fresh):
     """The records of a table's index for a checkpoint of `top`."""
     known = Index(store, table) if is_there else None
-    if known is None or not len(known.pages):
-        fresh = scanned(store, mark, table)
-        numbers, boxes = fresh.numbers, fresh.boxes
+    if table in fresh or known is None or not len(known.pages):
+        whole = fresh.get(table) or scanned(store, mark, table)
+        numbers, boxes = whole.numbers, whole.boxes
     else:
         entries, others = known.read(numpy.arange(len(known.pages))), moved(store, OWN, mark, table)
         stay = ~numpy.isin(entries["number"], numpy.fromiter(others, "<u8", len(others)))
         stay &= (numpy.abs(entries["box"]) <= FARTHEST).all(axis=1)
-        fresh = Places.of(others)
-        numbers = numpy.concatenate([entries["number"][stay], fresh.numbers])
-        boxes = numpy.concatenate([entries["box"][stay].astype(float), fresh.boxes])
+        more = Places.of(others)
+        numbers = numpy.concatenate([entries["number"][stay], more.numbers])
+        boxes = numpy.concatenate([entries["box"][stay].astype(float), more.boxes])
     if not len(numbers):
         return
     for its_table, values in zip((PAGES + table, HEADS + table), packed(numbers, boxes)):

@@ -265,6 +265,36 @@ class PullTests(CarryTest):
         self.assertEqual(due, self.records(self.head, "north"))
         self.assertIn("north: same", self.carry("status", self.field))
 
+    def test_what_a_design_has_not_merged_is_not_read_again(self):
+        """Of a base that has not changed, a pull reads what lies between it and the nearer one of two known versions: here
+        the design has one change, or its parent has."""
+        read = []
+
+        def differ(pair, link, *pairs):
+            found = whole(pair, link, *pairs)
+            read.extend(len(rows) for rows in found if link is pair.head)
+            return found
+
+        whole = Pair.differ
+        self.do(self.head, "new wide top", *(f"put wide 7 {number} w" for number in range(100, 130)))
+        self.carry("pull", self.field, "wide")
+        self.do(self.head, *(f"put top 8 {number} t" for number in range(30)))
+        for number in range(3):
+            self.carry("pull", self.field)
+            self.do(self.head, f"put top 9 {number} t", f"put north 9 {number} n")
+            with unittest.mock.patch.object(Pair, "differ", differ), Link(self.field) as clone, Link(self.head) as head:
+                pulling.pull(Pair(clone, head, lambda text: None), [])
+            # `wide` has 30 changes, and has not merged 30: one of them is read, twice.
+            self.assertLess(sum(read), 2 * 30 + 2 * 2 * (number + 2) + 10, read)
+            read.clear()
+            for it in ("top", "north", "wide"):
+                self.assert_same(it)
+        # A base that moves is read anew.
+        self.do(self.head, "merge north all=mine", "put top 9 9 t")
+        self.carry("pull", self.field)
+        self.assert_same("north")
+        self.assertEqual(["tally 4 1 0 no"], self.ask(self.field, "tally north"))
+
     def test_a_second_conflict_makes_a_second_design(self):
         for _ in range(2):
             self.do(self.head, "put north 7 2 head")
@@ -774,7 +804,7 @@ class ServiceTests(CarryTest):
             self.assertEqual(getpass.getuser(), entry.planner)
 
     def test_an_office_that_may_not_post_leaves_a_design_at_head(self):
-        self.rule({"change": [".office.anna", "top", "north*"], "drop": [".office.anna", "north.*"]})
+        self.rule({"office": ["anna"], "change": ["north*"], "drop": ["north.*"]})
         socket_path = self.serve(self.head)
         self.carry("clone", socket_path, self.field, "north", "--office", "anna")
         self.do(self.field, "put north 7 3 field")
@@ -793,9 +823,7 @@ class ServiceTests(CarryTest):
         Path(f"{self.head}.rules").write_text(text)
 
     def test_the_rights_that_an_office_needs(self):
-        self.rule(
-            {"change": [".office.anna", "top", "north*"], "drop": [".office.anna", "north.*"], "post": ["north*"]}
-        )
+        self.rule({"office": ["anna"], "change": ["north*"], "drop": ["north.*"], "post": ["north*"]})
         socket_path = self.serve(self.head)
         self.carry("clone", socket_path, self.field, "north", "--office", "anna")
         self.do(self.field, "put north 7 3 field")
@@ -808,6 +836,24 @@ class ServiceTests(CarryTest):
         self.stop(self.head)
         self.assert_same("north")
         self.assertIn("north2", self.designs(self.head))
+
+    def test_who_has_an_office_alone_pulls_and_does_not_push(self):
+        self.rule({"office": ["anna"]})
+        socket_path = self.serve(self.head)
+        self.carry("clone", socket_path, self.field, "north", "--office", "anna")
+        self.assertIn("you may not do that in HEAD", self.clone(file=f"{self.folder}/b.alt", office="berta", status=1))
+        self.stop(self.head)
+        self.do(self.head, "put top 7 3 t", "put north 7 4 n")
+        self.serve(self.head)
+        self.carry("pull", self.field)
+        self.assertEqual("n", self.records(self.field, "north")["7:4"])
+        self.do(self.field, "put north 7 5 f", "new mine top", "put top 7 6 f")
+        for it in ("north", "top", "mine"):
+            self.assertIn("you may not do that in HEAD: 90 Denied", self.carry("push", self.field, it, status=1))
+        self.assertIn("north: ahead, 1 changes to push", self.carry("status", self.field))
+        self.stop(self.head)
+        self.assertEqual({"7:1": "cable", "7:2": "pipe", "7:4": "n", "107:1": "line"}, self.records(self.head, "north"))
+        self.assertEqual({"top", "north"}, set(self.designs(self.head)))
 
     def test_a_service_that_is_not_there(self):
         socket_path = self.serve(self.head)

@@ -28,10 +28,14 @@ import maps
 from altctl import Change, Record, Store
 from gis.exporting import export
 from gis.words import read_words
+from gis_tests.batches import BatchesTests
 from gis_tests.cases import ALTCTL, DUCTS, THREE, AltgisCase, change, field, polygon, program, system, write
 from gis_tests.bringing import BringingTests
+from gis_tests.interrupting import InterruptionTests
 from gis_tests.planning import PlanningTests
+from gis_tests.postgis import PostgisTests
 from gis_tests.safety import SafetyTests
+from gis_tests.telling import HistoryTests
 from gis_tests.versions import VersionTests
 
 

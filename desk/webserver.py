@@ -15,8 +15,9 @@ from designs import Designs
 from edits import CHANGED, Person, carry_out
 from features import Late
 from finding import read_texts
-from history import history
+from maps.history import history
 from news import Journal, told
+from office import Office
 
 HERE = Path(__file__).resolve().parent
 LEAFLET = Path("/usr/share/javascript/leaflet")
@@ -100,11 +101,12 @@ OF_TEXTS = {
 
 
 class Desk:
-    def __init__(self, path, port):
+    def __init__(self, path, port, program):
         self.path, self.port = path, port
         self.token = secrets.token_urlsafe(24)
         self.thread, self.journal_thread, self.texts_thread = (ThreadPoolExecutor(1) for _ in range(3))
         self.designs, self.journal, self.person = None, None, Person()
+        self.office = Office(path, program, lambda: self.arrived.set())
 
     def address(self):
         # What stands behind `#` stays in the browser.
@@ -118,7 +120,8 @@ class Desk:
         made.router.add_get("/api/choices", self.query(self.choices))
         made.router.add_get("/api/state", self.state)
         made.router.add_get("/api/history", self.history)
-        made.router.add_post("/api/batch", self.batch)
+        made.router.add_post("/api/batch", self.sent(self.carried_out))
+        made.router.add_post("/api/office", self.sent(self.carried_between))
         made.cleanup_ctx.append(self.following)
         return made
 
@@ -196,31 +199,38 @@ class Desk:
         """The state, once a batch came after the one that the page knows, or after a while."""
 
         async def found():
-            known = request.query.get("after")
-            if known is not None and self.designs is not None and self.designs.batch == int(known):
+            known, office = request.query.get("after"), int(request.query.get("office", 0))
+            is_known = known is not None and self.designs is not None and self.designs.batch == int(known)
+            if is_known and self.office.version == office:
                 self.arrived.clear()
                 with contextlib.suppress(asyncio.TimeoutError):
                     await asyncio.wait_for(self.arrived.wait(), WAIT_SECONDS)
-            return await self.asked(lambda designs: state(designs, self.path, self.person))
+            told = await self.asked(lambda designs: state(designs, self.path, self.person))
+            return {**told, "office": self.office.told()}
 
         return await self.reply(found())
 
     async def history(self, request):
         async def found():
-            feature, parents = feature_of(request.query), await self.asked(lambda designs: designs.parents)
-            return await self.of_journal(lambda: history(self.journal.store, parents, feature))
+            events = await self.of_journal(lambda: history(self.journal.store, feature_of(request.query)))
+            return [it._asdict() for it in events]
 
         return await self.reply(found())
 
-    async def batch(self, request):
-        if request.content_type != "application/json":
-            raise web.HTTPUnsupportedMediaType
-        try:
-            it = await request.json()
-        except ValueError:
-            raise web.HTTPBadRequest
-        # What was begun is done, also where the browser has gone.
-        return await self.reply(asyncio.shield(asyncio.ensure_future(self.carried_out(it))))
+    def sent(self, work):
+        """The answer to what changes something."""
+
+        async def answer(request):
+            if request.content_type != "application/json":
+                raise web.HTTPUnsupportedMediaType
+            try:
+                it = await request.json()
+            except ValueError:
+                raise web.HTTPBadRequest
+            # What was begun is done, also where the browser has gone.
+            return await self.reply(asyncio.shield(asyncio.ensure_future(work(it))))
+
+        return answer
 
     async def carried_out(self, it):
         for tries in range(1, TRIES + 1):
@@ -232,6 +242,12 @@ class Desk:
                     raise
         await self.catch_up()
         return {"batch": self.designs and self.designs.batch}
+
+    async def carried_between(self, it):
+        """Pull, push, or a look at HEAD."""
+        told = await self.office.carry_out(it["do"], it.get("designs", []))
+        await self.catch_up()
+        return told
 
     async def reply(self, work):
         """The answer to a question."""
@@ -303,7 +319,8 @@ class Desk:
                     self.arrived.set()  # The pages that wait ask themselves, and are told.
                 await asyncio.sleep(LOOK_SECONDS)
 
-        tasks = [asyncio.ensure_future(follow()), asyncio.ensure_future(self.read_ahead())]
+        office = self.office.follow(lambda: self.designs and self.designs.batch)
+        tasks = [asyncio.ensure_future(it) for it in (follow(), self.read_ahead(), office)]
         yield
         for task in tasks:
             task.cancel()

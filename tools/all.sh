@@ -35,6 +35,10 @@ has_rt() {
     command -v rt >/dev/null || { echo "all: $1 is skipped, as rt is not installed" && return 1; }
 }
 
+# How often altgis is interrupted in each of four works.
+INTERRUPTIONS=25
+[ -z "$quick" ] || INTERRUPTIONS=2
+export INTERRUPTIONS
 # The program is there before the time of a script is taken.
 "$tools/../altctl" --help >/dev/null || { echo 'all: altctl could not be built'; exit 1; }
 try 600 gate/uncited.py
@@ -44,6 +48,7 @@ try 300 gate/pictures.py --check
 try 300 gate/words.py --check
 try 300 gate/test_words.py
 try 300 gate/python.sh
+try 300 gate/manual.py --check
 try 900 gate/documents.py
 try 900 gate/session.sh
 try 600 ../clients/python/test_altctl.py
@@ -55,9 +60,11 @@ if [ -n "$quick" ]; then
     try 600 ../clients/c/test.sh --quick
     try 600 faults/compare.py -n 8
     try 600 faults/kill.py "$tools/../altctl" 8
+    try 300 faults/kill_copy.py "$tools/../altctl" 20
     try 600 faults/crashes.py -n 1
     try 600 ../desk/test_altserve.py StoreTests
     try 600 faults/kill_service.py "$tools/../altctl" 2
+    try 600 ../desk/test_altgis.py InterruptionTests
 else
     # Over the libraries that are proved for the program. Without it the tests of the store in memory are skipped.
     if has_rt libaltstore; then
@@ -66,12 +73,14 @@ else
     try 600 ../clients/c/test.sh
     try 600 faults/compare.py -n 60
     try 300 faults/kill.py "$tools/../altctl" 60
+    try 300 faults/kill_copy.py
     try 600 faults/crashes.py
     try 300 faults/space.py
     try 600 faults/failing_device.py
+    try 600 faults/failed_sync.py
     if has_rt faults/refuse_allocations.sh; then try 1800 faults/refuse_allocations.sh; fi
     try 600 ../desk/test_altserve.py
-    try 1200 ../desk/test_altgis.py
+    try 1800 ../desk/test_altgis.py
     try 600 ../desk/test_altdesk.py
     try 900 ../desk/test_altcarry.py
     try 1800 release/test_package.py

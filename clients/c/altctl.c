@@ -796,7 +796,8 @@ static const char *const refusals[] = {
     "ReadOnly"};
 static const char *const service_refusals[] = {
     "Denied", "NotDone", "Aborted", "NotInBatch", "TooLarge", "HeldTooLong", "HalfLine", "NotJournaled", "NoBackup",
-    "Stopped", "TooManyPlanners", "Unsure", "TooManyEntries", "Changed"};
+    "Stopped", "TooManyPlanners", "Unsure", "TooManyEntries", "Changed",
+    "NoArchive"};
 
 #define COUNT(array) ((int)(sizeof(array) / sizeof *(array)))
 

@@ -81,6 +81,7 @@ enum {
     ALT_UNSURE = 101,
     ALT_TOO_MANY_ENTRIES = 102,
     ALT_CHANGED = 103,
+    ALT_NO_ARCHIVE = 104,
 
     /* There are no more rows. */
     ALT_DONE = -1,
@@ -158,8 +159,8 @@ typedef struct {
 
 /* Copies what was committed to a new file of `blocks` blocks, or of as many as the store has if `blocks` is 0. *size becomes the
    number of its blocks and of those in use; it may be NULL. ALT_FULL: more than `blocks` are in use, and no file is made.
-   ALT_IN_USE: the store is open for changes, perhaps by this program; it may be open for reading. Any other failure may leave a
-   file that is no store. */
+   ALT_IN_USE: the store is open for changes, perhaps by this program; it may be open for reading. After a failure nothing has
+   the name `to` that had it not before: the file gets it once it is whole, and until then `.part` stands behind it. */
 int alt_copy(const char *file, const char *to, uint32_t blocks, alt_size *size, const alt_options *options);
 
 /* Opens the store in a file, which stays locked (`flock`) as long as the program runs. A name that begins with `unix:` is the

@@ -745,11 +745,12 @@ static void errors_have_names(void)
     SAME_TEXT("TooManyPlanners", alt_error_name(ALT_TOO_MANY_PLANNERS));
     SAME_TEXT("TooManyEntries", alt_error_name(ALT_TOO_MANY_ENTRIES));
     SAME_TEXT("Changed", alt_error_name(ALT_CHANGED));
+    SAME_TEXT("NoArchive", alt_error_name(ALT_NO_ARCHIVE));
     SAME_TEXT("ALT_DONE", alt_error_name(ALT_DONE));
     SAME_TEXT("ALT_IN_BATCH", alt_error_name(ALT_IN_BATCH));
     SAME_TEXT("ReadOnly", alt_error_name(ALT_READ_ONLY));
     SAME_TEXT("unknown", alt_error_name(25));
-    SAME_TEXT("unknown", alt_error_name(104));
+    SAME_TEXT("unknown", alt_error_name(105));
     SAME_TEXT("unknown", alt_error_name(-14));
     SAME_TEXT("another process has locked the file", alt_error_text(NULL, ALT_IN_USE));
     errno = ENOENT;

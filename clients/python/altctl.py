@@ -42,16 +42,16 @@ Path = Union[str, bytes, "os.PathLike[str]", "os.PathLike[bytes]"]
 
 class Refusal(Exception):
     """A line that was refused: `error NUMBER NAME`, and behind it a count, a block or a key, where it has one. Of several
-    lines that were given at once `at` tells which one it is, 0 for the first."""
+    lines that were given at once `at` tells which one it is, 0 for the first. `line` is the line itself, where it is known."""
 
-    def __init__(self, number: int, name: str, detail: str = "", at: Optional[int] = None) -> None:
+    def __init__(self, number: int, name: str, detail: str = "", at: Optional[int] = None, line: Optional[str] = None) -> None:
         place = "" if at is None else f" (line {at} of those given)"
         super().__init__(f"{number} {name} {detail}".rstrip() + place)
-        self.number, self.name, self.detail, self.at = number, name, detail, at
+        self.number, self.name, self.detail, self.at, self.line = number, name, detail, at, line
 
 
-def refusal_of(words: Sequence[str], at: Optional[int] = None) -> Refusal:
-    return Refusal(int(words[1]), words[2], " ".join(words[3:]), at)
+def refusal_of(words: Sequence[str], at: Optional[int] = None, line: Optional[str] = None) -> Refusal:
+    return Refusal(int(words[1]), words[2], " ".join(words[3:]), at, line)
 
 
 class Ended(Exception):
@@ -383,9 +383,9 @@ class Store:
                 self._write(lines)
                 answers = [self._read() for _ in lines]
             # Where one is refused, each of the others is answered `91 NotDone`.
-            refused = [it for it in answers if it[0] == "error" and it[1] != "91"]
-            if refused:
-                raise refusal_of(refused[0])
+            for line, answer in zip(lines, answers):
+                if answer[0] == "error" and answer[1] != "91":
+                    raise refusal_of(answer, line=line)
 
     def _line(self, *words):
         words = [str(it) for it in words]
@@ -426,7 +426,7 @@ class Store:
             self._write([line])
             answer = self._read()
         if answer[0] == "error":
-            raise refusal_of(answer)
+            raise refusal_of(answer, line=line)
         return answer
 
     def _ask_many(self, lines, most):
@@ -445,7 +445,7 @@ class Store:
                 answers = [self._read() for _ in portion]
             for at, answer in enumerate(answers, asked):
                 if answer[0] == "error":
-                    raise refusal_of(answer, at)
+                    raise refusal_of(answer, at, portion[at - asked])
             yield from answers
             asked += len(portion)
 
@@ -509,7 +509,7 @@ class Store:
             self.close()
             raise Ended(0, "its output ended")
         if line.startswith("error "):
-            raise refusal_of(line.split())
+            raise refusal_of(line.split(), line=asked)
         return found
 
     def _whole_answer(self) -> Union[List[List[str]], Refusal]:
@@ -638,7 +638,8 @@ class Store:
     def copy(self, to: Path, blocks: Optional[int] = None) -> Copied:
         """Copies what was committed to a new file of `blocks` blocks, or of as many as the store has, and gives that number and how
         many are in use, as Copied. Raises the Refusal 13 Full if more than `blocks` are in use; no file is made then. If it fails
-        otherwise, for instance as the file exists, it raises Ended, and may leave a file that is no store.
+        otherwise, for instance as the file exists, it raises Ended; nothing has the name `to` then that had it not before. The file
+        gets it once it is whole; until then `.part` stands behind it.
 
         A second process reads the file meanwhile. Here that is safe: between two lines the program writes nothing, and other calls
         of this store wait. An `altctl copy --no-lock` of your own is not safe while a commit, a reclaim or any other line runs."""

@@ -466,10 +466,12 @@ class StoreTests(unittest.TestCase):
     def test_a_copy_that_cannot_be_made(self):
         with self.open() as store:
             before = Path(self.file).read_bytes()
-            for to in (self.file, os.path.dirname(self.file), f"{self.file}/none", f"{self.file}.none/copy"):
+            none = f"{self.file}.none/copy"
+            for to in (self.file, os.path.dirname(self.file), f"{self.file}/none", none):
                 with self.assertRaises(Ended) as came:
                     store.copy(to)
-                self.assertEqual((1, f"altctl: cannot create {to}\n"), (came.exception.status, came.exception.said))
+                said = f"altctl: cannot create {to}{'.part' if to == none else ''}\n"
+                self.assertEqual((1, said), (came.exception.status, came.exception.said))
             self.assertEqual(30, store.free())
             self.assertEqual(before, Path(self.file).read_bytes())
         self.assertRaises(ValueError, store.copy, f"{self.file}.none")

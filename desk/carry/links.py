@@ -7,8 +7,9 @@ import socket
 import stat
 from typing import List, Optional
 
-from altctl import Store, Tunnel
+from altctl import Ended, Store, Tunnel
 from carry import TOP
+from reasons import why
 
 FAR = re.compile(r"ssh://(?P<host>[^/:]+)(?::(?P<port>\d+))?(?P<path>/.+)|ssh:(?P<name>[^/:]+):(?P<file>.+)")
 # A link that says nothing for half a minute is broken.
@@ -16,7 +17,11 @@ SSH_OPTIONS = ["-C", "-o", "BatchMode=yes", "-o", "ServerAliveInterval=10", "-o"
 
 
 class Fault(Exception):
-    """Why something is not done, in one line for the person who asked for it. Nothing has changed then."""
+    """Why something is not done, in a line or two for the person who asked for it. Nothing has changed then."""
+
+
+class Unopened(Fault):
+    """A store's file that cannot be opened."""
 
 
 def program_path() -> str:
@@ -51,6 +56,21 @@ def serves(path: str) -> bool:
             return False
 
 
+def opened(file: str, program: str) -> Store:
+    """A store's file. One that cannot be opened, other than for now, is a fault of whoever named it. What is not there at
+    all may be the socket of a service that will be back."""
+    try:
+        return Store(file, program, grow=True)
+    except (FileNotFoundError, IsADirectoryError, PermissionError) as fault:
+        if isinstance(fault, FileNotFoundError) and fault.filename == file:
+            raise
+        raise Unopened(f"{file} cannot be opened\n{why(fault)}") from None
+    except Ended as ended:
+        if ended.status != 1:
+            raise
+        raise Unopened(f"{file} cannot be opened\n{why(ended)}") from None
+
+
 class Link:
     """An open store, its whole address, and whether a service works on it. A file whose service runs is asked through
     its socket."""
@@ -67,7 +87,7 @@ class Link:
             self.store = Store(f"unix:{place}.sock")
         else:
             self.is_service = False
-            self.store = Store(place, program or program_path(), grow=True)
+            self.store = opened(place, program or program_path())
 
     def __enter__(self) -> "Link":
         return self

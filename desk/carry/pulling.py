@@ -40,7 +40,7 @@ class Pull:
         self.pair, self.asked, self.token = pair, asked, names.new_token()
         self.frozen = mark(pair.name, self.token)
         self.incoming: Dict[str, Incoming] = {}
-        self.said, self.last, self.dropped = [], [], set()
+        self.said, self.last, self.dropped, self.left = [], [], set(), []
 
     # --- at HEAD ----------------------------------------------------------------------------------
 
@@ -51,7 +51,8 @@ class Pull:
         designs = [it for it in pair.carried() if pair.is_there(it)]
         designs += [it for it in self.asked if it not in pair.marks]
         parents = {it: pair.there.parents[it] for it in designs}
-        bases = [(pair.mark(parents[it]), f"{it}@") for it in designs if parents[it]]
+        nearest = {it: self._nearest(it, parents[it]) for it in designs if parents[it]}
+        bases = [(known, f"{it}@") for it, known in nearest.items()]
         for _ in range(MOST_TRIES):
             before = pair.differ(pair.head, *bases)
             self._freeze(designs)
@@ -65,8 +66,26 @@ class Pull:
         else:
             raise Fault("HEAD's designs are merged all the time: try again later")
         rows = dict(zip(designs, found[len(bases) :]))
-        base = dict(zip([it for it in designs if parents[it]], before))
+        base = {it: self._from_parent(it, parents[it], *its) for it, its in zip(nearest, zip(nearest.values(), before))}
         self.incoming = {it: Incoming(parents[it], rows[it], base.get(it, {})) for it in designs}
+
+    def _nearest(self, design: str, parent: str) -> str:
+        """The version that both know from which a design's base is read: its parent's mark, or its own one. The nearer one
+        makes the answer short, however much the parent has changed since the last merge."""
+        pair = self.pair
+        known = [pair.mark(it) for it in (parent, design) if it in pair.marks]
+        if len(known) == 1 or pair.parent(design) != parent:
+            return known[0]
+        found = pair.differ(pair.clone, *((it, pair.base(design)) for it in known))
+        return min(zip(map(len, found), known), key=lambda it: it[0])[1]
+
+    def _from_parent(self, design: str, parent: str, known: str, rows: Differences) -> Differences:
+        """What differs from the parent's mark to the base, where `rows` are what differs from a known version to it."""
+        pair = self.pair
+        if known == pair.mark(parent):
+            return rows
+        [to_parent] = pair.differ(pair.clone, (known, pair.mark(parent)))
+        return between(to_parent, rows)
 
     def _freeze(self, designs: List[str]) -> None:
         batch, pair = Batch(), self.pair
@@ -99,6 +118,7 @@ class Pull:
                 batch.add("uncheck", it, MINE)
         batch.lines += self.last
         pair.carry_out(pair.clone, batch)
+        pair.beside += self.left
         for text in self.said:
             pair.say(text)
 
@@ -188,7 +208,7 @@ class Pull:
         conflicts."""
         pair, name = self.pair, passing(design, self.token)
         if fights:
-            name = beside(design, pair.name, {*pair.here.parents, *pair.there.parents})
+            name = self._beside(design)
             self.said.append(
                 f"{design}: {len(came.rows)} changes came, and {len(fights)} of them are in conflict with your own. "
                 "Your changes are "
@@ -215,10 +235,16 @@ class Pull:
         batch.add("post", name)
         batch.add("drop", name)
 
+    def _beside(self, design: str) -> str:
+        """The name of the design that has the clone's own version, for a person to settle."""
+        name = beside(design, self.pair.name, {*self.pair.here.parents, *self.pair.there.parents})
+        self.left.append(name)
+        return name
+
     def _keep_sibling(self, batch: Batch, design: str, came: Incoming, local: Local) -> None:
         """The clone's own version, which was merged here, as a design beside what HEAD has."""
         pair, parent = self.pair, self.pair.parent(design)
-        name = beside(design, pair.name, {*pair.here.parents, *pair.there.parents})
+        name = self._beside(design)
         [rows] = pair.differ(pair.clone, (f"{design}@", f"{design}@{MINE}" if local.rows else design))
         batch.aside(parent, pair.check(parent))
         batch.set(parent, after(local.base_now))

@@ -300,6 +300,7 @@ def complete(pair: Pair, push: Push) -> None:
         pair.say(f"{push.design}: pushed")
     else:
         push.end_beside(beside_it)
+        pair.beside.append(beside_it)
         pair.say(
             f"{push.design}: HEAD has changed it meanwhile, and not all of that fits. Your changes are the design "
             f"{beside_it} under it, here and at HEAD: merge {beside_it}, settle, and post it"

@@ -1,33 +1,38 @@
 """The changes that an import makes in a store of its own, where each is made at once and shown at the commit, or by a
-service, which takes all of them together, as one batch."""
+service (staging.py)."""
 from collections import deque
 from concurrent.futures import ThreadPoolExecutor
 
 from altctl import Refusal
 from gis import interrupts
+from gis.full import blocks_of
+from gis.staging import Staging
 from maps import Fault
 
-NO_ENTRY, FULL = 12, 13
-MOST_BLOCKS = 2**20
+NO_ENTRY = 12
 AHEAD = 3  # Portions that wait for the store.
 
 
 class Changes:
     """Before the first change to an alternative that has records, a checkpoint is made; `checkpoint` is its name
-    then."""
+    then. `given` counts the records to put, and `size` tells about how many blocks they take."""
 
     def __init__(self, store, words, is_service):
         self._store, self._words, self._alt = store, words, words.alt
-        self._held = [] if is_service else None
+        self._staging = Staging(store, words.alt, words.grow) if is_service else None
         self._thread, self._waiting = ThreadPoolExecutor(1), deque()
         self.are_any, self.checkpoint = False, None
-        self.given, self.done, self.size = (
-            0,
-            0,
-            0,
-        )  # Records to put, those that were put, and about how many blocks they take.
+        self.given, self._done, self.size = 0, 0, 0
         self.free = store.free()
         self._has_records = any(True for _ in store.next(words.alt, 0, 0, 1))
+
+    @property
+    def done(self):
+        """How many of the records were put."""
+        return self._staging.done if self._staging else self._done
+
+    def is_one_batch(self):
+        return self._staging is not None and self._staging.at is None
 
     def make(self, gone, put):
         if not gone and not put:
@@ -36,11 +41,11 @@ class Changes:
             self.checkpoint = self._free_name()
         is_first, self.are_any = not self.are_any, True
         self.given += len(put)
+        self.size += sum(map(blocks_of, put.values()))
         if self._words.dry_run:
             return
-        if self._held is not None:
-            self.size += sum(blocks_of(it) for it in put.values())
-            self._held.append((gone, put))
+        if self._staging:
+            self._staging.add(gone, put)
             return
         if is_first and self.checkpoint:
             self._check()
@@ -58,9 +63,9 @@ class Changes:
         try:
             self._store.put_many(self._alt, ((*key, put[key]) for key in sorted(put)))
         except Refusal as refusal:
-            self.done += refusal.at or 0
+            self._done += refusal.at or 0
             raise
-        self.done += len(put)
+        self._done += len(put)
 
     def _free_name(self):
         there, at = set(self._store.checkpoints(self._alt)), 1
@@ -79,38 +84,19 @@ class Changes:
         self.wait()
         if not self.are_any or self._words.dry_run:
             return
+        if self._staging:
+            self._staging.send()
         with interrupts.held_back(told):
-            if self._held is None:
-                self._store.commit()
-            else:
-                self._send()
-
-    def _send(self):
-        while True:
             try:
-                with self._store.batch():
-                    if self.checkpoint:
-                        self._store.checkpoint(self._alt, self.checkpoint)
-                    for it in self._held:
-                        self._make(*it)
-                return
+                self._staging.commit(self.checkpoint) if self._staging else self._store.commit()
             except Refusal as refusal:
-                if refusal.number != FULL or not self._words.grow:
-                    raise no_entry(refusal, self.checkpoint) from None
-                blocks = self._store.blocks()
-                if blocks >= MOST_BLOCKS:
-                    raise
-                self._store.grow(min(2 * blocks, MOST_BLOCKS))
+                raise no_entry(refusal, self.checkpoint) from None
 
     def forget(self):
-        """Ends the thread, whatever it is at."""
+        """Ends the thread, whatever it is at, and drops what is not to be."""
         self._thread.shutdown(wait=True)
-
-
-def blocks_of(value):
-    """About how many blocks a new record takes: half of a leaf's 16 rows are in use, and a longer value has a block of
-    its own."""
-    return 1 / 8 + (len(value) > 240)
+        if self._staging:
+            self._staging.forget()
 
 
 def no_entry(refusal, name):

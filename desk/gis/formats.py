@@ -11,10 +11,15 @@ from maps import Fault
 
 FORMATS = {".gpkg": "GPKG", ".geojson": "GeoJSON", ".json": "GeoJSON", ".shp": "ESRI Shapefile", ".csv": "CSV"}
 WITH_LAYERS = ("GPKG", "PostgreSQL")  # The others have one layer a file.
-# What each format is told, so that it keeps numbers exactly.
-OPTIONS = {"GeoJSON": ["SIGNIFICANT_FIGURES=17"], "CSV": ["CREATE_CSVT=YES"]}
+# What each format is told, so that it keeps numbers and names exactly.
+OPTIONS = {
+    "GeoJSON": ["SIGNIFICANT_FIGURES=17"],
+    "CSV": ["CREATE_CSVT=YES"],
+    "PostgreSQL": ["LAUNDER=NO", "FID64=YES"],
+}
 # The tables of a GeoPackage that are no tables of its own, and need no other file: indexes of places and of texts.
-OWN_TABLE = re.compile(r"\s*CREATE VIRTUAL TABLE \S+ USING (rtree|fts[345])\s*\([^()]*\)\s*", re.I)
+NAME = r'(\w+|"([^"]|"")+")'
+OWN_TABLE = re.compile(rf"\s*CREATE VIRTUAL TABLE {NAME} USING (rtree|fts[345])\s*\([^()]*\)\s*", re.I)
 
 
 def set_up():
@@ -23,6 +28,7 @@ def set_up():
         it.UseExceptions()
     shut_off()
     gdal.SetConfigOption("OGR_WKT_PRECISION", "17")
+    gdal.SetConfigOption("OGR_PG_DEFERRED_CREATION", "NO")  # Else a table is made behind a rollback.
 
 
 def shut_off():

@@ -10,8 +10,9 @@ from altctl import Refusal
 
 import maps
 import places
-from gis.changes import FULL, MOST_BLOCKS, Changes
+from gis.changes import Changes
 from gis.formats import names_of, open_layer, open_source
+from gis.full import FULL, room
 from gis.sources import Source
 from maps import Fault, Fields, numbers
 
@@ -60,7 +61,7 @@ def bring(store, words):
     for it in jobs:
         it.pass_over()
     if words.alt == "top":
-        index(store, words)
+        index(store, words, {it.table: it.found.places() for it in jobs if it.found})
         numbers.renew(store, words.is_service)
     return max(it.status for it in jobs)
 
@@ -90,6 +91,8 @@ class Import:
         self.counts, self._highest, self._given = Counter(), -1, range(0)
         self.name = words.name or source.described["name"]
         self.is_new = table not in layers
+        # Nobody else puts features into a new table of a file, so these are all that the index of places wants to know.
+        self.found = places.Found() if self.is_new and words.alt == "top" and not words.is_service else None
         self._check(layers.get(table))
         self.layer = self._layer(layers.get(table))
         self.total = source.count()
@@ -138,11 +141,11 @@ class Import:
 
     def _with_numbers(self, features):
         given = iter(self._given)
-        for _, attributes, course in features:
+        for _, *feature in features:
             number = next(given, None)
             if number is None:
                 raise Fault(f"the layer {self.name} has more features than the {self.total} that its file tells of")
-            yield number, attributes, course
+            yield (number, *feature)
 
     def run(self, changes):
         """Puts the features of the layer, and removes those that are gone if that is asked for."""
@@ -156,7 +159,10 @@ class Import:
             numbers_of = [it[0] for it in portion]
             there = {} if self.is_new else maps.read_features(store, alt, table, numbers_of)
             update = maps.Update(there, firsts, fields.is_same)
-            told = {number: update.set_feature(table, number, *it) for number, *it in portion}
+            told = {number: update.set_feature(table, number, *it) for number, *it, _ in portion}
+            if self.found:
+                for number, _, course, bounds in portion:
+                    self.found.add(number, course, bounds)
             gone = update.gone()
             told.update((it, "changed") for it in ids_of(gone, table) if told[it] == "same")
             changes.make(gone, update.put)
@@ -219,28 +225,10 @@ def once(seen):
     return array("Q", found.tobytes())
 
 
-def room(store, words, changes, jobs):
-    """How much room is wanting, and how the store gets it."""
-    if words.is_service:
-        wanting, told = changes.size - changes.free, "the import"
-    else:
-        total = sum(it.total for it in jobs)
-        seen = max(sum(sum(it.counts.values()) for it in jobs), 1)
-        done = min(changes.done * seen // max(changes.given, 1), total)
-        wanting = changes.free * (total / max(done, 1) - 1)
-        told = f"{done} of {total} features had room, and the rest"
-    wanting = int(max(wanting, 0) * 1.1) + 34
+def index(store, words, fresh=None):
+    """Lets the index of places follow, if this planner may do that. Without it the map is right, too. `fresh` has the
+    places of whole tables."""
     try:
-        blocks = min(store.blocks() + wanting, MOST_BLOCKS)
-    except Refusal:
-        blocks = "BLOCKS"
-    grow = f"grow {blocks}" if words.is_service else f"altctl do {words.store} 'grow {blocks}' commit"
-    return f"{told} takes about {wanting} blocks more: give it more, {grow}, or --grow; nothing was changed"
-
-
-def index(store, words):
-    """Lets the index of places follow, if this planner may do that. Without it the map is right, too."""
-    try:
-        places.renew(store, words.is_service)
+        places.renew(store, words.is_service, fresh)
     except Refusal as refusal:
         print(f"altgis: the index of places is as it was: {refusal}", file=sys.stderr)

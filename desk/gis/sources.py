@@ -1,6 +1,6 @@
 """A layer of a file, as the store has it: what it is, and its features."""
 import re
-from typing import Callable, Iterator, Optional, Tuple
+from typing import Callable, Iterator, List, Optional, Tuple
 
 from osgeo import gdal, ogr
 
@@ -11,7 +11,7 @@ from maps.systems import crs_to_text
 
 MOST_ID = 2**63 - 1
 WRONG_VALUE = re.compile("Invalid (content|value)|parsed incompletely|out of range|clamped|truncated", re.I)
-Feature = Tuple[int, bytes, Optional[bytes]]
+Feature = Tuple[int, bytes, Optional[bytes], Optional[List[float]]]
 
 
 def field_to_json(field):
@@ -44,18 +44,20 @@ class Source:
         return max(self.layer.GetFeatureCount(), 0)
 
     def features(self, fields: Fields, bad: Callable[[str], None]) -> Iterator[Feature]:
-        """The features: id, attributes as `fields` writes them, and geometry. One that cannot be in a store is told to
-        `bad`."""
+        """The features: id, attributes as `fields` writes them, geometry, and the bounds of its points. One that cannot
+        be in a store is told to `bad`."""
         quick = Quick(self.opened, self.layer, self.described, fields)
         for number, attributes, course in quick.features() if quick.can() else self._slowly(fields, bad):
             number = id_of(number, self.described["id"])
-            fault = geometry.fault_of(course) if course is not None else None
             if attributes is None:
                 bad(f"feature {number} has a text that is not UTF-8")
-            elif fault:
+                continue
+            try:
+                bounds = None if course is None else geometry.bounds_of(course)
+            except geometry.Bad as fault:
                 bad(f"feature {number}: its geometry is bad: {fault}")
-            else:
-                yield number, attributes, course
+                continue
+            yield number, attributes, course, bounds
 
     def _wrong(self) -> dict:
         """What GDAL would not tell of: by fid, the features of a GeoPackage that have a value of another type."""

@@ -125,9 +125,9 @@ def write_quickly(file, layers, fill, is_plain):
     return told
 
 
-def write_layers(source, layers, fill, is_plain):
+def write_layers(source, layers, fill, is_plain, made_last="nothing was changed"):
     """Writes layers, each a description and a name: `fill` is given them to add their features, and tells how many they
-    are."""
+    are. `made_last` is what an interruption says once a transaction is committed."""
     if source.TestCapability(ogr.ODsCTransactions):
         source.StartTransaction()
     made = [Layer(source, *it, is_plain) for it in layers]
@@ -135,17 +135,31 @@ def write_layers(source, layers, fill, is_plain):
     for it in made:
         it.tell_unknown()
     if source.TestCapability(ogr.ODsCTransactions):
-        source.CommitTransaction()
+        with interrupts.held_back(made_last):
+            source.CommitTransaction()
     source.FlushCache()
     return told
+
+
+def write_tables(out, layers, fill, is_plain):
+    """Makes tables of a database, all of them in one transaction."""
+    source = gdal.OpenEx(out, gdal.OF_VECTOR | gdal.OF_UPDATE, allowed_drivers=["PostgreSQL"])
+    for _, name in layers:
+        if source.GetLayerByName(name) is not None:
+            raise Fault(f"{name} is there already")
+    try:
+        return write_layers(source, layers, fill, is_plain, "the tables are there as a whole")
+    except BaseException:
+        with contextlib.suppress(RuntimeError):  # The server may have done so.
+            source.RollbackTransaction()
+        raise
 
 
 def write_file(out, layers, fill, is_plain=False, finish=lambda file: None):
     """Makes a file of layers, as `write_layers` does. It is there under its name once it is whole, and `finish` is
     done."""
     if out.startswith("PG:"):
-        source = gdal.OpenEx(out, gdal.OF_VECTOR | gdal.OF_UPDATE, allowed_drivers=["PostgreSQL"])
-        return write_layers(source, layers, fill, is_plain)
+        return write_tables(out, layers, fill, is_plain)
     driver = gdal.GetDriverByName(FORMATS.get(Path(out).suffix.lower(), ""))
     if driver is None:
         raise Fault(f"{out} ends with none of {', '.join(FORMATS)}")

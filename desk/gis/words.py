@@ -11,14 +11,15 @@ from altctl import Ended, Refusal, Store
 from osgeo import gdal
 
 import maps
-from gis import listing
-from gis.changes import FULL
+from gis import journal, listing
 from gis.comparing import diff
 from gis.exporting import export
 from gis.formats import set_up
+from gis.full import FULL
 from gis.importing import bring, index
 from gis.settling import merge
 from maps import Fault
+from reasons import why
 
 NO_READER = 141  # The status that a shell gives for a pipe that nobody reads.
 STORE = "STORE", "a store's file, or unix:PATH"
@@ -28,7 +29,7 @@ VERSION = "`north`, its base `north@`, or its checkpoint `north@before`"
 def read_words(arguments=None):
     parser = argparse.ArgumentParser(prog="altgis", description="Brings layers of maps into a store and out of it.")
     parser.add_argument("--version", action="store_true", help="tells the versions of what altgis stands on")
-    jobs = parser.add_subparsers(metavar="import | export | diff | merge | layers | index", dest="job")
+    jobs = parser.add_subparsers(metavar="import | export | diff | merge | history | layers | index", dest="job")
 
     def job(name, do, told, *places):
         made = jobs.add_parser(name, help=told, description=f"altgis {told}.")
@@ -53,6 +54,8 @@ def read_words(arguments=None):
     told = "TABLE:NUMBER=mine, =theirs or =both, TABLE:NUMBER.FIELD=mine, all=mine"
     settle.add_argument("choices", metavar="CHOICE", nargs="*", help=told)
     settle.add_argument("--dry-run", action="store_true", help="tells what would be merged, and changes nothing")
+    told = "tells who changed which field of a feature, and when"
+    job("history", journal.tell, told, STORE, ("FEATURE", "TABLE:NUMBER"))
     show = job(
         "layers", listing.of_store, "tells which layers a store or a file has", ("STORE", "a store or a file of maps")
     )
@@ -67,7 +70,7 @@ def read_words(arguments=None):
 def check(parser, words):
     """Refuses words that do not go together."""
     if not words.version and not words.job:
-        parser.error("say what to do: import, export, diff, merge, layers or index")
+        parser.error("say what to do: import, export, diff, merge, history, layers or index")
     if words.job == "import" and not words.all and words.table is None:
         parser.error("say which table by --table, or give --all")
     if words.job == "import" and words.all and (words.table or words.layer or words.name or words.id):
@@ -136,6 +139,10 @@ def main():
         return NO_READER
     except Refusal as refusal:
         more = f": give it more, altctl do {words.store} 'grow BLOCKS' commit" if refusal.number == FULL else ""
-        return f"altgis: refused: {refusal}{more}"
-    except (Fault, Ended, OSError, RuntimeError, ValueError, sqlite3.Error) as fault:
+        return f"altgis: refused: {refusal}{more}\naltgis: {why(refusal)}"
+    except OSError as fault:
+        return f"altgis: {why(fault)}"
+    except Ended as ended:
+        return f"altgis: {words.store}: altctl ended with status {ended.status}\naltgis: {why(ended)}"
+    except (Fault, RuntimeError, ValueError, sqlite3.Error) as fault:
         return f"altgis: {fault}"

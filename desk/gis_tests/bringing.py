@@ -1,13 +1,10 @@
 """Imports and exports that cannot hurt: another layer's table, values of a wrong type, a store that is full, Ctrl-C and
 a pipe without a reader."""
 import os
-import random
 import re
-import signal
 import subprocess
 import sys
 import threading
-import time
 from pathlib import Path
 
 from gis_tests.cases import ALTCTL, DESK, DUCTS, THREE, AltgisCase, change, field, write
@@ -228,17 +225,6 @@ class BringingTests(AltgisCase):
         self.create(64)
         self.assertIn("6000 added", self.altgis(*words, "--grow"))
 
-    def service(self):
-        """Starts a service of the store, and gives the words that name it."""
-        words = [sys.executable, str(DESK / "altserve"), "--program", ALTCTL, self.store]
-        running = subprocess.Popen(words, stderr=subprocess.DEVNULL)
-        self.addCleanup(running.wait)
-        self.addCleanup(running.terminate)
-        late = time.monotonic() + 60
-        while not os.path.exists(f"{self.store}.sock") and time.monotonic() < late:
-            time.sleep(0.05)
-        return f"unix:{self.store}.sock"
-
     def take_at_once(self, service):
         """Four planners take numbers at the same time: none gets those of another one."""
         found = []
@@ -294,16 +280,6 @@ class BringingTests(AltgisCase):
         with Store(service) as store:
             self.assertEqual({"dn": 5, "mat": "clay"}, fields.named(store.get("north", 7, 1)))
 
-    def interrupt(self, running, seconds):
-        """Interrupts a program that long after its own first lines have run: what Python does before that is
-        Python's."""
-        late = time.monotonic() + 60
-        while running.poll() is None and "multiarray" not in Path(f"/proc/{running.pid}/maps").read_text():
-            self.assertLess(time.monotonic(), late)
-            time.sleep(0.005)
-        time.sleep(seconds)
-        running.send_signal(signal.SIGINT)
-
     def test_the_desk_merges_by_field(self):
         """What both sides changed in other fields needs no choice; a choice is for a record's clashes alone."""
         write(self.file("a.gpkg"), "ducts", DUCTS, points(3))
@@ -322,61 +298,6 @@ class BringingTests(AltgisCase):
             joining.merge(store, "north", conflicts, {(7, 2): "mine"}, None, store.batch)
             found = [fields.named(store.get("north", 7, it)) for it in (1, 2)]
         self.assertEqual([{"dn": 5, "mat": "clay"}, {"dn": 6, "mat": "steel"}], found)
-
-    def test_an_interruption_is_one_line(self):
-        """At random moments of an import into a design: what the line says is so, and nothing is half there."""
-        write(self.file("a.gpkg"), "ducts", DUCTS, points(4000))
-        self.bring(self.file("a.gpkg"), "ducts")
-        self.ask(lambda store: store.new("north", "top"))
-        whole, chance = Path(self.store).read_bytes(), random.Random(3)
-        change(self.file("a.gpkg"), "UPDATE ducts SET dn = dn + 1")
-        words = [
-            sys.executable,
-            str(DESK / "altgis"),
-            "import",
-            self.store,
-            self.file("a.gpkg"),
-            "--alt",
-            "north",
-            "--table",
-            "7",
-        ]
-        begun = time.monotonic()
-        self.assertEqual(0, self.start([*words, "--dry-run"]).returncode)
-        longest, told = (time.monotonic() - begun) * 1.5, set()
-        for _ in range(int(os.environ.get("INTERRUPTIONS", "12"))):
-            Path(self.store).write_bytes(whole)
-            running = subprocess.Popen(
-                words, stdout=subprocess.PIPE, stderr=subprocess.PIPE, text=True, env={**os.environ, "ALTCTL": ALTCTL}
-            )
-            self.interrupt(running, chance.random() * longest)
-            out, err = running.communicate(timeout=120)
-            changed = self.ask(lambda store: sum(1 for _ in store.changes("north")))
-            if running.returncode == 0:
-                self.assertEqual((4000, ""), (changed, err))
-                continue
-            self.assertEqual((130, 1), (running.returncode, len(err.splitlines())), err)
-            self.assertRegex(err, "^altgis: interrupted: (nothing was changed|the import is in the store: .*)\n$")
-            self.assertEqual(0 if "nothing" in err else 4000, changed, err)
-            told.add(err)
-        self.assertTrue(told)
-        self.assertFalse([it for it in os.listdir(self.folder) if it.startswith(".altgis")])
-
-    def test_an_interrupted_export_leaves_no_file(self):
-        write(self.file("a.gpkg"), "ducts", DUCTS, points(6000))
-        self.bring(self.file("a.gpkg"), "ducts")
-        there, chance = sorted(os.listdir(self.folder)), random.Random(4)
-        words = [sys.executable, str(DESK / "altgis"), "export", self.store, "top", self.file("out.gpkg")]
-        for _ in range(int(os.environ.get("INTERRUPTIONS", "5"))):
-            running = subprocess.Popen(
-                words, stdout=subprocess.PIPE, stderr=subprocess.PIPE, text=True, env={**os.environ, "ALTCTL": ALTCTL}
-            )
-            self.interrupt(running, chance.random())
-            _, err = running.communicate(timeout=120)
-            if running.returncode and "as a whole" not in err:
-                self.assertEqual((130, "altgis: interrupted: nothing was changed\n"), (running.returncode, err))
-                self.assertEqual(there, sorted(os.listdir(self.folder)))
-            Path(self.file("out.gpkg")).unlink(missing_ok=True)
 
     def test_a_pipe_that_nobody_reads(self):
         fields = [field(f"f{it}", ogr.OFTString) for it in range(3000)]

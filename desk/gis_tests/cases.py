@@ -8,6 +8,7 @@ import sqlite3
 import subprocess
 import sys
 import tempfile
+import time
 import unittest
 from importlib.machinery import SourceFileLoader
 from pathlib import Path
@@ -139,11 +140,11 @@ class AltgisCase(unittest.TestCase):
         return self.altgis("import", self.store, file, layer, "--alt", alt, "--table", table, *words)
 
     def refused(self, told, *words):
-        """A refusal is one line, leaves the store as it is, byte for byte, and no file."""
+        """A refusal is a line, or two, leaves the store as it is, byte for byte, and no file."""
         before, files = Path(self.store).read_bytes(), sorted(os.listdir(self.folder))
         ran = self.start_altgis(*words)
         self.assertEqual((1, ""), (ran.returncode, ran.stdout), words)
-        self.assertRegex(ran.stderr.splitlines()[-1], f"^altgis: .*{told}")
+        self.assertRegex("\n".join(ran.stderr.splitlines()[-2:]), f"(?m)^altgis: .*{told}")
         self.assertTrue(Path(self.store).read_bytes() == before, words)
         self.assertEqual(files, sorted(os.listdir(self.folder)))
 
@@ -155,6 +156,21 @@ class AltgisCase(unittest.TestCase):
         self.assertRegex(ran.stderr, f"(?m)^altgis: left out .*{told}")
         self.assertIn(f"altgis: {count} features are left out, as they are bad", ran.stderr)
         self.assertTrue(Path(self.store).read_bytes() == before, words)
+
+    def service(self):
+        """Starts a service of the store, and gives the words that name it."""
+        words = [sys.executable, str(DESK / "altserve"), "--program", ALTCTL, self.store]
+        self.serving = subprocess.Popen(words, stderr=subprocess.DEVNULL)
+        self.addCleanup(self.stop)
+        late = time.monotonic() + 60
+        while not os.path.exists(f"{self.store}.sock") and time.monotonic() < late:
+            time.sleep(0.05)
+        return f"unix:{self.store}.sock"
+
+    def stop(self):
+        """Ends the service."""
+        self.serving.terminate()
+        self.serving.wait()
 
     def count(self, sql, *layers):
         """The answer to SQL over layers that GDAL has copied from their files, as a and b. None is a file's only

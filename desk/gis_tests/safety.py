@@ -64,6 +64,17 @@ class SafetyTests(AltgisCase):
             self.refused(told, "import", self.store, self.file("a.gpkg"), "t", "--alt", "top", "--table", 7)
             Path(self.file("a.gpkg")).unlink()
 
+    def test_a_geopackage_whose_layer_has_any_name_comes_in(self):
+        """Its index of places has that name, too."""
+        for name in ("Hard Layer", 'a "b" USING (c)', "straße", "it's"):
+            write(self.file("a.gpkg"), name, DUCTS, THREE)
+            self.create(1024)
+            self.assertIn("3 added", self.bring(self.file("a.gpkg"), name))
+            self.altgis("export", self.store, "top", self.file("out.gpkg"))
+            self.assertIn("3 same", self.bring(self.file("out.gpkg"), name))
+            for it in ("a.gpkg", "out.gpkg"):
+                Path(self.file(it)).unlink()
+
     def test_no_address_is_fetched(self):
         """The address is that of a coordinate system, in a file and in a layer's record."""
         asked, listener = [], socket.create_server(("127.0.0.1", 0))

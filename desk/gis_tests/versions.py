@@ -138,6 +138,21 @@ class VersionTests(AltgisCase):
         self.assertEqual((0, 601, 4), self.ask(look))
         self.assertEqual(["before-import-1"], self.ask(lambda store: list(store.checkpoints("top"))))
 
+    def test_an_import_finds_the_places_that_a_scan_finds(self):
+        """Of geometries of each kind, and of one that is too far away to be drawn. A scan reads what the store has."""
+        shapes = ["POINT (1 2)", "POINT EMPTY", None, "CIRCULARSTRING (0 0,1 1,2 0)", "LINESTRING Z (1 2 3,4 5 6)"]
+        shapes += ["LINESTRING (0 0,1e13 1)", "POLYGON ((0 0,0 9,9 9,0 0))", "MULTIPOINT (1 2,3 4)"]
+        write(self.file("a.gpkg"), "ducts", DUCTS, [(at, {"dn": 1}, it) for at, it in enumerate(shapes, 1)])
+        set_up()
+        with unittest.mock.patch("places.scanned", side_effect=AssertionError):
+            self.carry_out("import", self.store, self.file("a.gpkg"), "--alt", "top", "--table", 7)
+            self.carry_out("import", self.store, self.file("a.gpkg"), "--alt", "top", "--table", 8, "--new")
+        pages = self.ask(lambda store: list(store.list(places.OWN)))
+        self.assertTrue({places.PAGES + 7, places.PAGES + 8} <= {it.table for it in pages})
+        self.ask(lambda store: store.drop(places.OWN))
+        self.altgis("index", self.store)
+        self.assertEqual(pages, self.ask(lambda store: list(store.list(places.OWN))))
+
     def test_a_difference_is_four_layers(self):
         write(self.file("a.gpkg"), "ducts", DUCTS, THREE)
         self.bring(self.file("a.gpkg"), "ducts")

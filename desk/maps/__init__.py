@@ -34,6 +34,7 @@ from maps.layer import (
 )
 from maps.records import (
     GEOMETRY,
+    IMPORTS,
     LONGEST,
     MOST_PARTS,
     PARTS,

@@ -10,6 +10,7 @@ from typing import Callable, Optional
 GEOMETRY, PARTS = 100, 200
 LONGEST, MOST_PARTS = 4000, 1000
 TABLES = range(1, 100)
+IMPORTS = ".import-"  # What the names of alternatives begin with by which an import goes through a service.
 HEAD = re.compile(rb"long ([1-9][0-9]{0,6}) ([0-9]{1,20})")
 SHOWN = 60  # bytes of a bad value that a message shows
 

@@ -7,6 +7,7 @@ import { fillAbout, fillCompared, rows, showActions, showTree } from "./designs.
 import * as drawing from "./drawing.js";
 import { fillFeature, fillHere, show } from "./feature.js";
 import * as find from "./find.js";
+import { showOffice } from "./office.js";
 import { fillPrint, listen as listenToPrint } from "./printing.js";
 import { ask, begin, send } from "./server.js";
 import { desk, WORDS } from "./shared.js";
@@ -23,7 +24,8 @@ async function poll() {
   let pause = POLL;
   if (!document.hidden && !isBusy()) {
     // The answer comes with the next batch.
-    const state = await trying(() => ask("state", desk.state ? { after: desk.state.batch } : {}));
+    const known = desk.state ? { after: desk.state.batch, office: desk.office?.version ?? 0 } : {};
+    const state = await trying(() => ask("state", known));
     if (state && !isBusy()) await trying(() => take(state));
     if (state) pause = 100;
   }
@@ -39,6 +41,7 @@ async function take(state, own) {
   if (news.length) $("news").textContent = news.map((it) => `${it.time.slice(11, 16)} ${it.planner}: ${it.text}`).join("; ");
   const row = state.tree.find((it) => it.name === desk.at) || state.tree[0];
   if (before?.batch !== state.batch) showTree();
+  showOffice(state.office);
   const isKnown = before?.epoch === state.epoch && desk.design?.name === row.name && desk.design.stamp === row.stamp;
   if (!isKnown) await open(row.name);
   else if (before?.batch !== state.batch) showHead();

@@ -98,7 +98,7 @@ export function about(side) {
 async function showHistory() {
   const { table, number } = desk.feature;
   const told = await ask("history", { table, number });
-  const lines = told.map((it) => make("li", {}, `${it.time.slice(0, 16).replace("T", " ")} UTC, ${it.planner}: ${it.text}`));
+  const lines = told.map((it) => make("li", {}, `${it.time.slice(0, 16).replace("T", " ")} UTC, ${it.planner}: ${it.text}: ${it.changes.join("; ")}`));
   const list = lines.length ? make("ul", {}, ...lines) : make("p", {}, "Nobody since the service began its journal.");
   fill($("history"), make("h3", {}, "Who changed it"), list);
 }

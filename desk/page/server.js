@@ -36,8 +36,11 @@ export async function ask(path, words, how = {}) {
   return told;
 }
 
+const post = (path, it) =>
+  ask(path, {}, { method: "POST", headers: { "Content-Type": "application/json" }, body: JSON.stringify(it) });
+
 // Sends what a person does, with what the person saw.
-export function send(it) {
-  const body = JSON.stringify({ at: desk.at, seen: desk.design.batch, epoch: desk.state.epoch, ...it });
-  return ask("batch", {}, { method: "POST", headers: { "Content-Type": "application/json" }, body });
-}
+export const send = (it) => post("batch", { at: desk.at, seen: desk.design.batch, epoch: desk.state.epoch, ...it });
+
+// Has the store pull from HEAD, or push there. The answer comes once that is done.
+export const carry = (it) => post("office", it);

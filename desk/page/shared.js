@@ -4,6 +4,7 @@ export const desk = {
   view: "changes", // what the panel shows
   state: null, // the tree of designs, and what others have done
   design: null, // all of the design but its map
+  office: null, // what the store as a field office has ahead and behind, if it is a clone
   feature: null, // the feature in the panel
   edits: false, // whether its form is open
   choices: new Map(), // for conflicts

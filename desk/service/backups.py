@@ -14,8 +14,9 @@ from service.limits import refusal
 from service.store import Store
 
 NAME = re.compile(rb"[A-Za-z0-9_][A-Za-z0-9_.-]{0,31}")
-# The name of a copy that is not complete: of which backup, and by which process.
-PART = re.compile(r"\.[A-Za-z0-9_][A-Za-z0-9_.-]{0,31}\.[0-9]+\.part")
+# The name of a copy that is not complete: of which backup, and by which process. `altctl copy` makes it under a name of its own,
+# with `.part` behind that.
+PART = re.compile(r"\.[A-Za-z0-9_][A-Za-z0-9_.-]{0,31}\.[0-9]+\.part(\.part)?")
 
 
 # Once the second program has read this much of the store, it has read the slot.
@@ -88,7 +89,7 @@ class Copy:
 
     def _has_read_slot(self) -> bool:
         # It makes its file only after it has read the whole tree of blocks.
-        self.is_open = os.path.lexists(self.part)
+        self.is_open = any(map(os.path.lexists, names_of(self.part)))
         if self.is_open:
             return True
         process, store = f"/proc/{self.process.pid}", os.fstat(self.store.lock)
@@ -129,13 +130,13 @@ class Copy:
                 raise OSError(errno.EIO, "a device failed, or there is no space")
             # The opening of a program that was started again has marked.
             if status or self.is_spoiled or self.store.starts != self.starts:
-                remove(self.part)
+                remove_copy(self.part)
                 copy_alone(self.part)
             size = synced(self.part)
             os.replace(self.part, self.name)
             sync_folder(self.part)
         except OSError as fault:
-            remove(self.part)
+            remove_copy(self.part)
             return refused(fault)
         return b"ok %d %.3f" % (size, time.monotonic() - self.begun)
 
@@ -144,7 +145,7 @@ class Copy:
         os.killpg(self.process.pid, signal.SIGKILL)
         self.process.wait()
         os.close(self.end)
-        remove(self.part)
+        remove_copy(self.part)
 
 
 def free_blocks(store: Store) -> int:
@@ -153,9 +154,16 @@ def free_blocks(store: Store) -> int:
     return int(answer.split()[1]) if answer.startswith(b"free ") else 0
 
 
-def remove(path: str) -> None:
-    if os.path.lexists(path):
-        os.unlink(path)
+def names_of(part: str) -> List[str]:
+    """The names that a copy may have: the one that `altctl copy` makes it under, and its own."""
+    return [f"{part}.part", part]
+
+
+def remove_copy(part: str) -> None:
+    """Removes a copy, under each name that it may have."""
+    for name in names_of(part):
+        if os.path.lexists(name):
+            os.unlink(name)
 
 
 def refused(fault: OSError) -> bytes:

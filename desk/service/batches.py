@@ -1,13 +1,17 @@
 """Batches of lines over one store. Each takes effect as a whole or not at all, and is durable before it is answered. Batches that
 wait together share a commit."""
+import contextlib
 import errno
+import os
 import time
-from typing import Callable, Iterable, List, NamedTuple, Optional, Tuple
+import weakref
+from typing import Callable, Iterable, Iterator, List, NamedTuple, Optional, Tuple
 
 from service.batch import Batch, refused_place
-from service.entries import Effect, Entries, saved
+from service.archives import archived, refused, remove_parts
+from service.entries import Effect, Entries, remembered
 from service.journal import Broken, Journal
-from service.journal_log import Filter, Log
+from service.journal_log import Log
 from service.last_changes import LastChanges, independent
 from service.limits import refusal
 from service.lines import OWN
@@ -45,6 +49,7 @@ class Batches:
     def __init__(self, store: Store, rules: Rules, say: Callable[[object], None]):
         self.store, self.rules, self.say = store, rules, say
         self.path = f"{store.file}.journal"
+        remove_parts(store.file)
         self.journal = Journal(self.path, say)
         if store.kept >= self.journal.next:
             found = self.journal.next - 1
@@ -59,20 +64,13 @@ class Batches:
         self.sent: List[Batch] = []
         self.asked: Optional[Commit] = None
         self.commits, self.room, self.teller = Commits(), Room(), Teller(say)
-        # How long the last commit and a line of its batches took, for a group that is as long as its commit.
-        self.commit_seconds, self.line_seconds = 0.01, 20e-6
+        self.is_archiving = False
 
     # --- who made which alternative ---------------------------------------------------------------
 
     def _find_makers(self) -> None:
         """Finds out who made the alternatives and checkpoints: from the file that the last service wrote, and the journal since."""
-        number, makers = saved(self.owners)
-        entries = Entries({}, makers)
-        for text in self.log.entries(Filter(after=number), self.store.kept) if number else ():
-            for line in text.splitlines():
-                if line.startswith(b"entry "):
-                    _, _, _, who, verb, *words = line.split(b" ", 7)
-                    entries.note(verb, words, who.decode())
+        entries = remembered(self.owners, self.log, self.store.kept)
         entries.parents = self.store.entries.parents
         entries.forget_missing(self.store.checkpoints())
         self.store.entries = entries
@@ -86,6 +84,37 @@ class Batches:
                 self.changes = changes
             except OSError:
                 pass  # There is no space: it is tried again.
+
+    # --- old entries of the journal ---------------------------------------------------------------
+
+    def archive(self, name: str, until: str) -> Iterator[bytes]:
+        """Moves the entries up to a moment into an archive, in parts as an answer to `log`. The last one is the answer."""
+        if self.is_archiving:
+            yield refused(OSError(errno.EBUSY, "another one is under way"))
+            return
+        self.is_archiving = True
+        try:
+            self.save()
+            if self.changes != self.store.entries.changes:
+                raise OSError(errno.ENOSPC, "who made what cannot be written down")
+            for part in archived(self.journal, self.store.file, name, until):
+                if part:
+                    self._read_anew()
+                    self.say(f"{self.path}: archived as {name}: {part.decode().strip()}")
+                yield part
+        except OSError as fault:
+            yield refused(fault)
+        except Broken as fault:
+            raise Fatal(f"{self.path}: {fault}") from None
+        finally:
+            self.is_archiving = False
+
+    def _read_anew(self) -> None:
+        """Reads the journal that has taken the place of the old one. Answers that are under way go on with the old one."""
+        weakref.finalize(self.log, close_files, [self.log.file, self.log.index.file])
+        with contextlib.suppress(FileNotFoundError):
+            os.unlink(f"{self.path}.index")
+        self.log = Log(self.path, writes=True)
 
     def end(self) -> int:
         status = self.store.end()
@@ -195,7 +224,6 @@ class Batches:
     def _attempt(self, batches: List[Batch]) -> None:
         """Carries out batches, until none of them is refused, and commits these."""
         while batches:
-            begun = time.monotonic()
             last = self.journal.next + len(batches) - 1
             lines = [line for batch in batches for line in batch.lines]
             self.sent = batches
@@ -204,7 +232,6 @@ class Batches:
             entries = self.store.entries.copy()
             done = self._judged(batches, answers, entries) if fault is None else None
             if done:
-                self.line_seconds += 0.1 * ((time.monotonic() - begun) / (len(lines) + 3) - self.line_seconds)
                 self._commit(Commit(last, done, entries))
                 return
             # What was refused may have had an effect, and the number of the next batch is not to be seen.
@@ -253,7 +280,6 @@ class Batches:
 
     def _commit(self, commit: Commit) -> None:
         self._look_at_files()
-        begun = time.monotonic()
         try:
             self.journal.write([(it.number, it.batch, it.effect.touched, it.effect.records) for it in commit.done], commit.last)
         except Broken as fault:
@@ -263,7 +289,7 @@ class Batches:
             self.store.undo()
             refuse_all(commit.done, refusal(97, errno.errorcode[fault.errno]))
             return
-        self.asked, synced = commit, time.monotonic()
+        self.asked, asked_at = commit, time.monotonic()
         [answer] = self.store.program.ask([b"commit"])
         if answer == DEVICE:
             # The system may show what the device does not have, so nothing is looked up now.
@@ -274,11 +300,11 @@ class Batches:
             return
         self.store.kept = commit.last
         self._take(commit)
-        now = time.monotonic()
-        self.commit_seconds += 0.1 * (now - begun - self.commit_seconds)
-        self.commits.note(now, len(commit.done), now - begun, synced - begun)
-        if now - begun > SLOW_SECONDS:
-            self.teller.tell("slow commit", f"batch {commit.last} took {now - begun:.3f} s, {synced - begun:.3f} s of it for the journal")
+        now, sync_seconds = time.monotonic(), self.journal.sync_seconds
+        seconds = sync_seconds + now - asked_at
+        self.commits.note(now, len(commit.done), seconds, sync_seconds)
+        if seconds > SLOW_SECONDS:
+            self.teller.tell("slow commit", f"batch {commit.last} took {seconds:.3f} s, {sync_seconds:.3f} s of it for the journal")
         self.journal.done(commit.last)
 
     def _take(self, commit: Commit) -> None:
@@ -293,6 +319,12 @@ class Batches:
         for path, is_there in (self.store.file, self.store.is_in_place()), (self.path, self.journal.is_in_place()):
             if not is_there:
                 raise Fatal(f"{path} was moved, removed or replaced while the service was at work")
+
+
+def close_files(files: Iterable[Optional[int]]) -> None:
+    for it in files:
+        if it is not None:
+            os.close(it)
 
 
 def stamp_of(number: int) -> List[bytes]:

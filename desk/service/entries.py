@@ -5,6 +5,7 @@ from collections import Counter
 from typing import Dict, List, NamedTuple, Optional, Set, Tuple
 
 from service.batch import Batch
+from service.journal_log import Filter, Log
 from service.last_changes import changed_by
 from service.limits import refusal
 from service.lines import word
@@ -114,6 +115,18 @@ class Entries:
         with open(f"{path}.new", "w") as file:
             json.dump({"batch": batch, "makers": self.makers}, file)
         os.replace(f"{path}.new", path)
+
+
+def remembered(path: str, log: Log, kept: int) -> Entries:
+    """Who made what, as of a batch: from the file that was written last, and the journal since."""
+    number, makers = saved(path)
+    entries = Entries({}, makers)
+    for text in log.entries(Filter(after=number), kept) if number else ():
+        for line in text.splitlines():
+            if line.startswith(b"entry "):
+                _, _, _, who, verb, *words = line.split(b" ", 7)
+                entries.note(verb, words, who.decode())
+    return entries
 
 
 def saved(path: str) -> Tuple[int, Makers]:

@@ -56,6 +56,8 @@ class Journal:
         self.next = 1 + last_number(self.file, self.end)
         # The number of the last commit, if no line could be written that tells it.
         self.untold: Optional[int] = None
+        # How long the last sync took.
+        self.sync_seconds = 0.0
 
     def _cut(self, whole: int) -> None:
         """Cuts off what is behind the last whole line. It goes into a file of its own."""
@@ -118,10 +120,12 @@ class Journal:
             self.end += written
 
     def _sync(self) -> None:
+        begun = time.monotonic()
         try:
             os.fdatasync(self.file)
         except OSError as fault:
             raise Broken(f"the journal could not be synced: {fault}") from None
+        self.sync_seconds = time.monotonic() - begun
 
     def is_in_place(self) -> bool:
         """Whether the file still has its name."""
@@ -129,6 +133,11 @@ class Journal:
             return os.path.samestat(os.stat(self.path), os.fstat(self.file))
         except OSError:
             return False
+
+    def go_on_in(self, file: int) -> None:
+        """Goes on in another file, which has taken the journal's name."""
+        os.close(self.file)
+        self.file, self.end = file, os.fstat(file).st_size
 
     def close(self) -> None:
         os.close(self.file)

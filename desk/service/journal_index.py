@@ -1,17 +1,18 @@
 """An index of a journal: for each part of some 128 KiB the numbers of its batches, and which planners, alternatives and records
-are in it, as a Bloom filter. It lies in FILE.journal.index, has a hundredth of the journal's size, and is made again from the
+are in it, as a Bloom filter. It lies in FILE.journal.index, has a twentieth of the journal's size, and is made again from the
 journal if it is missing or does not fit."""
 import os
 import re
 import struct
 import zlib
-from typing import Callable, Iterable, Iterator, List, NamedTuple, Optional, Set, Tuple
+from typing import Callable, Iterator, List, NamedTuple, Optional, Sequence, Set, Tuple
 
 from service.journal import HEAD, OPENED, PART, line_feed_before
 
 # Where a part begins and ends, the highest batch so far, a checksum of both ends, and whether it has a line `opened`.
 FORM = struct.Struct("<QQQII")
-BITS = 1 << 14
+# Few parts that have 2,000 records have by chance all bits of another key.
+BITS = 1 << 15
 RECORD = FORM.size + BITS // 8
 # How many records are read at once.
 PORTION = 128
@@ -20,6 +21,8 @@ CHECKED = 512
 # A key that stands for all lines that may change any record.
 WIDE = b"*"
 
+# Groups of keys of which a part has to have one each, told by their places in a filter.
+Groups = Sequence[Sequence[Sequence[int]]]
 # Patterns that begin with fixed bytes are found much quicker.
 RECORDS = [re.compile(rb'"%s [^ "]+ 0*(\d+) 0*(\d+)' % verb) for verb in (b"put", b"remove")]
 # Verbs of lines that may change any record of an alternative.
@@ -32,25 +35,42 @@ OVERLAP = 256
 
 
 class Part(NamedTuple):
-    """A part of a journal, from one line to another. Without `bits` it may have anything."""
+    """A part of a journal, from one line to another."""
 
     begin: int
     end: int
     last: int = 0
     has_openings: bool = True
-    bits: Optional[bytes] = None
-
-    def may_have(self, wanted: Iterable[Iterable[Iterable[int]]]) -> bool:
-        """Whether it may have one key of each group. Keys are told by their places."""
-        return self.bits is None or all(any(self._has(key) for key in group) for group in wanted)
-
-    def _has(self, key: Iterable[int]) -> bool:
-        return all(self.bits[it >> 3] & 0x80 >> (it & 7) for it in key)
 
 
 def places(key: bytes) -> Tuple[int, int, int, int]:
     hashed = zlib.crc32(key) * 0x9E3779B97F4A7C15 & (1 << 64) - 1
-    return hashed >> 50, hashed >> 36 & BITS - 1, hashed >> 22 & BITS - 1, hashed >> 8 & BITS - 1
+    return hashed >> 49, hashed >> 34 & BITS - 1, hashed >> 19 & BITS - 1, hashed >> 4 & BITS - 1
+
+
+def with_bit(bit: int) -> bytes:
+    """A table that turns each byte into 1 if it has this bit, and into 0 if not."""
+    return bytes(it >> 7 - bit & 1 for it in range(256))
+
+
+WITH_BIT = [with_bit(it) for it in range(8)]
+
+
+def that_may_have(text: bytes, wanted: Groups) -> Iterator[int]:
+    """Which of the records in a text may have one key of each group: all of them at once, a byte each in a long number."""
+    count = len(text) // RECORD
+    found = int.from_bytes(b"\1" * count, "big")
+    for group in wanted:
+        of_group = 0
+        for key in group:
+            of_key = found
+            for place in key:
+                column = text[FORM.size + (place >> 3) :: RECORD]
+                of_key &= int.from_bytes(column.translate(WITH_BIT[place & 7]), "big")
+            of_group |= of_key
+        found &= of_group
+    ones = found.to_bytes(count, "big")
+    return (it for it in range(count) if ones[it])
 
 
 def record_key(table: int, number: int) -> bytes:
@@ -91,8 +111,8 @@ def keys_of(text: bytes) -> Set[bytes]:
     return keys
 
 
-def indexed(file: int, begin: int, end: int, before: int) -> Part:
-    """A part with what it has. `before` is the highest number before it."""
+def indexed(file: int, begin: int, end: int, before: int) -> Tuple[Part, bytes]:
+    """A part, and the filter of what it has. `before` is the highest number before it."""
     digits = bytearray(b"0" * BITS)
     numbers = [before]
     has_openings = False
@@ -103,7 +123,7 @@ def indexed(file: int, begin: int, end: int, before: int) -> Part:
         for key in keys_of(text):
             one, two, three, four = places(key)
             digits[one] = digits[two] = digits[three] = digits[four] = ONE
-    return Part(begin, end, max(numbers), has_openings, int(digits, 2).to_bytes(BITS // 8, "big"))
+    return Part(begin, end, max(numbers), has_openings), int(digits, 2).to_bytes(BITS // 8, "big")
 
 
 class Index:
@@ -139,37 +159,40 @@ class Index:
         return zlib.crc32(os.pread(self.journal, CHECKED, begin) + os.pread(self.journal, CHECKED, max(begin, end - CHECKED)))
 
     def _part(self, number: int) -> Part:
-        return part_of(os.pread(self.file, RECORD, number * RECORD))
+        return part_of(os.pread(self.file, FORM.size, number * RECORD))
 
     def add(self, size: int) -> bool:
         """Indexes the next part of a journal of this size. Returns False if there is none yet."""
         end = part_end(self.journal, self.end, size) if size - self.end >= PART else self.end
         if end == self.end:
             return False
-        part = indexed(self.journal, self.end, end, self._part(self.count - 1).last if self.count else 0)
+        part, bits = indexed(self.journal, self.end, end, self._part(self.count - 1).last if self.count else 0)
         head = FORM.pack(part.begin, end, part.last, self._checksum(part.begin, end), part.has_openings)
         try:
-            os.pwrite(self.file, head + part.bits, self.count * RECORD)
+            os.pwrite(self.file, head + bits, self.count * RECORD)
         except OSError:
             return False
         self.count, self.end = self.count + 1, end
         return True
 
-    def parts(self, size: int, begin: int = 0, is_backwards: bool = False) -> Iterator[Part]:
-        """The parts of a journal of this size that end behind `begin`, in their order or the other one."""
-        numbers = list(range(self._before(lambda it: it.end <= begin), self.count, PORTION))
+    def parts(self, size: int, begin: int = 0, is_backwards: bool = False, wanted: Groups = ()) -> Iterator[Optional[Part]]:
+        """The parts of a journal of this size that end behind `begin` and may have what is wanted, in their order or the other
+        one; and None now and then, as there may be none for long."""
+        numbers = range(self._before(lambda it: it.end <= begin), self.count, PORTION)
         if is_backwards:
             yield from reversed(list(self._rest(size, begin)))
             for at in reversed(numbers):
-                yield from reversed(self._portion(at))
+                yield from reversed(self._portion(at, wanted))
+                yield None
         else:
             for at in numbers:
-                yield from self._portion(at)
+                yield from self._portion(at, wanted)
+                yield None
             yield from self._rest(size, begin)
 
-    def _portion(self, at: int) -> List[Part]:
+    def _portion(self, at: int, wanted: Groups) -> List[Part]:
         text = os.pread(self.file, min(PORTION, self.count - at) * RECORD, at * RECORD)
-        return [part_of(text[place : place + RECORD]) for place in range(0, len(text), RECORD)]
+        return [part_of(text[it * RECORD : it * RECORD + FORM.size]) for it in that_may_have(text, wanted)]
 
     def _rest(self, size: int, begin: int) -> Iterator[Part]:
         """The parts that are not indexed yet."""
@@ -196,6 +219,6 @@ class Index:
         return low
 
 
-def part_of(text: bytes) -> Part:
-    begin, end, last, _, has_openings = FORM.unpack(text[: FORM.size])
-    return Part(begin, end, last, bool(has_openings), text[FORM.size :])
+def part_of(head: bytes) -> Part:
+    begin, end, last, _, has_openings = FORM.unpack(head)
+    return Part(begin, end, last, bool(has_openings))

@@ -4,10 +4,10 @@ import json
 import os
 import re
 from bisect import bisect_right
-from typing import Iterable, Iterator, List, NamedTuple, Optional, Tuple
+from typing import Iterator, List, NamedTuple, Optional, Tuple
 
 from service.journal import DONE, OPENED, PART, line_feed_before
-from service.journal_index import HEADS, OPENINGS, OVERLAP, PORTION, WIDE, WIDE_VERBS, Index, Part, part_end, pieces, places, record_key
+from service.journal_index import HEADS, OPENINGS, OVERLAP, WIDE, WIDE_VERBS, Index, Part, part_end, pieces, places, record_key
 from service.lines import word
 
 STRING = re.compile(rb'"([^"\\]*(?:\\.[^"\\]*)*)"(,|\]\}\n)')
@@ -40,13 +40,19 @@ class Filter(NamedTuple):
             groups.append([record_key(*self.record), WIDE])
         return [[places(key) for key in group] for group in groups]
 
-    def pattern(self) -> Optional["re.Pattern[bytes]"]:
-        """What a text has that has a line about the record."""
-        if self.record is None:
-            return None
-        table, number = self.record
-        wide = b"|".join(WIDE_VERBS)
-        return re.compile(rb'"(?:(?:put|remove) [^ "]+ 0*%d 0*%d[ "]|(?:%s) )' % (table, number, wide))
+    def patterns(self) -> List["re.Pattern[bytes]"]:
+        """What a text has, one of each, that has a wanted line."""
+        found = []
+        if self.planner is not None:
+            who = re.escape(json.dumps(self.planner)[1:-1].encode("ascii"))
+            found.append(rb'"who":"%s"' % who + (rb'|"uid":%s,' % who if self.planner.isdigit() else b""))
+        if self.alternative is not None:
+            found.append(rb'"%s"[],]' % re.escape(self.alternative.encode("utf-8", "surrogateescape")))
+        return [re.compile(it) for it in found] + ([self.of_line()] if self.record is not None else [])
+
+    def of_line(self) -> "re.Pattern[bytes]":
+        """What a line about the record begins with."""
+        return re.compile(rb'"(?<!\\")(?:(?:put|remove) [^ "]+ 0*%d 0*%d[ "]|(?:%s) )' % (*self.record, b"|".join(WIDE_VERBS)))
 
 
 def filter_of(words: List[str]) -> Filter:
@@ -142,9 +148,9 @@ class Log:
 
     def _indexed_openings(self) -> List[Tuple[int, int]]:
         for part in self.index.parts(self.index.end, self.looked) if self.looked < self.index.end else ():
-            self.looked = part.end
-            if part.has_openings:
-                self.openings += self._openings_in(part.begin, part.end)
+            if part is not None:
+                self.looked = part.end
+                self.openings += self._openings_in(part.begin, part.end) if part.has_openings else ()
         return self.openings
 
     def _openings_in(self, begin: int, end: int) -> Iterator[Tuple[int, int]]:
@@ -160,15 +166,17 @@ class Log:
         size = self.size()
         ranges = self.ranges(size, self.kept(size) if kept is None else kept)
         start, skipped, total = self.index.after(wanted.after), 0, 0
+        keys = wanted.keys()
         if wanted.last is not None:
-            parts = self._candidates(self.index.parts(size, start, is_backwards=True), wanted)
+            parts = self.index.parts(size, start, is_backwards=True, wanted=keys)
             start = size
             while total < wanted.last and (part := next(parts, LAST)) is not LAST:
                 yield b""
-                if part is not None:
-                    total, start = total + sum(it for _, it in self._portions(part, wanted, ranges)), part.begin
+                count = sum(it for _, it in self._portions(part, wanted, ranges)) if part is not None else 0
+                if count:
+                    total, start = total + count, part.begin
             skipped, total = max(0, total - wanted.last), 0
-        for part in self._candidates(self.index.parts(size, start), wanted):
+        for part in self.index.parts(size, start, wanted=keys):
             if part is None:
                 yield b""
                 continue
@@ -178,20 +186,12 @@ class Log:
                 yield b"".join(text.splitlines(True)[left_out:]) if left_out else text
         yield b"end %d\n" % total
 
-    @staticmethod
-    def _candidates(parts: Iterable[Part], wanted: Filter) -> Iterator[Optional[Part]]:
-        """The parts that may have wanted lines, and None now and then if there are none for long."""
-        keys = wanted.keys()
-        for number, part in enumerate(parts):
-            if part.may_have(keys):
-                yield part
-            elif number % PORTION == 0:
-                yield None
-
     def _portions(self, part: Part, wanted: Filter, ranges) -> Iterator[Tuple[bytes, int]]:
         """The wanted lines of a part: texts, and how many lines each has."""
-        pattern = wanted.pattern()
-        if pattern and not any(pattern.search(it) for it in pieces(self.file, part.begin, part.end, OVERLAP)):
+        missing = wanted.patterns()
+        for text in pieces(self.file, part.begin, part.end, OVERLAP) if missing else ():
+            missing = [it for it in missing if not it.search(text)]
+        if missing:
             yield b"", 0
             return
         head, rest = None, b""
@@ -238,7 +238,14 @@ def next_head(text: bytes, at: int, wanted: Filter, ranges) -> Optional[Head]:
 
 def take_lines(text: bytes, at: int, head: Head, wanted: Filter, found: List[bytes]) -> Tuple[int, bool]:
     """Adds the wanted lines of a batch, from a position on. Returns where it stopped, and whether that is the batch's end."""
+    of_line = wanted.of_line() if wanted.record is not None else None
+    end = text.find(b"\n", at) + 1
     while True:
+        if of_line and end:
+            line = of_line.search(text, at, end)
+            if line is None:
+                return end, True
+            at = line.start()
         string = STRING.match(text, at)
         if string is None:
             return (at + len(b"]}\n"), True) if text.startswith(b"]}\n", at) else (at, False)

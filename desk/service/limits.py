@@ -14,12 +14,10 @@ LINE_COST = 64
 PLANNERS = 1024
 # What is read from a connection at once. No more is read until its whole lines have been carried out.
 RECEIVED_BYTES = 32 << 10
-# Batches in one commit, and how many of them may be of one planner.
+# Lines in one commit, where each KiB counts as one more, and how many batches of it may be of one planner.
 GROUP = 1024
 GROUP_OF_ONE = 64
-# Lines in one commit at least and at most: as many as take about as long as the commit. A batch of more lines than
-# SMALL_LINES has a commit of its own.
-GROUP_LINES = 256, 4096
+# A batch of more than that has a commit of its own.
 SMALL_LINES = 64
 SMALL_BYTES = 64 << 10
 # Unread answers that are kept in memory: of a planner, and of all of them. The rest goes to temporary files, up to this size.
@@ -48,6 +46,7 @@ REFUSALS = {
     101: "Unsure",
     102: "TooManyEntries",
     103: "Changed",
+    104: "NoArchive",
 }
 
 

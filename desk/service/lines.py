@@ -44,12 +44,15 @@ LINES = {
 SINGLE = {verb for verb, line in LINES.items() if line.kind == "query"}
 ROWS = {verb for verb, line in LINES.items() if line.kind == "rows"}
 RIGHTS = {verb: line.right for verb, line in LINES.items() if line.kind == "change"}
-OF_THE_STORE = {"reclaim", "grow", "backup"}
+OF_THE_STORE = {"reclaim", "grow", "backup", "archive"}
 
 # Lines that the service itself answers.
-OWN_WORDS = {b"begin", b"commit", b"abort", b"rollback", b"whoami", b"batches", b"backup", b"log", b"status"}
+OWN_WORDS = {b"begin", b"commit", b"abort", b"rollback", b"whoami", b"batches", b"backup", b"archive", b"log", b"status"}
 
 NAME = re.compile(rb"[A-Za-z0-9_.-]{1,32}")
+# The alternative of a field office, and its marks: checkpoints of any alternative. docs/FIELD-OFFICES.md has what they are for.
+OFFICE = re.compile(rb"\.office\.([A-Za-z0-9_-]{1,15})")
+MARK = re.compile(OFFICE.pattern + rb"\.[A-Za-z0-9_.-]+")
 SEEN = re.compile(rb"([A-Za-z0-9_.-]{1,32})=([0-9]{1,19})")
 
 
@@ -85,6 +88,19 @@ def alternative_of(words: List[bytes]) -> Optional[bytes]:
 def names_own(words: List[bytes]) -> bool:
     """Whether a change names the service's own alternative."""
     return OWN in words[1 : 3 if words[0] == b"new" else 2]
+
+
+def office_of(words: List[bytes]) -> Optional[bytes]:
+    """The field office whose name a change makes or removes: its alternative under `top`, a checkpoint of that, or its
+    mark on another one. The records of its alternative are none of these: in a clone they say where HEAD is."""
+    verb, *names = words
+    if verb == b"drop" or verb == b"new" and names[1:] == [b"top"]:
+        found = OFFICE.fullmatch(names[0])
+    elif verb in (b"checkpoint", b"uncheck") and len(names) == 2:
+        found = OFFICE.fullmatch(names[0]) or MARK.fullmatch(names[1])
+    else:
+        return None
+    return found and found[1]
 
 
 def printable(line: bytes) -> str:

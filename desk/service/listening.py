@@ -29,6 +29,8 @@ def listening(path, group=None):
         before = os.umask(0o177)
         try:
             listener.bind(path)
+        except OSError as fault:
+            raise Occupied(f"{path}: no socket can be made there\n{fault.strerror or fault}") from None
         finally:
             os.umask(before)
         if group is not None:

@@ -2,12 +2,13 @@
 import selectors
 import socket
 import time
+from collections import Counter
 from typing import Dict, List, Optional, Union
 
 from service import limits
 from service.batch import Batch
 from service.limits import BAD_LINE, LONG_LINE, refusal
-from service.lines import OWN_WORDS, RIGHTS, ROWS, SINGLE, alternative_of, line_of, printable, seen_of, words_of
+from service.lines import OWN_WORDS, RIGHTS, ROWS, SINGLE, alternative_of, line_of, office_of, printable, seen_of, words_of
 from service.unread import Unread
 
 # How many decisions on rights are remembered for a planner.
@@ -62,6 +63,8 @@ class Planner:
         self.allowed, self.allowed_by = {}, None
         self.unread, self.read_last = Unread(server.users, person.uid), 0.0
         self.job, self.watched, self.counted, self.doubt = None, 0, 0, 0
+        # How much work it had, by those who give turns.
+        self.had = Counter()
 
     def handle(self, events: int) -> None:
         if events & selectors.EVENT_READ and self.first is None and self.is_exhausted():
@@ -255,7 +258,7 @@ class Planner:
         if self.allowed_by is not self.server.rules or len(self.allowed) > MOST_ALLOWED:
             self.allowed, self.allowed_by = {}, self.server.rules
         # Parents change, so what depends on them is not remembered.
-        key = (RIGHTS[words[0]], alternative) if words[0] not in (b"new", b"post") else None
+        key = (RIGHTS[words[0]], alternative, office_of(words)) if words[0] not in (b"new", b"post") else None
         if key is None or key not in self.allowed:
             parents = self.server.batches.store.entries.parents if batch is None else {}
             refused = self.server.rules.refusal_of(self.person, words, parents)

@@ -1,11 +1,12 @@
-"""Any moment back: a new store, made of a backup and of the batches that the journal has after it."""
+"""Any moment back: a new store, made of a backup and of the batches that the journal and its archives have after it."""
+import contextlib
 import os
-import re
 import subprocess
-from typing import Callable, Iterator, List, Tuple
+from typing import Callable, Iterator, List, Sequence, Tuple
 
+from service.archives import dropped_from, is_after, is_moment
 from service.batches import stamp_of
-from service.journal import sync_folder
+from service.journal import last_number, sync_folder
 from service.journal_log import Filter, Log
 from service.locking import locked
 from service.program import Ended
@@ -13,26 +14,102 @@ from service.store import Fatal, Store
 
 # As many lines are carried out between two commits.
 LINES = 4096
-TIME = re.compile(r"\d{4}-\d{2}-\d{2}(T\d{2}(:\d{2}(:\d{2}(\.\d+)?)?)?)?Z?")
 
 
 class Impossible(Exception):
     """There is no such state, or it cannot be made from this backup."""
 
 
-def restored(backup: str, journal: str, new: str, until: str, altctl: str, say: Callable[[object], None]) -> Tuple[int, int]:
+class Past:
+    """A journal, and archives of its older entries."""
+
+    def __init__(self, journal: str, archives: Sequence[str]):
+        with contextlib.ExitStack() as files:
+            logs = [(it, files.enter_context(contextlib.closing(Log(it)))) for it in (*archives, journal)]
+            self.files = files.pop_all()
+        journal_log = logs[-1][1]
+        # The last batch in the store.
+        self.last = kept = journal_log.kept(journal_log.size())
+        # The journals, oldest first, each with the last batch that counts of it, and the ranges of the numbers that count.
+        self.logs: List[Tuple[Log, int]] = []
+        self.ranges: List[Tuple[int, int]] = []
+        # The oldest of them, and the archive that comes before it.
+        self.oldest = journal, dropped_from(journal_log.file).archive
+        for path, log in [logs[-1], *sorted(logs[:-1], key=lambda it: -dropped_from(it[1].file).highest)]:
+            dropped, archive = dropped_from(log.file)
+            if dropped >= kept or path != journal and last_number(log.file, log.size()) < kept:
+                continue
+            found = log.ranges(log.size(), kept)
+            self.logs.insert(0, (log, kept))
+            self.ranges[:0] = [(max(first, dropped + 1), last) for first, last in found if last > dropped]
+            self.oldest = path, archive
+            kept = max((min(last, dropped) for first, last in found if first <= dropped), default=0)
+        # Of the batches up to this one, none is here.
+        self.before = kept
+
+    def close(self) -> None:
+        self.files.close()
+
+    def rows(self, after: int) -> Iterator[Tuple[int, str, bytes]]:
+        """The number, the time and a line, for each line of the batches after a number."""
+        for log, kept in self.logs:
+            after = max(after, dropped_from(log.file).highest)
+            for text in log.entries(Filter(after=after), kept):
+                for row in text.splitlines():
+                    if row.startswith(b"entry "):
+                        _, at, time, _, line = row.split(b" ", 4)
+                        yield int(at), time.decode("ascii"), line
+
+    def last_until(self, until: str) -> int:
+        """The last batch up to a moment."""
+        if not until:
+            return self.last
+        if until.isdigit():
+            return int(until)
+        if not is_moment(until):
+            raise Impossible(f"{until} is no number of a batch, and no time like 2026-01-31T12:00:00Z")
+        number = 0
+        for at, time, _ in self.rows(0):
+            if is_after(at, time, until):
+                break
+            number = at
+        if not number and self.before:
+            raise Impossible(self.what_is_missing())
+        return number
+
+    def look(self, backup: int, number: int) -> None:
+        """Raises Impossible if a state cannot be made from a backup of another one."""
+        if number < backup:
+            raise Impossible(f"the backup is as of batch {backup}, after batch {number}")
+        if backup < self.before and backup < number:
+            raise Impossible(self.what_is_missing(f"the backup is as of batch {backup}, and "))
+        for it in (backup, number):
+            if it > self.before and not any(first <= it <= end for first, end in self.ranges):
+                raise Impossible(f"batch {it} is not among those that led to the last state that the journal tells, batch {self.last}")
+
+    def what_is_missing(self, why: str = "") -> str:
+        path, archive = self.oldest
+        return (
+            f"{why}{path} begins after batch {self.before}\n"
+            f"it is possible from a backup as of batch {self.before} or later, or with --archive and the archive {archive}"
+        )
+
+
+def restored(
+    backup: str, journal: str, archives: Sequence[str], new: str, until: str, altctl: str, say: Callable[[object], None]
+) -> Tuple[int, int]:
     """Makes the file `new`. Returns the number of its last batch, and how many batches were carried out after the backup."""
     part = f"{new}.part"
     for it in (new, part):
         if os.path.lexists(it):
             raise Impossible(f"{it} is there already")
-    log = Log(journal)
+    past = Past(journal, archives)
     try:
         if subprocess.run([altctl, "copy", "--", backup, part], stdout=subprocess.DEVNULL).returncode:
             raise Impossible(f"{backup} could not be copied to {part}")
         lock = locked(part)
         try:
-            number, count = carried_out(Store(part, altctl, ["--grow"], lock, say), log, until)
+            number, count = carried_out(Store(part, altctl, ["--grow"], lock, say), past, until)
             os.fsync(lock)
         finally:
             os.close(lock)
@@ -40,25 +117,18 @@ def restored(backup: str, journal: str, new: str, until: str, altctl: str, say: 
         sync_folder(new)
         return number, count
     finally:
-        log.close()
+        past.close()
         if os.path.lexists(part):
             os.unlink(part)
 
 
-def carried_out(store: Store, log: Log, until: str) -> Tuple[int, int]:
+def carried_out(store: Store, past: Past, until: str) -> Tuple[int, int]:
     """Carries out the batches after the last one in a store, up to a number or a time."""
     try:
-        size = log.size()
-        last = log.kept(size)
-        number = last_until(log, last, until)
-        ranges = log.ranges(size, last)
-        for it in (store.kept, number):
-            if it and not any(first <= it <= end for first, end in ranges):
-                raise Impossible(f"batch {it} is not among those that led to the last state that the journal tells, batch {last}")
-        if number < store.kept:
-            raise Impossible(f"the backup is as of batch {store.kept}, after batch {number}")
+        number = past.last_until(until)
+        past.look(store.kept, number)
         count, lines = 0, 0
-        for at, batch in batches_after(log, store.kept, number):
+        for at, batch in batches_after(past, store.kept, number):
             if lines + len(batch) > LINES and lines:
                 commit(store, at - 1)
                 lines = 0
@@ -74,35 +144,12 @@ def carried_out(store: Store, log: Log, until: str) -> Tuple[int, int]:
         store.end()
 
 
-def last_until(log: Log, last: int, until: str) -> int:
-    """The last batch up to a number or a time."""
-    if until.isdigit():
-        return int(until)
-    if not until:
-        return last
-    if not TIME.fullmatch(until):
-        raise Impossible(f"{until} is no number of a batch, and no time like 2026-01-31T12:00:00Z")
-    number = 0
-    for at, time, _ in rows_of(log, 0, last):
-        if time > until.rstrip("Z"):
-            break
-        number = at
-    return number
-
-
-def rows_of(log: Log, after: int, last: int) -> Iterator[Tuple[int, str, bytes]]:
-    """The number, the time and a line, for each line of the batches after a number."""
-    for text in log.entries(Filter(after=after), last):
-        for row in text.splitlines():
-            if row.startswith(b"entry "):
-                _, at, time, _, line = row.split(b" ", 4)
-                yield int(at), time.decode("ascii").rstrip("Z"), line
-
-
-def batches_after(log: Log, after: int, last: int) -> Iterator[Tuple[int, List[bytes]]]:
+def batches_after(past: Past, after: int, last: int) -> Iterator[Tuple[int, List[bytes]]]:
     """The batches after a number, up to another one, with their lines."""
     number, lines = 0, []
-    for at, _, line in rows_of(log, after, last):
+    for at, _, line in past.rows(after):
+        if at > last:
+            break
         if at != number and lines:
             yield number, lines
             lines = []

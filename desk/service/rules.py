@@ -9,13 +9,16 @@
     [post]
     "*" = ["berta"]
 
+    [office]
+    yard = ["carl"]
+
     [entries]
     anna = 200
 
-A rule lists users, groups (`@NAME`), or `*` for everybody. Rules for `change`, `new`, `post` and `drop` name alternatives: an
-exact name takes precedence over patterns, and otherwise one matching pattern that lists the person is enough. What no rule allows
-is denied. `entries` has how many alternatives and checkpoints users may have made. Without the file only the user that the service
-runs as may change anything."""
+A rule lists users, groups (`@NAME`), or `*` for everybody. Rules for `change`, `new`, `post` and `drop` name alternatives, those
+for `office` field offices: an exact name takes precedence over patterns, and otherwise one matching pattern that lists the person is
+enough. What no rule allows is denied. `entries` has how many alternatives and checkpoints users may have made. Without the file only
+the user that the service runs as may change anything."""
 import fnmatch
 import grp
 import os
@@ -26,9 +29,10 @@ from typing import List, NamedTuple, Optional
 
 from service import limits
 from service.limits import refusal
-from service.lines import OF_THE_STORE, OWN, RIGHTS, alternative_of, names_own, word
+from service.lines import OF_THE_STORE, OWN, RIGHTS, alternative_of, names_own, office_of, word
 
 OF_ALTERNATIVES = {"change", "new", "post", "drop"}
+OF_NAMES = OF_ALTERNATIVES | {"office"}
 TOP = b"top"
 
 
@@ -84,7 +88,7 @@ def checked(path, table):
             if not all(isinstance(it, int) and not isinstance(it, bool) and it >= 0 for it in rule.values()):
                 raise Unreadable(f"{path}: {right} has a number for each user, @group or *")
             continue
-        if right in OF_ALTERNATIVES and isinstance(rule, dict):
+        if right in OF_NAMES and isinstance(rule, dict):
             lists = rule.values()
         elif right in OF_THE_STORE:
             lists = [rule]
@@ -108,7 +112,7 @@ class Rules:
         if right == "new" and right not in self.table:
             # Anybody may begin a design; below another one only who may change that.
             return None if alternative == TOP else self.denial(person, "change", alternative)
-        rule = self.table.get(right, {} if right in OF_ALTERNATIVES else [])
+        rule = self.table.get(right, {} if right in OF_NAMES else [])
         if right in OF_THE_STORE:
             return None if has(person, rule) else (right,)
         name = alternative.decode()
@@ -124,6 +128,9 @@ class Rules:
         right, alternative = RIGHTS[words[0]], alternative_of(words)
         if names_own(words):
             return refusal(90, right, OWN.decode())
+        office = office_of(words)
+        if office is not None and self.table is not None and self.denial(person, "office", office) is None:
+            return None
         denial = self.denial(person, right, alternative)
         if denial is None and words[0] == b"new" and len(words) > 2:
             denial = self.denial(person, "new", words[2])

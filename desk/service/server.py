@@ -1,23 +1,25 @@
 """The service: connections of planners, and rounds that carry out their requests one after another.
 
 It is a single thread. While the program is at work, lines of other planners wait in their sockets, and form the next group. In
-each round every planner has a turn, and whoever was served goes to the end."""
+each round whoever had least comes first."""
 import selectors
 import socket
 import time
-from collections import Counter, deque
-from typing import Callable, Dict, List, Optional, Tuple
+from collections import deque
+from typing import Callable, Dict, List, Optional
 
 from service import limits
+from service.archives import is_moment
 from service.backups import NAME, Backups, Copy, refused
 from service.batch import Batch
 from service.batches import Batches
 from service.journal_log import filter_of
-from service.limits import BAD_LINE, of_one_user, refusal
+from service.limits import BAD_LINE, refusal
 from service.planner import LOOK_LONG, Forgotten, Planner, Query, Request, Word
 from service.rules import Rules, Unreadable, person_of
 from service.signals import Signals
 from service.status import Value, memory, status_lines
+from service.turns import Pace, Turns, work_of
 from service.users import Users
 
 # How often planners are checked for timeouts, in seconds.
@@ -30,8 +32,6 @@ LOOK_SECONDS, LOG_SECONDS = 0.005, 0.005
 END_SECONDS = 2.0
 # A planner to whom that much of a log is not sent yet has to read it first.
 LOG_BYTES = 256 << 10
-# A request that has its turn, and its planner.
-Taken = Tuple[Planner, Request]
 
 
 class Server:
@@ -42,6 +42,8 @@ class Server:
         self.users, self.planners = Users(), {}
         # Planners with requests, with lines that are not looked at yet, with answers to be sent, and with a log, each in turns.
         self.waiting, self.unseen, self.touched, self.logs = {}, {}, {}, deque()
+        # Whose turn it is: queries with one line of answer, groups of batches, and what takes longer.
+        self.queries, self.groups, self.long, self.pace = Turns(), Turns(work_of), Turns(), Pace()
         # The backup that is under way, and those that are wanted, this one first.
         self.copy: Optional[Copy] = None
         self.wanted = deque()
@@ -165,41 +167,13 @@ class Server:
             planner.look(LOOK_LONG)
             self.touched[planner] = None
 
-    def _in_turns(self, fits: Callable[[Request], bool], most: int, lines: int) -> List[Taken]:
-        """Takes first requests that fit: one of each planner in turn, until there are too many of them or of their lines. Whoever
-        had a turn is at the end of the next round."""
-        taken: List[Taken] = []
-        counts, of_users = Counter(), Counter()
-        users = {it.person.uid for it in self.waiting}
-        turns = deque(self.waiting)
-        while turns and len(taken) < most and lines > 0:
-            planner = turns.popleft()
-            uid = planner.person.uid
-            if not planner.is_ready() or len(users) > 1 and of_users[uid] >= of_one_user(most):
-                continue
-            request = planner.first
-            if not fits(request):
-                continue
-            taken.append((planner, planner.next_request()))
-            lines -= len(request.lines) if isinstance(request, Batch) else 1
-            counts[planner] += 1
-            of_users[uid] += 1
-            # Where one batch may be refused, the next one may need to know.
-            if counts[planner] < limits.GROUP_OF_ONE and not planner.doubt:
-                turns.append(planner)
-        for planner in counts:
-            self.waiting.pop(planner, None)
-            if planner.first is not None:
-                self.waiting[planner] = None
-        return taken
-
     def _gathers(self) -> bool:
         """Whether more planners are likely to join the next group."""
         ready = [it for it in self.waiting if it.is_ready()]
         return 0 < len(ready) < self.expected and all(is_small(it.first) for it in ready)
 
     def _answer_queries(self) -> None:
-        asked = self._in_turns(is_short, limits.GROUP, limits.GROUP)
+        asked = self.queries.take(self.waiting, is_short, self.pace.work())
         answers = iter(self.batches.ask([it.line for _, it in asked if isinstance(it, Query)]))
         for planner, it in asked:
             if isinstance(it, Batch):
@@ -211,20 +185,22 @@ class Server:
                 planner.answer(next(answers) + b"\n" if isinstance(it, Query) else it if isinstance(it, bytes) else it.text())
 
     def _commit_group(self) -> None:
-        """Carries out small batches and commits them together. There are as many as take about as long as their commit."""
-        least, most = limits.GROUP_LINES
-        lines = min(max(least, int(self.batches.commit_seconds / self.batches.line_seconds)), most)
-        group = self._in_turns(is_small, limits.GROUP, lines) if self._may_commit() else []
+        """Carries out small batches and commits them together."""
+        begun, commits = time.monotonic(), self.batches.commits
+        count, seconds = commits.count, commits.seconds
+        group = self.groups.take(self.waiting, is_small, self.pace.work()) if self._may_commit() else []
         if not group:
             return
-        begun = time.monotonic()
+        work = sum(work_of(batch) for _, batch in group)
         try:
             self._carry_out([batch for _, batch in group])
         finally:
             for planner, batch in group:
                 planner.settled(batch)
+        now, seconds = time.monotonic(), commits.seconds - seconds
+        if commits.count > count:
+            self.pace.note(work, now - begun - seconds, seconds / (commits.count - count))
         # A planner with an answer often sends the next line at once. Waiting a little for it avoids two groups that alternate.
-        now = time.monotonic()
         self.expected = len({planner for planner, _ in group} | self.waiting.keys())
         self.gathers_until = now + GATHER * (now - begun)
 
@@ -232,7 +208,7 @@ class Server:
         """Carries out one request that does not belong in a group."""
         may_commit = self._may_commit()
         fits = lambda it: not is_short(it) and not is_small(it) and (may_commit or not isinstance(it, Batch))  # noqa: E731
-        for planner, request in self._in_turns(fits, 1, 1):
+        for planner, request in self.long.take(self.waiting, fits, 1):
             if isinstance(request, Batch):
                 try:
                     self._carry_out([request])
@@ -256,15 +232,23 @@ class Server:
         elif verb == b"log":
             self._begin_log(planner, others)
         elif verb == b"backup" and len(others) == 1 and NAME.fullmatch(others[0]):
-            denial = self.rules.denial(person, "backup")
-            if denial is not None:
-                planner.answer(refusal(90, *denial) + b"\n")
-            else:
+            if self._has_right(planner, "backup"):
                 planner.job = self.wanted
                 self.wanted.append((planner, others[0].decode()))
                 self._begin_backup()
+        elif verb == b"archive" and len(others) == 2 and NAME.fullmatch(others[0]) and is_moment(others[1].decode("latin-1")):
+            if self._has_right(planner, "archive"):
+                planner.job = self.batches.archive(*(it.decode() for it in others))
+                self.logs.append(planner)
         else:
             planner.answer(BAD_LINE + b"\n")
+
+    def _has_right(self, planner: Planner, right: str) -> bool:
+        """Whether a planner has a right of the store as a whole; if not, that is the answer."""
+        denial = self.rules.denial(planner.person, right)
+        if denial is not None:
+            planner.answer(refusal(90, *denial) + b"\n")
+        return denial is None
 
     def figures(self) -> Dict[str, Optional[Value]]:
         """What the service tells about itself, by the names in FIGURES."""

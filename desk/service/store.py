@@ -65,7 +65,7 @@ class Store:
                 if fault.errno not in SHORT:
                     break
                 time.sleep(WAIT_SECONDS)
-        raise Fatal(f"{self.altctl} cannot be started: {reason}")
+        raise Fatal(f"altctl cannot be started\n{self.altctl}: {os.strerror(reason.errno)}")
 
     def _look(self) -> None:
         """Reads the alternatives, and the number of the last batch."""

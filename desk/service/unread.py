@@ -20,9 +20,9 @@ class Unread:
     def add(self, text: bytes) -> None:
         """Adds answers. Raises OSError if there is no space for them."""
         size = len(self.memory) + len(text)
-        if self.file is None and size <= limits.UNREAD_BYTES and self.users.in_memory + len(text) <= limits.UNREAD_BYTES_OF_ALL:
+        if self.file is None and size <= limits.UNREAD_BYTES and self.users.may_keep(self.uid, len(text)):
             self.memory += text
-            self.users.in_memory += len(text)
+            self.users.keep(self.uid, len(text))
             return
         if not self.users.file(self.uid, len(text)):
             raise OSError(errno.ENOSPC, "too many unread answers")
@@ -49,14 +49,14 @@ class Unread:
             except BlockingIOError:
                 break
             del self.memory[:sent]
-            self.users.in_memory -= sent
+            self.users.keep(self.uid, -sent)
             total += sent
         return total
 
     def _refill(self) -> None:
         self.file.seek(self.begin)
         self.memory += self.file.read(min(limits.UNREAD_BYTES, self.end - self.begin))
-        self.users.in_memory += len(self.memory)
+        self.users.keep(self.uid, len(self.memory))
         self.begin += len(self.memory)
         if self.begin == self.end:
             self._drop_file()
@@ -69,6 +69,6 @@ class Unread:
 
     def clear(self) -> None:
         """Forgets all of it."""
-        self.users.in_memory -= len(self.memory)
+        self.users.keep(self.uid, -len(self.memory))
         self.memory.clear()
         self._drop_file()

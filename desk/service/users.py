@@ -6,10 +6,10 @@ from service.limits import of_one_user
 
 
 class User:
-    """A user with connections: how many, the size of the lines that are held and wait, and of unread answers in files."""
+    """A user with connections: how many, the size of the lines that are held and wait, and of unread answers, in memory and files."""
 
     def __init__(self) -> None:
-        self.planners, self.held, self.in_files = 0, 0, 0
+        self.planners, self.held, self.in_memory, self.in_files = 0, 0, 0, 0
 
 
 class Users:
@@ -42,6 +42,16 @@ class Users:
     def may_hold(self, uid: int, size: int) -> bool:
         """Whether that much more may be held for a user."""
         return self.by_number[uid].held + size <= of_one_user(limits.HELD_BYTES) and self.held + size <= limits.HELD_BYTES
+
+    def may_keep(self, uid: int, size: int) -> bool:
+        """Whether that much more of unread answers may be kept in memory for a user."""
+        most = limits.UNREAD_BYTES_OF_ALL
+        return self.by_number[uid].in_memory + size <= of_one_user(most) and self.in_memory + size <= most
+
+    def keep(self, uid: int, size: int) -> None:
+        """Counts the size of unread answers that are kept in memory, or no longer are."""
+        self.by_number[uid].in_memory += size
+        self.in_memory += size
 
     def file(self, uid: int, size: int) -> bool:
         """Counts the size of unread answers in files, unless it is too much."""

@@ -1,10 +1,11 @@
 """The device fails, or the program ends, at the worst moment."""
 import os
 import signal
+import subprocess
 import sys
 from pathlib import Path
 
-from service_tests.support import ALTCTL, ServiceTest
+from service_tests.support import ALTCTL, ALTSERVE, ServiceTest
 
 # A program that does something else at the line that the file NAME.fault names. The file is `WHAT LINE`.
 FAULTY = """#!{python}
@@ -157,6 +158,22 @@ class DeviceTests(ServiceTest):
         with self.planner() as one:
             self.fail("15_Device checkpoint .service")
             self.assertEqual(["error 15 Device", "none", "ok"], one.ask("put top 1 1 a", "get top 1 1", "put top 1 1 b"))
+
+    def test_a_restore_whose_program_fails(self):
+        with self.planner() as one:
+            self.assertEqual("ok", one.ask("backup early")[0].split()[0])
+            one.ask("put top 1 1 a")
+        self.stop()
+        backup, new = f"{self.file}.backups/early", f"{self.folder}/new"
+        for what, due in {
+            "dies put top": "the program ended",
+            "13_Full commit": "it could not be committed: ok, ok, ok, error 13 Full",
+        }.items():
+            self.fail(what)
+            words = [sys.executable, ALTSERVE, "restore", "--program", str(self.faulty), backup, self.journal, new]
+            ran = subprocess.run(words, stdout=subprocess.PIPE, stderr=subprocess.PIPE, timeout=120, text=True)
+            self.assertEqual((1, "", True), (ran.returncode, ran.stdout, due in ran.stderr), ran.stderr)
+            self.assertEqual([], [it for it in os.listdir(self.folder) if it.startswith("new")])
 
     def test_the_program_dies_at_a_query(self):
         with self.planner() as one:

@@ -1,12 +1,14 @@
 """What one planner or one user does costs others little."""
 import contextlib
 import os
+import signal
 import threading
 import time
+import unittest
 from pathlib import Path
 
 from service import limits
-from service_tests.support import LONG, ServiceTest
+from service_tests.support import HAS_TOML, LONG, NEEDS_TOML, NOBODY, ServiceTest
 
 
 class FairnessTests(ServiceTest):
@@ -129,6 +131,49 @@ class BoundTests(ServiceTest):
             self.assertTrue(any("error 94 TooLarge" in it for it in answers))
             self.assertTrue(all(set(it) == {"ok"} for it in made))
         self.assertLess(self.memory(), 96 << 20)
+
+    def fill(self, uid):
+        """Starts a process of another user that has the service hold as much as it may, and leaves as many answers unread."""
+        ready, is_ready = os.pipe()
+        child = os.fork()
+        if child:
+            os.close(is_ready)
+            self.addCleanup(os.close, ready)
+            self.addCleanup(os.waitpid, child, 0)
+            self.addCleanup(os.kill, child, signal.SIGKILL)
+            return ready
+        try:
+            os.setuid(uid)
+            planners = [self.planner() for _ in range(34)]
+            for one in planners[:2]:
+                one.send("begin", *["put top 1 1 " + "a" * 1_000_000] * 38)
+            for one in planners[2:]:
+                one.send(*["list top"] * 10)
+            while not all(it.is_read() for it in planners):
+                time.sleep(0.05)
+            os.write(is_ready, b"1")
+            time.sleep(600)
+        finally:
+            os._exit(1)
+
+    @unittest.skipIf(os.geteuid(), "only root can connect as other users")
+    @unittest.skipUnless(HAS_TOML, NEEDS_TOML)
+    def test_all_that_five_users_may_have_held_and_unread(self):
+        self.rules('[change]\n"*" = ["*"]')
+        self.start()
+        with self.planner() as one:
+            one.ask(*(f"put top 1 {n} {LONG}" for n in range(100)))
+            os.chmod(self.folder, 0o711)
+            os.chmod(self.socket, 0o666)
+            for ready in [self.fill(NOBODY - number) for number in range(5)]:
+                self.assertEqual(b"1", os.read(ready, 1))
+            found = {name: float(value) for _, name, value in (it.split() for it in one.rows("status")[:-1])}
+            self.assertEqual(["ok"], one.ask("put top 2 1 a"))
+        # Four have nearly a quarter each, and the fifth has what is left.
+        self.assertGreater(found["held_bytes"], 4 * 2 * 38 * 1_000_000)
+        self.assertLessEqual(found["held_bytes"], limits.HELD_BYTES)
+        self.assertGreater(found["unread_bytes"], 5 * 32 << 20)
+        self.assertLess(self.memory(), 600 << 20)
 
     def test_a_long_answer_that_comes_first(self):
         self.start()

@@ -135,8 +135,8 @@ class JournalTests(ServiceTest):
         self.assertEqual([*made, f"{len(made) + 1} put top 2 1 a"], self.log())
 
 
-    @unittest.skipUnless(os.geteuid() == 0, "only root can mount a small file system")
-    def test_a_full_disk(self):
+    def on_a_small_disk(self, blocks, *options):
+        """A service over a store on a disk of 4 MiB, which is the folder that is returned."""
         small = os.path.join(self.folder, "small")
         os.mkdir(small)
         if subprocess.run(["mount", "-t", "tmpfs", "-o", "size=4m", "tmpfs", small], stderr=subprocess.DEVNULL).returncode:
@@ -144,8 +144,43 @@ class JournalTests(ServiceTest):
         self.addCleanup(subprocess.run, ["umount", "--lazy", small], check=True)
         self.file = os.path.join(small, "map.alt")
         self.socket, self.journal = f"{self.file}.sock", f"{self.file}.journal"
-        self.create()
-        self.start()
+        self.create(blocks)
+        self.start(*options)
+        return small
+
+    @unittest.skipUnless(os.geteuid() == 0, "only root can mount a small file system")
+    def test_a_growth_on_a_full_disk_and_the_way_back(self):
+        small = self.on_a_small_disk(64, "--grow")
+        value = "x" * 4000
+        Path(small, "backup").write_bytes(bytes(2 << 20))
+        with self.planner() as one:
+            made = []
+            for number in range(1000):
+                [answer] = one.ask(f"put top 1 {number} {value}")
+                if answer != "ok":
+                    break
+                made.append(f"{number + 1} put top 1 {number} {value}")
+            self.assertIn(answer, ("error 15 Device", "error 97 NotJournaled ENOSPC"))
+            self.assertEqual([f"value {value}"], one.ask("get top 1 0"))
+            before = int(one.ask("blocks")[0].split()[1])
+            # Room is made on the disk, and the journal's entries go to another one.
+            os.unlink(os.path.join(small, "backup"))
+            self.assertEqual(["ok"], one.ask("put top 2 1 a"))
+            os.symlink(self.folder, f"{self.file}.archives")
+            self.assertEqual("ok", one.ask(f"archive old {len(made)}")[0].split()[0])
+            self.assertEqual(["ok"] * 40, one.ask(*(f"put top 3 {number} {value}" for number in range(40))))
+            self.assertLess(before, int(one.ask("blocks")[0].split()[1]))
+        self.assertEqual(0, self.stop())
+        self.assertEqual(made, self.log("--archive", f"{self.folder}/old")[: len(made)])
+        # What a growth has added in vain can be cut off.
+        blocks = int(self.altctl("blocks")[0].split()[1])
+        os.truncate(self.file, blocks * 4096)
+        rows = self.altctl("list top")
+        self.assertEqual(f"end {len(made) + 41}", rows[-1])
+
+    @unittest.skipUnless(os.geteuid() == 0, "only root can mount a small file system")
+    def test_a_full_disk(self):
+        small = self.on_a_small_disk(256)
         with self.planner() as one:
             self.assertEqual(["ok"], one.ask("put top 1 0 a"))
             with open(os.path.join(small, "filler"), "wb", buffering=0) as filler, contextlib.suppress(OSError):

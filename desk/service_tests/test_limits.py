@@ -24,13 +24,56 @@ class DocumentTests(unittest.TestCase):
             f"Each line counts {limits.LINE_COST} bytes more",
             f"| connections | {limits.PLANNERS:,}, of one user {limits.of_one_user(limits.PLANNERS)} |",
             f"| waiting lines | {limits.RECEIVED_BYTES >> 10} KiB of each planner;",
+            f"| unread answers of all planners in memory | {limits.UNREAD_BYTES_OF_ALL >> 20} MiB, of one user {limits.UNREAD_BYTES_OF_ALL >> 22} MiB |",
             f"| temporary files of all planners | {limits.UNREAD_FILES >> 30} GiB, of one user {limits.UNREAD_FILES >> 32} GiB |",
-            f"| batches in one commit | {limits.GROUP:,}, of one planner {limits.GROUP_OF_ONE} |",
+            f"| lines in one commit | {limits.GROUP:,}, each KiB counting as one more; {limits.GROUP_OF_ONE} batches of one planner,",
             f"| lines of a batch that shares its commit | {limits.SMALL_LINES}, of {limits.SMALL_BYTES >> 10} KiB together |",
             f"| alternatives and checkpoints of one user | {limits.ENTRIES}, unless",
         ):
             self.assertIn(row, text)
         self.assertEqual((1 << 20, 60), (limits.UNREAD_BYTES, limits.UNREAD_SECONDS))
+
+
+class UsersTests(unittest.TestCase):
+    """Each user may take a quarter of what all share, and four of them all of it."""
+
+    def setUp(self):
+        self.users = Users()
+        for uid in range(5):
+            self.assertTrue(self.users.enter(uid))
+
+    def taken(self, most, take):
+        """How often each of five users, one after another, may take an eighth of a limit."""
+        counts = [0] * 5
+        for uid in range(5):
+            while take(uid, most // 8):
+                counts[uid] += 1
+        return counts
+
+    def test_lines_that_are_held(self):
+        def hold(uid, size):
+            fits = self.users.may_hold(uid, size)
+            self.users.hold(uid, size if fits else 0)
+            return fits
+
+        self.assertEqual([2, 2, 2, 2, 0], self.taken(limits.HELD_BYTES, hold))
+
+    def test_unread_answers(self):
+        def keep(uid, size):
+            fits = self.users.may_keep(uid, size)
+            self.users.keep(uid, size if fits else 0)
+            return fits
+
+        self.assertEqual([2, 2, 2, 2, 0], self.taken(limits.UNREAD_BYTES_OF_ALL, keep))
+        self.assertEqual([2, 2, 2, 2, 0], self.taken(limits.UNREAD_FILES, self.users.file))
+
+    def test_connections(self):
+        counts = [1] * 5
+        for uid in range(5):
+            while self.users.enter(uid):
+                counts[uid] += 1
+        quarter = limits.PLANNERS // 4
+        self.assertEqual([quarter, quarter, quarter, quarter - 1, 1], counts)
 
 
 class UnreadTests(unittest.TestCase):

@@ -3,8 +3,10 @@ import os
 import random
 import subprocess
 import sys
+import unittest.mock
 from pathlib import Path
 
+from service import restore
 from service_tests.support import ALTCTL, ALTSERVE, LONG, ServiceTest, entries
 
 
@@ -80,6 +82,20 @@ class RestoreTests(ServiceTest):
         before = max(it for it in times if times[it] <= moment)
         ran = self.restore(backup, new, moment)
         self.assertEqual((0, states[max(it for it in numbers if it <= before)]), (ran.returncode, self.shown_by(new)), ran.stderr)
+
+    def test_many_batches_have_a_commit_now_and_then(self):
+        self.start()
+        with self.planner() as one:
+            one.ask("backup early")
+            for number in range(10):
+                one.ask("begin", f"put top 1 {number} a", f"put top 2 {number} a", "commit")
+        self.stop()
+        with unittest.mock.patch("service.restore.LINES", 5), unittest.mock.patch("service.restore.commit", wraps=restore.commit) as commit:
+            found = restore.restored(f"{self.file}.backups/early", self.journal, [], f"{self.folder}/new", "", ALTCTL, print)
+        self.assertEqual((10, 10), found)
+        # Two batches of two lines fit into five.
+        self.assertEqual([2, 4, 6, 8, 10], [it.args[1] for it in commit.call_args_list])
+        self.assertEqual(20, len([it for it in self.shown_by(f"{self.folder}/new")["list top"] if it.startswith("record ")]))
 
     def test_what_cannot_be_restored(self):
         self.start()

@@ -96,6 +96,47 @@ class RulesTests(ServiceTest):
             self.assertEqual(["value a"], one.ask("get top 7 1"))
 
     @unittest.skipUnless(HAS_TOML, NEEDS_TOML)
+    def test_an_office_has_its_own_names_and_nothing_else(self):
+        self.rules('[office]\nanna = ["*"]\nberta = []\n"ca*" = ["@root", "*"]\n[change]\n"north*" = ["*"]\n[new]\nnorth = ["*"]')
+        made = ["new north top", "new south top", "checkpoint south .office.berta.1", "put top 7 1 a"]
+        self.assertEqual(["ok"] * 5, self.altctl(*made, "commit"))
+        self.start()
+        with self.planner() as one:
+            may = [
+                "new .office.anna top", "checkpoint .office.anna 0a", "uncheck .office.anna 0a",
+                "checkpoint top .office.anna.0a", "checkpoint south .office.anna.0a", "uncheck south .office.anna.0a",
+                "checkpoint north monday", "drop .office.anna", "new .office.carl top", "checkpoint top .office.carl.1",
+            ]
+            self.assertEqual(["ok"] * len(may), one.ask(*may))
+            self.assertEqual(["ok"] * 4, one.ask("begin", "uncheck top .office.anna.0a", "checkpoint top .office.anna.0b", "commit"))
+            may_not = [
+                ("checkpoint top monday", "change"), ("checkpoint top .office.anna", "change"), ("checkpoint top .office.berta.1", "change"),
+                ("uncheck south .office.berta.1", "change"), ("checkpoint top .office.", "change"), ("checkpoint top xoffice.anna.1", "change"),
+                ("put top 7 1 b", "change"), ("back top .office.anna.0b", "change"), ("drop south", "drop"), ("post .office.carl", "post"),
+                ("new .office.berta top", "change"), ("new .office.anna south", "change"), ("new .office.anna.x top", "change"),
+                ("put .office.carl 65535 0 a", "change"), ("back .office.carl 1", "change"), ("new below .office.carl", "change"), ("new top2 top", "change"), ("drop .office.berta", "drop"),
+            ]
+            for line, right in may_not:
+                self.assertEqual([f"error 90 Denied {right} "], [it[: len(right) + 17] for it in one.ask(line)], line)
+            # Below `top` an office may have its own name, and no other, where a rule says who may begin designs there.
+            self.assertEqual(["error 90 Denied new ~", "ok"], one.ask("new north2 top", "new .office.anna top"))
+            self.assertEqual(["value a"], one.ask("get top 7 1"))
+
+    @unittest.skipUnless(HAS_TOML, NEEDS_TOML)
+    def test_a_rule_for_offices_is_read_again(self):
+        self.rules('[office]\nanna = ["*"]')
+        self.start()
+        with self.planner() as one, self.planner() as other:
+            self.assertEqual(["ok", "ok"], one.ask("checkpoint top .office.anna.1", "begin"))
+            one.send("checkpoint top .office.anna.2")
+            self.until(one.is_read)
+            self.rules("[office]\nanna = []")
+            self.service.send_signal(signal.SIGHUP)
+            self.until(lambda: other.ask("checkpoint top .office.anna.3")[0].startswith("error 90"))
+            one.send("commit")
+            self.assertEqual(["error 90 Denied change ~", "error 91 NotDone 1"], one.read(2))
+
+    @unittest.skipUnless(HAS_TOML, NEEDS_TOML)
     def test_how_many_entries_one_user_may_have(self):
         self.rules('[change]\n"*" = ["*"]\n[drop]\n"*" = ["*"]\n[entries]\n"*" = 3\n"@nobody" = 500')
         self.assertEqual(["ok", "ok"], self.altctl("new there top", "commit"))
@@ -141,7 +182,7 @@ class RulesTests(ServiceTest):
 
     @unittest.skipUnless(HAS_TOML, NEEDS_TOML)
     def test_rules_that_are_none(self):
-        for text in ["[change", "[fly]\na = []", 'grow = "anna"', "grow = 1", "change = []", "[change]\na = [1]", "[grow]\na = []", "entries = 3", "[entries]\na = true", "[entries]\na = -1"]:
+        for text in ["[change", "[fly]\na = []", "office = []", "[office]\nanna = 1", 'grow = "anna"', "grow = 1", "change = []", "[change]\na = [1]", "[grow]\na = []", "entries = 3", "[entries]\na = true", "[entries]\na = -1"]:
             self.rules(text)
             status, said = self.failed()
             self.assertEqual((1, True), (status, said.startswith(f"altserve: {self.file}.rules: ")), said)

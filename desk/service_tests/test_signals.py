@@ -1,12 +1,19 @@
 """Signals, and what a machine may be short of."""
 import contextlib
 import os
+import re
 import resource
 import signal
 import time
 from pathlib import Path
 
 from service_tests.support import ServiceTest
+
+
+def catches(process, number):
+    """Whether a process has a handler of its own for a signal."""
+    caught = re.search(r"^SigCgt:\s*(\w+)", Path(f"/proc/{process}/status").read_text(), re.MULTILINE)
+    return bool(int(caught[1], 16) >> number - 1 & 1)
 
 
 class SignalTests(ServiceTest):
@@ -36,6 +43,7 @@ class SignalTests(ServiceTest):
         first, said = self.service, self.said
         self.said = Path(f"{self.file}.second")
         self.launch()
+        self.until(lambda: catches(self.service.pid, signal.SIGTERM))
         time.sleep(1)
         self.assertEqual(1, self.stop())
         self.service, self.said = first, said

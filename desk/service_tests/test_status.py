@@ -5,6 +5,7 @@ import subprocess
 import sys
 import time
 import unittest
+import unittest.mock
 
 from service.status import FIGURES, MOST_TOLD, Commits, Room, Teller
 from service_tests.support import ALTSERVE, DESK, HAS_TOML, NEEDS_TOML, ServiceTest
@@ -89,6 +90,15 @@ class RoomTests(unittest.TestCase):
             commits.note(now, 2, seconds, 0.5)
         self.assertEqual((4, 8, 11.0, 2.0), (commits.count, commits.batches, commits.seconds, commits.sync_seconds))
         self.assertEqual([5.0, 3.0, 2.0, 0.0], [commits.slowest_since(it) for it in (0, 11, 21, 71)])
+
+    def test_how_many_more_events_there_were(self):
+        said = []
+        teller = Teller(said.append)
+        with unittest.mock.patch("time.monotonic", side_effect=[10.1] * 8 + [10.9, 11.0]):
+            for number in range(9):
+                teller.tell("denied", str(number))
+            teller.tell("slow commit", "a")
+        self.assertEqual([*(f"denied: {it}" for it in range(5)), "denied: 4 more", "slow commit: a"], said)
 
     def test_many_events_of_a_kind(self):
         said = []

@@ -50,6 +50,15 @@ class StoreTests(ServiceTest):
             self.assertEqual(["error 98 NoBackup EISDIR"], one.ask("backup a"))
         self.assertEqual(["a"], os.listdir(f"{self.file}.backups"))
 
+    def test_a_backup_at_which_a_device_fails(self):
+        program = Path(self.folder, "failing")
+        program.write_text(f'#!/bin/sh\n[ "$1" != copy ] || exit 3\nexec {ALTCTL} "$@"\n')
+        program.chmod(0o755)
+        self.start("--program", str(program))
+        with self.planner() as one:
+            self.assertEqual(["error 98 NoBackup EIO", "ok"], one.ask("backup a", "put top 1 1 a"))
+        self.assertEqual([], os.listdir(f"{self.file}.backups"))
+
     def test_what_an_interrupted_backup_leaves_is_removed(self):
         folder = Path(f"{self.file}.backups")
         folder.mkdir()
@@ -77,7 +86,8 @@ class StoreTests(ServiceTest):
         first, said = self.service, self.said
         self.said = Path(f"{self.file}.second")
         status, text = self.failed(change="from service import limits\nlimits.LOCK_SECONDS = 0.3")
-        self.assertEqual((1, f"altserve: {self.file}: another process has it\n"), (status, text))
+        due = f"altserve: {self.file}: another process has it\naltserve: it is in use by process "
+        self.assertEqual((1, due), (status, text[: len(due)]))
         self.service, self.said = first, said
         self.assertEqual(1, subprocess.run(["flock", "-n", self.file, "true"]).returncode)
         os.kill(self.program(), signal.SIGKILL)

@@ -332,17 +332,23 @@ class Store:
                 raise Refused(10, f" {key[0]}:{key[1]}")
         if conflicts - {*keys} and not side:
             raise Refused(9, f" {len(conflicts - {*keys})}")
-        sides, changes = {**dict.fromkeys(conflicts, side), **dict(settled)}, []
-        for key in sorted({*base, *theirs}):
-            now = theirs.get(key)
-            if now != base.get(key) and now != own.get(key) and sides.get(key) != "mine":
-                changes.append((key, now))
-        if changes:
-            self.demand(len(changes))
-        for key, value in changes:
-            it.current = self.remove(it.current, key) if value is None else self.put(it.current, key, value)
+        sides, merged = {**dict.fromkeys(conflicts, side), **dict(settled)}, {}
+        for key in {*base, *theirs, *own}:
+            is_own = theirs.get(key) == base.get(key) or sides.get(key) == "mine"
+            merged[key] = (own if is_own else theirs).get(key)
+        came = [key for key in sorted(merged) if merged[key] != own.get(key)]
+        stays = [key for key in sorted(merged) if merged[key] != theirs.get(key)]
+        self.make_changes(it, *((it.current, came) if len(came) < len(stays) else (parent.current, stays)), merged)
         it.base = parent.current
-        return f"ok {len(changes)}"
+        return f"ok {len(came)}"
+
+    def make_changes(self, it, root, keys, merged):
+        """Gives the alternative the map under a root with the merged values at these keys."""
+        if keys:
+            self.demand(len(keys))
+        for key in keys:
+            root = self.remove(root, key) if merged[key] is None else self.put(root, key, merged[key])
+        it.current = root
 
     def apply(self, words):
         """Carries out a command or a query, and gives its answer."""

@@ -54,6 +54,8 @@ class Call(NamedTuple):
 
 
 WRITE, LENGTH, SYNC = range(3)
+# The block that names the slot in use.
+SELECTOR = 1
 
 
 def recorded(file):
@@ -98,9 +100,14 @@ class Disk:
         if call.place % BLOCK or call.size % BLOCK:
             raise Failure(f"{call.size} bytes are written at {call.place}")
         for at in range(0, call.size, BLOCK):
-            block = (call.place + at) // BLOCK
-            self.held.setdefault(block, [self.lasting(block)]).append(call.text[at : at + BLOCK])
+            block, written = (call.place + at) // BLOCK, call.text[at : at + BLOCK]
+            if not self.is_rewritten(block, written):
+                self.held.setdefault(block, [self.lasting(block)]).append(written)
         self.length = max(self.length, call.place + call.size)
+
+    def is_rewritten(self, block, written):
+        """Whether the selector is written as it was synced, which every opening does: that leaves it as it is, torn or not."""
+        return block == SELECTOR and block not in self.held and written == self.lasting(block)
 
     def lengthen(self, length):
         if length < self.length:
@@ -350,7 +357,8 @@ class CopyCrashes:
 def try_copy(chance, file, library, said, count):
     """Copies a store, and tries crashes of the copy."""
     to, record, image = (f"{file}.{name}" for name in ("copy", "calls", "image"))
-    whole = b"".join(copy_store(chance, file, to, preloaded(library, store=to, recorded=record)))
+    # It gets its name after the last call.
+    whole = b"".join(copy_store(chance, file, to, preloaded(library, store=f"{to}.part", recorded=record)))
     disk, calls = Disk(b"", said.broken), recorded(record)
     if [it.kind for it in calls[-2:]] != [WRITE, SYNC] or calls[-2].place:
         raise Failure("a copy does not end with the write of the header, and a sync")

@@ -4,6 +4,8 @@
    FAIL_ON=1      so do all calls after it
    FAIL_TORN=N    a write that fails leaves its first N bytes in the file
    FAIL_BLOCK=N   each read of this block fails, but for the first one
+   FAIL_LOCK=N    each lock of a file fails with this error number
+   FAIL_LINK=N    so does each hard link
    FAILED=PATH    is made where a call fails */
 #define _GNU_SOURCE
 #include <errno.h>
@@ -63,6 +65,25 @@ ssize_t pwrite(int file, const void *from, size_t count, off_t offset)
     if (torn > 0)
         syscall(SYS_pwrite64, file, from, (size_t)torn < count ? (size_t)torn : count, offset);
     return fail();
+}
+
+static int fail_with(int error)
+{
+    fail();
+    errno = error;
+    return -1;
+}
+
+int flock(int file, int operation)
+{
+    int error = (int)number("FAIL_LOCK", 0);
+    return error == 0 ? (int)syscall(SYS_flock, file, operation) : fail_with(error);
+}
+
+int link(const char *from, const char *to)
+{
+    int error = (int)number("FAIL_LINK", 0);
+    return error == 0 ? (int)syscall(SYS_linkat, AT_FDCWD, from, AT_FDCWD, to, 0) : fail_with(error);
 }
 
 int fsync(int file)

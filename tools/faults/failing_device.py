@@ -7,11 +7,12 @@ and so on; or that one and all after it. So it is where written blocks wait in m
 fails leaves nothing, half a block or one block. Then the store has to open again with what was acknowledged, and the rest of
 the lines ends as usual. And each block of a store with a tree of two levels can't be read once it was opened: what lies in it
 is answered with `error 15 Device`, and everything else as usual. Each call of a copy fails, too, on the store or on the new
-file: the store stays as it was, and before the header's write the new file is no store.
+file: the store stays as it was, and nothing has the name of the copy. Where no hard link can be made, a copy is named all the same.
 
 It needs a C compiler, and a program that is linked against glibc. It stands beside the gate, as `tools/faults/space.py`
 does.
 """
+import errno
 import os
 import sys
 import tempfile
@@ -47,7 +48,7 @@ def try_calls(folder, library, fails_on, torn, options):
 def read_queries(altctl, file, variables=None):
     """What each record is answered, and the list."""
     lines = [f"get top 1 {number}" for number in range(1, RECORDS + 1)] + ["list top", "free"]
-    return start(altctl, ["run", "--cache", "0", file], lines, variables=variables)
+    return start(altctl, ["run", "--cache", "0", "--read-only", file], lines, variables=variables)
 
 
 def try_blocks(folder, library):
@@ -79,6 +80,60 @@ def try_blocks(folder, library):
     return len(lost)
 
 
+def try_merges(folder, library):
+    """Fails one call after another of a merge that settles all conflicts by a side, alone or with all after it. It ends the session if
+    it is answered that the device failed, and otherwise it is done, or refused and nothing has changed. Gives how many were."""
+    file, failed = os.path.join(folder, "store"), os.path.join(folder, "failed")
+    create(ALTCTL, file)
+    lines = ["put top 1 1 a", "new x top", "put top 1 1 b", "put x 1 1 c", "commit"]
+    expect("a conflict", (0, ["ok"] * 5, ""), start(ALTCTL, ["run", file], lines))
+    before, merge = read(file), ["merge x all=theirs", "get x 1 1"]
+    ends = {0: [], 1: []}
+    for fails_on in ends:
+        is_there = True
+        while is_there:
+            number = len(ends[fails_on]) + 1
+            variables = preloaded(library, failed=failed, fail_call=number, fail_on=fails_on)
+            came = start(PROGRAM, ["run", "--cache", "0", "--buffer", "0", file], merge, variables=variables)
+            ends[fails_on].append(came)
+            with open(file, "r+b") as it:
+                it.write(before)
+            is_there = os.path.exists(failed)
+            if is_there:
+                os.remove(failed)
+    done, device = (0, ["ok 1", "value b"], ""), (3, ["error 15 Device"], "altctl: stopped\n")
+    unsettled, unread = (0, ["error 9 Unsettled 1", "value c"], ""), (0, ["ok 1", "error 15 Device"], "")
+    opening = [(1, [], f"altctl: cannot open {file}\n"), (1, [], "altctl: 15 Device\n")]
+    for fails_on, all_ends in ends.items():
+        expect(f"a merge without a fault, fails_on {fails_on}", done, all_ends[-1])
+        due = [*opening, device, done, unread] if fails_on else [*opening, unsettled, device, done, unread]
+        expect(f"how a merge ends, fails_on {fails_on}", [], [end for end in all_ends if end not in due])
+        expect(f"which ends there are, fails_on {fails_on}", [], [end for end in due if end not in all_ends])
+    os.remove(file)
+    return sum(map(len, ends.values())) - 2
+
+
+def try_locks(folder, library):
+    """Fails the lock of a file: nothing is done without it, unless the words say so. Gives how many runs were refused."""
+    file, failed, refused = os.path.join(folder, "store"), os.path.join(folder, "failed"), 0
+    create(ALTCTL, file)
+    before = read(file)
+    jobs = [["do", file, "put top 1 1 v", "commit"], ["check", file], ["tree", file], ["copy", file, f"{file}.copy"]]
+    for error in (errno.ENOLCK, errno.EOPNOTSUPP):
+        variables = preloaded(library, failed=failed, fail_lock=error)
+        for words in [*jobs, *([words[0], "--wait", *words[1:]] for words in jobs)]:
+            how = f"{words}, where a lock fails by error {error}"
+            expect(how, (1, [], f"altctl: cannot lock {file}\n"), start(PROGRAM, words, variables=variables))
+            expect(f"{how}: the file, and a copy", (before, ["store"]), (read(file), [it for it in os.listdir(folder) if "store" in it]))
+            expect(f"{how}: it failed", True, os.path.exists(failed))
+            os.remove(failed)
+            refused += 1
+        free = start(PROGRAM, ["do", "--no-lock", file, "free"], variables=variables)
+        expect("no lock is asked for", (0, ["free 30"], "", False), (*free, os.path.exists(failed)))
+    os.remove(file)
+    return refused
+
+
 def make_copied(file):
     """Makes a store with a tree of two levels and a long value. Gives its bytes, the blocks that its trees have, and the bytes of a
     copy, by the model."""
@@ -92,23 +147,19 @@ def make_copied(file):
 
 
 def copy_failing(folder, file, variables, how):
-    """Copies a store while calls fail. Gives what came, whether a call failed, and the bytes of the copy, if it was made."""
+    """Copies a store while calls fail. Gives what came, whether a call failed, and the bytes of each file that was made."""
     to, failed = os.path.join(folder, "copy"), os.path.join(folder, "failed")
     before = read(file)
     came = start(PROGRAM, ["copy", file, to], variables={**variables, "FAILED": failed})
     expect(f"{how}: the store is as it was", True, read(file) == before)
-    is_there, text = os.path.exists(failed), None
-    if os.path.exists(to):
-        text = read(to)
-        if came[0]:
-            shown = start(PROGRAM, ["check", to])
-            is_store = (0, ["alternatives 2", "checkpoints 0", "free 26"], "")
-            expect(f"{how}: a check of what was made", True, shown in (is_store, (1, [], "altctl: 19 NotAStore\n")))
-            text = text if shown == is_store else b""
-        os.remove(to)
+    is_there, made = os.path.exists(failed), {}
+    for name in ("copy", "copy.part"):
+        if os.path.exists(os.path.join(folder, name)):
+            made[name] = read(os.path.join(folder, name))
+            os.remove(os.path.join(folder, name))
     if is_there:
         os.remove(failed)
-    return came, is_there, text
+    return came, is_there, made
 
 
 def try_copy_calls(folder, library, fails_on, torn):
@@ -119,19 +170,16 @@ def try_copy_calls(folder, library, fails_on, torn):
     while is_there:
         how = f"a copy, call {len(ends) + 1}{' and those after it' * fails_on} failed, a write after {torn} bytes"
         variables = preloaded(library, fail_call=len(ends) + 1, fail_on=fails_on, fail_torn=torn)
-        came, is_there, text = copy_failing(folder, file, variables, how)
-        ends.append((came, text))
-    expect(f"{how}: none failed", ((0, [f"copied {BLOCKS}, {FIRST + len(reached)} used"], ""), whole), ends.pop())
-    # The opening of the store, then the making of the file, then the copying.
-    said = (1, "15 Device", False), (1, f"cannot create {folder}/copy", True), (3, "stopped", True)
-    due = [((status, [], f"altctl: {text}\n"), is_made) for status, text, is_made in said]
-    phases = [(kind, len([*calls])) for kind, calls in groupby((came, text is not None) for came, text in ends)]
+        came, is_there, made = copy_failing(folder, file, variables, how)
+        ends.append((came, made))
+    expect(f"{how}: none failed", ((0, [f"copied {BLOCKS}, {FIRST + len(reached)} used"], ""), {"copy": whole}), ends.pop())
+    # The opening of the store, then the making of the file, which stays as far as it came, then the copying: that file is removed.
+    said = (1, "15 Device", []), (1, f"cannot create {folder}/copy.part", ["copy.part"]), (3, "stopped", [])
+    due = [((status, [], f"altctl: {text}\n"), names) for status, text, names in said]
+    phases = [(kind, len([*calls])) for kind, calls in groupby((came, [*made]) for came, made in ends)]
     expect("copies with failing calls: how they end", due, [kind for kind, _ in phases])
     # A sync and a read of block 0, a read and a write of each block, then the slot, the selector, a sync, the header, a sync.
     expect("calls of the copying", 2 + 2 * len(reached) + 5, phases[-1][1])
-    expect("copies before the header's write that are stores", [], [n for n, it in enumerate(ends[:-2]) if it[1]])
-    due = [b"" if torn == 0 else whole, whole]
-    expect("copies whose header, or the sync after it, failed", due, [it[1] for it in ends[-2:]])
     os.remove(file)
     return len(ends)
 
@@ -143,13 +191,24 @@ def try_copy_blocks(folder, library):
     done = (0, [f"copied {BLOCKS}, {FIRST + len(reached)} used"], "")
     for block in range(BLOCKS):
         how = f"a copy, block {block} cannot be read again"
-        came, is_there, text = copy_failing(folder, file, preloaded(library, fail_block=block), how)
+        came, is_there, made = copy_failing(folder, file, preloaded(library, fail_block=block), how)
         # Block 0 is the one in which the copy looks for a header.
         is_needed = block in reached or block == 0
-        expect(how, ((3, [], "altctl: stopped\n"), b"") if is_needed else (done, whole), (came, text))
+        expect(how, ((3, [], "altctl: stopped\n"), {}) if is_needed else (done, {"copy": whole}), (came, made))
         expect(f"{how}: that came", is_needed, is_there)
     os.remove(file)
     return len(reached) + 1
+
+
+def try_copy_links(folder, library):
+    """Copies where the system makes no hard links: the copy is renamed."""
+    file = os.path.join(folder, "store")
+    _, reached, whole = make_copied(file)
+    for error in (errno.EPERM, errno.EOPNOTSUPP, errno.EMLINK):
+        how = f"a copy, a hard link fails by error {error}"
+        due = (0, [f"copied {BLOCKS}, {FIRST + len(reached)} used"], ""), True, {"copy": whole}
+        expect(how, due, copy_failing(folder, file, preloaded(library, fail_link=error), how))
+    os.remove(file)
 
 
 def main():
@@ -161,11 +220,15 @@ def main():
             options = [[], ["--buffer", "1"], ["--buffer", "2"], ["--buffer", "64"]]
             stops = sum(try_calls(folder, library, *fault, given) for given in options for fault in faults)
             blocks = try_blocks(folder, library)
+            locks = try_locks(folder, library)
+            merges = try_merges(folder, library)
+            try_copy_links(folder, library)
             copies = sum(try_copy_calls(folder, library, *fault) for fault in faults) + try_copy_blocks(folder, library)
     except Failure as failure:
         print(f"failing_device: {failure}", file=sys.stderr)
         return 1
-    print(f"failing_device: nothing is lost: {stops} runs and {copies} copies were stopped at a call, and {blocks} blocks could not be read")
+    print(f"failing_device: nothing is lost: {stops} runs and {copies} copies were stopped at a call, {blocks} blocks could not be read,")
+    print(f"    {merges} merges met a fault, and {locks} runs got no lock")
     return 0
 
 

@@ -61,7 +61,7 @@ def allowed(answers):
     return {last}
 
 
-def check_answers(status, answers, faults, how):
+def check_answers(file, status, answers, faults, how):
     """Looks whether lines were answered as usual up to the end, or up to one that the device failed. The answers may lack
     where the opening failed. Gives whether the run was stopped."""
     due = [usual(n) for n in range(min(len(answers), len(LINES)))]
@@ -70,7 +70,10 @@ def check_answers(status, answers, faults, how):
         return False
     if answers:
         due[-1] = "error 15 Device"
-    ends = (3, "altctl: stopped\n") if answers else (1, "altctl: 15 Device\n")
+        ends = (3, "altctl: stopped\n")
+    else:
+        # The store, or first its selector, which is read and written again.
+        ends = (1, "altctl: 15 Device\n" if faults.endswith("15 Device\n") else f"altctl: cannot open {file}\n")
     expect(f"{how}: the answers", (due, *ends), (answers, status, faults))
     return True
 
@@ -101,6 +104,6 @@ def run_and_finish(altctl, file, how, program=None, options=(), **started):
     """Runs the lines in a way that may stop them, looks at what is shown then, and runs the rest as usual. Gives whether they
     were stopped."""
     status, answers, faults = start(program or altctl, ["run", *options, file], LINES, **started)
-    stopped = check_answers(status, answers, faults, how)
+    stopped = check_answers(file, status, answers, faults, how)
     finish(altctl, file, shown_after(altctl, file, answers, how), how)
     return stopped

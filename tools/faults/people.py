@@ -9,6 +9,7 @@ import subprocess
 import time
 
 TABLES, KEYS = (7, 107), 12
+PATIENCE = 600  # seconds that nothing takes, on a busy machine either
 
 
 class Failure(Exception):
@@ -81,7 +82,7 @@ class Lines:
         self.world, self.place, self.is_service = world, place, place.endswith(".sock")
         if self.is_service:
             self.socket = socket.socket(socket.AF_UNIX)
-            late = time.monotonic() + 60
+            late = time.monotonic() + PATIENCE
             while True:
                 try:
                     self.socket.connect(place)

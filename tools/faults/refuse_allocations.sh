@@ -11,7 +11,7 @@
 # or with `error 16 Memory`. After that the store is as before the line, the file is as long, and the same line gets
 # its usual answer. In the end the file shows the usual, with the usual slots byte by byte: a block that no version
 # needs may have other bytes, since it is written where there is no memory for it to wait. A run that ends before its
-# first line leaves the file as it was, and the file opens again.
+# first line leaves the file as it was, and the file opens again. Nor does a run write beside one that has locked the file.
 #
 # It needs a C compiler, and programs that are linked against glibc. Its verdict is its exit status.
 set -eu
@@ -229,13 +229,14 @@ run_session() {
     refusals=$((refusals + number - 1))
 }
 
-# Tests the file that a copy was to make: it shows what the store shows, or no store if memory was wanting.
+# Tests the file that a copy was to make: it shows what the store shows, or is not there if memory was wanting.
 check_copy() {
     if [ "$status" = 0 ]; then
         shown "$room/copied" | cmp -s - "$room/usual_shown" || fail "copy, allocation $1: it shows something else"
     elif [ -e "$room/copied" ]; then
-        [ "$("$program" check "$room/copied" 2>&1)" = 'altctl: 19 NotAStore' ] || fail "copy, allocation $1: it is a store"
+        fail "copy, allocation $1: something has its name"
     fi
+    [ ! -e "$room/copied.part" ] || fail "copy, allocation $1: it left a file"
 }
 
 # Has a job done that only reads the store that a session left, and refuses the allocation of this number: none, where
@@ -351,6 +352,45 @@ do_all_lines() {
     refusals=$((refusals + number - 1))
 }
 
+# Has a session lock the store, until the descriptor 5 is closed.
+hold_lock() {
+    mkfifo "$room/talk"
+    "$program" run "$room/store" <"$room/talk" >"$room/held" 2>&1 &
+    holder=$!
+    exec 5>"$room/talk"
+    echo free >&5
+    until [ -s "$room/held" ]; do sleep 0.1; done
+}
+
+# Has lines carried out beside a session that holds the lock, with each allocation refused: none of them writes. Each end is
+# met at least once.
+try_locked() {
+    cp "$room/empty" "$room/store"
+    hold_lock
+    : >"$room/ends"
+    number=0
+    while
+        number=$((number + 1))
+        rm -f "$room/refused"
+        status=0
+        timeout 60 env LD_PRELOAD="$room/refuse.so" REFUSE="$number" REFUSED="$room/refused" \
+            "$program" do "$room/store" 'put top 1 1 x' commit >"$room/shown" 2>"$room/said" </dev/null 5>&- || status=$?
+        echo "$status $(cat "$room/said")" >>"$room/ends"
+        case $(tail -n 1 "$room/ends") in
+            "1 altctl: $room/store is in use" | '3 altctl: stopped') [ ! -s "$room/shown" ] ;;
+            *) false ;;
+        esac || fail "a locked store, allocation $number: $(tail -n 1 "$room/ends") $(cat "$room/shown")"
+        cmp -s "$room/store" "$room/empty" || fail "a locked store, allocation $number: the file was changed"
+        [ -e "$room/refused" ]
+    do :; done
+    for end in "1 altctl: $room/store is in use" '3 altctl: stopped'; do
+        grep -qx "$end" "$room/ends" || fail "a locked store: it never ends with $end"
+    done
+    exec 5>&-
+    wait "$holder" || fail "a locked store: its holder ends with $?"
+    refusals=$((refusals + number - 1))
+}
+
 # Runs the list of commands in memory, with the allocation of this number refused. Where one was, just one thing was
 # refused.
 run_commands() {
@@ -407,6 +447,7 @@ run_checks 0
 run_copies 80
 echo '      0        2         0   no  `- x' | run_trees
 do_all_lines
+try_locked
 for line in 'merge .*' 'grow 300' 'grow 1000'; do
     grep -qx "$line" "$room/wanting" || fail "no $line was refused"
 done

@@ -38,24 +38,27 @@ def create_without_room(altctl, file, blocks, prepare=None):
 
 
 def copy_without_room(altctl, source, file, blocks, prepare=None):
-    """Has the program copy a store to a file, with room for this many blocks alone. What was written of it is no store."""
+    """Has the program copy a store to a file, with room for this many blocks alone. Nothing gets its name, and what was written is no
+    store."""
+    part = f"{file}.part"
     with open(source, "rb") as it:
         before = it.read()
     for how in (f"a copy, with room for {blocks} blocks", "a copy over a file that stayed"):
         came = start(altctl, ["copy", source, file], prepare=prepare)
-        expect(how, (1, [], f"altctl: cannot create {file}\n"), came)
-    if os.path.getsize(file) > blocks * BLOCK:
-        raise Failure(f"a copy, with room for {blocks} blocks: the file has {os.path.getsize(file)} bytes")
-    expect(f"check of {blocks} blocks", (1, [], "altctl: 19 NotAStore\n"), start(altctl, ["check", file]))
+        expect(how, (1, [], f"altctl: cannot create {part}\n", False), (*came, os.path.lexists(file)))
+    if os.path.getsize(part) > blocks * BLOCK:
+        raise Failure(f"a copy, with room for {blocks} blocks: the file has {os.path.getsize(part)} bytes")
+    expect(f"check of {blocks} blocks", (1, [], "altctl: 19 NotAStore\n"), start(altctl, ["check", part]))
     with open(source, "rb") as it:
         expect("the store that was copied is as it was", True, it.read() == before)
-    os.remove(file)
+    os.remove(part)
 
 
 def copy_with_room(altctl, source, file, prepare=None):
     """Has the program copy a store to a file for which there is just enough room."""
     came = start(altctl, ["copy", source, file], prepare=prepare)
     expect("a copy, with room for each block", (0, [f"copied {BLOCKS}, 36 used"], ""), came)
+    expect("a copy, its other name", False, os.path.lexists(f"{file}.part"))
     expect("a copy, opened", (0, SHOWN[5], ""), start(altctl, ["run", file], QUERIES))
     os.remove(file)
 
@@ -144,15 +147,25 @@ def full_growths(altctl, folder):
     return try_growths(altctl, file, prepared)
 
 
-def copy_with_holes(whole, file):
-    """Copies a file. A block of zero bytes takes no room in the copy."""
+def copy_with_holes(whole, file, first=2):
+    """Copies a file. From the first block that is given on, one of zero bytes takes no room in the copy."""
     with open(whole, "rb") as source, open(file, "wb") as target:
         for n in range(BLOCKS):
             block = source.read(BLOCK)
-            if any(block):
+            if n < first or any(block):
                 target.seek(n * BLOCK)
                 target.write(block)
         target.truncate(BLOCKS * BLOCK)
+
+
+def open_without_room(altctl, whole, file):
+    """Has the program open a store whose selector, block 1, is a hole, where no block is left: the opening writes it, and cannot."""
+    copy_with_holes(whole, file, 1)
+    filler = leave_free(os.path.dirname(file), 0)
+    expect("an opening that needs a block", (1, [], f"altctl: cannot open {file}\n"), start(altctl, ["run", file], LINES))
+    expect("a look that needs none", (0, ["end 0"], ""), start(altctl, ["run", "--read-only", file], ["list top"]))
+    os.remove(filler)
+    os.remove(file)
 
 
 def try_small_disk(altctl, folder):
@@ -168,13 +181,14 @@ def try_small_disk(altctl, folder):
     os.remove(filler)
     os.remove(source)
     create(altctl, whole)
+    open_without_room(altctl, whole, file)
     stops, stopped = 0, True
     while stopped:
         copy_with_holes(whole, file)
         filler = leave_free(folder, stops)
         how = f"with {stops} blocks left"
         status, answers, faults = start(altctl, ["run", file], LINES)
-        stopped = check_answers(status, answers, faults, how)
+        stopped = check_answers(file, status, answers, faults, how)
         after = shown_after(altctl, file, answers, how)
         os.remove(filler)
         finish(altctl, file, after, how)

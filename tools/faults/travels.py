@@ -25,12 +25,11 @@ from pathlib import Path
 
 sys.dont_write_bytecode = True
 import bad_link
-from people import KEYS, TABLES, AtHead, Failure, Gone, History, InOffice, Lines
+from people import KEYS, PATIENCE, TABLES, AtHead, Failure, Gone, History, InOffice, Lines
 
 TOP = Path(__file__).resolve().parents[2]
 ALTSERVE, ALTCARRY = (str(TOP / "desk" / it) for it in ("altserve", "altcarry"))
 OFFICES = ("anna", "berta")
-HANGS = 300  # seconds that nothing takes
 MOST_ROUNDS_IN_THE_END = 40
 
 
@@ -76,7 +75,7 @@ class World:
         words = [sys.executable, ALTSERVE, "--program", self.altctl, file]
         with open(f"{file}.said", "ab") as said:
             self.services[file] = subprocess.Popen(words, stderr=said)
-        late = time.monotonic() + 60
+        late = time.monotonic() + PATIENCE
         while time.monotonic() < late:
             with contextlib.suppress(OSError), socket.socket(socket.AF_UNIX) as probe:
                 probe.connect(f"{file}.sock")
@@ -130,7 +129,7 @@ class World:
         }
         ran = subprocess.Popen([sys.executable, ALTCARRY, *words], **how)
         try:
-            said, _ = ran.communicate(timeout=self.chance.expovariate(1 / 3) if kills else HANGS)
+            said, _ = ran.communicate(timeout=self.chance.expovariate(1 / 3) if kills else PATIENCE)
         except subprocess.TimeoutExpired:
             os.killpg(ran.pid, signal.SIGKILL)
             ran.communicate()
@@ -228,7 +227,7 @@ class World:
                 self.kill_service(self.chance.choice(list(self.services)))
             self.serve_again()
         for it in work:
-            it.join(HANGS)
+            it.join(PATIENCE)
         if self.failure:
             raise Failure(self.failure)
 

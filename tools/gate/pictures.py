@@ -201,15 +201,15 @@ def three_way():
 
 def merge_blocks():
     """Which blocks a merge and a post write, and which they give up."""
-    it = Picture("merge", 960, 430, "Where the blocks of a merge go: it writes paths of its own, and a post writes nothing")
+    it = Picture("merge", 960, 430, "Where the blocks of a merge go: it writes what stays of north over the map of top, and a post writes nothing")
     it.text(24, 36, "Where the blocks of a merge go", 18, bold=True)
     it.text(936, 36, "two leaves and a root: A, B, R", 13, GREY, at="end")
-    names = ["A", "B", "R", "A'", "R'", "B*", "R*", "A+", "R+"]
+    names = ["A", "B", "R", "A'", "R'", "B*", "R*", "B+", "R+"]
     stages = [
         (("north was made, then", "both sides changed"), "bbbttnn..", "top: A' B R';   north: A B* R*;   its base: A B R"),
-        (("merge north", "one record comes in"), "xsxttnxmm", "top: A' B R';   north: A+ B* R+;   its base: A' B R'"),
-        (("commit,", "and the next marking"), ".s.ttn.mm", "the blocks that no version needs are free"),
-        (("post north: top shows", "what north shows"), ".x.xxs.ss", "top, north and its base: A+ B* R+; no block is written"),
+        (("merge north: its change", "is made over top's map"), "xsxttxxmm", "top: A' B R';   north: A' B+ R+;   its base: A' B R'"),
+        (("commit,", "and the next marking"), ".s.tt..mm", "the blocks that no version needs are free"),
+        (("post north: top shows", "what north shows"), ".x.sx..ss", "top, north and its base: A' B+ R+; no block is written"),
     ]
     looks = {
         "b": (PALE, GREY, ""), "t": (BLUE_PALE, BLUE, ""), "n": (ORANGE_PALE, ORANGE, ""), "m": (GREEN_PALE, GREEN, ""),

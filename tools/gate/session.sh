@@ -60,12 +60,20 @@ session() {
     program "$1" 0 run "$2"
 }
 
+# That a file is for its owner alone to read and write.
+is_private() {
+    echo 600 >due
+    stat -c %a "$1" >came
+    compare "the mode of $1" due came
+}
+
 # Makes a store.
 create() {
     : >lines
     echo "created $2" >output
     : >faults
     program "create $1 $2" 0 create "$1" "$2"
+    is_private "$1"
 }
 
 # --- each line, and merges -----------------------------------------------------------------------
@@ -477,7 +485,7 @@ end 1
 > commit
 ok
 END
-checked_free 'check of a store whose long values went' 60
+checked_free 'check of a store whose long values went' 61
 
 # The longest line of an answer: three values of 4,000 bytes of which none stands for itself.
 create longest 64
@@ -733,6 +741,8 @@ copied() {
     program "$name" 0 copy "$from" "$to" "$@"
     compare "$name: the file" before "$from"
     has_bytes "$to" $((4096 * size))
+    is_private "$to"
+    absent "$name: its other name" "$to.part"
 }
 
 # Root may write a file that says otherwise, unless this is taken from it.
@@ -962,8 +972,23 @@ for file in counted stuffed pointer; do
     echo "altctl: cannot create $file" >faults
     program "copy over $file" 1 copy stuffed "$file"
     compare "copy over $file: the file" before stuffed
+    absent "copy over $file: its other name" "$file.part"
 done
 absent 'copy over a link' nowhere
+# Nor is a file overwritten that has the other name.
+cp counted taken.part
+ln -s nowhere leading.part
+for file in taken leading; do
+    echo "altctl: cannot create $file.part" >faults
+    program "copy to $file, whose other name is taken" 1 copy stuffed $file
+    absent "copy to $file, whose other name is taken" $file
+done
+echo 'altctl: cannot create taken.part' >faults
+program 'copy of the file with the other name' 1 copy taken.part taken
+absent 'copy of the file with the other name' taken
+compare 'the file with the other name' counted taken.part
+absent 'copy over a link with the other name' nowhere
+rm taken.part leading.part
 
 # --- standard descriptors that are closed, or fail --------------------------------------------------
 
@@ -1062,6 +1087,7 @@ for which in 0 1 2 01 02 12 012; do
     closed copy $which "$status" copy store made
     compare "copy, closed $which: the file" spelled store
     compare "copy, closed $which: what was made" spelled_copy made
+    absent "copy, closed $which: its other name" made.part
     rm -f made
 
     : >output
@@ -1139,6 +1165,22 @@ for words in 'copy store made' 'copy /dev/stdin made'; do
     compare "$words <store: what was made" spelled_copy made
     rm -f made
 done
+# So may it of a session with --read-only: the bytes of the store are its lines then, and each is refused.
+: >output
+: >output.came
+cp spelled store
+redirected 'run --read-only store <store' '<store >answers.came 2>faults.came' run --read-only store
+grep -a -v -x 'error 2[234] [A-Za-z]*' answers.came >output.came || :
+compare 'run --read-only store <store: other answers' output output.came
+compare 'run --read-only store <store: the file' spelled store
+# With --read-only the words for growing are taken, and nothing grows.
+printf '%s\n' 'put top 9 1 a' 'grow 96' blocks >lines
+printf '%s\n' 'error 24 ReadOnly' 'error 24 ReadOnly' 'blocks 64' >output
+program 'run --read-only --grow' 0 run --read-only --grow --grow-to 128 store
+compare 'run --read-only --grow: the file' spelled store
+: >lines
+: >faults
+echo 1 >status
 # By another name of it, and by a lock that takes the number of a closed input.
 : >output
 echo 1 >status
@@ -1291,16 +1333,31 @@ altctl=./limited
 : >output
 echo 'altctl: cannot create limits' >faults
 program 'create over a limit' 1 create limits 64
-echo 'altctl: cannot create copies' >faults
+echo 'altctl: cannot create copies.part' >faults
 program 'copy over a limit' 1 copy locked copies
+absent 'copy over a limit' copies
 echo 'altctl: 19 NotAStore' >faults
-program 'check of what a copy over a limit left' 1 check copies
+program 'check of what a copy over a limit left' 1 check copies.part
+cp copies.part left
+echo 'altctl: cannot create copies.part' >faults
+limit=unlimited
+program 'copy beside what a copy over a limit left' 1 copy locked copies
+absent 'copy beside what a copy over a limit left' copies
+compare 'what a copy over a limit left' left copies.part
+rm copies.part
 
+# An opening for writing writes the selector, block 1, again.
 limit=8
 printf 'put top 1 2 b\nfree\n' >lines
+: >output
+echo 'altctl: cannot open spelled' >faults
+cp spelled before
+program 'an opening over a limit' 1 run spelled
+compare 'an opening over a limit: the file' before spelled
+
+limit=16
 echo 'error 15 Device' >output
 echo 'altctl: stopped' >faults
-cp spelled before
 program 'run over a limit' 3 run --buffer 0 spelled
 compare 'run over a limit: the file' before spelled
 

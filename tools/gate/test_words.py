@@ -92,7 +92,7 @@ class LinesTests(unittest.TestCase):
 class JournalTests(unittest.TestCase):
     def test_a_field_that_formats_does_not_have_is_named(self):
         page = words.FORMATS.read_text()
-        kinds = ['{"done":1}', '{"opened":"t","last":0,"next":1}']
+        kinds = ['{"done":1}', '{"opened":"t","last":0,"next":1}', '{"dropped":1,"archive":"a"}']
         fields = "batch time uid who alternatives records lines".split()
         batch, more = (json.dumps(dict.fromkeys(it, 1)) for it in (fields, [*fields, "host"]))
         self.assertEqual([], list(words.in_journal("\n".join([*kinds, batch]), page)))

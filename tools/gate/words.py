@@ -174,6 +174,8 @@ def in_service(lines: list[Line], setup: list[str], altctl: str) -> Iterator[str
                 came = kind_of(service.ask(it.example))
                 if came != it.kind and (it.kind != "command" or came == "error 22 BadLine"):
                     yield f"desk/service: `{it.form}`, a {it.kind}, is answered as {came}"
+            # So that its journal has each kind of line.
+            service.ask("archive old 1")
         except (OSError, TimeoutError) as fault:
             yield f"desk/service: {fault}"
         finally:

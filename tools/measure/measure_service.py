@@ -3,19 +3,21 @@
 they wait, beside PostgreSQL and SQLite with as many writers:
 
     tools/measure/measure_service.py [--seconds N] [--rounds N] [--planners N ..] [--processors N]
-        [--slow MICROSECONDS] [ALTCTL]
+        [--slow MICROSECONDS] [--flood N] [ALTCTL]
 
-It writes two tables. With `--slow` each sync of all three takes that much longer, as on a slower disk; with `--processors`
-all of them, and what asks them, share the first N. Times are looked at, never tested.
+It writes two tables. With `--flood` it writes another one instead: how long a line takes beside that many of the
+planners, who flood the service. With `--slow` each sync of all three takes that much longer, as on a slower disk; with
+`--processors` all of them, and what asks them, share the first N. Times are looked at, never tested.
 
-Each commit changes one record of 10,000, or two in a batch, and is durable before it is answered: in PostgreSQL by an UPDATE of
-one row with fsync on, in SQLite by one in WAL mode with synchronous=FULL. What is not installed is skipped, with a line that says
-so."""
+Each commit changes one record of 10,000, or two in a batch, and is durable before it is answered: in PostgreSQL by an
+UPDATE of one row with fsync on, in SQLite by one in WAL mode with synchronous=FULL. What is not installed is skipped,
+with a line that says so."""
 import argparse
 import contextlib
 import json
 import os
 import random
+import re
 import selectors
 import shutil
 import socket
@@ -24,6 +26,7 @@ import subprocess
 import sys
 import tempfile
 import time
+import traceback
 from pathlib import Path
 from statistics import median
 from typing import List, NamedTuple
@@ -39,6 +42,15 @@ POSTGRES = sorted(Path("/usr/lib/postgresql").glob("*/bin"))[-1:]
 LOADERS = 2
 # The connections that PostgreSQL takes.
 MOST = 500
+# What planners flood the service with.
+FLOODS = {
+    "single lines": b"put top 8 1 a\n" * 500,
+    "batches of two lines": b"begin\nput top 8 1 a\nput top 8 2 a\ncommit\n" * 200,
+    "batches of 64 lines": (b"begin\n" + b"put top 8 1 a\n" * 64 + b"commit\n") * 10,
+    "batches that are refused": b"begin\nput top 8 1 a\nput nowhere 8 1 a\ncommit\n" * 200,
+    "gets": b"get top 7 1\n" * 500,
+    "lists of 1,000 records": b"list top 7 1 1000\n" * 100,
+}
 # Of how many in a thousand commits the time is told.
 SHARES = (500, 990, 999)
 
@@ -61,6 +73,8 @@ def in_processes(count, work):
                 try:
                     Path(folder, str(number)).write_text(json.dumps(work(number)))
                     status = 0
+                except Exception:
+                    traceback.print_exc()
                 finally:
                     os._exit(status)
             children.append(child)
@@ -97,6 +111,27 @@ def load(path, count, seconds, text, due):
     return times
 
 
+def flood(path, count, seconds, text):
+    """Has `count` planners write a text again and again, and read the answers. Returns how many lines of answer each has read."""
+    selector = selectors.DefaultSelector()
+    for _ in range(count):
+        planner = socket.socket(socket.AF_UNIX)
+        planner.connect(path)
+        planner.setblocking(False)
+        # What was written of the text, and how many lines were read.
+        selector.register(planner, selectors.EVENT_READ | selectors.EVENT_WRITE, [0, 0])
+    until = time.monotonic() + seconds
+    while time.monotonic() < until:
+        for key, events in selector.select(1):
+            if events & selectors.EVENT_WRITE:
+                with contextlib.suppress(BlockingIOError):
+                    key.data[0] = (key.data[0] + key.fileobj.send(text[key.data[0] :])) % len(text)
+            if events & selectors.EVENT_READ:
+                key.data[1] += key.fileobj.recv(1 << 16).count(b"\n")
+        time.sleep(0.001)
+    return [it.data[1] for it in selector.get_map().values()]
+
+
 def put():
     return b"put top 7 %d value-%d\n" % (random.randrange(RECORDS), random.randrange(1 << 30))
 
@@ -107,6 +142,21 @@ def two_puts():
 
 def get():
     return b"get top 7 %d\n" % random.randrange(RECORDS)
+
+
+def until_served(process, said):
+    """Waits until a service has said that it serves."""
+    while b": batches to " not in Path(said).read_bytes():
+        if process.poll() is not None:
+            raise RuntimeError(Path(said).read_text())
+        time.sleep(0.05)
+
+
+def until_alone(file):
+    """Waits until the service has closed the connections of those who have gone, as it takes 256 of one user."""
+    words = [sys.executable, ALTSERVE, "status", file]
+    while "planners 1" not in subprocess.run(words, check=True, stdout=subprocess.PIPE).stdout.decode().splitlines():
+        time.sleep(0.05)
 
 
 @contextlib.contextmanager
@@ -123,18 +173,44 @@ def service(altctl, folder, variables):
         def planners(count, seconds):
             loaders = min(LOADERS, count)
             found = in_processes(loaders, lambda _: load(f"{file}.sock", count // loaders, seconds, text, due))
+            until_alone(file)
             times = [it for part in found for it in part]
             return Found(len(times) / seconds, times)
 
         return planners
 
     try:
-        while b": batches to " not in Path(f"{folder}/said").read_bytes():
-            time.sleep(0.05)
+        until_served(process, f"{folder}/said")
         yield {"commits": measure(put, 1), "batches of two": measure(two_puts, 4), "gets": measure(get, 1)}
     finally:
         process.terminate()
         process.wait()
+
+
+def beside_floods(said):
+    """A table of how long lines of the other planners take, who come a second after those who flood, by what these send."""
+    count = said.planners[-1]
+    columns = "Others: half, 99 %, all take no longer, ms", "Answers a second of those who flood, at least", "on average"
+    yield shown(f"{said.flood} of {count} flood with", columns) + "\n" + "|---" * 4 + "|"
+    with tempfile.TemporaryDirectory() as folder, contextlib.ExitStack() as stack:
+        variables = slowed(said, folder)
+        stack.enter_context(service(said.altctl, folder, variables))
+        file, others = f"{folder}/map.alt", (count - said.flood) // LOADERS
+        for what, text in FLOODS.items():
+
+            def act(number):
+                if number == LOADERS:
+                    return flood(f"{file}.sock", said.flood, said.seconds + 1, text)
+                time.sleep(1)
+                return load(f"{file}.sock", others, said.seconds, put, 1)
+
+            *times, answers = in_processes(LOADERS + 1, act)
+            until_alone(file)
+            times = sorted(it for part in times for it in part)
+            waited = [times[len(times) // 2], times[len(times) * 99 // 100], times[-1]] if times else []
+            rates = [it / (said.seconds + 1) for it in answers]
+            told = f"{min(rates):,.0f}", f"{sum(rates) / len(rates):,.0f}"
+            yield shown(what, [", ".join(f"{it:.0f}" for it in waited) or "none", *told])
 
 
 @contextlib.contextmanager
@@ -149,7 +225,9 @@ def postgres(folder, variables):
         as_user = ["runuser", "-u", "postgres", "--"]
 
     def run(*words, **how):
-        ran = subprocess.run([*as_user, *words], check=True, stdout=subprocess.PIPE, stderr=subprocess.DEVNULL, cwd=data, **how)
+        ran = subprocess.run([*as_user, *words], stdout=subprocess.PIPE, stderr=subprocess.PIPE, cwd=data, **how)
+        if ran.returncode:
+            raise RuntimeError(f"{words}: {ran.stderr.decode()}")
         return ran.stdout.decode()
 
     initdb, pg_ctl, psql, pgbench = (str(POSTGRES[0] / it) for it in ("initdb", "pg_ctl", "psql", "pgbench"))
@@ -175,7 +253,9 @@ def postgres(folder, variables):
             for it in Path(data).glob("times.*"):
                 times += [int(line.split()[2]) / 1000 for line in it.read_text().splitlines()]
                 it.unlink()
-            return Found(float(text.split("tps = ")[1].split()[0]), times)
+            # It tells no rate if connecting took all of the time.
+            told = re.search(r"^tps = ([0-9.]+)", text, re.M)
+            return Found(float(told[1]) if told else 0.0, times)
 
         yield commits
     finally:
@@ -248,10 +328,15 @@ def waits(found, planners):
             yield shown(what, columns)
 
 
+def slowed(said, folder):
+    """The variables of programs whose syncs take as much longer as was said."""
+    return preloaded(compiled("slow_calls", folder), slow_sync=said.slow) if said.slow else dict(os.environ)
+
+
 def measured(said, planners):
     """What was found of each, by planners, a list of rounds; how long syncs took, and how busy the machine was."""
     with tempfile.TemporaryDirectory() as folder, contextlib.ExitStack() as stack:
-        variables = preloaded(compiled("slow_calls", folder), slow_sync=said.slow) if said.slow else dict(os.environ)
+        variables = slowed(said, folder)
         kinds = stack.enter_context(service(said.altctl, folder, variables))
         measures = {f"altserve: {what}": measure for what, measure in kinds.items()}
         if POSTGRES:
@@ -276,9 +361,10 @@ def main():
     parser = argparse.ArgumentParser(description=__doc__.split(":")[0])
     parser.add_argument("--seconds", type=int, default=2, help="of each measurement")
     parser.add_argument("--rounds", type=int, default=5, help="how often each is done; the median counts")
-    parser.add_argument("--planners", type=int, nargs="+", default=PLANNERS, help="how many there are")
+    parser.add_argument("--planners", type=int, nargs="+", default=PLANNERS, help="how many there are, 250 at most")
     parser.add_argument("--processors", type=int, help="how many processors are used")
     parser.add_argument("--slow", type=int, default=0, help="microseconds added to each sync")
+    parser.add_argument("--flood", type=int, help="how many of the planners flood the service")
     parser.add_argument("--sqlite", nargs=2, help=argparse.SUPPRESS)
     parser.add_argument("altctl", nargs="?", default=str(TOP / "altctl"))
     said = parser.parse_args()
@@ -287,6 +373,10 @@ def main():
         return
     if said.processors:
         os.sched_setaffinity(0, sorted(os.sched_getaffinity(0))[: said.processors])
+    if said.flood:
+        for row in beside_floods(said):
+            print(row, flush=True)
+        return
     found, syncs, loads = measured(said, said.planners)
     sync = f"a sync takes {median(syncs):.0f} µs" + (f" and {said.slow} more" if said.slow else "")
     load_seen = f"load {min(loads):.0f} to {max(loads):.0f}"

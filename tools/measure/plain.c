@@ -610,13 +610,13 @@ static void pass(struct walk *walk)
         look(walk);
 }
 
-/* A key at which two maps differ, with the values of both. Of a change in the parent it is told what a merge does with
-   it, and, where it is in conflict, the change of the alternative. */
+/* A key at which two maps differ, with the values of both. It is told whether a merge takes it, and, of a change in the
+   parent whose key the alternative changed, too, the change of the alternative. */
 struct change {
     struct key key;
     struct value before, after;
     enum { TAKE, LEAVE, CONFLICT } fate;
-    const struct change *mine;
+    struct change *mine;
 };
 
 struct changes {
@@ -1091,6 +1091,8 @@ static size_t compare_sides(const struct entry *own, const struct entry *parent)
     size_t at = 0, conflicts = 0;
     differences(own->base, parent->current, &theirs, SIZE_MAX);
     differences(own->base, own->current, &mine, SIZE_MAX);
+    for (size_t i = 0; i < mine.count; i++)
+        mine.at[i].fate = TAKE;
     for (size_t i = 0; i < theirs.count; i++) {
         struct change *it = &theirs.at[i];
         while (at < mine.count && compare(mine.at[at].key, it->key) < 0)
@@ -1099,7 +1101,7 @@ static size_t compare_sides(const struct entry *own, const struct entry *parent)
         if (at == mine.count || compare(mine.at[at].key, it->key) != 0)
             continue;
         it->mine = &mine.at[at];
-        it->fate = are_same(&it->after, &it->mine->after) ? LEAVE : CONFLICT;
+        it->fate = it->mine->fate = are_same(&it->after, &it->mine->after) ? LEAVE : CONFLICT;
         conflicts += it->fate == CONFLICT;
     }
     return conflicts;
@@ -1131,9 +1133,10 @@ static size_t settle(void)
         const struct settlement *it = &settlements[i];
         while (at < theirs.count && compare(theirs.at[at].key, it->key) < 0)
             at++;
-        if (at < theirs.count && compare(theirs.at[at].key, it->key) == 0 && theirs.at[at].fate == CONFLICT)
+        if (at < theirs.count && compare(theirs.at[at].key, it->key) == 0 && theirs.at[at].fate == CONFLICT) {
             theirs.at[at].fate = it->is_theirs ? TAKE : LEAVE;
-        else if (it->place < first)
+            theirs.at[at].mine->fate = it->is_theirs ? LEAVE : TAKE;
+        } else if (it->place < first)
             first = it->place;
     }
     return first;
@@ -1147,10 +1150,32 @@ __attribute__((noreturn)) static void refuse_settlement(int number, size_t place
     refuse_with(number, " %u:%llu", settlements[i].key.table, (unsigned long long)settlements[i].key.number);
 }
 
-/* Brings the parent's changes into an alternative, and tells how many records that changes. */
+static size_t count_taken(const struct changes *changes)
+{
+    size_t count = 0;
+    for (size_t i = 0; i < changes->count; i++)
+        count += changes->at[i].fate == TAKE;
+    return count;
+}
+
+/* The root of a map with the changes that are taken. */
+static struct root with_taken(struct root root, const struct changes *changes)
+{
+    for (size_t i = 0; i < changes->count; i++) {
+        const struct change *it = &changes->at[i];
+        if (it->fate == TAKE && it->after.length < 0)
+            root = remove_below(root.block, root.level, true, it->key);
+        else if (it->fate == TAKE)
+            root = put(root, it->key, &it->after);
+    }
+    return root;
+}
+
+/* Brings the parent's changes into an alternative, and tells how many records that changes. They are made in the
+   alternative's map, or what is left of its own changes in the parent's, whichever are fewer. */
 static size_t merge(struct entry *own, const struct entry *parent)
 {
-    size_t conflicts = compare_sides(own, parent), changes = 0;
+    size_t conflicts = compare_sides(own, parent);
     if (settlement_count > 1)
         qsort(settlements, settlement_count, sizeof *settlements, compare_settlements);
     if (first_settled_twice() != SIZE_MAX)
@@ -1160,20 +1185,11 @@ static size_t merge(struct entry *own, const struct entry *parent)
         refuse_settlement(NOT_IN_CONFLICT, other);
     if (conflicts > settlement_count)
         refuse_with(UNSETTLED, " %zu", conflicts - settlement_count);
-    for (size_t i = 0; i < theirs.count; i++)
-        changes += theirs.at[i].fate == TAKE;
-    demand(changes);
-    struct root root = own->current;
-    for (size_t i = 0; i < theirs.count; i++) {
-        const struct change *it = &theirs.at[i];
-        if (it->fate == TAKE && it->after.length < 0)
-            root = remove_below(root.block, root.level, true, it->key);
-        else if (it->fate == TAKE)
-            root = put(root, it->key, &it->after);
-    }
-    own->current = root;
+    size_t came = count_taken(&theirs), stays = count_taken(&mine);
+    demand(came < stays ? came : stays);
+    own->current = came < stays ? with_taken(own->current, &theirs) : with_taken(parent->current, &mine);
     own->base = parent->current;
-    return changes;
+    return came;
 }
 
 /* --- what lines ask for -------------------------------------------------------------------------- */

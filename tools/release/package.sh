@@ -38,9 +38,9 @@ tools/release/place.sh "$@" >"$scratch/placed"
 if grep 'left out' "$scratch/placed" >&2; then
     exit 1
 fi
-gzip -9n "$root/usr/share/man/man1/altctl.1"
+gzip -9n "$root"/usr/share/man/man1/*.1
 version=$(sed -n 's/^Version: //p' "$root/usr/lib/pkgconfig/altctl.pc")
-version=$version+$(date -d "@$SOURCE_DATE_EPOCH" +%Y%m%d).$(git rev-parse --short=12 HEAD)
+version=$version+$(date -d "@$SOURCE_DATE_EPOCH" +%Y%m%d.%H%M%S).$(git rev-parse --short=12 HEAD)
 [ -z "$(git status --porcelain)" ] || version=$version.changed
 
 # A folder's files with the time of the commit, links too.
@@ -65,17 +65,21 @@ Version: $version
 Architecture: $debian
 Maintainer: Zonegrater maintainers <maintainers@users.noreply.zonegrater.example>
 Installed-Size: $(find "$root/usr" -type f -printf '%s\n' | awk '{ sum += int(($1 + 1023) / 1024) } END { print sum }')
-Depends: libc6 (>= 2.34)
+Depends: libc6 (>= 2.34), adduser
 Recommends: python3 (>= 3.9)
-Suggests: bash-completion, python3-gdal
+Suggests: bash-completion, python3-gdal, python3-aiohttp, libjs-leaflet
 Section: misc
 Priority: optional
 Description: version managed map store
  Many designs of one network in one file, edited side by side, merged record
  by record and committed. It has the program altctl, its clients for C, C++
- and Python, the service altserve for many planners at once, altcarry for
- offices far away, and altgis, which brings maps in and out.
+ and Python, the service altserve for many planners at once, altdesk, which
+ shows designs in a browser, altcarry for offices far away, and altgis, which
+ brings maps in and out.
 END
+for it in postinst prerm postrm; do
+    install -m 755 tools/release/debian/$it "$root/DEBIAN/$it"
+done
 echo 'activate-noawait ldconfig' >"$root/DEBIAN/triggers"
 date_all "$root"
 deb=zonegrater_${version}_$debian.deb

@@ -10,21 +10,16 @@ set -eu
 files() {
     cat <<END
 755 $program bin/altctl
-644 docs/altctl.1 share/man/man1/altctl.1
 644 clients/bash/altctl.bash share/bash-completion/completions/altctl
 644 clients/c/altctl.h include/altctl.h
 644 clients/python/altctl.py share/zonegrater/clients/python/altctl.py
 644 clients/lines.json share/zonegrater/clients/lines.json
 link ../../../share/zonegrater/clients/python/altctl.py lib/python3/dist-packages/altctl.py
-755 desk/altserve share/zonegrater/desk/altserve
-755 desk/altcarry share/zonegrater/desk/altcarry
-755 desk/altgis share/zonegrater/desk/altgis
-644 desk/places.py share/zonegrater/desk/places.py
-link ../share/zonegrater/desk/altserve bin/altserve
-link ../share/zonegrater/desk/altcarry bin/altcarry
-link ../share/zonegrater/desk/altgis bin/altgis
+644 made/altserve@.service lib/systemd/system/altserve@.service
+644 tools/release/systemd/altserve@.socket lib/systemd/system/altserve@.socket
 644 README.md share/doc/zonegrater/README.md
 644 CHANGELOG.md share/doc/zonegrater/CHANGELOG.md
+644 desk/README.md share/doc/zonegrater/desk/README.md
 END
     [ -z "$has_libraries" ] || cat <<END
 644 made/libaltctl.a lib/libaltctl.a
@@ -41,11 +36,18 @@ link libaltstore.so.0 lib/libaltstore.so
 644 clients/python/altstore.py share/zonegrater/clients/python/altstore.py
 link ../../../share/zonegrater/clients/python/altstore.py lib/python3/dist-packages/altstore.py
 END
-    for it in desk/carry/*.py desk/gis/*.py desk/maps/*.py desk/service/*.py; do
+    for it in altserve altdesk altcarry altgis; do
+        echo "755 desk/$it share/zonegrater/desk/$it"
+        echo "link ../share/zonegrater/desk/$it bin/$it"
+    done
+    for it in desk/[!t]*.py desk/carry/*.py desk/gis/*.py desk/maps/*.py desk/service/*.py desk/page/*; do
         echo "644 $it share/zonegrater/$it"
     done
-    for it in docs/*.md docs/pictures/*.svg; do
+    for it in docs/*.md docs/pictures/*; do
         echo "644 $it share/doc/zonegrater/$it"
+    done
+    for it in docs/*.1; do
+        echo "644 $it share/man/man1/${it#docs/}"
     done
 }
 
@@ -71,8 +73,6 @@ make_libraries() {
         return
     }
     has_libraries=yes
-    made=$scratch/made
-    mkdir "$made"
     if [ -n "$arch" ]; then
         tools/release/aarch64.sh client "$made"
     else
@@ -103,6 +103,11 @@ Version: $version
 Cflags: -I\${prefix}/include
 Libs: -L\${prefix}/lib -laltstore
 END
+}
+
+# The unit of the service, with the paths that its programs will have.
+make_unit() {
+    sed "s,@PREFIX@,$as,g" tools/release/systemd/altserve@.service >"$made/altserve@.service"
 }
 
 # Puts a file in place whole: a program that runs meanwhile keeps the old one.
@@ -141,8 +146,11 @@ shared=libaltctl.so.0
 cd "$(dirname -- "$0")/../.."
 scratch=$(mktemp -d)
 trap 'rm -rf "$scratch"' EXIT
+made=$scratch/made
+mkdir "$made"
 find_program
 make_libraries
+make_unit
 files | while read -r mode source target; do
     put "$mode" "$source" "$target"
 done

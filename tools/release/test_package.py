@@ -3,16 +3,21 @@
 two folders and under other settings, and compares their bytes; it unpacks them, has the sessions of the README run with
 the program that was unpacked, and builds and runs a program in C by `pkg-config`, one in Python, the service, the
 completion and the wheel. Those for aarch64 it tries under qemu: the sessions of the README, and that the programs of
-both processors read each other's file. With a ROOT, a whole small Debian as debootstrap makes one, it installs the
-package in a copy of that and has the sessions run there, which takes the rights of root.
+both processors read each other's file.
 
-What is not installed is skipped, with a line that says so."""
+It also installs the package in a small Debian of its own, a copy of ROOT or one that debootstrap makes, boots that by
+systemd-nspawn, and does there what a new user does: the sessions of the README, a service under systemd, an upgrade, a
+removal. This takes the rights of root.
+
+What is not installed is skipped, with a line that says so; all of it is if the program of these sources is not built."""
 import os
+import re
 import shutil
 import subprocess
 import sys
 import tarfile
 import tempfile
+import time
 import unittest
 from pathlib import Path
 
@@ -22,6 +27,11 @@ import documents
 
 TOP = documents.TOP
 ROOT = sys.argv.pop(1) if len(sys.argv) > 1 else None
+# The programs beside altctl.
+PROGRAMS = ("altserve", "altdesk", "altcarry", "altgis")
+# What a Debian has that is made here.
+IN_ROOT = ("systemd", "systemd-sysv", "dbus", "python3", "adduser", "netcat-openbsd")
+IN_ROOT_ENV = ("-i", "PATH=/usr/sbin:/usr/bin:/sbin:/bin", "LC_ALL=C.UTF-8")
 PROGRAM_IN_C = """#include <altctl.h>
 #include <stdio.h>
 int main(void)
@@ -67,6 +77,19 @@ def is_there(*words):
     return not any(subprocess.run(["sh", "-c", f"command -v {it}"], stdout=subprocess.DEVNULL).returncode for it in words)
 
 
+def is_built():
+    """Whether `./altctl` starts a program, and does not have all of it proved and built first."""
+    made = TOP / "crates/altctl/out/altctl.stamp"
+    digest = run(TOP / "tools/sources.sh", "digest").strip()
+    carried = (TOP / "dist/altctl-x86_64-linux.txt").read_text().split()[1]
+    return digest == carried or made.exists() and made.read_text().split()[0] == digest
+
+
+def built(folder):
+    """The packages, made in a folder, which nothing else uses."""
+    return map(Path, run(TOP / "tools/release/package.sh", folder).split())
+
+
 def assert_same_bytes(test, made, *words):
     """Makes the packages again in another place and under other settings, and compares their bytes with those made."""
     settings = {**os.environ, "TZ": "Asia/Tokyo", "LC_ALL": "C.UTF-8"}
@@ -100,10 +123,10 @@ def copied(folder):
 
 
 class InRoot(documents.Run):
-    """The sessions of a document inside another root, where the program is installed."""
+    """The sessions of a document inside another root, where the program is installed. `enter` are the words that lead there."""
 
-    def __init__(self, root):
-        self.root, self.status, self.differences = root, 0, 0
+    def __init__(self, root, enter):
+        self.enter, self.status, self.differences = enter, 0, 0
         os.mkdir(f"{root}/srv/session")
         os.symlink("/usr/bin/altctl", f"{root}/srv/session/altctl")
 
@@ -111,14 +134,15 @@ class InRoot(documents.Run):
         return self.start(["sh", "-c", f"(exit {self.status}); {command}"], lines)
 
     def start(self, words, lines):
-        words = [shutil.which("chroot"), self.root, "sh", "-c", 'cd /srv/session && exec "$@"', "sh", *words]
+        words = [*self.enter, "sh", "-c", 'cd /srv/session && exec "$@"', "sh", *words]
         text = "".join(f"{it}\n" for it in lines)
         how = {"stdout": subprocess.PIPE, "stderr": subprocess.STDOUT, "text": True, "timeout": 300}
-        ran = subprocess.run(words, input=text, env={"PATH": "/usr/bin:/bin", "LC_ALL": "C.UTF-8"}, **how)
+        ran = subprocess.run(words, input=text, **how)
         self.status = ran.returncode
         return ran.stdout.splitlines()
 
 
+@unittest.skipUnless(is_built(), "the program of these sources is not built: tools/build.sh does it")
 @unittest.skipUnless(is_there("dpkg-deb", "cc", "git"), "dpkg-deb, a C compiler or git is not installed")
 class PackageTests(unittest.TestCase):
     @classmethod
@@ -126,7 +150,7 @@ class PackageTests(unittest.TestCase):
         run(TOP / "altctl", "--version")
         cls.temporary = tempfile.TemporaryDirectory()
         cls.folder = Path(cls.temporary.name)
-        cls.deb, cls.archive = map(Path, run(TOP / "tools/release/package.sh", cls.folder / "first").split())
+        cls.deb, cls.archive = built(cls.folder / "first")
         cls.unpacked = cls.folder / "unpacked"
         with tarfile.open(cls.archive) as archive:
             archive.extractall(cls.unpacked)
@@ -143,7 +167,7 @@ class PackageTests(unittest.TestCase):
 
     def test_files_have_fixed_owners_and_modes(self):
         for it in self.entries:
-            is_run = it.isdir() or it.name.endswith(("/bin/altctl", "/desk/altserve", "/desk/altgis", "/desk/altcarry"))
+            is_run = it.isdir() or it.name.endswith(("/bin/altctl", *(f"/desk/{it}" for it in PROGRAMS)))
             due = 0o777 if it.issym() else 0o755 if is_run else 0o644
             self.assertEqual((0, 0, oct(due)), (it.uid, it.gid, oct(it.mode)), it.name)
         names = [it.name for it in self.entries]
@@ -189,11 +213,36 @@ class PackageTests(unittest.TestCase):
         found["PYTHONPATH"] = f"{self.prefix}/lib/python3/dist-packages"
         self.assertEqual("blocks 64\n", run(sys.executable, "-c", IN_MEMORY_IN_PYTHON, env=found))
 
-    def test_the_service_is_there(self):
-        self.assertIn("usage: altserve", run("altserve", "--help", env=self.variables))
-        self.assertIn("usage: altcarry", run("altcarry", "--help", env=self.variables))
-        if not subprocess.run([sys.executable, "-c", "from osgeo import gdal"], stderr=subprocess.DEVNULL).returncode:
-            self.assertIn("usage: altgis", run("altgis", "--help", env=self.variables))
+    def test_the_programs_of_the_desk_start(self):
+        needs = {"altgis": "from osgeo import gdal", "altdesk": "import aiohttp; from osgeo import gdal"}
+        for name in PROGRAMS:
+            test = ["/usr/bin/python3" if name in needs else sys.executable, "-c", needs.get(name, "")]
+            if not subprocess.run(test, stderr=subprocess.DEVNULL).returncode:
+                self.assertIn(f"usage: {name}", run(name, "--help", env=self.variables))
+
+    def test_each_program_has_a_manual_page(self):
+        names = {it.name for it in (self.prefix / "bin").iterdir()}
+        self.assertEqual({"altctl", *PROGRAMS}, names)
+        for name in names:
+            page = self.prefix / f"share/man/man1/{name}.1.gz"
+            if is_there("man"):
+                words = ["man", "--warnings", "--encoding=UTF-8", "--local-file", page]
+                ran = subprocess.run(list(map(str, words)), stdout=subprocess.PIPE, stderr=subprocess.PIPE, text=True)
+                self.assertEqual((0, ""), (ran.returncode, ran.stderr), name)
+                self.assertRegex(ran.stdout, rf"(?m)^NAME\n +{name} +- +\w+")
+            self.assertTrue(page.exists())
+
+    @unittest.skipUnless(is_there("systemd-analyze"), "systemd is not installed")
+    def test_the_unit_gives_the_service_few_rights(self):
+        unit = self.prefix / "lib/systemd/system/altserve@.service"
+        self.assertIn("ExecStart=/usr/bin/altserve --program /usr/bin/altctl ", unit.read_text())
+        one = self.folder / "units/altserve@map.service"
+        one.parent.mkdir()
+        shutil.copy(unit, one)
+        # From 0, nothing that it does not need, to 10. An older systemd does not judge a file.
+        words = ["systemd-analyze", "security", "--offline=true", "--threshold=10", "--no-pager", str(one)]
+        ran = subprocess.run(words, stdout=subprocess.PIPE, stderr=subprocess.STDOUT, text=True)
+        self.assertEqual((0, True), (ran.returncode, "OK" in ran.stdout or "SAFE" in ran.stdout), ran.stdout)
 
     @unittest.skipUnless(is_there("bash"), "bash is not installed")
     def test_words_are_completed(self):
@@ -222,20 +271,129 @@ class PackageTests(unittest.TestCase):
         self.assertIn("site-packages", told)
         self.assertEqual((TOP / "clients/python/altctl.py").read_bytes(), Path(told.strip()).read_bytes())
 
-    @unittest.skipIf(ROOT is None, "no ROOT is given")
-    def test_it_is_installed_in_a_clean_root(self):
-        root = self.folder / "root"
-        run("cp", "-a", ROOT, root)
-        shutil.copy(self.deb, root / "package.deb")
-        run("chroot", root, "dpkg", "--install", "/package.deb", env={"PATH": "/usr/sbin:/usr/bin:/sbin:/bin"})
-        sessions = InRoot(str(root))
+
+@unittest.skipUnless(is_built(), "the program of these sources is not built: tools/build.sh does it")
+@unittest.skipUnless(is_there("dpkg-deb", "cc", "git"), "dpkg-deb, a C compiler or git is not installed")
+@unittest.skipUnless(os.geteuid() == 0, "only root can boot a Debian of its own")
+@unittest.skipUnless(is_there("systemd-nspawn", "nsenter"), "systemd-nspawn (systemd-container) is not installed")
+class RootTests(unittest.TestCase):
+    """The package in a small Debian that is booted."""
+
+    @classmethod
+    def setUpClass(cls):
+        cls.temporary = tempfile.TemporaryDirectory()
+        cls.addClassCleanup(cls.temporary.cleanup)
+        cls.folder = Path(cls.temporary.name)
+        cls.root = cls.folder / "root"
+        cls.make_root()
+        cls.deb, _ = built(cls.folder / "first")
+        shutil.copy(cls.deb, cls.root / "first.deb")
+        run("dpkg-deb", "-R", cls.deb, cls.folder / "second")
+        control = cls.folder / "second/DEBIAN/control"
+        control.write_text(re.sub("(?m)^Version: .*", "Version: 99.0", control.read_text()))
+        run("dpkg-deb", "--root-owner-group", "--build", cls.folder / "second", cls.root / "second.deb")
+        cls.boot()
+
+    @classmethod
+    def make_root(cls):
+        if ROOT is not None:
+            run("cp", "-a", ROOT, cls.root)
+            return
+        if not is_there("debootstrap"):
+            raise unittest.SkipTest("no ROOT is given, and debootstrap is not installed")
+        words = ["debootstrap", "--variant=minbase", f"--include={','.join(IN_ROOT)}", "bookworm", str(cls.root)]
+        ran = subprocess.run(words, stdout=subprocess.PIPE, stderr=subprocess.STDOUT, text=True, timeout=900)
+        if ran.returncode:
+            raise unittest.SkipTest(f"debootstrap made no root: {ran.stdout.strip().splitlines()[-1]}")
+
+    @classmethod
+    def boot(cls):
+        words = ["systemd-nspawn", "--quiet", "--register=no", "--keep-unit", "--private-network", "-D", str(cls.root), "--boot"]
+        how = {"stdin": subprocess.DEVNULL, "stdout": subprocess.DEVNULL, "stderr": subprocess.DEVNULL}
+        cls.machine = subprocess.Popen(words, start_new_session=True, **how)
+        cls.addClassCleanup(cls.halt)
+        late = time.monotonic() + 120
+        while True:
+            found = Path(f"/proc/{cls.machine.pid}/task/{cls.machine.pid}/children").read_text().split()
+            cls.enter = ["nsenter", "-t", *found[:1], "-m", "-u", "-i", "-n", "-p", "-C", "env", *IN_ROOT_ENV]
+            is_up = found and subprocess.run([*cls.enter, "systemctl", "is-active", "--quiet", "multi-user.target"], **how).returncode == 0
+            if is_up:
+                return
+            if cls.machine.poll() is not None or time.monotonic() > late:
+                raise unittest.SkipTest("the root cannot be booted here")
+            time.sleep(0.5)
+
+    @classmethod
+    def halt(cls):
+        cls.machine.kill()
+        cls.machine.wait()
+
+    def said(self, *words, input=None, status=0):
+        ran = subprocess.run([*self.enter, *words], input=input, stdout=subprocess.PIPE, stderr=subprocess.STDOUT, text=True, timeout=300)
+        self.assertEqual(status, ran.returncode, ran.stdout)
+        return ran.stdout
+
+    def ask(self, who, *lines, status=0):
+        """The answers that a user gets at the socket."""
+        text = "".join(f"{it}\n" for it in lines)
+        return self.said("runuser", "-u", who, "--", "nc", "-N", "-U", "/run/altserve/map.sock", input=text, status=status).splitlines()
+
+    def test_from_the_first_day_to_the_removal(self):
+        self.said("dpkg", "--install", "/first.deb")
+        self.sessions_of_the_readme()
+        self.first_start()
+        self.upgrade()
+        self.said("dpkg", "--remove", "zonegrater")
+        self.assertFalse((self.root / "usr/bin/altctl").exists())
+        self.assertIn("the stores in /var/lib/altserve are kept", self.said("dpkg", "--purge", "zonegrater"))
+        self.said("systemctl", "is-active", "altserve@map.service", status=3)
+        names = {it.name for it in (self.root / "var/lib/altserve").iterdir()}
+        self.assertLessEqual({"map.alt", "map.alt.journal", "map.alt.backups", "map.alt.archives", "map.alt.rules"}, names)
+        # And installed again it goes on.
+        self.said("dpkg", "--install", "/first.deb")
+        self.said("systemctl", "start", "altserve@map.socket")
+        self.assertEqual(["value c", "value b"], self.ask("anna", "get top 1 3", "get top 1 2"))
+
+    def sessions_of_the_readme(self):
+        sessions = InRoot(str(self.root), self.enter)
         text = (TOP / "README.md").read_text()
         blocks = [it[2] for it in documents.BLOCK.finditer(text) if it[1] == "console"]
         for block in blocks:
             sessions.session("README.md in the root", block)
         self.assertEqual((True, 0), (len(blocks) > 0, sessions.differences))
-        run("chroot", root, "dpkg", "--purge", "zonegrater", env={"PATH": "/usr/sbin:/usr/bin:/sbin:/bin"})
-        self.assertFalse((root / "usr/bin/altctl").exists())
+
+    def first_start(self):
+        """What PLANNERS says of a service under systemd."""
+        text = (TOP / "docs/PLANNERS.md").read_text()
+        [commands] = [it[2] for it in documents.BLOCK.finditer(text) if it[1] == "text" and "systemctl enable" in it[2]]
+        for name in "anna", "berta":
+            self.said("useradd", "--create-home", name)
+        for line in commands.splitlines():
+            self.said("sh", "-c", line)
+        (self.root / "var/lib/altserve/map.alt.rules").write_text('backup = ["*"]\narchive = ["*"]\n[change]\n"*" = ["anna"]\n')
+        self.assertEqual(["ok", "ok"], [it[:2] for it in self.ask("anna", "put top 1 1 a", "backup one")])
+        self.assertIn("Permission denied", self.ask("berta", "blocks", status=1)[0])
+        processes = self.said("sh", "-c", "cat /sys/fs/cgroup/systemd/system.slice/system-altserve.slice/*/cgroup.procs || "
+                              "cat /sys/fs/cgroup/system.slice/system-altserve.slice/*/cgroup.procs").split()
+        owner = self.said("stat", "-c", "%U", *(f"/proc/{it}" for it in processes if it.isdigit()))
+        self.assertEqual({"altserve"}, set(owner.split()))
+        self.assertIn("altserve: ", self.said("journalctl", "-u", "altserve@map", "--no-pager"))
+        self.assertEqual("blocks 4096", self.said("altserve", "status", "/run/altserve/map.sock").splitlines()[0])
+        # Rules are read again, and a service that is killed comes back.
+        (self.root / "var/lib/altserve/map.alt.rules").write_text('archive = ["*"]\n[change]\n"*" = []\n')
+        self.said("systemctl", "reload", "altserve@map")
+        self.assertEqual(["error 90 Denied change *"], self.ask("anna", "put top 1 1 a"))
+        (self.root / "var/lib/altserve/map.alt.rules").write_text('archive = ["*"]\n[change]\n"*" = ["*"]\n')
+        self.said("systemctl", "kill", "--signal=KILL", "--kill-who=main", "altserve@map")
+        self.assertEqual(["ok", "ok 1"], [it[:4] for it in self.ask("anna", "put top 1 2 b", "archive old 1")])
+
+    def upgrade(self):
+        """A service that is at work goes on in the new version with all that it had."""
+        before = self.said("systemctl", "show", "-P", "MainPID", "altserve@map")
+        self.said("dpkg", "--install", "/second.deb")
+        self.assertEqual(["ok", "record 1 1 a", "record 1 2 b", "record 1 3 c", "end 3"], self.ask("anna", "put top 1 3 c", "list top"))
+        self.assertNotEqual(before, self.said("systemctl", "show", "-P", "MainPID", "altserve@map"))
+        self.assertIn("entry 2 ", self.ask("anna", "log")[0])
 
 
 QEMU = ("qemu-aarch64", "-L", "/usr/aarch64-linux-gnu")

@@ -7,8 +7,7 @@ use std::process::ExitCode;
 use std::rt::Env;
 use std::{env, io};
 use vm_cli::{
-    Cleared, Console, Locking, Progress, RealFiles, lock, refuse_in_use, refuse_words, run_words,
-    stop,
+    Cleared, Console, Progress, RealFiles, lock, refuse_lock, refuse_words, run_words, stop,
 };
 
 fn main(rt: HostRuntime) -> ExitCode {
@@ -19,7 +18,7 @@ fn main(rt: HostRuntime) -> ExitCode {
     let status = match words(&rt) {
         Ok(words) => match lock(&rt, words.as_slice()) {
             // The lock lasts until the answers are given.
-            Locking::Held(_lock) => run_words(
+            Ok(_lock) => run_words(
                 rt.alloc(),
                 words.as_slice(),
                 &mut files,
@@ -27,7 +26,7 @@ fn main(rt: HostRuntime) -> ExitCode {
                 &mut Cleared::new(rt.stdout(), &progress),
                 &mut errors,
             ),
-            Locking::InUse(file) => refuse_in_use(file, &mut errors),
+            Err(why) => refuse_lock(why, &mut errors),
         },
         Err(error) if error.kind() == ErrorKind::OutOfMemory => stop(&mut errors),
         Err(_) => refuse_words(&mut errors),

@@ -21,7 +21,8 @@ pub record Asks (lines : List ℕ) (on_refusal : OnRefusal) (result : Result Boo
   pub answers : (s : State) → Serves old.store new.store s (carrying_out on_refusal) result (Some []) (Some new.answers.items) (Some lines)
   -- The store gets no blocks but by a Grow that is carried out.
   pub goes : GrowsOn ⊥ old.store new.store
-  -- It fails only in a call that ends with Store, and only where a device call failed.
+  -- It has not failed after a call that ends well. One that ends with Store has met a device call that failed; one that ends with Write may
+  -- have, too.
   pub ok : has_failed old.store ≡ false → OnOk result (has_failed new.store ≡ false)
   pub err : has_failed old.store ≡ false → IfErr result (StoreFails old.store new.store)
   -- One that had failed is left as it was.

@@ -271,11 +271,11 @@ impl Alternative {
         &self,
         alloc: Global,
         records: &[(Key, Held)],
-    ) -> Result<u32, AllocError>
+    ) -> Result<usize, AllocError>
         ensures { IfOk result (λ count. count ≡ length (delta self.now.current records.now)) }
     {
         let changes = map_changes::changes_between(alloc, &self.current, records)?;
-        u32::try_from(changes.len()).map_err(|_| AllocError)
+        Ok(changes.len())
     }
 
     /// Shows these records from now on, and has those as its base.

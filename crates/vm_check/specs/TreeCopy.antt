@@ -1,5 +1,5 @@
 -- Copies of blocks on another disk, under other numbers.
-use Rattle.std.specs.Prelude.{◌≡◌, ◌≢◌, ◌⊎◌, ℕ, ◌+◌, ◌<◌, ◌≤◌, nat_le, Bool, true, List, [], ◌∷◌, length, Option, None, Some, Result, Err, IfOk, IsOk, OnOk, map, slice_index_or}
+use Rattle.std.specs.Prelude.{◌≡◌, ◌≢◌, ◌⊎◌, ℕ, ◌+◌, ◌<◌, ◌≤◌, ◌&&◌, nat_le, nat_lt, Bool, true, List, [], ◌∷◌, length, Option, None, Some, Result, Err, IfOk, IsOk, OnOk, map, slice_index_or}
 use Rattle.std.specs.List.{AllByRecursion}
 use Rattle.vm_types.specs.declared.sizes.TheConstants.{FIRST_DATA}
 use Rattle.vm_types.specs.declared.key.Key.{Key}
@@ -16,6 +16,7 @@ use Rattle.vm_block.specs.declared.stored.Link.{Link}
 use Rattle.vm_tree.specs.Calls.{Looks}
 use Rattle.vm_tree.specs.BlockReads.{IsLongAt}
 use Rattle.vm_tree.specs.Root.{IsRooted}
+use Rattle.vm_tree.specs.Unsynced.{NeverSyncs}
 use Rattle.vm_tree.specs.declared.root.Root.{Root}
 use Rattle.vm_tree.specs.Tree.{Children, Sizes, StandForAll, StandsFor, Subtree}
 use Rattle.vm_tree.specs.declared.faults.TreeFault.TheVariants.{Device, Damaged}
@@ -103,21 +104,30 @@ pub record NumbersFit (blocks limit : ℕ) (s t : DiskState) (numbers : Renumber
   pub known : count_of numbers ≡ blocks
   pub least : FIRST_DATA ≤ next_of numbers
 
--- is this a block for data?
-abbrev pub is_for_data : ℕ → Bool
-is_for_data n = nat_le FIRST_DATA n
+-- is this one of the blocks from the first number to the next one, in a store of so many blocks?
+abbrev pub is_for_copies : (first next limit : ℕ) → ℕ → Bool
+is_for_copies first next limit n = nat_le first n && (nat_le n next && nat_lt n limit)
 
--- at no moment a block of an honest disk is touched that is not for data
-abbrev pub TouchesData : DiskState → DiskState → Type 0
-TouchesData old new = new.honest ≡ true → Throughout old new (TouchesOnly is_for_data old.now)
+-- at no moment another block of an honest disk is touched than those of the numbers that were given, and the one of the next number
+abbrev pub TouchesCopies : ℕ → DiskState → Renumbering → DiskState → Renumbering → Type 0
+TouchesCopies limit t old t' new = t'.honest ≡ true → Throughout t t' (TouchesOnly (is_for_copies (next_of old) (next_of new) limit) t.now)
+
+-- nothing is synced, on an honest disk
+abbrev pub StaysUnsynced : DiskState → DiskState → Type 0
+StaysUnsynced t t' = t'.honest ≡ true → NeverSyncs t t'
+
+-- on any disks and whatever the answer, no more blocks were read than got a number, and `more` beside them
+abbrev pub ReadsBesideCopies : ℕ → DiskState → Renumbering → DiskState → Renumbering → Type 0
+ReadsBesideCopies more s old s' new = s'.reads + next_of old ≤ s.reads + next_of new + more
 
 -- a step of copying, in which the source fails just where `source` holds, the target just where `target` does, and no number is left just where
--- `none_left` does: the source was only read, of the target no block was touched but those for data, and each copy has kept its number;
--- where it was done, for each block that was read one was copied
+-- `none_left` does: the source was only read, of the target no block was touched but those of the copies, none was synced, and each copy has
+-- kept its number; where it was done, for each block that was read one was copied
 pub record Steps (source target none_left done : Type 0) (limit : ℕ) (s t : DiskState) (old : Renumbering) (s' t' : DiskState) (new : Renumbering) : Type 0 where
   pub looks : Looks source s s'
   pub goes : Goes target t t'
-  pub touches : TouchesData t t'
+  pub touches : TouchesCopies limit t old t' new
+  pub unsynced : StaysUnsynced t t'
   pub numbers : GoesOn old new
   pub full : none_left → limit ≤ next_of new
   pub paid : done → s'.reads + next_of old ≡ s.reads + next_of new
@@ -303,11 +313,12 @@ pub record IsPut (limit n : ℕ) (bytes : List ℕ) (y y' : Contents) (old new :
   pub written : block y' number ≡ bytes
   pub others : (k : ℕ) → k ≢ number → block y' k ≡ block y k
 
--- what a write of a copy does on any disk: it touches no block but those for data, and gives one number where it was done, to no other block;
--- if no number is left, the block has none, and where it finds damage, the block was copied
+-- what a write of a copy does on any disk: it touches no block but that of the next number, syncs none, and gives one number where it was
+-- done, to no other block; if no number is left, the block has none, and where it finds damage, the block was copied
 pub record Puts (target none_left done : Type 0) (damaged : ℕ → Type 0) (limit n : ℕ) (t : DiskState) (old : Renumbering) (t' : DiskState) (new : Renumbering) : Type 0 where
   pub goes : Goes target t t'
-  pub touches : TouchesData t t'
+  pub touches : TouchesCopies limit t old t' new
+  pub unsynced : StaysUnsynced t t'
   pub numbers : GoesOn old new
   pub full : none_left → limit ≤ next_of new
   pub lacks : none_left → number_at new n ≡ 0

@@ -4,7 +4,7 @@ ghost use Rattle.vm_types.specs.declared.sizes.TheConstants.{FIRST_DATA};
 ghost use Rattle.vm_check.specs.declared.tree_copy.CopyFault.TheVariants as copy;
 ghost use Rattle.vm_block.specs.Leaf.{LinkFits};
 ghost use Rattle.vm_block.specs.Told.{IfLeafRowAt};
-ghost use Rattle.vm_check.specs.TreeCopy.{CopiesBlock, CopiesChildren, CopiesLongs, CopiesMap, CopiesRoot, CopiesRow, CopiesRows, CopiesUpTo, IsPut, LeavesOthers, NumbersFit, PutsTo, ReachedChildrenCopy, ReachedCopy, ReachedLongCopy, ReachedRowCopy, ReachedRowsCopy, ReachedTreeCopy, SoundChildrenCopy, SoundCopy, SoundLongCopy, SoundRowCopy, SoundRowsCopy, SoundTreeCopy, StepsTo, TellsRow};
+ghost use Rattle.vm_check.specs.TreeCopy.{CopiesBlock, CopiesChildren, CopiesLongs, CopiesMap, CopiesRoot, CopiesRow, CopiesRows, CopiesUpTo, IsPut, LeavesOthers, NumbersFit, PutsTo, ReachedChildrenCopy, ReachedCopy, ReachedLongCopy, ReachedRowCopy, ReachedRowsCopy, ReachedTreeCopy, ReadsBesideCopies, SoundChildrenCopy, SoundCopy, SoundLongCopy, SoundRowCopy, SoundRowsCopy, SoundTreeCopy, StepsTo, TellsRow};
 ghost use Rattle.vm_check.specs.Renumbering.{count_of, next_of};
 
 use crate::renumbering::Renumbering;
@@ -78,6 +78,7 @@ fn copy_long<S: Disk, T: Disk>(
     requires fit { NumbersFit blocks limit (S.state source.old) (T.state target.old) numbers.old }
     ensures step { StepsTo result limit (S.state source.old) (T.state target.old) numbers.old
         (S.state source.new) (T.state target.new) numbers.new }
+    ensures few { ReadsBesideCopies 1 (S.state source.old) numbers.old (S.state source.new) numbers.new }
     ensures copied { CopiesBlock result limit block (S.state source.old) (T.state target.old) numbers.old
         (S.state source.new) (T.state target.new) numbers.new }
     ensures only { CopiesLongs result (S.state source.old) numbers.old (S.state source.new) numbers.new }
@@ -129,6 +130,7 @@ fn copy_row<S: Disk, T: Disk>(
     requires fit { NumbersFit blocks limit (S.state source.old) (T.state target.old) numbers.old }
     ensures step { StepsTo result limit (S.state source.old) (T.state target.old) numbers.old
         (S.state source.new) (T.state target.new) numbers.new }
+    ensures few { ReadsBesideCopies 1 (S.state source.old) numbers.old (S.state source.new) numbers.new }
     ensures copied { CopiesRow result limit count i bytes.old bytes.new (S.state source.old) (T.state target.old) numbers.old
         (S.state source.new) (T.state target.new) numbers.new }
     ensures only { CopiesLongs result (S.state source.old) numbers.old (S.state source.new) numbers.new }
@@ -159,6 +161,7 @@ fn copy_rows<S: Disk, T: Disk>(
     requires fit { NumbersFit blocks limit (S.state source.old) (T.state target.old) numbers.old }
     ensures step { StepsTo result limit (S.state source.old) (T.state target.old) numbers.old
         (S.state source.new) (T.state target.new) numbers.new }
+    ensures few { ReadsBesideCopies 1 (S.state source.old) numbers.old (S.state source.new) numbers.new }
     ensures copied { CopiesRows result limit count bytes.old bytes.new (S.state source.old) (T.state target.old) numbers.old
         (S.state source.new) (T.state target.new) numbers.new }
     ensures only { CopiesLongs result (S.state source.old) numbers.old (S.state source.new) numbers.new }
@@ -184,6 +187,7 @@ fn copy_leaf<S: Disk, T: Disk>(
     requires fit { NumbersFit blocks limit (S.state source.old) (T.state target.old) numbers.old }
     ensures step { StepsTo result limit (S.state source.old) (T.state target.old) numbers.old
         (S.state source.new) (T.state target.new) numbers.new }
+    ensures few { ReadsBesideCopies 2 (S.state source.old) numbers.old (S.state source.new) numbers.new }
     ensures copied { CopiesBlock result limit block (S.state source.old) (T.state target.old) numbers.old
         (S.state source.new) (T.state target.new) numbers.new }
     ensures only { CopiesUpTo 0 result (S.state source.old) numbers.old (S.state source.new) numbers.new }
@@ -221,6 +225,7 @@ fn copy_children<S: Disk, T: Disk>(
     requires fit { NumbersFit blocks limit (S.state source.old) (T.state target.old) numbers.old }
     ensures step { StepsTo result limit (S.state source.old) (T.state target.old) numbers.old
         (S.state source.new) (T.state target.new) numbers.new }
+    ensures few { ReadsBesideCopies (level + 2) (S.state source.old) numbers.old (S.state source.new) numbers.new }
     ensures copied { CopiesChildren result limit count bytes.old bytes.new (S.state source.old) (T.state target.old) numbers.old
         (S.state source.new) (T.state target.new) numbers.new }
     ensures only { CopiesUpTo level result (S.state source.old) numbers.old (S.state source.new) numbers.new }
@@ -252,6 +257,7 @@ fn copy_node<S: Disk, T: Disk>(
     requires fit { NumbersFit blocks limit (S.state source.old) (T.state target.old) numbers.old }
     ensures step { StepsTo result limit (S.state source.old) (T.state target.old) numbers.old
         (S.state source.new) (T.state target.new) numbers.new }
+    ensures few { ReadsBesideCopies (level + 2) (S.state source.old) numbers.old (S.state source.new) numbers.new }
     ensures copied { CopiesBlock result limit block (S.state source.old) (T.state target.old) numbers.old
         (S.state source.new) (T.state target.new) numbers.new }
     ensures only { CopiesUpTo level result (S.state source.old) numbers.old (S.state source.new) numbers.new }
@@ -296,6 +302,7 @@ fn copy_below<S: Disk, T: Disk>(
     requires fit { NumbersFit blocks limit (S.state source.old) (T.state target.old) numbers.old }
     ensures step { StepsTo result limit (S.state source.old) (T.state target.old) numbers.old
         (S.state source.new) (T.state target.new) numbers.new }
+    ensures few { ReadsBesideCopies (level + 2) (S.state source.old) numbers.old (S.state source.new) numbers.new }
     ensures copied { CopiesBlock result limit block (S.state source.old) (T.state target.old) numbers.old
         (S.state source.new) (T.state target.new) numbers.new }
     ensures only { CopiesUpTo level result (S.state source.old) numbers.old (S.state source.new) numbers.new }
@@ -315,7 +322,7 @@ fn copy_below<S: Disk, T: Disk>(
 /// that share blocks share the copies. Takes no memory.
 ///
 /// The blocks under a root come before the root, at the numbers from `numbers.next()` on. Only
-/// these are written, and nothing is synced. On failure, they hold any bytes.
+/// these are written, and nothing is synced. On failure, they and the next one hold any bytes.
 ///
 /// Returns `CopyFault::Full` if the target has no block left below `limit`. On a tree it returns
 /// `CopyFault::Source` only if the source's device fails.
@@ -332,10 +339,15 @@ pub fn copy_tree<S: Disk, T: Disk>(
     requires known { count_of numbers.old ≡ blocks }
     requires least { FIRST_DATA ≤ next_of numbers.old }
 
-    // On any disks, the source is only read, and only data blocks of the target are touched. On
+    // On any disks, the source is only read, no block of the target is touched but those of the numbers
+    // from the next one on, up to the next one afterwards and below the limit, and nothing is synced. On
     // success, each block that was read got one number, and was read once.
     ensures step { StepsTo result limit (S.state source.old) (T.state target.old) numbers.old
         (S.state source.new) (T.state target.new) numbers.new }
+
+    // Whatever the answer, it reads one block for each that got a number, and at most one per level and
+    // that of a long value beside them.
+    ensures few { ReadsBesideCopies (root.level + 2) (S.state source.old) numbers.old (S.state source.new) numbers.new }
 
     // If both disks are honest and the target holds what was copied before, then it holds that
     // together with the copies of the blocks under this root, and the same map lies under the

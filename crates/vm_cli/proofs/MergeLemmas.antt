@@ -1,5 +1,6 @@
 -- Merges with a side for all conflicts.
-use Rattle.std.proofs.Common.{◌≡◌, ◌≢◌, inl, inr, ℕ, Bool, true, false, List, Option, Some, None, Result, Ok, Err, IsOk, refl, sym, ap, subst, ◌∙◌}
+use Rattle.std.proofs.Common.{◌≡◌, ◌≢◌, ◌⊎◌, inl, inr, ℕ, Bool, true, false, List, [], Option, Some, None, Result, Ok, Err, IsOk, refl, sym, ap, subst, ◌∙◌}
+use Rattle.std.proofs.lemmas.List.{append-nil}
 use Rattle.vm_types.specs.Queries.{IsListing, conflicts_in}
 use Rattle.vm_types.specs.State.{State}
 use Rattle.vm_types.specs.declared.change.Conflict.{Conflict}
@@ -8,7 +9,7 @@ use Rattle.vm_types.specs.declared.command.Command.TheVariants.{Merge}
 use Rattle.vm_types.specs.declared.command.Side.{Side}
 use Rattle.vm_types.specs.declared.key.Key.{Key}
 use Rattle.vm_types.specs.declared.refusal.Refusal.{Refusal}
-use Rattle.vm_types.specs.declared.refusal.Refusal.TheVariants.{Failed, Memory}
+use Rattle.vm_types.specs.declared.refusal.Refusal.TheVariants.{Device, Failed, Memory}
 use Rattle.vm_store.specs.Queries.{Queries}
 use Rattle.vm_store.specs.Store.{Holds, has_failed}
 use Rattle.vm_store.specs.declared.store.Store.{Store}
@@ -17,7 +18,7 @@ use Rattle.vm_cli.specs.Feeds.{AsksBy, HandlesRequest}
 use Rattle.vm_cli.specs.Replies.{ends_talk, reply_text}
 use Rattle.vm_cli.specs.Requests.{asked_in, limit_of}
 use Rattle.vm_cli.specs.Settlements.{for_all}
-use Rattle.vm_cli.specs.Talk.{AnsweredRequest, AnswersWithin, Done, Meets, Passes, RefusesMerge, Stood, after_line, error_text}
+use Rattle.vm_cli.specs.Talk.{AnsweredRequest, AnswersWithin, Done, Failing, Meets, Passes, RefusesMerge, Stood, after_line, error_text}
 use Rattle.vm_cli.specs.declared.answers.reply.Reply.{Reply}
 use Rattle.vm_cli.specs.declared.answers.reply.Reply.TheVariants as reply
 use Rattle.vm_cli.specs.declared.talk.OnCommand.{OnCommand}
@@ -77,7 +78,7 @@ module _ {D : Type 0} {members : _} (on : OnCommand) (not : on ≢ Refuse) (alt 
       refused_by (reply.Refused Memory) (λ s. told old mid s asked asks same left (holds s) (error_text Memory) sound (same ∙ sound, why s)) (λ was. sym (same ∙ was))
 
   -- it was carried out
-  module _ (new : Store D members) (conflicts : List Conflict) (due : (s : State) → Stood old mid s → conflicts_in s.working alt ≡ Ok conflicts) (sound : has_failed old ≡ false) where
+  module _ (new : Store D members) (conflicts : List Conflict) (due : (s : State) → (Stood old mid s → conflicts_in s.working alt ≡ Ok conflicts) ⊎ (Failing old mid × (conflicts ≡ []))) (sound : has_failed old ≡ false) where
     abbrev command : Command
     command = Merge alt (for_all side settled conflicts)
 
@@ -116,15 +117,27 @@ module _ {D : Type 0} {members : _} (on : OnCommand) (not : on ≢ Refuse) (alt 
   stands : (s : State) → Stood old mid s → Holds mid s
   stands s stood = said.state stood.honest s stood.holds
 
-  pub query_refused : (refusal : Refusal) → answer ≡ Err refusal → (reply : Reply) → reply_text reply ≡ error_text refusal → (refusal ≢ Failed → ends_talk reply ≡ false) → (refusal ≡ Failed → ends_talk reply ≡ true)
+  -- the device failed while they were told
+  pub unlisted_merged : answer ≡ Err Device → (new : Store D members) (reply : Reply) → AsksBy (asked_in on (Request.Command (Merge alt settled))) reply mid new
+      → AsksBy (asked_in on (Request.MergeAll None alt side settled)) reply old new
+  unlisted_merged device later said_of answered =
+      merged_by on not alt side settled old mid asked_for said.failed said.no_calls stands later [] (λ s. inr (said.any.fault device, refl))
+      (not_failed (has_failed old) (λ failed. let bad : ◌≡◌ {A = Result (List Conflict) Refusal} (Err Device) (Err Failed) = sym device ∙ said.refused failed in cc)) said_of
+      (subst (λ (all : List (Key × Side)). AsksBy (asked_in on (Request.Command (Merge alt all))) said_of mid later) (sym (append-nil settled)) answered)
+    where
+      not_failed : (b : Bool) → (b ≡ true → ⊥) → b ≡ false
+      not_failed true never = absurd (never refl)
+      not_failed false _ = refl
+
+  pub query_refused : (refusal : Refusal) → answer ≡ Err refusal → refusal ≢ Device → (reply : Reply) → reply_text reply ≡ error_text refusal → (refusal ≢ Failed → ends_talk reply ≡ false) → (refusal ≡ Failed → ends_talk reply ≡ true)
       → AsksBy (asked_in on (Request.MergeAll None alt side settled)) reply old mid
-  query_refused refusal is reply text goes_on ends =
+  query_refused refusal is no_device reply text goes_on ends =
       let only : has_failed old ≡ false → refusal ≢ Failed = λ sound same. said.only_then sound (is ∙ ap Err same) in
       conflicts_refused on not alt side settled old mid asked_for said.failed said.no_calls stands refusal reply text goes_on ends (λ failed. let e = said.refused failed in cc) only
       (λ s sound. record {
         refusal = refusal;
         says = text;
-        device = λ same. said.any.fault (is ∙ ap Err same);
+        no_device = no_device;
         only_then = only sound;
         due = λ stood. subst (λ (r : Result (List Conflict) Refusal). IsListing r (conflicts_in s.working alt)) is (said.value stood.honest sound s stood.holds);
       })
@@ -142,11 +155,11 @@ module _ {D : Type 0} {members : _} (on : OnCommand) (not : on ≢ Refuse) (alt 
         (λ s. record {
           refusal = Memory;
           says = refl;
-          device = λ same. let bad : ⊥ = cc in absurd bad;
+          no_device = λ same. cc;
           only_then = λ same. cc;
           due = λ stood. inl (subst (λ (r : Result (List Conflict) Refusal). IsOk r) (sym (listed s stood)) refl, inr refl);
         })
 
     pub all_merged : (new : Store D members) (reply : Reply) → AsksBy (asked_in on (Request.Command (Merge alt (for_all side settled conflicts)))) reply mid new
         → AsksBy (asked_in on (Request.MergeAll None alt side settled)) reply old new
-    all_merged new = merged_by on not alt side settled old mid asked_for said.failed said.no_calls stands new conflicts listed sound
+    all_merged new = merged_by on not alt side settled old mid asked_for said.failed said.no_calls stands new conflicts (λ s. inl (listed s)) sound

@@ -1,5 +1,5 @@
 -- The files of the system keep the rules of a place.
-use Rattle.std.proofs.Common.{◌≡◌, ◌≢◌, ◌&&◌, ℕ, Bool, true, false, List, [], ◌∷◌, Option, Some, None, IfSome, Result, Ok, Err, IfOk, replicate, reverse, option_map, refl, sym, ap, ◌∙◌, subst}
+use Rattle.std.proofs.Common.{◌≡◌, ◌≢◌, ◌&&◌, ℕ, Bool, true, false, List, [], ◌∷◌, Option, Some, None, IfSome, Result, Ok, Err, IfOk, replicate, reverse, option_map, refl, sym, ap, ap₂, ◌∙◌, subst}
 use Rattle.std.proofs.lemmas.Bool.{and_parts}
 use Rattle.std.proofs.lemmas.Slice.Eq.{bytes_eq-Decides}
 use Rattle.std.specs.Result.{result_ok}
@@ -9,7 +9,7 @@ use Rattle.vm_disk.specs.Disk.{Contents, IsClean, Medium, DiskState}
 use Rattle.vm_disk.specs.File.{IsMade, IsOpened, IsOver, IsPart, IsZero, Part, file_blocks, file_of}
 use Rattle.vm_disk.specs.Positional.{FileState}
 use Rattle.vm_disk.specs.Past.{noted}
-use Rattle.vm_disk.specs.System.{fresh, held_bytes, name_of, opening_of, system_state}
+use Rattle.vm_disk.specs.System.{KeepsState, fresh, held_bytes, name_of, opening_of, system_state}
 use Rattle.vm_disk.specs.declared.file.FileDisk.{FileDisk}
 use Rattle.vm_disk.specs.declared.history.History.{History}
 use Rattle.vm_disk.specs.declared.system.SystemFile.{SystemFile}
@@ -48,11 +48,14 @@ not_there None e = refl
 not_there (Some x) e = absurd cc
 
 -- a file that was opened holds these blocks, and all of them last
-opened_clean : (bytes : List ℕ) (file : FileState) (s : DiskState) → file ≡ fresh bytes → IsOpened file s → (s.now.contents ≡ whole_blocks bytes) × IsClean s.now
-opened_clean bytes file s is opened =
-    let over : IsOpened (fresh bytes) s = rw is at opened in
-    let held : s.now.contents ≡ file_blocks s.blocks bytes = ap (λ (m : Medium). m.contents) over.now in
-    (held ∙ ap (λ n. file_blocks n bytes) over.blocks, λ n. rw over.now (sure_is_clean s.blocks (fresh bytes) refl n))
+opened_clean : (bytes : List ℕ) (file : FileState) (s : DiskState) → file.bytes ≡ bytes → file.waiting ≡ [] → IsOpened file s → (s.now.contents ≡ whole_blocks bytes) × IsClean s.now
+opened_clean bytes file s is none opened =
+    let held : s.now.contents ≡ file_blocks s.blocks file.bytes = ap (λ (m : Medium). m.contents) opened.now in
+    (held ∙ ap₂ (λ n bytes. file_blocks n bytes) opened.blocks refl ∙ ap whole_blocks is, λ n. rw opened.now (sure_is_clean s.blocks file none n))
+
+-- nothing was done to a file
+pub kept_as_is : (file : FileState) → file.honest ≡ true → KeepsState file file
+kept_as_is file honest = record { same = refl; same_waiting = refl }
 
 both : (a b : Bool) → a ≡ true → b ≡ true → (a && b) ≡ true
 both true true e f = refl
@@ -81,12 +84,13 @@ module _ {W : Type 0} (held : ℕ → List ℕ → Option (List ℕ)) (torn : �
 
   -- a file was opened, and made a disk of
   module _ (file : SystemFile W) (noted_file : Snapshot (SystemFile W)) (is : noted_file.value ≡ file) (name : name_of file ≡ path) where
-    pub finds : (opened : ℕ) → opening_of file ≡ opened → new ≡ Found noted_file ∷ old → system_state held torn file ≡ fresh (held_bytes (held opened path)) → (result : Result (FileDisk (Watched (SystemFile W))) (Watched (SystemFile W)))
+    pub finds : (later : SystemFile W) → ((system_state held torn later).honest ≡ true → KeepsState (system_state held torn file) (system_state held torn later))
+        → (opened : ℕ) → opening_of file ≡ opened → new ≡ Found noted_file ∷ old → system_state held torn file ≡ fresh (held_bytes (held opened path)) → (result : Result (FileDisk (Watched (SystemFile W))) (Watched (SystemFile W)))
         → IfOk result (λ disk. IsOver disk.blocks (system_state held torn (file_below (file_of disk))) (real_disk held torn disk))
-        → IfOk result (λ disk. (system_state held torn (file_below (file_of disk))).honest ≡ true → IsOpened (system_state held torn file) (real_disk held torn disk))
+        → IfOk result (λ disk. (system_state held torn (file_below (file_of disk))).honest ≡ true → IsOpened (system_state held torn later) (real_disk held torn disk))
         → (found : Option (FileDisk (Watched (SystemFile W)))) → found ≡ result_ok result
         → honest_after held torn new ≡ true → Finds path (option_map (real_disk held torn) found) (known old) (known new)
-    finds opened opening more state result over told found said honest =
+    finds later kept opened opening more state result over told found said honest =
         let all : honest_after held torn (Found noted_file ∷ old) ≡ true = rw more at honest in
         let raw : is_as_left (blocks_held held (opening_of noted_file.value) (name_of noted_file.value)) (files_after held torn old (name_of noted_file.value)) ≡ true = (and_parts _ _ all).0 in
         let was : is_as_left (blocks_held held opened path) (files_after held torn old path) ≡ true = rw (is, opening, name) at raw in
@@ -100,12 +104,15 @@ module _ {W : Type 0} (held : ℕ → List ℕ → Option (List ℕ)) (torn : �
         }
       where
         go : files_after held torn old path ≡ Some (whole_blocks (held_bytes (held opened path))) → (result : Result (FileDisk (Watched (SystemFile W))) (Watched (SystemFile W)))
-            → IfOk result (λ disk. (system_state held torn (file_below (file_of disk))).honest ≡ true → IsOpened (system_state held torn file) (real_disk held torn disk))
+            → IfOk result (λ disk. (system_state held torn (file_below (file_of disk))).honest ≡ true → IsOpened (system_state held torn later) (real_disk held torn disk))
             → IfSome (option_map (real_disk held torn) (result_ok result)) (λ s. s.honest ≡ true → (files_after held torn old path ≡ Some s.now.contents) × IsClean s.now)
         go there (Err back) told = tt
         go there (Ok disk) told = λ honest.
             let over = told (disk_file_is_honest (λ file. system_state held torn (file_below file)) disk honest) in
-            let clean = opened_clean (held_bytes (held opened path)) (system_state held torn file) (real_disk held torn disk) state over in
+            let keeps = kept over.file_honest in
+            let same = keeps.same ∙ ap (λ (f : FileState). f.bytes) state in
+            let none = keeps.same_waiting ∙ ap (λ (f : FileState). f.waiting) state in
+            let clean = opened_clean (held_bytes (held opened path)) (system_state held torn later) (real_disk held torn disk) same none over in
             (there ∙ ap Some (sym clean.0), clean.1)
 
     -- a file was made, and zeros written to it

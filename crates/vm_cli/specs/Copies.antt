@@ -1,8 +1,8 @@
 -- What becomes of a store that is copied to a new file, and of that file.
-use Rattle.std.specs.Prelude.{◌≡◌, ◌⊎◌, ℕ, ◌+◌, ◌-◌, ◌<◌, ◌≤◌, true, List, ◌∷◌, Option, Some, None, IfErr, IfOk, Result, codes, replicate}
+use Rattle.std.specs.Prelude.{◌≡◌, ◌≢◌, ◌⊎◌, ℕ, ◌+◌, ◌-◌, ◌<◌, ◌≤◌, true, List, [], ◌∷◌, Option, Some, None, IfErr, IfOk, Result, codes, replicate}
 use Rattle.clap.specs.Words.{Text}
 use Rattle.vm_types.specs.declared.refusal.Refusal.{Refusal}
-use Rattle.vm_types.specs.declared.refusal.Refusal.TheVariants.{AlreadyAStore, BadSize, Full, Memory}
+use Rattle.vm_types.specs.declared.refusal.Refusal.TheVariants.{AlreadyAStore, BadSize, Device, Full, Memory}
 use Rattle.vm_types.specs.declared.sizes.TheConstants.{BLOCK_SIZE}
 use Rattle.vm_types.specs.State.{Seen}
 use Rattle.vm_disk.specs.Disk.{Contents, DiskState}
@@ -15,8 +15,8 @@ use Rattle.vm_store.specs.Refused.{IsStore}
 use Rattle.vm_store.specs.Rest.{spare_of}
 use Rattle.vm_store.specs.Store.{FromState, blocks_of, disk_of, free_of}
 use Rattle.vm_store.specs.declared.store.Store.{Store}
-use Rattle.vm_cli.specs.Exits.{Tells, copied_text, file_text, refused_text}
-use Rattle.vm_cli.specs.Places.{KeepsOthers, PlaceState, WasLent}
+use Rattle.vm_cli.specs.Exits.{Tells, copied_text, file_text, part_of, refused_text}
+use Rattle.vm_cli.specs.Places.{KeepsBut, KeepsOthers, PlaceState}
 use Rattle.vm_cli.specs.Sessions.{HasRefused, HasShown}
 use Rattle.vm_cli.specs.declared.program.Exit.{Exit}
 use Rattle.vm_cli.specs.declared.program.Exit.TheVariants.{Done, Refused, Stopped}
@@ -51,66 +51,123 @@ module _ {D : Type 0} (members : Ghosts D) where
     pub shows : opens.seen ≡ seen
     pub used_are : used ≡ seen.blocks - spare_of opens.holds.rests
 
--- why a copy of this many blocks on a disk is refused: for want of memory; or the disk has fewer, or it has a store
-abbrev pub RefusesCopy : ℕ → DiskState → Refusal → Type 0
-RefusesCopy blocks start Memory = Unit {0}
-RefusesCopy blocks start BadSize = IsBadSize blocks start.blocks
-RefusesCopy blocks start AlreadyAStore = IsStore start.now.contents
-RefusesCopy blocks start refusal = ⊥
+-- why a copy of this many blocks is refused on a disk that went from the one state to the other: for want of memory, or since the disk
+-- has fewer, and no call was made of it; or it has a store
+abbrev pub RefusesCopy : ℕ → DiskState → DiskState → Refusal → Type 0
+RefusesCopy blocks start end Memory = end ≡ start
+RefusesCopy blocks start end BadSize = IsBadSize blocks start.blocks × (end ≡ start)
+RefusesCopy blocks start end AlreadyAStore = IsStore start.now.contents
+RefusesCopy blocks start end refusal = ⊥
 
--- a store was to be copied from a disk that went from the first to the second state to one that went from the third to the last: what is
--- told with this end, if the copy shows this and `used` blocks are in use. It was copied; or it is told why not; or a call of one of the
--- two disks failed, and the program stops
-abbrev pub ToldOfCopy : (seen : Seen) (used : ℕ) → DiskState → DiskState → DiskState → DiskState → Exit
+-- the disk that came back last as the file of this name was in this state, and the file holds what it held
+pub record IsNamed (name : Text) (s : DiskState) (place : PlaceState) : Type 0 where
+  pub holds : place.files name ≡ Some s.now.contents
+  pub came : place.came name ≡ Some s
+
+-- a disk came back under the one name, and none did later: its file is there under it, or has it no more. All files but those of these two
+-- names are as they were
+pub record ComesBack (part to : Text) (given : DiskState) (old new : PlaceState) : Type 0 where
+  pub honest : given.honest ≡ true
+  pub came : new.came part ≡ Some given
+  pub left : (new.files part ≡ None) ⊎ (new.files part ≡ Some given.now.contents)
+  pub others : KeepsBut part to old new
+
+-- a copy came back under the one name, of this many blocks, `used` of which are in use: no file had the other, now its file has that, too,
+-- and it is told that it was copied. Or it is told that the place denied that name, and a file of that is as it was
+pub record NamesCopy (Denied : Type 0) (part to : Text) (blocks used : ℕ) (given : DiskState) (exit : Exit) (old new : PlaceState)
+    (before after errors errors' : Option (List ℕ)) : Type 0 where
+  pub back : ComesBack part to given old new
+  pub told : ((old.files to ≡ None) × IsNamed to given new × Tells Done exit before after (copied_text blocks used))
+      ⊎ ((new.files to ≡ old.files to) × Denied × Tells Refused exit errors errors' (file_text (codes "altctl: cannot create ") to))
+
+-- a disk came back under a name, and it is told why nothing was copied to it, unless a device failed
+pub record DropsCopy (part : Text) (given : DiskState) (refusal : Refusal) (exit : Exit) (old new : PlaceState) (errors errors' : Option (List ℕ)) : Type 0 where
+  pub honest : given.honest ≡ true
+  pub came : new.came part ≡ Some given
+  pub left : (new.files part ≡ None) ⊎ (new.files part ≡ Some given.now.contents)
+  pub others : KeepsOthers part old new
+  pub told : ((refusal ≡ Device) × (exit ≡ Stopped)) ⊎ ((refusal ≢ Device) × Tells Refused exit errors errors' (refused_text refusal))
+
+-- a store was to be copied from a disk that went from the first to the second state to one that went from the third to the last, of a file
+-- that is to have this name: what is told with this end, if the copy shows this and `used` blocks are in use, and what became of the name,
+-- where no file had it but for the first case. It was copied, and the file has the name; or the place denied that; or it is told why it was
+-- not copied; or a call of one of the two disks failed, and the program stops
+abbrev pub ToldOfCopy : (Denied : Type 0) (to : Text) (seen : Seen) (used : ℕ) → DiskState → DiskState → DiskState → DiskState → Exit → PlaceState → PlaceState
     → Option (List ℕ) → Option (List ℕ) → Option (List ℕ) → Option (List ℕ) → Type 0
-ToldOfCopy seen used s s' start end exit before after errors errors' =
-    (IsCopy seen end.now × Tells Done exit before after (copied_text seen.blocks used))
-    ⊎ (((refusal : Refusal) × RefusesCopy seen.blocks start refusal × Tells Refused exit errors errors' (refused_text refusal))
-    ⊎ ((exit ≡ Stopped) × (s.failures + start.failures < s'.failures + end.failures)))
+ToldOfCopy Denied to seen used s s' start end exit old new before after errors errors' =
+    (IsCopy seen end.now × (old.files to ≡ None) × IsNamed to end new × Tells Done exit before after (copied_text seen.blocks used))
+    ⊎ ((new.files to ≡ old.files to)
+    × ((IsCopy seen end.now × Denied × Tells Refused exit errors errors' (file_text (codes "altctl: cannot create ") to))
+    ⊎ (((refusal : Refusal) × RefusesCopy seen.blocks start end refusal × Tells Refused exit errors errors' (refused_text refusal))
+    ⊎ ((exit ≡ Stopped) × (s.failures + start.failures < s'.failures + end.failures)))))
 
--- the same, of the disk that was made: at each moment it is as it was, at most synced, or it was no store and a crash shows at most the copy
-pub record CopiesOnto (seen : Seen) (used : ℕ) (s s' start end : DiskState) (exit : Exit) (before after errors errors' : Option (List ℕ)) : Type 0 where
-  pub moments : Throughout start end (IsCopying seen start.now)
-  pub told : ToldOfCopy seen used s s' start end exit before after errors errors'
-
--- a disk of zero blocks was made under this name, as many as the copy has, the store was copied to it, and the file holds what the disk
--- held when it came back
-pub record LaysCopy (name : Text) (seen : Seen) (used : ℕ) (s s' : DiskState) (exit : Exit) (new : PlaceState) (before after errors errors' : Option (List ℕ)) : Type 0 where
-  pub start : DiskState
+-- the same, of the disk that was made under the name `part`: it came back under that, and at each moment until then it was as it was made,
+-- at most synced, or it was no store and a crash shows at most the copy
+pub record CopiesOnto (Denied : Type 0) (part to : Text) (seen : Seen) (used : ℕ) (s s' start : DiskState) (exit : Exit) (old new : PlaceState)
+    (before after errors errors' : Option (List ℕ)) : Type 0 where
   pub end : DiskState
+  pub was : start.honest ≡ true
+  pub back : ComesBack part to end old new
+  pub moments : Throughout start end (IsCopying seen start.now)
+  pub told : ToldOfCopy Denied to seen used s s' start end exit old new before after errors errors'
+
+-- a disk of zero blocks was made, as many as the copy has, under the name with `.part` behind it, the store was copied to it, and it came
+-- back under that name. Only then, and only if it is the copy, the file got the name that was asked for: until then no disk had that
+pub record LaysCopy (Denied : Text → Type 0) (to : Text) (seen : Seen) (used : ℕ) (s s' : DiskState) (exit : Exit) (old new : PlaceState)
+    (before after errors errors' : Option (List ℕ)) : Type 0 where
+  pub start : DiskState
+  pub size : start.blocks ≡ seen.blocks
   pub zero : start.now.contents ≡ replicate seen.blocks (replicate BLOCK_SIZE 0)
-  pub lent : WasLent name start end new
-  pub copies : CopiesOnto seen used s s' start end exit before after errors errors'
+  pub fresh : start.past ≡ []
+  pub copies : CopiesOnto (Denied to) (part_of to) to seen used s s' start exit old new before after errors errors'
 
 -- a file of this name was asked for, with a copy that shows this, of a store that uses `used` blocks of a disk which went from the one
 -- state to the other. `Reads` says that no file was asked for that may be written, `Opens` that exactly one was, and `Denied` that the
--- place gave no disk of a name
-pub record MakesCopy (Reads Opens : Type 0) (Denied : Text → Type 0) (name : Text) (seen : Seen) (used : ℕ) (s s' : DiskState) (exit : Exit) (old new : PlaceState)
+-- place gave no disk of a name, or said that it is taken
+pub record MakesCopy (Reads Opens : Type 0) (Denied : Text → Type 0) (to : Text) (seen : Seen) (used : ℕ) (s s' : DiskState) (exit : Exit) (old new : PlaceState)
     (before after errors errors' : Option (List ℕ)) : Type 0 where
-  -- it is told that the copy is too small, or that the file could not be made; or there was none, and it was made
-  pub told : (Reads × (seen.blocks < used) × (new.files name ≡ old.files name) × Tells Refused exit errors errors' (refused_text Full))
-      ⊎ ((Opens × Denied name × Tells Refused exit errors errors' (file_text (codes "altctl: cannot create ") name))
-      ⊎ (Opens × (old.files name ≡ None) × LaysCopy name seen used s s' exit new before after errors errors'))
-  -- a file that was there is as it was
-  pub stays : (contents : Contents) → old.files name ≡ Some contents → new.files name ≡ Some contents
-  pub others : KeepsOthers name old new
+  -- it is told that the copy is too small; or else that there is no memory for a name, or that the name is taken, and no file was asked
+  -- for; or that the file could not be made; or there was none of either name, and it was made
+  pub told : (Reads × (seen.blocks < used) × (new.files to ≡ old.files to) × Tells Refused exit errors errors' (refused_text Full))
+      ⊎ ((Reads × (used ≤ seen.blocks) × (new.files to ≡ old.files to) × Tells Refused exit errors errors' (refused_text Memory))
+      ⊎ ((Reads × (used ≤ seen.blocks) × (new.files to ≡ old.files to) × Denied to × Tells Refused exit errors errors' (file_text (codes "altctl: cannot create ") to))
+      ⊎ ((Opens × (used ≤ seen.blocks) × (new.files to ≡ old.files to) × Denied (part_of to) × Tells Refused exit errors errors' (file_text (codes "altctl: cannot create ") (part_of to)))
+      ⊎ (Opens × (used ≤ seen.blocks) × (old.files to ≡ None) × (old.files (part_of to) ≡ None) × LaysCopy Denied to seen used s s' exit old new before after errors errors'))))
+  -- a file of that name or of the other that was there is as it was
+  pub stays : (contents : Contents) → old.files to ≡ Some contents → new.files to ≡ Some contents
+  pub part_stays : (contents : Contents) → old.files (part_of to) ≡ Some contents → new.files (part_of to) ≡ Some contents
+  pub others : KeepsBut (part_of to) to old new
 
 module _ {D : Type 0} {members : _} where
-  -- a store was copied to a disk which is honest after it, and as many blocks as are in use
-  abbrev pub CopiesTo : (old new : Store D members) → Size → DiskState → DiskState → Exit
+  -- a store was copied to a disk in this state, of a file of the one name that is to have the other, at a place that is honest after it: the
+  -- disk has as many blocks as are in use
+  abbrev pub CopiesTo : {P : Type 0} → (P → PlaceState) → (P → List Text) → P → P → (part to : Text) → (old new : Store D members) → Size → DiskState → Exit
       → Option (List ℕ) → Option (List ℕ) → Option (List ℕ) → Option (List ℕ) → Type 0
-  CopiesTo old new size start end exit before after errors errors' =
-      used_of old ≤ size.blocks
-      → FromState old new (λ s. end.honest ≡ true
-      → CopiesOnto (in_blocks s size.blocks) size.used (members.state (disk_of old)) (members.state (disk_of new)) start end exit before after errors errors')
+  CopiesTo state denied place place' part to old new size start exit before after errors errors' =
+      used_of old ≤ size.blocks → part ≢ to → (state place').honest ≡ true
+      → FromState old new (λ s. CopiesOnto (denied place' ≡ to ∷ denied place) part to
+      (in_blocks s size.blocks) size.used (members.state (disk_of old)) (members.state (disk_of new)) start exit (state place) (state place') before after errors errors')
 
   -- a file was asked for with a copy of a store, at a place that is honest after it
   abbrev pub CopiesIn : {P : Type 0} → (P → PlaceState) → (P → List Text) → (P → ℕ) → P → P → Text → Option ℕ → (old new : Store D members) → Exit
       → Option (List ℕ) → Option (List ℕ) → Option (List ℕ) → Option (List ℕ) → Type 0
-  CopiesIn state denied to_write place place' name asked old new exit before after errors errors' =
+  CopiesIn state denied to_write place place' to asked old new exit before after errors errors' =
       (state place').honest ≡ true
       → FromState old new (λ s. MakesCopy (to_write place' ≡ to_write place) (to_write place' ≡ to_write place + 1) (λ name. denied place' ≡ name ∷ denied place)
-      name (in_blocks s (blocks_for asked s.blocks)) (used_of old) (members.state (disk_of old)) (members.state (disk_of new)) exit (state place) (state place') before after errors errors')
+      to (in_blocks s (blocks_for asked s.blocks)) (used_of old) (members.state (disk_of old)) (members.state (disk_of new)) exit (state place) (state place') before after errors errors')
+
+module _ {P D : Type 0} (state : P → PlaceState) (disk_state : D → DiskState) (denied : P → List Text) (place place' : P) where
+  -- a disk with a copy came back, at a place that is honest after it
+  abbrev pub NamesIn : D → Size → (part to : Text) → Exit → Option (List ℕ) → Option (List ℕ) → Option (List ℕ) → Option (List ℕ) → Type 0
+  NamesIn disk size part to exit before after errors errors' =
+      part ≢ to → (state place').honest ≡ true
+      → NamesCopy (denied place' ≡ to ∷ denied place) part to size.blocks size.used (disk_state disk) exit (state place) (state place') before after errors errors'
+
+module _ {P D : Type 0} (state : P → PlaceState) (disk_state : D → DiskState) (place place' : P) where
+  -- a disk to which nothing was copied came back, at a place that is honest after it
+  abbrev pub DropsIn : D → Text → Refusal → Exit → Option (List ℕ) → Option (List ℕ) → Type 0
+  DropsIn disk part refusal exit errors errors' =
+      (state place').honest ≡ true → DropsCopy part (disk_state disk) refusal exit (state place) (state place') errors errors'
 
 module _ {P D : Type 0} (own : Ghosts D) (state : P → PlaceState) (denied : P → List Text) (to_write : P → ℕ) (place place' : P) where
   -- a disk was opened, and came back beside this end: if both it and the place are honest after it, a file was asked for with a copy of the

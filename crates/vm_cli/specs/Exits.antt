@@ -14,6 +14,8 @@ use Rattle.vm_cli.specs.Branches.{Branch, drawing}
 use Rattle.vm_cli.specs.Words.{Wanted, altctl, asked_of}
 use Rattle.vm_cli.specs.Words.Wanted.{check, copy, create, do_lines, draw, run}
 use Rattle.vm_cli.specs.declared.program.Exit.{Exit}
+use Rattle.vm_cli.specs.declared.program.file_lock.NoLock.{NoLock}
+use Rattle.vm_cli.specs.declared.program.file_lock.NoLock.TheVariants.{Memory as NoMemory, InUse, CannotOpen, CannotLock}
 use Rattle.vm_cli.specs.declared.program.store_counts.Counts.{Counts}
 use Rattle.vm_cli.specs.declared.program.task.InMemory.{InMemory}
 use Rattle.vm_cli.specs.declared.program.Exit.TheVariants.{Done, LineRefused, Refused, WrongWords, Stopped}
@@ -60,6 +62,10 @@ file_text what file = named_text what file (10 ∷ [])
 abbrev pub in_use_text : Text → List ℕ
 in_use_text file = named_text (codes "altctl: ") file (codes " is in use" ++ 10 ∷ [])
 
+-- the system does not lock a file
+abbrev pub unlocked_text : Text → List ℕ
+unlocked_text file = file_text (codes "altctl: cannot lock ") file
+
 -- a disk is no store, or cannot become one
 abbrev pub refused_text : Refusal → List ℕ
 refused_text refusal = codes "altctl: " ++ (refusal_text refusal ++ 10 ∷ [])
@@ -90,9 +96,15 @@ AskHelp words = (kind : ErrorKind) × IsHelp kind × IsAmong kind (fault_of altc
 abbrev pub AreWrong : List Text → Type 0
 AreWrong words = (kind : ErrorKind) × (¬ IsHelp kind) × IsAmong kind (fault_of altctl words)
 
--- what is said if the copy of a store has no disk, or is refused
+-- the name under which a copy is made that is to have this one
+abbrev pub part_of : Text → Text
+part_of to = to ++ codes ".part"
+
+-- what is said if the copy of a store has no disk or no name, or is refused
 abbrev pub SaysNoCopy : Text → List ℕ → Type 0
-SaysNoCopy to text = (text ≡ file_text (codes "altctl: cannot create ") to) ⊎ ((refusal : Refusal) × (text ≡ refused_text refusal))
+SaysNoCopy to text =
+    (text ≡ file_text (codes "altctl: cannot create ") to)
+    ⊎ ((text ≡ file_text (codes "altctl: cannot create ") (part_of to)) ⊎ ((refusal : Refusal) × (text ≡ refused_text refusal)))
 
 -- what is said where a job has no disk, or the disk is refused
 abbrev pub SaysRefused : Wanted → List ℕ → Type 0
@@ -150,6 +162,11 @@ RefusesOn contents exit writer writer' text = TellsOn contents Refused exit writ
 abbrev pub TellsWhy : {F : Type 0} → (F → Option (List ℕ)) → Exit → F → F → Type 0
 TellsWhy in_errors exit errors errors' = (refusal : Refusal) × TellsOn in_errors Refused exit errors errors' (refused_text refusal)
 
+-- the errors are told why nothing was copied, unless a device failed
+abbrev pub DropEnds : {F : Type 0} → (F → Option (List ℕ)) → Refusal → Exit → F → F → Type 0
+DropEnds in_errors refusal exit errors errors' =
+    ((exit ≡ Stopped) × (errors' ≡ errors)) ⊎ TellsOn in_errors Refused exit errors errors' (refused_text refusal)
+
 -- the job may end so where lines are answered, and nothing was said to the errors; or the output is as it was, and the errors are told why the
 -- disk was refused
 abbrev pub TalkEnds : {W F : Type 0} → (F → Option (List ℕ)) → OnRefusal → Exit → W → W → F → F → Type 0
@@ -170,9 +187,12 @@ EndsSaying in_errors meant text status errors errors' =
 abbrev pub RefusesWords : {F : Type 0} → (F → Option (List ℕ)) → ℕ → F → F → Type 0
 RefusesWords in_errors status errors errors' = EndsSaying in_errors 2 unreadable_text status errors errors'
 
--- another process has locked the file, and the errors are told so: the status is 1
-abbrev pub RefusesInUse : {F : Type 0} → (F → Option (List ℕ)) → Text → ℕ → F → F → Type 0
-RefusesInUse in_errors file status errors errors' = EndsSaying in_errors 1 (in_use_text file) status errors errors'
+-- the file is not locked as the words ask, and the errors are told why: the status is 1, or 3 if memory could not be allocated
+abbrev pub RefusesLock : {F : Type 0} → (F → Option (List ℕ)) → NoLock → ℕ → F → F → Type 0
+RefusesLock in_errors NoMemory status errors errors' = (status ≡ 3) × WritesStart (in_errors errors) (in_errors errors') stopped_text
+RefusesLock in_errors (InUse file) status errors errors' = EndsSaying in_errors 1 (in_use_text file.now) status errors errors'
+RefusesLock in_errors (CannotOpen file) status errors errors' = EndsSaying in_errors 1 (file_text (codes "altctl: cannot open ") file.now) status errors errors'
+RefusesLock in_errors (CannotLock file) status errors errors' = EndsSaying in_errors 1 (unlocked_text file.now) status errors errors'
 
 -- where memory was wanting for the words, nothing was written to the output or said to the errors, and the program stops
 abbrev pub StopsUnsaid : {W F : Type 0} → Error → Exit → W → W → F → F → Type 0
@@ -262,11 +282,6 @@ module _ {W F : Type 0} (in_output : W → Option (List ℕ)) (in_errors : F →
   abbrev pub DrawEnds : Exit → W → W → F → F → Type 0
   DrawEnds exit output output' errors errors' =
       ((errors' ≡ errors) × TellsDrawing exit output output') ⊎ ((output' ≡ output) × TellsWhy in_errors exit errors errors')
-
-  -- the same, if a store is copied to a disk
-  abbrev pub OntoEnds : Exit → W → W → F → F → Type 0
-  OntoEnds exit output output' errors errors' =
-      ((errors' ≡ errors) × TellsCopied exit output output') ⊎ ((output' ≡ output) × TellsWhy in_errors exit errors errors')
 
   -- the same, if a store is copied to a file of this name
   abbrev pub CopyEnds : Text → Exit → W → W → F → F → Type 0

@@ -10,6 +10,7 @@ pub mod Requested
 pub mod Spaces
 pub mod Given
 pub mod Words
+pub mod Locks
 pub mod Replies
 pub mod Settlements
 pub mod Exits
@@ -29,5 +30,6 @@ pub mod Progress
 pub mod Copies
 pub mod Files
 pub mod Runs
+pub mod Selector
 pub mod RealFiles
 pub mod MemFiles

@@ -1,5 +1,5 @@
 -- What files in memory hold.
-use Rattle.std.specs.Prelude.{ℕ, List, IsSome, IsSomeAnd, length, option_map}
+use Rattle.std.specs.Prelude.{◌≡◌, ℕ, List, Option, Some, None, if◌then◌else◌, IsSome, IsSomeAnd, length, option_and_then, option_map}
 use Rattle.std.specs.BTreeMap.{get_by_text}
 use Rattle.vm_disk.specs.Disk.{Contents, DiskState}
 use Rattle.vm_disk.specs.Memory.{memory_state}
@@ -16,12 +16,16 @@ slot_state slot = memory_state slot.held.value
 abbrev pub slot_contents : Slot → Contents
 slot_contents slot = (slot_state slot).now.contents
 
+-- what the file of a slot holds, if it was not removed
+abbrev pub slot_file : Slot → Option Contents
+slot_file slot = if slot.is_there then Some (slot_contents slot) else None
+
 -- what is known of files in memory
 abbrev pub files_state : MemFiles → PlaceState
 files_state place =
     record {
       honest = place.honest;
-      files = λ name. option_map slot_contents (get_by_text place.slots name);
+      files = λ name. option_and_then slot_file (get_by_text place.slots name);
       came = λ name. option_map slot_state (get_by_text place.slots name);
     }
 
@@ -37,10 +41,21 @@ asked_to_write place = length (noted place.to_write)
 abbrev pub IsIn : List ℕ → MemFiles → Type 0
 IsIn name place = IsSomeAnd (get_by_text place.slots name) (λ slot. IsSome slot.disk)
 
--- there is a file of this name, whether its disk is in or out
+-- a file of this name was made, or got it, whether its disk is in or out
 abbrev pub HasFile : List ℕ → MemFiles → Type 0
 HasFile name place = IsSome (get_by_text place.slots name)
 
 -- for how many blocks a disk that is made has room, where it has no more of its own
 abbrev pub room_given : MemFiles → ℕ
 room_given place = place.room
+
+-- all is as it was
+pub record IsSameState (old new : PlaceState) : Type 0 where
+  pub honest : new.honest ≡ old.honest
+  pub files : (name : List ℕ) → new.files name ≡ old.files name
+  pub came : (name : List ℕ) → new.came name ≡ old.came name
+
+-- the file of this name is there, and this is its disk as it was when it came back last
+pub record IsLast (name : List ℕ) (s : DiskState) (place : PlaceState) : Type 0 where
+  pub held : place.files name ≡ Some s.now.contents
+  pub came : place.came name ≡ Some s

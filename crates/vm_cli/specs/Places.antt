@@ -1,5 +1,5 @@
 -- What is known of a place where disks are found by name, and what its calls do to it.
-use Rattle.std.specs.Prelude.{◌≡◌, ◌≢◌, ℕ, Bool, true, List, [], Option, Some, None, IfSome, map, option_map, replicate, reverse}
+use Rattle.std.specs.Prelude.{◌≡◌, ◌≢◌, ◌⊎◌, ℕ, Bool, true, false, List, [], Option, Some, None, IfSome, map, option_map, replicate, reverse}
 use Rattle.vm_types.specs.declared.sizes.TheConstants.{BLOCK_SIZE}
 use Rattle.vm_disk.specs.Disk.{Contents, DiskState, IsClean}
 use Rattle.vm_disk.specs.Past.{noted}
@@ -11,12 +11,16 @@ pub record PlaceState : Type 0 where
   pub honest : Bool
   -- what the disk of this name holds; None where there is no such file
   pub files : List ℕ → Option Contents
-  -- the disk of this name as it was when it came back last; None where none did
+  -- the disk of this name as it was when it came back last, under this name or before its file got it; None where none did
   pub came : List ℕ → Option DiskState
 
 -- all files but the one of this name are as they were
 abbrev pub KeepsOthers : List ℕ → PlaceState → PlaceState → Type 0
 KeepsOthers name old new = (other : List ℕ) → other ≢ name → new.files other ≡ old.files other
+
+-- all but those of these two names are
+abbrev pub KeepsBut : List ℕ → List ℕ → PlaceState → PlaceState → Type 0
+KeepsBut one two old new = (other : List ℕ) → other ≢ one → other ≢ two → new.files other ≡ old.files other
 
 -- no disk came back
 abbrev pub KeepsCame : PlaceState → PlaceState → Type 0
@@ -55,6 +59,29 @@ pub record TakesBack (name : List ℕ) (given : DiskState) (old new : PlaceState
   pub others : KeepsOthers name old new
   pub others_came : KeepsOthersCame name old new
 
+-- whether there is no file of this name. No file changes
+pub record Lacks (name : List ℕ) (lacks : Bool) (old new : PlaceState) : Type 0 where
+  pub absent : lacks ≡ true → old.files name ≡ None
+  pub same : (other : List ℕ) → new.files other ≡ old.files other
+  pub same_came : KeepsCame old new
+
+-- no file had the second name, and now the file of the first one has it, with what came back under that; its first name is as it was, or
+-- gone. Or else no file changes
+pub record Links (from to : List ℕ) (linked : Bool) (old new : PlaceState) : Type 0 where
+  pub absent : linked ≡ true → old.files to ≡ None
+  pub named : linked ≡ true → new.files to ≡ old.files from
+  pub named_came : linked ≡ true → new.came to ≡ old.came from
+  pub left : (new.files from ≡ None) ⊎ (new.files from ≡ old.files from)
+  pub stays : linked ≡ false → (name : List ℕ) → new.files name ≡ old.files name
+  pub others : KeepsBut from to old new
+  pub others_came : KeepsOthersCame to old new
+
+-- the file of this name is gone, or as it was
+pub record Removes (name : List ℕ) (old new : PlaceState) : Type 0 where
+  pub left : (new.files name ≡ None) ⊎ (new.files name ≡ old.files name)
+  pub others : KeepsOthers name old new
+  pub same_came : KeepsCame old new
+
 -- a disk was given out in the one state and came back in the other, under this name, and none came back later: it was given out without a
 -- past, so what it went through is all that is past of it now. The file holds what it holds
 pub record WasLent (name : List ℕ) (given back : DiskState) (new : PlaceState) : Type 0 where
@@ -83,3 +110,16 @@ module _ {P D : Type 0} (state : P → PlaceState) (disk_state : D → DiskState
   -- where the place is honest after it, a disk comes back under this name
   abbrev pub TakesBackIn : List ℕ → D → P → P → Type 0
   TakesBackIn name given old new = (state new).honest ≡ true → TakesBack name (disk_state given) (state old) (state new)
+
+module _ {P : Type 0} (state : P → PlaceState) where
+  -- where the place is honest after it, it is known whether there is a file of this name
+  abbrev pub LacksIn : List ℕ → Bool → P → P → Type 0
+  LacksIn name lacks old new = (state new).honest ≡ true → Lacks name lacks (state old) (state new)
+
+  -- where the place is honest after it, a file has another name, or no file changes
+  abbrev pub LinksIn : List ℕ → List ℕ → Bool → P → P → Type 0
+  LinksIn from to linked old new = (state new).honest ≡ true → Links from to linked (state old) (state new)
+
+  -- where the place is honest after it, the file of this name is gone, or as it was
+  abbrev pub RemovesIn : List ℕ → P → P → Type 0
+  RemovesIn name old new = (state new).honest ≡ true → Removes name (state old) (state new)

@@ -12,7 +12,7 @@ use Rattle.vm_disk.specs.declared.system.SystemFile.{SystemFile}
 use Rattle.vm_cli.specs.Places.{PlaceState, CreatesIn, FindsIn, StaysHonest, names_in}
 use Rattle.vm_cli.specs.Progress.{file_below}
 use Rattle.vm_cli.specs.declared.program.place.Event.{Event}
-use Rattle.vm_cli.specs.declared.program.place.Event.TheVariants.{Found, Made, Missed, Given}
+use Rattle.vm_cli.specs.declared.program.place.Event.TheVariants.{Found, Made, Missed, Given, Lacking, Linked, Removed}
 use Rattle.vm_cli.specs.declared.program.place.RealFiles.{RealFiles}
 use Rattle.vm_cli.specs.declared.program.progress.Watched.{Watched}
 
@@ -49,6 +49,9 @@ writes_after (Found file ∷ events) = if is_read_alone file.value then writes_a
 writes_after (Made file ∷ events) = if is_read_alone file.value then writes_after events else writes_after events + 1
 writes_after (Missed ∷ events) = writes_after events + 1
 writes_after (Given given disk ∷ events) = writes_after events
+writes_after (Lacking name ∷ events) = writes_after events
+writes_after (Linked from to ∷ events) = writes_after events
+writes_after (Removed name ∷ events) = writes_after events
 
 -- how often the files of the system were asked for one that may be written
 abbrev pub asked_to_write : {R W : Type 0} → RealFiles R W → ℕ
@@ -86,6 +89,36 @@ NotesGiven {W = W} name disk old new =
     (given : History ℕ) × (kept : Snapshot (FileDisk (Watched (SystemFile W)))) × (noted new.events ≡ Given given kept ∷ noted old.events)
     × (reverse (noted given) ≡ name) × (kept.value ≡ disk)
 
+-- all that was done is that a file got another name
+abbrev pub NotesLink : {R W : Type 0} → List ℕ → List ℕ → RealFiles R W → RealFiles R W → Type 0
+NotesLink from to old new =
+    (one : History ℕ) × (two : History ℕ) × (noted new.events ≡ Linked one two ∷ noted old.events) × (reverse (noted one) ≡ from) × (reverse (noted two) ≡ to)
+
+-- all that was done is that a file lost its name
+abbrev pub NotesRemoval : {R W : Type 0} → List ℕ → RealFiles R W → RealFiles R W → Type 0
+NotesRemoval name old new =
+    (gone : History ℕ) × (noted new.events ≡ Removed gone ∷ noted old.events) × (reverse (noted gone) ≡ name)
+
+-- all that was done, if the answer is yes, is that nothing was found to have this name; or else nothing was done
+abbrev pub NotesLacking : {R W : Type 0} → List ℕ → Bool → RealFiles R W → RealFiles R W → Type 0
+NotesLacking name lacks old new =
+    ((lacks ≡ false) × (noted new.events ≡ noted old.events))
+    ⊎ ((lacks ≡ true) × ((lacked : History ℕ) × (noted new.events ≡ Lacking lacked ∷ noted old.events) × (reverse (noted lacked) ≡ name)))
+
+-- all that was done, if the answer is yes, is that the file of the first name got the second, and then may have lost the first; or else
+-- nothing was done
+abbrev pub NotesLinked : {R W : Type 0} → List ℕ → List ℕ → Bool → RealFiles R W → RealFiles R W → Type 0
+NotesLinked from to linked old new =
+    ((linked ≡ false) × (noted new.events ≡ noted old.events))
+    ⊎ (((linked ≡ true) × NotesLink from to old new)
+    ⊎ ((linked ≡ true) × ((one : History ℕ) × (two : History ℕ) × (gone : History ℕ)
+    × (noted new.events ≡ Removed gone ∷ (Linked one two ∷ noted old.events))
+    × (reverse (noted one) ≡ from) × (reverse (noted two) ≡ to) × (reverse (noted gone) ≡ from))))
+
+-- nothing was done, or all that was is that the file of this name lost it
+abbrev pub NotesRemoved : {R W : Type 0} → List ℕ → RealFiles R W → RealFiles R W → Type 0
+NotesRemoved name old new = (noted new.events ≡ noted old.events) ⊎ NotesRemoval name old new
+
 -- no file was asked for so far: each holds what the world says, and no disk came back
 abbrev pub untouched : (ℕ → List ℕ → Option (List ℕ)) → PlaceState
 untouched held = record { honest = true; files = blocks_held held 0; came = λ name. None }
@@ -107,16 +140,23 @@ module _ {W : Type 0} (held : ℕ → List ℕ → Option (List ℕ)) (torn : �
   files_after (Made file ∷ events) name = if bytes_eq name (name_of file.value) then blocks_held held (opening_of file.value + 1) name else files_after events name
   files_after (Missed ∷ events) name = files_after events name
   files_after (Given given disk ∷ events) name = if bytes_eq name (reverse (noted given)) then Some (real_disk disk.value).now.contents else files_after events name
+  files_after (Lacking lacked ∷ events) name = files_after events name
+  files_after (Linked from to ∷ events) name = if bytes_eq name (reverse (noted to)) then files_after events (reverse (noted from)) else files_after events name
+  files_after (Removed gone ∷ events) name = if bytes_eq name (reverse (noted gone)) then None else files_after events name
 
-  -- the disk of a name as it was when it came back last
+  -- the disk of a name as it was when it came back last, under this name or before its file got it
   abbrev pub came_after : List (Event W) → List ℕ → Option DiskState
   came_after [] name = None
   came_after (Found file ∷ events) name = came_after events name
   came_after (Made file ∷ events) name = came_after events name
   came_after (Missed ∷ events) name = came_after events name
   came_after (Given given disk ∷ events) name = if bytes_eq name (reverse (noted given)) then Some (real_disk disk.value) else came_after events name
+  came_after (Lacking lacked ∷ events) name = came_after events name
+  came_after (Linked from to ∷ events) name = if bytes_eq name (reverse (noted to)) then came_after events (reverse (noted from)) else came_after events name
+  came_after (Removed gone ∷ events) name = came_after events name
 
-  -- each file was found as it was left, none was made that was there, and each disk came back honest, under its name
+  -- each file was found as it was left, none was made that was there, nor got a name that was taken or was found to be lacking, and each
+  -- disk came back honest, under its name
   abbrev pub honest_after : List (Event W) → Bool
   honest_after [] = true
   honest_after (Found file ∷ events) =
@@ -125,6 +165,9 @@ module _ {W : Type 0} (held : ℕ → List ℕ → Option (List ℕ)) (torn : �
   honest_after (Missed ∷ events) = honest_after events
   honest_after (Given given disk ∷ events) =
       (real_disk disk.value).honest && (bytes_eq (disk_name disk.value) (reverse (noted given)) && honest_after events)
+  honest_after (Lacking lacked ∷ events) = is_absent (files_after events (reverse (noted lacked))) && honest_after events
+  honest_after (Linked from to ∷ events) = is_absent (files_after events (reverse (noted to))) && honest_after events
+  honest_after (Removed gone ∷ events) = honest_after events
 
   -- what is known of the files of the system
   abbrev pub real_state : {R : Type 0} → RealFiles R W → PlaceState

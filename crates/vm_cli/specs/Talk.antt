@@ -272,21 +272,23 @@ module _ {D : Type 0} {members : _} where
   AnswersWithin None old new command text done = AnswersCommand old new command text done
   AnswersWithin (Some most) old new command text done = AnswersGrowing old new most command text done
 
-  -- a merge with a side for all conflicts is refused before it begins: they could not be told, or there was no memory for their settlements
+  -- a merge with a side for all conflicts is refused before it begins, but not since the device failed: they could not be told, or there was
+  -- no memory for their settlements
   pub record RefusesMerge (old new : Store D members) (s : State) (alt text : List ℕ) : Type 0 where
     pub refusal : Refusal
     pub says : text ≡ error_text refusal
-    pub device : refusal ≡ Device → Failing old new
+    pub no_device : refusal ≢ Device
     pub only_then : refusal ≢ Failed
     pub due : Stood old new s → IsListing (Err refusal) (conflicts_in s.working alt)
 
-  -- the conflicts of an alternative were told, and with a settlement for each of them a Merge of it was answered
+  -- the conflicts of an alternative were told, or the device failed in that and none is known; and with a settlement for each that is known
+  -- a Merge of it was answered
   pub record SettlesAll (limit : Option ℕ) (old new : Store D members) (s : State) (alt : List ℕ) (side : Side) (settled : List (Key × Side)) (text : List ℕ) (each : List (Command × Result Answer Refusal)) : Type 0 where
     pub mid : Store D members
     pub conflicts : List Conflict
     pub asks : Passes old mid None
     pub still : has_failed mid ≡ has_failed old
-    pub told : Stood old mid s → conflicts_in s.working alt ≡ Ok conflicts
+    pub told : (Stood old mid s → conflicts_in s.working alt ≡ Ok conflicts) ⊎ (Failing old mid × (conflicts ≡ []))
     pub merges : AnswersWithin limit mid new (Merge alt (for_all side settled conflicts)) text (Some each)
 
   -- a merge with a side for all conflicts is answered so

@@ -10,6 +10,7 @@ pub mod help;
 pub mod mem_files;
 pub mod place;
 pub mod progress;
+pub mod selector;
 pub mod store_copy;
 pub mod store_counts;
 pub mod task;
@@ -25,6 +26,7 @@ use crate::talk::{Manner, OnCommand, OnRefusal, ServeFault, serve};
 use cached_lines::answer_lines_in_memory;
 use clap::Error;
 use clap::error::ErrorKind;
+use file_lock::NoLock;
 use place::Place;
 use std::alloc::Global;
 use std::io::{Read, Write};
@@ -78,7 +80,7 @@ ghost use Rattle.vm_cli.specs.Told.{AnswersOver, FormatsOnly, MakesStore, TellsC
 ghost use Rattle.vm_cli.specs.Places.{FindsIn, WasHonest};
 ghost use Rattle.vm_cli.specs.Runs.{AnswersIn, AsksToWrite, CountsIn, DoesIn, LooksOnly, MakesIn, RunsIn, ServesIn, ServesRun, ServesWords, disks};
 ghost use Rattle.vm_cli.specs.Sessions.{end_of as end_of_talk};
-ghost use Rattle.vm_cli.specs.Exits.{Blames, Checks, Ends, Helps, IsDone, IsLineRefused, IsRefused, IsStopped, IsWrong, JobEnds, RefusesInUse, RefusesOn, RefusesWords, StopsUnsaid, TalkEnds, TellsOn, counts_text, created_text, file_text, named_text, refused_text, status_of, stopped_text};
+ghost use Rattle.vm_cli.specs.Exits.{Blames, Checks, Ends, EndsSaying, Helps, IsDone, IsLineRefused, IsRefused, IsStopped, IsWrong, JobEnds, RefusesLock, RefusesOn, RefusesWords, StopsUnsaid, TalkEnds, TellsOn, counts_text, created_text, file_text, named_text, refused_text, status_of, stopped_text};
 ghost use Rattle.vm_cli.specs.Words.Wanted.{check as check_wanted, create as create_wanted, run as run_wanted};
 
 /// Does what the words say, and returns the exit status. The first word is the program's name. Each
@@ -128,12 +130,25 @@ pub fn refuse_words<F: Write>(errors: &mut F) -> u8
     }
 }
 
-/// Says that another process has locked the file, and returns the exit status: 1, or 3 if that
-/// could not be said.
-pub fn refuse_in_use<F: Write>(file: &str, errors: &mut F) -> u8
-    ensures { RefusesInUse F.contents file.now result errors.old errors.new }
+/// Says why the lock that the words ask for is not held, and returns the exit status: 1, or 3 if
+/// that could not be said, or if memory could not be allocated.
+pub fn refuse_lock<F: Write>(why: NoLock<'_>, errors: &mut F) -> u8
+    ensures { RefusesLock F.contents why.entry result errors.old errors.new }
 {
-    match say_with_file(b"altctl: ", file, b" is in use\n", errors) {
+    match why {
+        NoLock::Memory => stop(errors),
+        NoLock::InUse(file) => refuse_file(b"altctl: ", file, b" is in use\n", errors),
+        NoLock::CannotOpen(file) => refuse_file(b"altctl: cannot open ", file, b"\n", errors),
+        NoLock::CannotLock(file) => refuse_file(b"altctl: cannot lock ", file, b"\n", errors),
+    }
+}
+
+/// Says a text with the name of a file in it, and returns the exit status: 1, or 3 if that could
+/// not be said.
+fn refuse_file<F: Write>(before: &[u8], file: &str, behind: &[u8], errors: &mut F) -> u8
+    ensures { EndsSaying F.contents 1 (named_text before.now file.now behind.now) result errors.old errors.new }
+{
+    match say_with_file(before, file, behind, errors) {
         Ok(()) => 1,
         Err(WriteFault) => stop(errors),
     }

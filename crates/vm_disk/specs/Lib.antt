@@ -15,4 +15,5 @@ pub mod Delayed
 pub mod Positional
 pub mod File
 pub mod Syncs
+pub mod Opening
 pub mod System

@@ -1,8 +1,11 @@
 -- What a file of the system shows, by the calls that were made of it.
 use Rattle.std.specs.Prelude.{◌≡◌, ℕ, ◌+◌, ◌==◌, ◌&&◌, Bool, true, List, [], ◌∷◌, Option, Some, None, Result, IfOk, OnOk, if◌then◌else◌, length, reverse, take, drop, replicate, bytes_eq}
+use Rattle.std.specs.Fs.{asks_create_new}
+use Rattle.std.specs.declared.fs.options.OpenOptions.{OpenOptions}
+use Rattle.std.specs.declared.snapshot.Snapshot.{Snapshot}
 use Rattle.vm_disk.specs.declared.disk.DeviceFault.{DeviceFault}
 use Rattle.vm_disk.specs.declared.system.Call.{Call}
-use Rattle.vm_disk.specs.declared.system.Call.TheVariants.{Created, Measured, Read, Written, Blocks, Zeroed, Torn, Withheld, Synced, Failed}
+use Rattle.vm_disk.specs.declared.system.Call.TheVariants.{Created, Measured, Read, Rewritten, Written, Blocks, Zeroed, Torn, Withheld, Synced, Failed}
 use Rattle.vm_disk.specs.declared.system.SystemFile.{SystemFile}
 use Rattle.vm_disk.specs.Past.{noted}
 use Rattle.vm_disk.specs.Positional.{FileState, IfHonestFile, overwritten, joined}
@@ -14,6 +17,7 @@ bytes_after first torn [] = first
 bytes_after first torn (Created ∷ calls) = []
 bytes_after first torn (Measured count ∷ calls) = bytes_after first torn calls
 bytes_after first torn (Read offset bytes ∷ calls) = bytes_after first torn calls
+bytes_after first torn (Rewritten offset bytes ∷ calls) = bytes_after first torn calls
 bytes_after first torn (Written offset bytes ∷ calls) = overwritten offset bytes.value (bytes_after first torn calls)
 bytes_after first torn (Blocks offset blocks ∷ calls) = overwritten offset (joined (reverse (noted blocks))) (bytes_after first torn calls)
 bytes_after first torn (Zeroed offset count ∷ calls) = overwritten offset (replicate count 0) (bytes_after first torn calls)
@@ -29,6 +33,8 @@ agrees first torn (Created ∷ calls) = agrees first torn calls
 agrees first torn (Measured count ∷ calls) = (count == length (bytes_after first torn calls)) && agrees first torn calls
 agrees first torn (Read offset bytes ∷ calls) =
     bytes_eq bytes.value (take (length bytes.value) (drop offset (bytes_after first torn calls))) && agrees first torn calls
+agrees first torn (Rewritten offset bytes ∷ calls) =
+    bytes_eq bytes.value (take (length bytes.value) (drop offset (bytes_after first torn calls))) && agrees first torn calls
 agrees first torn (Written offset bytes ∷ calls) = agrees first torn calls
 agrees first torn (Blocks offset blocks ∷ calls) = agrees first torn calls
 agrees first torn (Zeroed offset count ∷ calls) = agrees first torn calls
@@ -43,6 +49,7 @@ waiting_after reads_alone [] = []
 waiting_after reads_alone (Created ∷ calls) = waiting_after reads_alone calls
 waiting_after reads_alone (Measured count ∷ calls) = waiting_after reads_alone calls
 waiting_after reads_alone (Read offset bytes ∷ calls) = waiting_after reads_alone calls
+waiting_after reads_alone (Rewritten offset bytes ∷ calls) = waiting_after reads_alone calls
 waiting_after reads_alone (Written offset bytes ∷ calls) = (offset, length bytes.value) ∷ waiting_after reads_alone calls
 waiting_after reads_alone (Blocks offset blocks ∷ calls) = (offset, length (joined (reverse (noted blocks)))) ∷ waiting_after reads_alone calls
 waiting_after reads_alone (Zeroed offset count ∷ calls) = (offset, count) ∷ waiting_after reads_alone calls
@@ -57,6 +64,7 @@ failures_after reads_alone [] = 0
 failures_after reads_alone (Created ∷ calls) = failures_after reads_alone calls
 failures_after reads_alone (Measured count ∷ calls) = failures_after reads_alone calls
 failures_after reads_alone (Read offset bytes ∷ calls) = failures_after reads_alone calls
+failures_after reads_alone (Rewritten offset bytes ∷ calls) = failures_after reads_alone calls
 failures_after reads_alone (Written offset bytes ∷ calls) = failures_after reads_alone calls
 failures_after reads_alone (Blocks offset blocks ∷ calls) = failures_after reads_alone calls
 failures_after reads_alone (Zeroed offset count ∷ calls) = failures_after reads_alone calls
@@ -65,6 +73,10 @@ failures_after reads_alone (Withheld offset count ∷ calls) = failures_after re
 failures_after reads_alone (Synced answer ∷ calls) =
     if counts_as_synced reads_alone answer.value then failures_after reads_alone calls else failures_after reads_alone calls + 1
 failures_after reads_alone (Failed ∷ calls) = failures_after reads_alone calls + 1
+
+-- what is noted of an opening in this way: that the file was created, if a new one is asked for
+abbrev pub opening_calls : OpenOptions → List Call
+opening_calls how = if asks_create_new how then Created ∷ [] else []
 
 -- a file with these bytes, of which no call was made so far
 abbrev pub fresh : List ℕ → FileState
@@ -116,6 +128,22 @@ IsReadOf offset read result bytes = OnOk result (read ≡ take (length read) (dr
 pub record IsWithheld {T : Type 0} (result : Result T DeviceFault) (old new : FileState) : Type 0 where
   pub fault : OnOk result ⊥
   pub same : new.bytes ≡ old.bytes
+
+-- what a file holds and what waits for a sync are as they were
+pub record KeepsState (old new : FileState) : Type 0 where
+  pub same : new.bytes ≡ old.bytes
+  pub same_waiting : new.waiting ≡ old.waiting
+
+-- the block at this offset was read, and written again as it was read, and nothing else was done
+pub record IsRewritten (offset : ℕ) (old new : List Call) : Type 0 where
+  pub found : Snapshot (List ℕ)
+  pub written : Snapshot (List ℕ)
+  pub same : written.value ≡ found.value
+  pub calls : new ≡ Rewritten offset written ∷ (Read offset found ∷ old)
+
+-- so it was, if there was no fault
+abbrev pub Rewrites : {T W : Type 0} → ℕ → Result T DeviceFault → SystemFile W → SystemFile W → Type 0
+Rewrites offset result old new = OnOk result (IsRewritten offset (noted old.calls) (noted new.calls))
 
 module _ {W : Type 0} (held : ℕ → List ℕ → Option (List ℕ)) (torn : ℕ → List ℕ → ℕ → List ℕ) where
   -- a file of this name that was opened after these others, to be read alone or not, and of which these calls were made

@@ -1,10 +1,11 @@
 //! A file of the system, as contracts can know it.
-ghost use Rattle.std.specs.Prelude.{◌≡◌, ℕ, ◌<ℤ◌, pos, ◌≤◌, true, false, not, List, [], Option, None, length, replicate, IfSome};
+ghost use Rattle.std.specs.Prelude.{◌≡◌, ℕ, ◌*◌, ◌<ℤ◌, pos, ◌≤◌, true, false, not, List, [], Option, None, length, replicate, IfSome};
 ghost use Rattle.std.specs.Fd.{file_raw_fd};
-ghost use Rattle.std.specs.Fs.{asks_write};
+ghost use Rattle.std.specs.Fs.{asks_append, asks_create, asks_create_new, asks_truncate, asks_write};
 ghost use Rattle.vm_disk.specs.Past.{noted};
 ghost use Rattle.vm_disk.specs.Positional.{joined, zeros, CountsFailures, ReadsAt, WritesIn, SyncsFile, Measures};
 ghost use Rattle.vm_disk.specs.Between.{Between};
+ghost use Rattle.vm_disk.specs.Opening.{KeepsFile};
 ghost use Rattle.vm_disk.specs.Syncs.{counts_as_synced};
 
 use crate::disk::DeviceFault;
@@ -14,7 +15,7 @@ use std::fs::{self, File, Metadata, OpenOptions};
 use std::io::{self, Seek, SeekFrom};
 use std::marker::{Brand, PhantomData};
 use std::os::fd::{AsRawFd, RawFd};
-use std::os::unix::fs::{FileExt, FileTypeExt, MetadataExt};
+use std::os::unix::fs::{FileExt, FileTypeExt, MetadataExt, OpenOptionsExt};
 use std::rt::Files;
 use std::snapshot::Snapshot;
 use vm_types::{BLOCK_SIZE, Block};
@@ -30,6 +31,9 @@ const OUTPUT: &str = "/proc/self/fd/1";
 
 /// What the system answers to a sync of a file that has nothing to sync.
 const EINVAL: i32 = 22;
+
+/// The permission bits of a file that is made: its owner alone reads and writes it.
+const OWNER_ALONE: u32 = 0o600;
 
 /// What no program can know about the files of a system, stated for contracts alone. It has no
 /// functions: code that is written for any world is proved for every one.
@@ -49,12 +53,14 @@ impl World for Brand {
 }
 
 /// A call that was made on a file. Torn is a failed write, Withheld a write that was not made,
-/// Synced a sync with the system's answer, and Failed any other failed call, which did nothing.
+/// Rewritten a write of the bytes that stood there, whether it failed or not, Synced a sync with the
+/// system's answer, and Failed any other failed call, which did nothing.
 #[derive(Drop)]
 enum Call {
     Created,
     Measured(u64),
     Read(u64, Snapshot<Block>),
+    Rewritten(u64, Snapshot<Block>),
     Written(u64, Snapshot<Block>),
     Blocks(u64, History<Block>),
     Zeroed(u64, usize),
@@ -71,6 +77,20 @@ fn has_blocks(rt: &impl Files, path: &str) -> bool {
         Ok(metadata) => is_plain_or_device(&metadata),
         Err(_) => false,
     }
+}
+
+/// How a file is made: with none in its place before, and for its owner alone to read and write.
+fn how_to_create() -> OpenOptions
+    ensures new { asks_create_new result ≡ true }
+    ensures writes { asks_write result ≡ true }
+    ensures keeps { KeepsFile result }
+{
+    let mut how = OpenOptions::new();
+    // No contract says that the bits change nothing else, so all else is said after them.
+    how.mode(OWNER_ALONE);
+    how.read(true).write(true).create_new(true);
+    how.append(false).truncate(false).create(false);
+    how
 }
 
 /// Whether this is a plain file or a block device.
@@ -129,7 +149,7 @@ pub struct SystemFile<W> {
 }
 
 impl<W: World> SystemFile<W> {
-    ghost use Rattle.vm_disk.specs.System.{system_state, fresh, name_of, opening_of, is_read_alone, IsAfter, IsFresh};
+    ghost use Rattle.vm_disk.specs.System.{system_state, fresh, name_of, opening_calls, opening_of, is_read_alone, IsAfter, IsFresh};
 
     /// Opens an existing plain file or block device for reading and writing, after the `opened`
     /// others. None if it cannot be opened, is neither of these, has a standard descriptor, or is
@@ -149,7 +169,7 @@ impl<W: World> SystemFile<W> {
         }
         let mut how = OpenOptions::new();
         how.read(true).write(true);
-        SystemFile::opened(rt, &how, path, opened, History::new())
+        SystemFile::opened(rt, &how, path, opened)
     }
 
     /// Opens an existing plain file or block device read only, after the `opened` others: each
@@ -170,7 +190,7 @@ impl<W: World> SystemFile<W> {
         }
         let mut how = OpenOptions::new();
         how.read(true);
-        SystemFile::opened(rt, &how, path, opened, History::new())
+        SystemFile::opened(rt, &how, path, opened)
     }
 
     /// Creates an empty file that does not exist yet, for reading and writing, after the `opened`
@@ -185,26 +205,23 @@ impl<W: World> SystemFile<W> {
         ensures name { IfSome result (λ file. name_of file ≡ path.now) }
         ensures opening { IfSome result (λ file. opening_of file ≡ length (noted opened.now)) }
     {
-        let mut how = OpenOptions::new();
-        how.read(true).write(true).create_new(true);
-        let mut calls = History::new();
-        calls.note(&Call::Created);
-        SystemFile::opened(rt, &how, path, opened, calls)
+        SystemFile::opened(rt, &how_to_create(), path, opened)
     }
 
-    /// Opens a file in this way, after the `opened` others. These calls on it are known. It is read
-    /// only if the way asks for no writes. None if it cannot be opened, is neither a plain file nor
-    /// a block device after all, has a standard descriptor, is what the standard output is open on,
-    /// or, if it may be written, what the standard input is open on.
+    /// Opens a file in this way, which changes none that is there, after the `opened` others. It is
+    /// created if the way asks for a new one, and read only if it asks for no writes. None if it
+    /// cannot be opened, is neither a plain file nor a block device after all, has a standard
+    /// descriptor, is what the standard output is open on, or, if it may be written, what the
+    /// standard input is open on.
     fn opened(
         rt: &impl Files<File = File>,
         how: &OpenOptions,
         path: &str,
         opened: &History<()>,
-        calls: History<Call>,
     ) -> Option<SystemFile<W>>
+        requires { KeepsFile how.now }
         ensures state { IfSome result (IsAfter W.held W.torn
-            (not (asks_write how.now)) (noted opened.now) path.now (noted calls)) }
+            (not (asks_write how.now)) (noted opened.now) path.now (opening_calls how.now)) }
         ensures mode { IfSome result (λ file. is_read_alone file ≡ not (asks_write how.now)) }
         ensures name { IfSome result (λ file. name_of file ≡ path.now) }
         ensures opening { IfSome result (λ file. opening_of file ≡ length (noted opened.now)) }
@@ -218,6 +235,10 @@ impl<W: World> SystemFile<W> {
         {
             return None;
         }
+        let mut calls = History::new();
+        if how.asks_create_new() {
+            calls.note(&Call::Created);
+        }
         Some(SystemFile {
             file,
             reads_alone: !how.asks_write(),
@@ -226,6 +247,38 @@ impl<W: World> SystemFile<W> {
             calls,
             world: PhantomData,
         })
+    }
+}
+
+impl<W: World> SystemFile<W> {
+    ghost use Rattle.vm_disk.specs.System.{system_state, is_read_alone, IfHonestIn, KeepsState, Rewrites};
+
+    /// Reads the block at this offset, and writes it there again as it was read. After the next sync
+    /// the device has it, even if a sync that failed before let the system count it as written.
+    ///
+    /// Assumed, and in no contract but the meaning of `Rewritten`: the same bytes written over
+    /// themselves leave those bytes, whether the write succeeds or is cut off.
+    pub fn rewrite(&mut self, offset: u64) -> Result<(), DeviceFault>
+        ensures any { Between (system_state W.held W.torn) (CountsFailures result) self.old self.new }
+        ensures honest { IfHonestIn W.held W.torn KeepsState self.old self.new }
+        ensures rewritten { Rewrites offset result self.old self.new }
+
+        ensures mode { is_read_alone self.new ≡ is_read_alone self.old }
+    {
+        let mut block = [0; BLOCK_SIZE];
+        if self.file.read_exact_at(&mut block, offset).is_err() {
+            self.calls.note(&Call::Failed);
+            return Err(DeviceFault);
+        }
+        self.calls.note(&Call::Read(offset, Snapshot::of(&block)));
+        let written = self.file.write_all_at(&block, offset);
+        self.calls
+            .note(&Call::Rewritten(offset, Snapshot::of(&block)));
+        if written.is_err() {
+            self.calls.note(&Call::Failed);
+            return Err(DeviceFault);
+        }
+        Ok(())
     }
 }
 

@@ -1,7 +1,6 @@
 -- The maps of versions stand under the copies of their roots, and how a copy is put on a disk.
 use Rattle.std.proofs.Common.{◌≡◌, inl, inr, ℕ, zero, suc, ◌+◌, ◌<◌, ◌≤◌, ◌^◌, Bool, true, false, Option, IfSome, Result, Ok, Err, IfErr, IsOk, OnOk, List, [], ◌∷◌, ◌++◌, length, take, get_or, map, replicate, refl, sym, ap, subst, ◌∙◌, arith}
 use Rattle.std.specs.List.{AllByRecursion}
-use Rattle.std.proofs.lemmas.Bool.Decides.{nat_tests}
 use Rattle.std.proofs.lemmas.List.{take_more}
 use Rattle.vm_types.specs.Map.{Map}
 use Rattle.vm_types.specs.State.{State}
@@ -22,10 +21,11 @@ use Rattle.vm_check.specs.declared.tree_copy.CopyFault.TheVariants as of_copy
 use Rattle.vm_tree.specs.Root.{IsRootedIn}
 use Rattle.vm_tree.specs.declared.root.Root.{Root}
 use Rattle.vm_types.specs.Name.{IsName}
-use Rattle.vm_check.specs.TreeCopy.{AreCopied, IsUndamaged, Paired, RootCopied, Steps, StepsTo, is_for_data}
+use Rattle.vm_check.specs.TreeCopy.{AreCopied, IsUndamaged, Paired, RootCopied, Steps, StepsTo, is_for_copies}
 use Rattle.vm_check.specs.Renumbering.{AreGiven, GoesOn, IsCopied, IsUnused, next_of, number_at}
 use Rattle.vm_check.specs.Suits.{SuitsAt}
 use Rattle.vm_check.specs.declared.renumbering.Renumbering.{Renumbering}
+use Rattle.vm_check.proofs.CopySteps.{first_apart}
 use Rattle.vm_check.proofs.CopyLemmas.{paired_join, paired_so, root_on, rooted_copied}
 use Rattle.vm_store.specs.Copies.{ComesBefore, EntriesCopied, FillsFrom, GoesOnBoth, HasVersions, HoldsVersions, IsCopy, IsOfFill, IsOfTarget, VersionCopied, refusal_of_copy}
 use Rattle.vm_store.specs.Filed.{Filed, Standing, StandsAs}
@@ -205,9 +205,9 @@ module _ {n m : Medium} (same : m ≡ n) where
 
 -- # Faults
 
--- block 0 is none for data
-pub first_apart : is_for_data 0 ≡ false
-first_apart = grind (arith, nat_tests)
+-- block 0 is none of a copy's
+pub first_of_none : (kept limit : ℕ) (numbers new : Renumbering) → IsUnused kept numbers → is_for_copies (next_of numbers) (next_of new) limit 0 ≡ false
+first_of_none kept limit numbers new unused = first_apart (next_of numbers) (next_of new) limit 0 (omega (arith, unused.1))
 
 -- a step that failed, as its refusal
 pub step_both : {T fails : Type 0} {limit : ℕ} {s t s' t' : DiskState} {old new : Renumbering} (fault : CopyFault) → StepsTo {T = T} (Err fault) limit s t old s' t' new → (fails → refusal_of_copy fault ≡ refusal.Device)

@@ -1,22 +1,26 @@
 -- What a Merge answers, and what the store stands for after it.
-use Rattle.std.proofs.Common.{◌≡◌, ◌⊎◌, inl, inr, ℕ, ◌*◌, ◌<◌, ◌^◌, nat_lt, Bool, true, false, cond, List, [], ◌∷◌, length, Some, None, option_map, unwrap_or, Result, Ok, Err, refl, sym, ap, ◌∙◌, subst}
+use Rattle.std.proofs.Common.{◌≡◌, ◌⊎◌, inl, inr, ℕ, ◌*◌, ◌<◌, ◌^◌, nat_lt, Bool, true, false, cond, List, [], ◌∷◌, length, Option, Some, None, option_map, unwrap_or, Result, Ok, Err, refl, sym, ap, ◌∙◌, subst}
+use Rattle.std.specs.Option.{option_and_then}
 use Rattle.std.specs.Str.{bytes_eq}
 use Rattle.vm_types.specs.declared.answer.Answer.{Answer}
 use Rattle.vm_types.specs.declared.answer.Answer.TheVariants.{Merged}
 use Rattle.vm_types.specs.declared.change.Change.{Change}
 use Rattle.vm_types.specs.declared.command.Side.{Side}
+use Rattle.vm_types.specs.declared.command.Side.TheVariants.{Mine, Theirs}
+use Rattle.vm_types.specs.declared.merge.MergePlan.{MergePlan}
 use Rattle.vm_types.specs.declared.command.Command.TheVariants.{Merge}
 use Rattle.vm_types.specs.declared.key.Key.{Key}
 use Rattle.vm_types.specs.declared.refusal.Refusal.{Refusal}
 use Rattle.vm_types.specs.declared.refusal.Refusal.TheVariants.{Full, Deep, Device, Memory}
 use Rattle.vm_types.specs.Firsts.{change_first}
-use Rattle.vm_types.specs.Map.{Map, IsMap, delta, merge, with_changes}
-use Rattle.vm_types.specs.State.{State, next, tree_after, edits}
+use Rattle.vm_types.specs.Map.{Map, IsMap, delta, map_of, merge, merge_start, start_side, with_changes}
+use Rattle.vm_types.specs.Merge.{IsPlan}
+use Rattle.vm_types.specs.State.{State, changes_made, merge_changes, merged_of, next, start_of, tree_after}
 use Rattle.vm_types.specs.Step.{Outcome, step}
-use Rattle.vm_types.specs.Tree.{Tree, Alternative, named, changed, current_of}
+use Rattle.vm_types.specs.Tree.{Tree, Alternative, named, changed, current_of, parent_current_of}
 use Rattle.vm_types.proofs.Steps.{merge_accepted, merge_refused}
-use Rattle.vm_types.proofs.ChangeLemmas.{with_changes-delta}
 use Rattle.vm_types.proofs.Maps.{IsMap-merge}
+use Rattle.vm_types.proofs.SmallerLemmas.{smaller}
 use Rattle.vm_disk.specs.Disk.{Contents, Medium}
 use Rattle.vm_disk.specs.Moments.{TouchesOnly}
 use Rattle.vm_alloc.specs.Held.{IsHeld, HoldsMore}
@@ -30,13 +34,14 @@ use Rattle.vm_tree.specs.declared.faults.PutFault.{PutFault}
 use Rattle.vm_tree.specs.declared.faults.PutFault.TheVariants as put
 use Rattle.vm_tree.specs.declared.faults.TreeFault.TheVariants as fault
 use Rattle.vm_tree.proofs.Touching.{held_not_free}
-use Rattle.vm_store.specs.Answers.{IsMergeDue, IsMergeAnswer, merge_changes}
+use Rattle.vm_store.specs.Answers.{IsMergeDue, IsMergeAnswer}
 use Rattle.vm_store.specs.ChangeList.{MeetsFullPath, Makes}
 use Rattle.vm_store.specs.Pairs.{IsPair}
 use Rattle.vm_store.specs.Rest.{Rests}
-use Rattle.vm_store.specs.Sides.{refusal_in}
+use Rattle.vm_store.specs.Sides.{refusal_in, root_from}
 use Rattle.vm_store.specs.Sizes.{sizes}
 use Rattle.vm_store.specs.Versions.{slot_entries, is_alternative_of, with_current, with_base}
+use Rattle.vm_store.specs.declared.sides.ThreeRoots.{ThreeRoots}
 use Rattle.vm_store.specs.declared.version.Version.{Version}
 use Rattle.vm_store.proofs.FiledLemmas.{is_filed, refiled, recurrent, refiled_both, with_maps, grown_turned, grown_changed}
 use Rattle.vm_store.proofs.GrownLemmas.{whole}
@@ -76,12 +81,12 @@ changed_twice test f g (x ∷ xs) keeps =
 
 module _ (s : State) (spare : ℕ) (deep : Type 0) (alt : List ℕ) (settled : List (Key × Side)) where
   pub merges_refused : (r : Refusal) → step s.working (Merge alt settled) ≡ Err r → IsMergeAnswer s spare deep alt settled (Err r)
-  merges_refused r is = inr (inr (subst (λ (o : Outcome). IsMergeDue o (nat_lt spare (17 * edits s.working (Merge alt settled))) deep (Err r)) (sym is) refl))
+  merges_refused r is = inr (inr (subst (λ (o : Outcome). IsMergeDue o (nat_lt spare (17 * changes_made s.working (Merge alt settled))) deep (Err r)) (sym is) refl))
 
-  module _ (accepted : Tree × Answer) (is : step s.working (Merge alt settled) ≡ Ok accepted) (count : ℕ) (many : edits s.working (Merge alt settled) ≡ count) where
+  module _ (accepted : Tree × Answer) (is : step s.working (Merge alt settled) ≡ Ok accepted) (count : ℕ) (many : changes_made s.working (Merge alt settled) ≡ count) where
     due : (r : Result Answer Refusal) (full : Bool) → nat_lt spare (17 * count) ≡ full → IsMergeDue (Ok accepted) full deep r → IsMergeAnswer s spare deep alt settled r
     due r full test h =
-        inr (inr (subst (λ (o : Outcome). IsMergeDue o (nat_lt spare (17 * edits s.working (Merge alt settled))) deep r) (sym is)
+        inr (inr (subst (λ (o : Outcome). IsMergeDue o (nat_lt spare (17 * changes_made s.working (Merge alt settled))) deep r) (sym is)
         (subst (λ b. IsMergeDue (Ok accepted) b deep r) (sym (ap (λ n. nat_lt spare (17 * n)) many ∙ test)) h)))
 
     pub merges_full : nat_lt spare (17 * count) ≡ true → IsMergeAnswer s spare deep alt settled (Err Full)
@@ -94,6 +99,10 @@ module _ (s : State) (spare : ℕ) (deep : Type 0) (alt : List ℕ) (settled : L
     merges_deep refusal same room is_deep = due (Err refusal) false room (inr (ap Err same, is_deep))
 
 -- ---- a Merge of an alternative that has a parent
+
+-- what an alternative shows, if there is one
+abbrev current_in : Option Alternative → Map
+current_in o = unwrap_or (option_map (λ (a : Alternative). a.current) o) []
 
 module _ (m : Medium) (limit : ℕ) (slot_name : SlotName) (bits : List Bool) (committed working : List Version) (s : State)
     (rests : Rests m limit slot_name bits committed working s) (alt : List ℕ) (pair : Version × Version) (is : IsPair working alt pair) (settled : List (Key × Side)) where
@@ -122,10 +131,27 @@ module _ (m : Medium) (limit : ℕ) (slot_name : SlotName) (bits : List Bool) (c
   own_rises : IsMap own
   own_rises = let at = (own_there m limit slot_name bits committed working s rests alt pair is).stands.current in rooted_map m.contents limit pair.0.current own at.stands_in at.rooted
 
-  -- a tree of the own map with the changes made is one of the merged map
-  pub made_of : (P : ℕ → Type 0) (x : Contents) (size : ℕ) (root : Root) (changes : List Change) → changes ≡ delta own merged → IsRootedIn sizes P x size root (with_changes own changes) → IsRootedIn sizes P x size root merged
+  parent_rises : IsMap parent
+  parent_rises = let at = (parent_there m limit slot_name bits committed working s rests alt pair is).stands.current in rooted_map m.contents limit pair.1.current parent at.stands_in at.rooted
+
+  -- the map that it begins with
+  abbrev pub start : Map
+  start = merge_start own parent merged
+
+  -- it lies under the root of the side that is planned
+  pub start_rooted : (P : ℕ → Type 0) (x : Contents) (size : ℕ) (roots : ThreeRoots) (side : Side) (root : Root) → root ≡ root_from side roots → side ≡ start_side own parent merged
+      → IsRootedIn sizes P x size roots.own own → IsRootedIn sizes P x size roots.parent parent → IsRootedIn sizes P x size root start
+  start_rooted P x size roots side root at same below above =
+      subst (λ (r : Root). IsRootedIn sizes P x size r start) (sym at) (subst (λ (t : Side). IsRootedIn sizes P x size (root_from side roots) (map_of t own parent)) same (by_side side))
+    where
+      by_side : (t : Side) → IsRootedIn sizes P x size (root_from t roots) (map_of t own parent)
+      by_side Mine = below
+      by_side Theirs = above
+
+  -- a tree of this map with the changes made is one of the merged map
+  pub made_of : (P : ℕ → Type 0) (x : Contents) (size : ℕ) (root : Root) (changes : List Change) → changes ≡ delta start merged → IsRootedIn sizes P x size root (with_changes start changes) → IsRootedIn sizes P x size root merged
   made_of P x size root changes same grown =
-      subst (λ (n : Map). IsRootedIn sizes P x size root n) (ap (with_changes own) same ∙ with_changes-delta own merged own_rises (IsMap-merge base parent own settled own_rises)) grown
+      subst (λ (n : Map). IsRootedIn sizes P x size root n) (ap (with_changes start) same ∙ (smaller own parent merged own_rises parent_rises (IsMap-merge base parent own settled own_rises)).0) grown
 
   module _ (all : refusal_in base parent own settled ≡ None) where
     pub merge_step : step s.working (Merge alt settled) ≡ Ok (merged_tree, Merged (length (delta own merged)))
@@ -138,14 +164,27 @@ module _ (m : Medium) (limit : ℕ) (slot_name : SlotName) (bits : List Bool) (c
     current_then : current_of merged_tree alt ≡ merged
     current_then = ap (λ o. unwrap_or (option_map (λ (a : Alternative). a.current) o) []) (named_turned s.working alt (λ x. record x { current = merged; base = parent }) _ (λ x. refl) own_is)
 
-    -- the changes that it makes
-    pub merge_is : merge_changes s.working alt settled ≡ delta own merged
-    merge_is =
-        ap (λ (t : Tree). delta (current_of s.working alt) (current_of t alt)) (ap (tree_after s.working) merge_step)
-        ∙ ap (λ c. delta c (current_of merged_tree alt)) current_is ∙ ap (delta own) current_then
+    above_is : parent_current_of s.working alt ≡ parent
+    above_is =
+        ap (λ (o : Option Alternative). current_in (option_and_then (λ n. named s.working n) (option_and_then (λ (a : Alternative). a.parent) o))) own_is
+        ∙ ap (λ o. current_in (option_and_then (λ n. named s.working n) o)) (under m limit slot_name bits committed working s rests alt pair is)
+        ∙ ap current_in (parent_there m limit slot_name bits committed working s rests alt pair is).is
 
-    pub merge_edits : edits s.working (Merge alt settled) ≡ length (delta own merged)
-    merge_edits = ap (λ (cs : List Change). length cs) merge_is
+    merged_is : merged_of s.working alt settled ≡ merged
+    merged_is = ap (λ (t : Tree). current_of t alt) (ap (tree_after s.working) merge_step) ∙ current_then
+
+    pub start_is : start_of s.working alt settled ≡ start
+    start_is =
+        ap (λ c. merge_start c (parent_current_of s.working alt) (merged_of s.working alt settled)) current_is
+        ∙ ap (λ p. merge_start own p (merged_of s.working alt settled)) above_is
+        ∙ ap (merge_start own parent) merged_is
+
+    -- the changes that it makes
+    pub merge_is : merge_changes s.working alt settled ≡ delta start merged
+    merge_is = ap (λ (b : Map). delta b (merged_of s.working alt settled)) start_is ∙ ap (delta start) merged_is
+
+    pub merge_made : changes_made s.working (Merge alt settled) ≡ length (delta start merged)
+    merge_made = ap (λ (cs : List Change). length cs) merge_is
 
     parent_small : pair.1.current.block < 2 ^ 32
     parent_small = (fits_of (standing rests) (is_alternative_of pair.1.name) (slot.is_alternative_of pair.1.name) (λ v. refl) pair.1 is.parent).current
@@ -176,7 +215,7 @@ module _ (m : Medium) (limit : ℕ) (slot_name : SlotName) (bits : List Bool) (c
 
 module _ (m : Medium) (limit : ℕ) (slot_name : SlotName) (bits : List Bool) (committed working : List Version) (s : State) (rests : Rests m limit slot_name bits committed working s)
     (m' : Medium) (limit' : ℕ) (slot_name' : SlotName) (bits' : List Bool) (committed' working' : List Version) (rests' : Rests m' limit' slot_name' bits' committed' working' s)
-    (alt : List ℕ) (pair : Version × Version) (is : IsPair working alt pair) (is' : IsPair working' alt pair) (settled : List (Key × Side)) (changes : List Change) where
+    (alt : List ℕ) (pair : Version × Version) (is : IsPair working alt pair) (is' : IsPair working' alt pair) (settled : List (Key × Side)) (plan : MergePlan) where
   abbrev own_before : Map
   own_before = own_map m limit slot_name bits committed working s rests alt pair is
 
@@ -205,11 +244,11 @@ module _ (m : Medium) (limit : ℕ) (slot_name : SlotName) (bits : List Bool) (c
   parent_same = some_same (sym (parent_there m limit slot_name bits committed working s rests alt pair is).is ∙ (parent_there m' limit' slot_name' bits' committed' working' s rests' alt pair is').is)
 
   -- what was planned holds of the same maps in the store that they are made in
-  pub planned : (refusal_in base_before parent_before own_before settled ≡ None) × (changes ≡ delta own_before (merge base_before parent_before own_before settled))
-      → (refusal_in base_after parent_after own_after settled ≡ None) × (changes ≡ delta own_after (merge base_after parent_after own_after settled))
-  planned plan =
-      let P : Map → Map → Map → Type 0 = λ b p o. (refusal_in b p o settled ≡ None) × (changes ≡ delta o (merge b p o settled)) in
-      subst (λ (a : Alternative). P a.base parent_after a.current) own_same (subst (λ (p : Alternative). P base_before p.current own_before) parent_same plan)
+  pub planned : (refusal_in base_before parent_before own_before settled ≡ None) × IsPlan plan own_before parent_before (merge base_before parent_before own_before settled)
+      → (refusal_in base_after parent_after own_after settled ≡ None) × IsPlan plan own_after parent_after (merge base_after parent_after own_after settled)
+  planned found =
+      let P : Map → Map → Map → Type 0 = λ b p o. (refusal_in b p o settled ≡ None) × IsPlan plan o p (merge b p o settled) in
+      subst (λ (a : Alternative). P a.base parent_after a.current) own_same (subst (λ (p : Alternative). P base_before p.current own_before) parent_same found)
 
 -- which fault changes answer
 pub fault_of_changes : (f : PutFault) (deep : Type 0) (P : Root → Type 0) → Makes (Err f) deep P → (f ≡ put.Tree fault.Device) ⊎ ((f ≡ put.Deep) × deep)

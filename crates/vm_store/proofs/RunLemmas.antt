@@ -7,8 +7,7 @@ use Rattle.vm_types.specs.declared.command.Command.TheVariants.{New, NewAt, Drop
 use Rattle.vm_types.specs.declared.refusal.Refusal.{Refusal}
 use Rattle.vm_types.specs.declared.refusal.Refusal.TheVariants.{Device}
 use Rattle.vm_types.specs.Kept.{LeftBy}
-use Rattle.vm_types.specs.State.{State, committed_of, next, after}
-use Rattle.vm_types.specs.Tree.{current_of}
+use Rattle.vm_types.specs.State.{State, committed_of, next, after, merge_changes, start_of}
 use Rattle.vm_types.proofs.MomentsLemmas.{HasRun, HasRun-none, HasRun-more}
 use Rattle.vm_types.proofs.Runs.{after_more}
 use Rattle.vm_disk.specs.Disk as disk
@@ -17,7 +16,7 @@ use Rattle.vm_disk.specs.Moments.{Throughout, Leaves}
 use Rattle.vm_disk.proofs.MomentLemmas.{started, and_then, weaken, past_stays, moment_rises, leaves_only, touches_nothing}
 use Rattle.vm_block.specs.declared.selector.SlotName.{SlotName}
 use Rattle.vm_store.specs.declared.version.Version.{Version}
-use Rattle.vm_store.specs.Answers.{IsMergeAnswer, merge_changes}
+use Rattle.vm_store.specs.Answers.{IsMergeAnswer}
 use Rattle.vm_store.specs.ChangeList.{MeetsFullPath}
 use Rattle.vm_store.specs.Store.{Answers, Holds, disk_of, held_of}
 use Rattle.vm_store.specs.declared.store.Store.{Store}
@@ -78,7 +77,7 @@ module _ {D : Type 0} {members : _} (old new : Store D members) (s : State) (hol
   answers_on other (Uncheck alt name) same size answer = answer
   answers_on other (Back alt name) same size answer = answer
   answers_on other (Merge alt settled) same size answer =
-      let told : DiskState → ℕ → Type 0 = λ t n. IsMergeAnswer s (spare_of holds.rests) (MeetsFullPath t.now.contents n (current_of s.working alt) (merge_changes s.working alt settled)) alt settled r in
+      let told : DiskState → ℕ → Type 0 = λ t n. IsMergeAnswer s (spare_of holds.rests) (MeetsFullPath t.now.contents n (start_of s.working alt settled) (merge_changes s.working alt settled)) alt settled r in
       subst (λ n. told (members.state (disk_of other)) n) (sym size) (subst (λ (t : DiskState). told t new.parts.blocks) (sym same) answer)
   answers_on other (Post alt) same size answer = answer
   answers_on other Commit same size answer = answer

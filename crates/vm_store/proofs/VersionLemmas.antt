@@ -3,7 +3,7 @@ use Rattle.std.proofs.Common.{◌≡◌, inl, inr, ℕ, ◌*◌, nat_lt, Bool, f
 use Rattle.std.proofs.lemmas.Bool.Decides.{nat_tests}
 use Rattle.vm_types.specs.Tree.{Tree, changed}
 use Rattle.vm_types.specs.Step.{Outcome, done, step}
-use Rattle.vm_types.specs.State.{State, accepted, answer_of, next, tree_after, edits, outcome}
+use Rattle.vm_types.specs.State.{State, accepted, answer_of, next, tree_after, changes_made, outcome}
 use Rattle.vm_types.specs.declared.answer.Answer.{Answer}
 use Rattle.vm_types.specs.declared.answer.Answer.TheVariants.{Done}
 use Rattle.vm_types.specs.declared.command.Command.{Command}
@@ -32,12 +32,12 @@ none_less n = grind (arith, nat_tests)
 
 -- a command that the model refuses
 pub answers_refused : (s : State) (spare : ℕ) (deep : Type 0) (command : Command) (r : Refusal) → outcome s command ≡ Err r → IsAnswer s spare deep command (Err r)
-answers_refused s spare deep command r is = inr (subst (λ (o : Outcome). IsDue o (nat_lt spare (17 * edits s.working command)) deep (Err r)) (sym is) refl)
+answers_refused s spare deep command r is = inr (subst (λ (o : Outcome). IsDue o (nat_lt spare (17 * changes_made s.working command)) deep (Err r)) (sym is) refl)
 
 -- a command without record changes that the model accepts
-pub answers_done : (s : State) (spare : ℕ) (deep : Type 0) (command : Command) (tree : Tree) → edits s.working command ≡ 0 → (deep → ⊥) → outcome s command ≡ done tree → IsAnswer s spare deep command (Ok Done)
+pub answers_done : (s : State) (spare : ℕ) (deep : Type 0) (command : Command) (tree : Tree) → changes_made s.working command ≡ 0 → (deep → ⊥) → outcome s command ≡ done tree → IsAnswer s spare deep command (Ok Done)
 answers_done s spare deep command tree none shallow is =
-    inr (subst (λ (o : Outcome). IsDue o (nat_lt spare (17 * edits s.working command)) deep (Ok Done)) (sym is)
+    inr (subst (λ (o : Outcome). IsDue o (nat_lt spare (17 * changes_made s.working command)) deep (Ok Done)) (sym is)
     (subst (λ (b : Bool). IsDue (done tree) b deep (Ok Done)) (sym (ap (λ n. nat_lt spare (17 * n)) none ∙ none_less spare)) (inl (refl, shallow))))
 
 -- a Reclaim
@@ -46,10 +46,10 @@ answers_reclaim s spare (Ok a) done_is device = subst (λ (b : Answer). IsAnswer
 answers_reclaim s spare (Err e) done_is device = inl (ap Err device)
 
 -- the answer of the model, to a command without record changes
-due : (s : State) (spare : ℕ) (command : Command) (r : Result Answer Refusal) (o : Outcome) → outcome s command ≡ o → edits s.working command ≡ 0 → r ≡ answer_of o → IsAnswer s spare ⊥ command r
+due : (s : State) (spare : ℕ) (command : Command) (r : Result Answer Refusal) (o : Outcome) → outcome s command ≡ o → changes_made s.working command ≡ 0 → r ≡ answer_of o → IsAnswer s spare ⊥ command r
 due s spare command r (Err refusal) is none same = subst (IsAnswer s spare ⊥ command) (sym same) (answers_refused s spare ⊥ command refusal is)
 due s spare command r (Ok o) is none same =
-    inr (subst (λ (o : Outcome). IsDue o (nat_lt spare (17 * edits s.working command)) ⊥ r) (sym is)
+    inr (subst (λ (o : Outcome). IsDue o (nat_lt spare (17 * changes_made s.working command)) ⊥ r) (sym is)
     (subst (λ (b : Bool). IsDue (Ok o) b ⊥ r) (sym (ap (λ n. nat_lt spare (17 * n)) none ∙ none_less spare)) (inl (same, λ never. never))))
 
 -- what the working versions of a store stand for

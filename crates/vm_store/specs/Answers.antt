@@ -2,18 +2,16 @@
 use Rattle.std.specs.Prelude.{◌≡◌, ◌⊎◌, ℕ, ◌+◌, ◌*◌, ◌<◌, ◌≤◌, nat_lt, Bool, true, false, List, Option, None, option_copied, Result, Ok, Err, IsOk}
 use Rattle.std.specs.Borrow.{Bor}
 use Rattle.vm_types.specs.declared.answer.Answer.{Answer}
-use Rattle.vm_types.specs.declared.answer.Answer.TheVariants.{Merged}
-use Rattle.vm_types.specs.declared.change.Change.{Change}
 use Rattle.vm_types.specs.declared.command.Command.{Command}
 use Rattle.vm_types.specs.declared.command.Side.{Side}
 use Rattle.vm_types.specs.declared.command.Command.TheVariants.{New, NewAt, Drop, Put, Remove, Checkpoint, Uncheck, Back, Merge, Reclaim, Grow}
 use Rattle.vm_types.specs.declared.key.Key.{Key}
 use Rattle.vm_types.specs.declared.refusal.Refusal.{Refusal}
 use Rattle.vm_types.specs.declared.refusal.Refusal.TheVariants.{Full, Deep, Device, Memory, Damaged}
-use Rattle.vm_types.specs.Map.{Map, get, delta}
+use Rattle.vm_types.specs.Map.{Map, get}
 use Rattle.vm_types.specs.Queries.{conflicts_in}
 use Rattle.vm_types.specs.Places.{place}
-use Rattle.vm_types.specs.State.{State, blocks_a_change, outcome, tree_after, edits}
+use Rattle.vm_types.specs.State.{State, blocks_a_change, changes_made, outcome}
 use Rattle.vm_types.specs.Step.{Outcome, step}
 use Rattle.vm_types.specs.Tree.{Tree, current_of}
 use Rattle.vm_disk.specs.Disk.{Contents}
@@ -38,11 +36,7 @@ IsDue (Ok accepted) false deep result = ((result ≡ Ok accepted.1) × (deep →
 -- what is answered to a command but a Merge, where so many blocks are spare: what is due, or that the device failed
 abbrev pub IsAnswer : State → ℕ → Type 0 → Command → Result Answer Refusal → Type 0
 IsAnswer s spare deep command result =
-    (result ≡ Err Device) ⊎ IsDue (outcome s command) (nat_lt spare (blocks_a_change * edits s.working command)) deep result
-
--- the changes that a Merge makes in the records of the alternative
-abbrev pub merge_changes : Tree → List ℕ → List (Key × Side) → List Change
-merge_changes tree alt settled = delta (current_of tree alt) (current_of (tree_after tree (step tree (Merge alt settled))) alt)
+    (result ≡ Err Device) ⊎ IsDue (outcome s command) (nat_lt spare (blocks_a_change * changes_made s.working command)) deep result
 
 -- a Merge that the model accepts is answered so, unless too few blocks are spare, or some record that it adds finds no room
 abbrev pub IsMergeDue : Outcome → Bool → Type 0 → Result Answer Refusal → Type 0
@@ -54,7 +48,7 @@ IsMergeDue (Ok accepted) false deep result = (result ≡ Ok accepted.1) ⊎ ((re
 -- there and has a parent, that memory was wanting
 abbrev pub IsMergeAnswer : State → ℕ → Type 0 → List ℕ → List (Key × Side) → Result Answer Refusal → Type 0
 IsMergeAnswer s spare deep alt settled result =
-    (result ≡ Err Device) ⊎ (((result ≡ Err Memory) × IsOk (conflicts_in s.working alt)) ⊎ IsMergeDue (step s.working (Merge alt settled)) (nat_lt spare (blocks_a_change * edits s.working (Merge alt settled))) deep result)
+    (result ≡ Err Device) ⊎ (((result ≡ Err Memory) × IsOk (conflicts_in s.working alt)) ⊎ IsMergeDue (step s.working (Merge alt settled)) (nat_lt spare (blocks_a_change * changes_made s.working (Merge alt settled))) deep result)
 
 -- a Grow that the model refuses is answered so, and one that it accepts, too, unless memory is wanting or the device fails
 abbrev pub IsGrowDue : Outcome → Result Answer Refusal → Type 0
@@ -69,10 +63,10 @@ IsEarly Device = ⊥
 IsEarly (Damaged block) = ⊥
 IsEarly refusal = Unit {0}
 
--- a Merge that makes no change: it is done, and changes no record, or it is refused before blocks are marked
-abbrev pub MakesNoChange : Result Answer Refusal → Type 0
-MakesNoChange (Ok answer) = answer ≡ Merged 0
-MakesNoChange (Err refusal) = IsEarly refusal
+-- a Merge that makes no change: it is done, and needs none on the smaller side, or it is refused before blocks are marked
+abbrev pub MakesNoChange : ℕ → Result Answer Refusal → Type 0
+MakesNoChange changes (Ok answer) = changes ≡ 0
+MakesNoChange changes (Err refusal) = IsEarly refusal
 
 -- a refusal that comes before a block is taken or written: each one but Deep, Device and Damaged
 abbrev pub ComesFirst : Refusal → Type 0

@@ -49,17 +49,17 @@ module _ {D : Type 0} {members : _} where
     pub unchanged : EarlyKeeps answer old new
     -- to make, drop or go back to alternatives and checkpoints takes no device call and no block
     pub blocks : ChangesEntriesAlone command → LeavesBlocks old new
-    -- after a Reclaim, and a Put, a Remove or a Merge that is refused for want of blocks, just the spare ones are free
+    -- on an honest disk, after a Reclaim, and a Put, a Remove or a Merge that is refused for want of blocks, just the spare ones are free
     pub marked : IsHonest new → MarksAll answer old new command
-    -- a Post and a Reclaim only read, and so do a Merge that changes nothing and each other command but a Grow that is refused before it takes
-    -- a block
+    -- on an honest disk, a Post and a Reclaim only read, and so do a Merge that makes no change and each other command but a Grow that is
+    -- refused before it takes a block
     pub reads : IsHonest new → ReadsOnly command answer old new
-    -- a Post and a Merge that makes no change read no more blocks than the compared trees do not share
+    -- on an honest disk, a Post and a Merge that makes no change read no more blocks than the compared trees do not share
     pub few : ReadsFew command answer old new
-    -- of the free blocks, or of the spare ones after a marking, a Put takes 16 at most, a Remove 8, and a Merge 16 for each change; a Post and
-    -- a Commit take none
+    -- of the free blocks, or on an honest disk of the spare ones after a marking, a Put takes 16 at most and a Remove 8; on an honest disk, a
+    -- Merge takes 16 for each change that it makes; a Post and a Commit take none
     pub free : KeepsFree command answer old new
-    -- a Commit writes the other slot, in format 2, and the selector, byte by byte, and no other block
+    -- on an honest disk, a Commit writes the other slot, in format 2, and the selector, byte by byte, and no other block
     pub written : command ≡ Commit → WritesCommit answer old new
     -- a Rollback is always accepted, makes no device call, and takes no block
     pub back : command ≡ Rollback → RollsBack answer old new

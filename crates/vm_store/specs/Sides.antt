@@ -4,12 +4,16 @@ use Rattle.vm_types.specs.declared.change.Change.{Change}
 use Rattle.vm_types.specs.declared.change.Conflict.{Conflict}
 use Rattle.vm_types.specs.declared.key.Key.{Key}
 use Rattle.vm_types.specs.declared.command.Side.{Side}
+use Rattle.vm_types.specs.declared.command.Side.TheVariants.{Mine, Theirs}
+use Rattle.vm_types.specs.declared.merge.MergePlan.{MergePlan}
 use Rattle.vm_types.specs.declared.refusal.Refusal.{Refusal}
 use Rattle.vm_types.specs.declared.refusal.Refusal.TheVariants.{Device, Memory}
 use Rattle.vm_types.specs.Map.{Map, conflicts, delta, merge}
+use Rattle.vm_types.specs.Merge.{IsPlan}
 use Rattle.vm_types.specs.Step.{settled_refusal}
 use Rattle.vm_disk.specs.Disk.{DiskState}
 use Rattle.vm_tree.specs.Root.{IsRooted}
+use Rattle.vm_tree.specs.declared.root.Root.{Root}
 use Rattle.vm_diff.specs.Shared.{unshared}
 use Rattle.vm_store.specs.Sizes.{sizes}
 use Rattle.vm_store.specs.Tallies.{tally_between}
@@ -25,6 +29,11 @@ ReadsOr (Err refusal) P Q = (refusal ≡ Device) ⊎ ((refusal ≡ Memory) ⊎ Q
 -- the refusal of these settlements, if there is one
 abbrev pub refusal_in : Map → Map → Map → List (Key × Side) → Option Refusal
 refusal_in base parent own settled = settled_refusal settled (map (λ c. c.key) (conflicts base parent own))
+
+-- the root that a merge begins with, by the side whose map it begins with
+abbrev pub root_from : Side → ThreeRoots → Root
+root_from Mine roots = roots.own
+root_from Theirs roots = roots.parent
 
 -- on a disk that is honest after the call
 module _ (old new : DiskState) (blocks : ℕ) (roots : ThreeRoots) where
@@ -52,10 +61,10 @@ module _ (old new : DiskState) (blocks : ℕ) (roots : ThreeRoots) where
   abbrev pub GivesTally : Result Tally Refusal → Type 0
   GivesTally result = OnThree (λ base parent own bs ps os. ReadsOr result (λ tally. tally ≡ tally_between base parent own) (λ r. ⊥))
 
-  -- what their merge changes is given, or the settlements are refused
-  abbrev pub GivesMerge : Result (List Change) Refusal → List (Key × Side) → Type 0
-  GivesMerge result settled =
+  -- their merge is planned on the smaller side, or the settlements are refused
+  abbrev pub GivesPlan : Result MergePlan Refusal → List (Key × Side) → Type 0
+  GivesPlan result settled =
       OnThree
       (λ base parent own bs ps os.
-      ReadsOr result (λ list. (refusal_in base parent own settled ≡ None) × (list ≡ delta own (merge base parent own settled)))
+      ReadsOr result (λ plan. (refusal_in base parent own settled ≡ None) × IsPlan plan own parent (merge base parent own settled))
       (λ r. refusal_in base parent own settled ≡ Some r))

@@ -1,14 +1,15 @@
 -- A store, and the state that it stands for.
-use Rattle.std.specs.Prelude.{◌≡◌, ◌≢◌, ℕ, ◌+◌, ◌-◌, ◌<◌, ◌≤◌, ◌⊎◌, Bool, true, false, List, Option, None, find, take, Result, Ok, Err, IfErr, OnOk}
+use Rattle.std.specs.Prelude.{◌≡◌, ◌≢◌, ℕ, ◌+◌, ◌-◌, ◌<◌, ◌≤◌, ◌⊎◌, Bool, true, false, List, Option, None, find, take, Result, Ok, Err, IfErr, IsOk, OnOk}
 use Rattle.vm_types.specs.declared.answer.Answer.{Answer}
-use Rattle.vm_types.specs.declared.answer.Answer.TheVariants.{Done, Merged}
+use Rattle.vm_types.specs.declared.answer.Answer.TheVariants.{Done}
 use Rattle.vm_types.specs.declared.command.Command.{Command}
 use Rattle.vm_types.specs.declared.command.Command.TheVariants.{Commit, Grow, Merge, Post, Put, Reclaim, Remove}
+use Rattle.vm_types.specs.declared.command.Side.{Side}
+use Rattle.vm_types.specs.declared.key.Key.{Key}
 use Rattle.vm_types.specs.declared.refusal.Refusal.{Refusal}
 use Rattle.vm_types.specs.declared.refusal.Refusal.TheVariants.{Device, Full}
 use Rattle.vm_types.specs.Kept.{LeftBy}
-use Rattle.vm_types.specs.State.{Seen, State, blocks_a_change, committed_of, edits, next, outcome}
-use Rattle.vm_types.specs.Tree.{current_of}
+use Rattle.vm_types.specs.State.{Seen, State, blocks_a_change, changes_made, committed_of, merge_changes, next, outcome, start_of}
 use Rattle.vm_disk.specs.Disk.{Goes}
 use Rattle.vm_disk.specs.Moments.{Leaves, OnlyReads, Throughout}
 use Rattle.vm_alloc.specs.Held.{free_count}
@@ -17,7 +18,7 @@ use Rattle.vm_block.specs.declared.slot.SlotFormat.TheVariants.{Two}
 use Rattle.vm_catalog.specs.Written.{TouchesBoth, WritesBoth}
 use Rattle.vm_tree.specs.Unsynced.{NeverSyncs}
 use Rattle.vm_check.specs.Noted.{inner_of}
-use Rattle.vm_store.specs.Answers.{ComesAfterMarking, ComesFirst, HasMarked, IsAnswer, IsDeep, IsEarly, IsGrowDue, IsMergeAnswer, MakesNoChange, TakesForChanges, merge_changes, most_taken}
+use Rattle.vm_store.specs.Answers.{ComesAfterMarking, ComesFirst, HasMarked, IsAnswer, IsDeep, IsEarly, IsGrowDue, IsMergeAnswer, MakesNoChange, TakesForChanges, most_taken}
 use Rattle.vm_store.specs.ChangeList.{MeetsFullPath}
 use Rattle.vm_store.specs.Growth.{Grows}
 use Rattle.vm_store.specs.Guarded.{IsGuarded}
@@ -161,12 +162,12 @@ module _ {D : Type 0} {members : _} where
       (blocks_a_change ≤ free_of old → free_of old ≤ free_of new + most_taken most answer)
       × (IsHonest new → free_of old < blocks_a_change → ComesAfterMarking answer → (s : State) (holds : Holds old s) → spare_of holds.rests ≤ free_of new + most_taken most answer)
 
-  -- so a Put takes 16 blocks at most, a Remove 8, and a Merge 16 for each of its changes; and a Post and a Commit take none
+  -- so a Put takes 16 blocks at most, a Remove 8, and a Merge 16 for each change that it makes; and a Post and a Commit take none
   abbrev pub KeepsFree : Command → Result Answer Refusal → (old new : Store D members) → Type 0
   KeepsFree (Put alt key value) answer old new = TakesUpTo 16 answer old new
   KeepsFree (Remove alt key) answer old new = TakesUpTo 8 answer old new
   KeepsFree (Merge alt settled) answer old new =
-      IsHonest new → (s : State) (holds : Holds old s) → TakesForChanges (edits s.working (Merge alt settled)) answer (free_of old) (free_of new) (spare_of holds.rests)
+      IsHonest new → (s : State) (holds : Holds old s) → TakesForChanges (changes_made s.working (Merge alt settled)) answer (free_of old) (free_of new) (spare_of holds.rests)
   KeepsFree (Post alt) answer old new = held_of new ≡ held_of old
   KeepsFree Commit answer old new = held_of new ≡ held_of old
   KeepsFree command answer old new = Unit {0}
@@ -182,12 +183,16 @@ module _ {D : Type 0} {members : _} where
   abbrev pub FirstReads : Result Answer Refusal → (old new : Store D members) → Type 0
   FirstReads answer old new = IfErr answer (λ refusal. ComesFirst refusal → ReadsAlone old new)
 
-  -- a Post and a Reclaim only read, and so do a Merge that changes nothing and each other command that is refused so; of a Grow
+  -- a Merge that is done, and needs no change on the smaller side, only reads
+  abbrev pub MakesNoneByReading : List ℕ → List (Key × Side) → Result Answer Refusal → (old new : Store D members) → Type 0
+  MakesNoneByReading alt settled answer old new = (s : State) → Holds old s → changes_made s.working (Merge alt settled) ≡ 0 → IsOk answer → ReadsAlone old new
+
+  -- a Post and a Reclaim only read, and so do a Merge that makes no change and each other command that is refused so; of a Grow
   -- `EarlyLeavesDisk` tells it
   abbrev pub ReadsOnly : Command → Result Answer Refusal → (old new : Store D members) → Type 0
   ReadsOnly (Post alt) answer old new = ReadsAlone old new
   ReadsOnly Reclaim answer old new = ReadsAlone old new
-  ReadsOnly (Merge alt settled) answer old new = FirstReads answer old new × (answer ≡ Ok (Merged 0) → ReadsAlone old new)
+  ReadsOnly (Merge alt settled) answer old new = FirstReads answer old new × MakesNoneByReading alt settled answer old new
   ReadsOnly (Grow blocks) answer old new = Unit {0}
   ReadsOnly command answer old new = FirstReads answer old new
 
@@ -195,7 +200,9 @@ module _ {D : Type 0} {members : _} where
   -- change no more than these and those that only one of its base and its current tree has
   abbrev pub ReadsFew : Command → Result Answer Refusal → (old new : Store D members) → Type 0
   ReadsFew (Post alt) answer old new = ReadsAtMost old new (λ s holds. unshared_with_parent holds.rests alt)
-  ReadsFew (Merge alt settled) answer old new = MakesNoChange answer → ReadsAtMost old new (λ s holds. unshared_on_sides holds.rests alt)
+  ReadsFew (Merge alt settled) answer old new =
+      IsHonest new → (s : State) (holds : Holds old s) → MakesNoChange (changes_made s.working (Merge alt settled)) answer
+      → reads_of new ≤ reads_of old + unshared_on_sides holds.rests alt
   ReadsFew command answer old new = Unit {0}
 
   -- the blocks that a store lacks of so many are free, too, where it was done
@@ -225,7 +232,7 @@ module _ {D : Type 0} {members : _} where
   -- what is answered to a command by a store that stands for the state, in terms of the store before and after
   abbrev pub Answers : (old new : Store D members) (s : State) → Holds old s → Command → Result Answer Refusal → Type 0
   Answers old new s holds (Merge alt settled) result =
-      IsMergeAnswer s (spare_of holds.rests) (MeetsFullPath (members.state (disk_of new)).now.contents new.parts.blocks (current_of s.working alt) (merge_changes s.working alt settled)) alt settled result
+      IsMergeAnswer s (spare_of holds.rests) (MeetsFullPath (members.state (disk_of new)).now.contents new.parts.blocks (start_of s.working alt settled) (merge_changes s.working alt settled)) alt settled result
   Answers old new s holds (Grow blocks) result = IsGrowDue (outcome s (Grow blocks)) result
   Answers old new s holds command result =
       IsAnswer s (spare_of holds.rests) (IsDeep (members.state (disk_of old)).now.contents (root_of old) s.working command) command result

@@ -1,9 +1,9 @@
-//! What two sides made of the map that both started from.
+//! What two sides made of the map that both started from, and what their merge does.
 ghost use Rattle.std.specs.Prelude.{◌≡◌, ◌≢◌, ◌≤◌, true, Some, None};
 ghost use Rattle.vm_types.specs.Map.{conflicts};
 ghost use Rattle.vm_disk.specs.Disk.{Goes};
 ghost use Rattle.vm_disk.specs.Moments.{OnlyReads};
-ghost use Rattle.vm_store.specs.Sides.{GivesConflicts, GivesMerge, GivesSides, GivesTally, ReadsSides};
+ghost use Rattle.vm_store.specs.Sides.{GivesConflicts, GivesPlan, GivesSides, GivesTally, ReadsSides, root_from};
 
 use crate::tally::Tally;
 use std::alloc::Global;
@@ -11,8 +11,8 @@ use vm_diff::changed;
 use vm_disk::Disk;
 use vm_tree::Root;
 use vm_types::{
-    Changes, Conflicts, Key, Refusal, Side, changes_by_merge, conflicts_between, keys_in_conflict,
-    settled_refusal,
+    Changes, Conflicts, Key, MergePlan, Refusal, Side, conflicts_between, keys_in_conflict,
+    plan_merge, settled_refusal,
 };
 
 /// The roots of a base, and of the two maps that came from it.
@@ -21,6 +21,18 @@ pub struct ThreeRoots {
     pub base: Root,
     pub parent: Root,
     pub own: Root,
+}
+
+impl ThreeRoots {
+    /// The root that a merge begins with if it begins with the map of this side.
+    pub fn start(&self, side: Side) -> Root
+        ensures { result ≡ root_from side self.now }
+    {
+        match side {
+            Side::Mine => self.own,
+            Side::Theirs => self.parent,
+        }
+    }
 }
 
 /// What the parent changed since the base, and what the alternative did, by rising keys.
@@ -94,27 +106,26 @@ pub fn tally_of<D: Disk>(
     })
 }
 
-/// What a merge changes in the map of the alternative, by rising keys, or why its settlements are
-/// refused.
-pub fn changes_of_merge<D: Disk>(
+/// What a merge does on the smaller side, or why its settlements are refused.
+pub fn plan_of_merge<D: Disk>(
     alloc: Global,
     disk: &mut D,
     blocks: u32,
     roots: ThreeRoots,
     settled: &[(Key, Side)],
-) -> Result<Changes, Refusal>
+) -> Result<MergePlan, Refusal>
     requires { blocks ≤ (D.state disk.old).blocks }
     ensures any { Goes (result ≡ Err Refusal.Device) (D.state disk.old) (D.state disk.new) }
     ensures never { result ≢ Err Refusal.Failed }
     ensures reads { (D.state disk.new).honest ≡ true
         → OnlyReads (D.state disk.old) (D.state disk.new) }
-    ensures changes { GivesMerge (D.state disk.old) (D.state disk.new) blocks roots result settled.now }
+    ensures plan { GivesPlan (D.state disk.old) (D.state disk.new) blocks roots result settled.now }
     ensures bound { ReadsSides (D.state disk.old) (D.state disk.new) blocks roots }
 {
     let sides = read_sides(alloc, disk, blocks, roots)?;
     let conflicts = keys_in_conflict(alloc, &sides.theirs, &sides.mine)?;
     match settled_refusal(alloc, settled, &conflicts) {
         Some(refusal) => Err(refusal),
-        None => changes_by_merge(alloc, &sides.theirs, &sides.mine, settled),
+        None => plan_merge(alloc, &sides.theirs, &sides.mine, settled),
     }
 }

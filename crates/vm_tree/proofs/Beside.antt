@@ -14,7 +14,7 @@ use Rattle.vm_block.specs.declared.node.Child.{Child}
 use Rattle.vm_block.proofs.EachLemmas.{each_front, each_back, each_join, each_so, each_both}
 use Rattle.vm_tree.specs.Tree.{Sizes, Children, Subtree}
 use Rattle.vm_tree.specs.BlockReads.{IsNodeAt}
-use Rattle.vm_tree.specs.Replacement.{Lacks, Apart, IsPathIn, IsRenewed, KeepsBeside, long_of, path_from}
+use Rattle.vm_tree.specs.Replacement.{Lacks, Apart, IsPathIn, IsRenewed, KeepsAbove, KeepsBeside, long_of, path_from}
 use Rattle.vm_tree.proofs.ApartLemmas.{all_above, children_before, subtree_once}
 use Rattle.vm_tree.proofs.Descent.{Opened, opens}
 use Rattle.vm_tree.proofs.Rising.{rises_back}
@@ -41,6 +41,11 @@ path_grown path old level at b d many within low is above same =
     ap (λ (z : List ℕ). long ++ z) (take_more path level 0 (omega (arith, many, low)) ∙ ap (λ n. take level path ++ (n ∷ [])) here)
     ∙ sym (append_assoc long (take level path) (b ∷ []))
     ∙ ap (λ n. (long ++ take n path) ++ (b ∷ [])) (sym less)
+
+-- above a child, whose block was written into the path at the level below, it is as it was
+pub keeps_above : (path old : List ℕ) (level at b d : ℕ) → at ≡ level → 0 < level → KeepsAbove (level - 1) d (slice_set old at b) path → KeepsAbove level b old path
+keeps_above path old level at b d is above same k le lt =
+    same k (omega arith) lt ∙ get_or-set_other (slice_set old at b) (level - 1) k d 0 (λ e. omega (arith, e, above, le)) ∙ ap (λ l. get_or (slice_set old l b) k 0) is
 
 -- the path of a leaf is its block, and that of its long value
 pub path_alone : (old : List ℕ) (level at b n : ℕ) → length old ≡ 9 → level ≡ 0 → at ≡ level → path_from level (slice_set (slice_set old at b) 8 n) ≡ long_of n ++ (b ∷ [])

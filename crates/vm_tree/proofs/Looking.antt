@@ -4,7 +4,7 @@ use Rattle.vm_disk.specs.Disk.{DiskState}
 use Rattle.vm_disk.proofs.GoesLemmas.{goes_nowhere, goes_then, goes_at}
 use Rattle.vm_disk.proofs.MomentLemmas.{after_reads, reads_keep, reads_then, touches_nothing, started}
 use Rattle.vm_tree.specs.Calls.{Looks, LooksIf, Writes}
-use Rattle.vm_tree.proofs.Touching.{reads_unsynced, touches_then, unsynced_then}
+use Rattle.vm_tree.proofs.Touching.{lowest_none, lowest_then, reads_unsynced, touches_then, unsynced_then}
 
 -- a call that looks, after another one
 pub looks_on : {first second both : Type 0} {old mid new : DiskState} → Looks first old mid → Looks second mid new → (both → second) → Looks both old new
@@ -18,6 +18,7 @@ pub looks_free : {fails both : Type 0} {held : List Bool} {old new : DiskState} 
 looks_free looks cause = record {
   goes = goes_at _ _ _ _ looks.goes cause;
   still = record { same_length = refl; still = λ n is. is };
+  lowest = lowest_none _;
   moments = λ honest. reads_keep _ _ _ (looks.reads honest) (touches_nothing _ _);
   unsynced = λ honest. reads_unsynced _ _ (looks.reads honest);
 }
@@ -28,6 +29,7 @@ pub looks_write : {first second both : Type 0} {held later : List Bool} {old mid
 looks_write so_far more cause = record {
   goes = goes_then _ _ _ _ _ _ so_far.goes more.goes cause;
   still = more.still;
+  lowest = more.lowest;
   moments = λ honest. after_reads _ _ _ _ (so_far.reads (more.goes.earlier honest)) (more.moments honest);
   unsynced = λ honest. unsynced_then _ _ _ (reads_unsynced _ _ (so_far.reads (more.goes.earlier honest))) (more.unsynced honest);
 }
@@ -38,6 +40,7 @@ pub writes_on : {first second both : Type 0} {held between later : List Bool} {o
 writes_on so_far more cause = record {
   goes = goes_then _ _ _ _ _ _ so_far.goes more.goes cause;
   still = record { same_length = more.still.same_length ∙ so_far.still.same_length; still = λ n is. more.still.still n (so_far.still.still n is) };
+  lowest = lowest_then _ _ _ more.still so_far.lowest more.lowest;
   moments = λ honest. touches_then _ _ _ _ _ so_far.still (so_far.moments (more.goes.earlier honest)) (more.moments honest);
   unsynced = λ honest. unsynced_then _ _ _ (so_far.unsynced (more.goes.earlier honest)) (more.unsynced honest);
 }

@@ -3,13 +3,13 @@ use Rattle.std.proofs.Common.{◌≡◌, ◌≢◌, ◌⊎◌, inl, inr, ℕ, Bo
 use Rattle.std.proofs.lemmas.Bool.{cases_eq, lt-ltb}
 use Rattle.vm_disk.specs.Disk.{Medium, DiskState, block, Elapses, Writes}
 use Rattle.vm_disk.specs.declared.disk.DeviceFault.{DeviceFault}
-use Rattle.vm_alloc.proofs.HeldLemmas.{free_inside, free_is}
-use Rattle.std.specs.Prelude.{slice_get}
+use Rattle.vm_alloc.proofs.HeldLemmas.{free_inside, free_is, others_as_before}
+use Rattle.std.specs.Prelude.{slice_get, slice_set}
 use Rattle.vm_disk.specs.Moments.{AtEach, OnlyReads, Throughout, TouchesOnly}
 use Rattle.vm_disk.proofs.MomentLemmas.{started, touches_nothing, write_on, at_end, weaken, and_then}
 use Rattle.vm_alloc.specs.Held.{is_held, IsHeld, HoldsMore}
 use Rattle.vm_tree.specs.Unsynced.{DirtyGrows, LeavesDirty, NeverSyncs, latest}
-use Rattle.vm_tree.specs.Free.{is_free}
+use Rattle.vm_tree.specs.Free.{TakesLowest, is_free}
 
 -- a block that is held is not free
 pub held_not_free : (held : List Bool) (n : ℕ) → IsHeld held n → is_free held n ≡ false
@@ -59,6 +59,28 @@ pub free_written : {T : Type 0} (held : List Bool) (n : ℕ) (bytes : List ℕ) 
     → Throughout old new (TouchesOnly (is_free held) old.now)
 free_written held n bytes result old new free writes =
     write_on n bytes result (is_free held) old old new (counted_free held n (free_inside held n free) (free_is held n free)) (started old (TouchesOnly (is_free held) old.now) (touches_nothing (is_free held) old.now)) writes
+
+-- where no block was taken
+pub lowest_none : (held : List Bool) → TakesLowest held held
+lowest_none held n k out is lt = let e : true ≡ false = sym is ∙ out in cc
+
+-- where the lowest were taken twice
+pub lowest_then : (a b c : List Bool) → HoldsMore b c → TakesLowest a b → TakesLowest b c → TakesLowest a c
+lowest_then a b c more first then n k out is lt = by_mark (is_held b n) refl
+  where
+    by_mark : (had : Bool) → is_held b n ≡ had → IsHeld c k
+    by_mark true was = more.still k (first n k out was lt)
+    by_mark false was = then n k was is lt
+
+-- where the block below which all are held was taken
+pub lowest_taken : (held later : List Bool) (n : ℕ) → n < length held → ((k : ℕ) → k < n → IsHeld held k) → later ≡ slice_set held n true → HoldsMore held later → TakesLowest held later
+lowest_taken held later n inside below taken more j k out is lt = by_place (cases_eq j n)
+  where
+    by_place : (j ≡ n) ⊎ (j ≢ n) → IsHeld later k
+    by_place (inl same) = more.still k (below k (omega (arith, lt, same)))
+    by_place (inr other) =
+        let here : is_held later j ≡ is_held held j = ap (λ (bs : List Bool). is_held bs j) taken ∙ others_as_before held n j other in
+        let e : true ≡ false = sym is ∙ here ∙ out in cc
 
 -- where nothing was done
 pub all_dirty : (m : Medium) → LeavesDirty m m

@@ -3,7 +3,7 @@ use Rattle.std.specs.Prelude.{◌≡◌, ℕ, true, Bool, List, Result, Err}
 use Rattle.vm_disk.specs.Disk.{DiskState, Goes}
 use Rattle.vm_disk.specs.Moments.{Throughout, OnlyReads, TouchesOnly}
 use Rattle.vm_alloc.specs.Held.{HoldsMore}
-use Rattle.vm_tree.specs.Free.{is_free}
+use Rattle.vm_tree.specs.Free.{TakesLowest, is_free}
 use Rattle.vm_tree.specs.Unsynced.{NeverSyncs}
 use Rattle.vm_tree.specs.declared.faults.ListFault.{ListFault}
 use Rattle.vm_tree.specs.declared.faults.ListFault.TheVariants as list
@@ -44,10 +44,12 @@ abbrev pub PutsIfDeep : {T : Type 0} → Result T PutFault → List Bool → Lis
 PutsIfDeep result held later old new = LooksIf (result ≡ Err put.Deep) held later old new
 
 -- a call that answers that the device failed just where `fails` holds wrote free blocks alone: its failures rise where it failed, what was
--- held stays held, and at no moment had a held block of an honest disk other bytes than before, nor was a dirty one synced
+-- held stays held, the lowest free blocks were taken, and at no moment had a held block of an honest disk other bytes than before, nor was a
+-- dirty one synced
 pub record Writes (fails : Type 0) (held later : List Bool) (old new : DiskState) : Type 0 where
   pub goes : Goes fails old new
   pub still : HoldsMore held later
+  pub lowest : TakesLowest held later
   pub moments : new.honest ≡ true → Throughout old new (TouchesOnly (is_free held) old.now)
   pub unsynced : new.honest ≡ true → NeverSyncs old new
 

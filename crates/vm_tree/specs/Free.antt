@@ -1,5 +1,5 @@
 -- Blocks that may be written.
-use Rattle.std.specs.Prelude.{ℕ, ◌+◌, ◌<◌, ◌≤◌, ◌&&◌, nat_lt, if◌then◌else◌, Bool, not, List, length}
+use Rattle.std.specs.Prelude.{◌≡◌, false, ℕ, ◌+◌, ◌<◌, ◌≤◌, ◌&&◌, nat_lt, if◌then◌else◌, Bool, not, List, length}
 use Rattle.std.specs.List.{AllByRecursion}
 use Rattle.vm_types.specs.declared.sizes.TheConstants.{FIRST_DATA}
 use Rattle.vm_alloc.specs.Held.{is_held, IsHeld, free_count}
@@ -23,6 +23,10 @@ AreTaken held cs = AllByRecursion (λ c. IsTaken held c.block) cs
 -- how many blocks a value has for itself alone: one, where it has more than 240 bytes
 abbrev pub long_blocks : List ℕ → ℕ
 long_blocks value = if nat_lt MAX_SHORT (length value) then 1 else 0
+
+-- the lowest free blocks were taken: each block that was taken lies below each one that is still free
+abbrev pub TakesLowest : List Bool → List Bool → Type 0
+TakesLowest held later = (n k : ℕ) → is_held held n ≡ false → IsHeld later n → k < n → IsHeld later k
 
 -- of the free blocks so many are taken at most
 abbrev pub TakesAtMost : ℕ → List Bool → List Bool → Type 0

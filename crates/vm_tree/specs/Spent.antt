@@ -16,6 +16,10 @@ use Rattle.vm_tree.specs.Windows.{given_of, is_full}
 use Rattle.vm_tree.specs.declared.root.Root.{Root}
 use Rattle.vm_tree.specs.declared.window.Window.{Window}
 
+-- at most n blocks were read, on any disk and whatever the answer
+abbrev pub ReadsAtMost : ℕ → DiskState → DiskState → Type 0
+ReadsAtMost n old new = new.reads ≤ old.reads + n
+
 -- P holds of the records that lay under a child, the top of so many levels above the leaves, in the contents before the call
 abbrev pub OnSubtree : DiskState → DiskState → (limit level : ℕ) (top : Child)
     → ((sizes : Sizes) (x : Contents) (rs : List Record) (bs : List ℕ) → Subtree sizes x limit level top.block rs bs → Type 0) → Type 0

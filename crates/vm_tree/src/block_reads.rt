@@ -5,6 +5,7 @@ ghost use Rattle.vm_block.specs.Head.{IsNodeHead};
 ghost use Rattle.vm_block.specs.Told.{IsRowsSize};
 ghost use Rattle.vm_tree.specs.Tree.{IsData};
 ghost use Rattle.vm_tree.specs.Calls.{OnlyLooks};
+ghost use Rattle.vm_tree.specs.Spent.{ReadsAtMost};
 ghost use Rattle.vm_tree.specs.BlockReads.{FindsBlock, FindsData, FindsNode, FindsStep, GivesData, GivesNode, GivesNodeUnder, GivesRowsUnder, GivesWay, IsCount, IsNodeOf, IsWayAmong, ReadsNode, ReadsOne, ReadsRows};
 
 use crate::faults::TreeFault;
@@ -66,6 +67,7 @@ pub fn load_data<D: Disk>(
 pub(crate) fn load_block<D: Disk>(disk: &mut D, blocks: u32, top: Child) -> Result<(), TreeFault>
     requires { blocks ≤ (D.state disk.old).blocks }
     ensures looks { OnlyLooks result (D.state disk.old) (D.state disk.new) }
+    ensures reads { ReadsAtMost 1 (D.state disk.old) (D.state disk.new) }
     ensures found { FindsBlock result (D.state disk.old) (D.state disk.new)
         blocks top (D.hand disk.new) }
     ensures rows { GivesRowsUnder result (D.state disk.old) (D.state disk.new)
@@ -91,6 +93,7 @@ pub(crate) fn load_way<D: Disk, const MOST: usize>(
 ) -> Result<Way, TreeFault>
     requires { blocks ≤ (D.state disk.old).blocks }
     ensures looks { OnlyLooks result (D.state disk.old) (D.state disk.new) }
+    ensures reads { ReadsAtMost 1 (D.state disk.old) (D.state disk.new) }
     ensures level { IfOk result (λ way. (way.level ≡ level) × (level ≤ 7)) }
     ensures within { IfOk result (IsWayAmong MOST) }
     ensures found { FindsBlock result (D.state disk.old) (D.state disk.new)

@@ -4,6 +4,7 @@ ghost use Rattle.vm_alloc.specs.Held.{free_count};
 ghost use Rattle.vm_block.specs.Node.{node_bytes};
 ghost use Rattle.vm_tree.specs.Answers.{OkOrDevice};
 ghost use Rattle.vm_tree.specs.Calls.{WritesFree};
+ghost use Rattle.vm_tree.specs.Spent.{ReadsAtMost};
 ghost use Rattle.vm_tree.specs.Free.{IsTaken, AreTaken, TakesAtMost, is_free};
 ghost use Rattle.vm_tree.specs.Splits.{HasWritten, IfOne, MakesNode, MakesNodes, WritesBytes, WritesLeaf, WritesNode, children_of, is_split};
 
@@ -29,6 +30,7 @@ pub(crate) fn write_free<D: Disk>(
     requires inside { length held.old ≤ (D.state disk.old).blocks }
     requires room { 0 < free_count held.old }
     ensures writes { WritesFree result held.old held.new (D.state disk.old) (D.state disk.new) }
+    ensures reads { ReadsAtMost 0 (D.state disk.old) (D.state disk.new) }
     ensures device { OkOrDevice result (IsTaken held.new) }
     ensures taken { TakesAtMost 1 held.old held.new }
     ensures free { IfOk result (λ n. is_free held.old n ≡ true) }
@@ -54,6 +56,7 @@ pub(crate) fn write_bytes<D: Disk>(
     requires inside { length held.old ≤ (D.state disk.old).blocks }
     requires room { 0 < free_count held.old }
     ensures writes { WritesFree result held.old held.new (D.state disk.old) (D.state disk.new) }
+    ensures reads { ReadsAtMost 0 (D.state disk.old) (D.state disk.new) }
     ensures device { OkOrDevice result (λ child. IsTaken held.new child.block) }
     ensures taken { TakesAtMost 1 held.old held.new }
     ensures free { IfOk result (λ child. is_free held.old child.block ≡ true) }
@@ -78,6 +81,7 @@ pub(crate) fn write_node_block<D: Disk>(
     requires some { 0 < length children.now }
     requires few { length children.now ≤ MAX_CHILDREN }
     ensures writes { WritesFree result held.old held.new (D.state disk.old) (D.state disk.new) }
+    ensures reads { ReadsAtMost 0 (D.state disk.old) (D.state disk.new) }
     ensures device { OkOrDevice result (λ child. IsTaken held.new child.block) }
     ensures taken { TakesAtMost 1 held.old held.new }
     ensures free { IfOk result (λ child. is_free held.old child.block ≡ true) }
@@ -106,6 +110,7 @@ pub(crate) fn write_nodes<D: Disk, const FAN: usize>(
     requires room { 0 < free_count held.old }
     requires room_two { FAN < length children.now → 2 ≤ free_count held.old }
     ensures writes { WritesFree result held.old held.new (D.state disk.old) (D.state disk.new) }
+    ensures reads { ReadsAtMost 0 (D.state disk.old) (D.state disk.new) }
     ensures device { OkOrDevice result (λ copied. AreTaken held.new (children_of copied)) }
     ensures split { IfOk result (λ copied. (is_split copied ≡ true) ↔ (FAN < length children.now)) }
     ensures one { length children.now ≤ FAN → TakesAtMost 1 held.old held.new }

@@ -4,6 +4,7 @@ ghost use Rattle.vm_types.specs.Places.{KeyFits, place};
 ghost use Rattle.vm_alloc.specs.Held.{free_count};
 ghost use Rattle.vm_tree.specs.Answers.{OkOrDevice};
 ghost use Rattle.vm_tree.specs.Calls.{LooksIfDamaged, PutsFree, PutsIfDamaged, PutsIfDeep, WritesFree};
+ghost use Rattle.vm_tree.specs.Spent.{ReadsAtMost};
 ghost use Rattle.vm_tree.specs.Free.{IsTaken, AreTaken, TakesAtMost, long_blocks};
 ghost use Rattle.vm_tree.specs.Splits.{HasTaken, IfOne, IsWide, MakesHalves, MakesNodesWith, PutsInLeaf, SplitsLeafOver, SplitsNodeOver, WritesPut, children_of, is_split};
 ghost use Rattle.vm_types.specs.Bytes.{longest};
@@ -48,6 +49,7 @@ fn write_divided<D: Disk, const FAN: usize>(
     requires free { 0 < free_count held.old }
     requires free_two { FAN ≤ way.count → 2 ≤ free_count held.old }
     ensures writes { WritesFree result held.old held.new (D.state disk.old) (D.state disk.new) }
+    ensures reads { ReadsAtMost 0 (D.state disk.old) (D.state disk.new) }
     ensures device { OkOrDevice result (λ done. AreTaken held.new (children_of done)) }
     ensures split { IfOk result (λ done. is_split done ≡ true → FAN ≤ way.count) }
     ensures one { way.count < FAN → TakesAtMost 1 held.old held.new }
@@ -80,6 +82,7 @@ fn write_replaced<D: Disk, const FAN: usize>(
     requires free { 0 < free_count held.old }
     requires free_two { is_split copied ≡ true → FAN ≤ way.count → 2 ≤ free_count held.old }
     ensures writes { WritesFree result held.old held.new (D.state disk.old) (D.state disk.new) }
+    ensures reads { ReadsAtMost 0 (D.state disk.old) (D.state disk.new) }
     ensures device { OkOrDevice result (λ done. AreTaken held.new (children_of done)) }
     ensures split { SplitsOnly result copied FAN way.count }
     ensures one { way.count < FAN → TakesAtMost 1 held.old held.new }
@@ -113,6 +116,7 @@ fn write_halves<D: Disk>(
     requires inside { length held.old ≤ (D.state disk.old).blocks }
     requires free { 2 ≤ free_count held.old }
     ensures writes { WritesFree result held.old held.new (D.state disk.old) (D.state disk.new) }
+    ensures reads { ReadsAtMost 0 (D.state disk.old) (D.state disk.new) }
     ensures device { OkOrDevice result (λ done. AreTaken held.new (children_of done)) }
     ensures two { IfOk result (λ done. is_split done ≡ true) }
     ensures taken { TakesAtMost 2 held.old held.new }
@@ -138,6 +142,7 @@ fn split_leaf<D: Disk, const LEAF: usize>(
     requires short { length value.now ≤ longest }
     requires free { 2 + long_blocks value.now ≤ free_count held.old }
     ensures writes { WritesFree result held.old held.new (D.state disk.old) (D.state disk.new) }
+    ensures reads { ReadsAtMost 0 (D.state disk.old) (D.state disk.new) }
     ensures device { HasTaken result held.new }
     ensures looks { LooksIfDamaged result held.old held.new (D.state disk.old) (D.state disk.new) }
     ensures single { IfOne result (TakesAtMost (1 + long_blocks value.now) held.old held.new) }
@@ -184,6 +189,7 @@ fn write_put<D: Disk, const LEAF: usize>(
     requires short { length value.now ≤ longest }
     requires free { 1 + long_blocks value.now ≤ free_count held.old }
     ensures writes { WritesFree result held.old held.new (D.state disk.old) (D.state disk.new) }
+    ensures reads { ReadsAtMost 0 (D.state disk.old) (D.state disk.new) }
     ensures device { OkOrDevice result (λ child. IsTaken held.new child.block) }
     ensures taken { TakesAtMost (1 + long_blocks value.now) held.old held.new }
     ensures made { WritesPut result LEAF held.old held.new (D.state disk.old) (D.state disk.new)
@@ -216,6 +222,7 @@ fn put_in_leaf<D: Disk, const LEAF: usize>(
     requires free { 1 + long_blocks value.now ≤ free_count held.old }
     requires free_two { room ≡ true → 2 + long_blocks value.now ≤ free_count held.old }
     ensures writes { PutsFree result held.old held.new (D.state disk.old) (D.state disk.new) }
+    ensures reads { ReadsAtMost 1 (D.state disk.old) (D.state disk.new) }
     ensures device { HasTaken result held.new }
     ensures split { IfOk result (λ copied. is_split copied ≡ true → room ≡ true) }
     ensures full { result ≡ Err PutFault.Deep → room ≡ false }
@@ -269,6 +276,7 @@ fn put_below<D: Disk, const LEAF: usize, const FAN: usize>(
     requires free { 2 * level + 1 + long_blocks value.now ≤ free_count held.old }
     requires free_two { room ≡ true → 2 * level + 2 + long_blocks value.now ≤ free_count held.old }
     ensures writes { PutsFree result held.old held.new (D.state disk.old) (D.state disk.new) }
+    ensures reads { ReadsAtMost (level + 1) (D.state disk.old) (D.state disk.new) }
     ensures fits { KeyFits key }
     ensures device { HasTaken result held.new }
     ensures split { IfOk result (λ copied. is_split copied ≡ true → room ≡ true) }
@@ -319,6 +327,7 @@ fn put_first<D: Disk>(
     requires room { 16 ≤ free_count held.old }
     requires short { length value.now ≤ longest }
     ensures writes { WritesFree result held.old held.new (D.state disk.old) (D.state disk.new) }
+    ensures reads { ReadsAtMost 0 (D.state disk.old) (D.state disk.new) }
     ensures device { OkOrDevice result (λ r. IsTaken held.new r.block × (r.level ≡ 0)) }
     ensures taken { TakesAtMost (1 + long_blocks value.now) held.old held.new }
     ensures put { PutsFirst result held.old held.new (D.state disk.new) (key, value.now) }
@@ -347,15 +356,19 @@ pub fn put<D: Disk, const LEAF: usize, const FAN: usize, const LEVELS: usize>(
     requires room { 16 ≤ free_count held.old }
     requires short { length value.now ≤ longest }
 
-    // What is held stays held, and at no moment does a block that was held have other bytes than
-    // before.
+    // What is held stays held, at no moment does a block that was held have other bytes than before,
+    // and each block that is taken lies below each one that is still free.
     ensures writes { PutsFree result held.old held.new (D.state disk.old) (D.state disk.new) }
+
+    // It reads at most one block per level, whatever the answer, and none for the empty map.
+    ensures reads { ReadsAtMost (root.level + 1) (D.state disk.old) (D.state disk.new) }
+    ensures first_reads { root.block ≡ 0 → ReadsAtMost 0 (D.state disk.old) (D.state disk.new) }
 
     // The root is a data block, and it is held now.
     ensures root { IfOk result (λ r. IsTaken held.new r.block × (r.level < LEVELS)) }
 
-    // The empty map gets a leaf. Any other tree keeps its height or gains one level, and then its
-    // root has at least two children.
+    // The empty map gets a leaf. Any other tree keeps its height or gains one level, and on a tree its
+    // root then has at least two children.
     ensures first_level { root.block ≡ 0 → IfOk result (λ r. r.level ≡ 0) }
     ensures level { root.block ≢ 0
         → IfOk result (λ r. (root.level ≤ r.level) × (r.level ≤ root.level + 1)) }

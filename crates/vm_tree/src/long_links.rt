@@ -6,6 +6,7 @@ ghost use Rattle.vm_block.specs.Leaf.{LinkFits, StoredFits};
 ghost use Rattle.vm_block.specs.Told.{IfHasRows};
 ghost use Rattle.vm_tree.specs.Answers.{OkOrDevice};
 ghost use Rattle.vm_tree.specs.Calls.{WritesFree};
+ghost use Rattle.vm_tree.specs.Spent.{ReadsAtMost};
 ghost use Rattle.vm_tree.specs.Free.{TakesAtMost, long_blocks};
 ghost use Rattle.vm_tree.specs.Splits.{StoresValue, WritesLong};
 ghost use Rattle.vm_tree.specs.Rows.{IsLinkAt};
@@ -46,6 +47,7 @@ pub(crate) fn write_long_block<D: Disk>(
     requires most { length value.now ≤ longest }
     requires free { 0 < free_count held.old }
     ensures writes { WritesFree result held.old held.new (D.state disk.old) (D.state disk.new) }
+    ensures reads { ReadsAtMost 0 (D.state disk.old) (D.state disk.new) }
     ensures device { OkOrDevice result LinkFits }
     ensures taken { TakesAtMost 1 held.old held.new }
     ensures made { WritesLong result held.old held.new (D.state disk.new) (key, value.now) }
@@ -69,6 +71,7 @@ pub(crate) fn store<'a, D: Disk>(
     requires short { length value.now ≤ longest }
     requires free { long_blocks value.now ≤ free_count held.old }
     ensures writes { WritesFree result held.old held.new (D.state disk.old) (D.state disk.new) }
+    ensures reads { ReadsAtMost 0 (D.state disk.old) (D.state disk.new) }
     ensures device { OkOrDevice result StoredFits }
     ensures taken { TakesAtMost (long_blocks value.now) held.old held.new }
     ensures stored { StoresValue result held.old held.new (D.state disk.new) (key, value.now) }

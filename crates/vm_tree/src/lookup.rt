@@ -1,5 +1,5 @@
 //! The value of a key, and whether it has one.
-ghost use Rattle.std.specs.Prelude.{◌≡◌, ◌≢◌, ◌≤◌, ℕ, Bool, length, IfOk, IfSome};
+ghost use Rattle.std.specs.Prelude.{◌≡◌, ◌≢◌, ◌+◌, ◌≤◌, ℕ, Bool, length, IfOk, IfSome};
 ghost use Rattle.vm_types.specs.Bytes.{longest};
 ghost use Rattle.vm_types.specs.Places.{place, value_at};
 ghost use Rattle.vm_block.specs.Head.{IsRowsHead};
@@ -8,6 +8,7 @@ ghost use Rattle.vm_block.specs.Told.{IfHasRows};
 ghost use Rattle.vm_tree.specs.Calls.{OnlyLooks};
 ghost use Rattle.vm_tree.specs.Given.{GivesLeaf, GivesLinked, GivesValue, GivesValueUnder, IsLinkOf, TellsRecord, TellsRecordUnder};
 ghost use Rattle.vm_tree.specs.BlockReads.{FindsEnd, FindsLeaf, FindsPathFrom};
+ghost use Rattle.vm_tree.specs.Spent.{ReadsAtMost};
 
 use crate::block_reads::{load_block, load_way};
 use crate::faults::TreeFault;
@@ -28,6 +29,7 @@ fn get_long<'a, D: Disk>(
     requires { blocks ≤ (D.state disk.old).blocks }
     ensures looks { OnlyLooks result (D.state disk.old) (D.state disk.new) }
     ensures short { IfOk result (λ value. IfSome value (λ found. length found.now ≤ longest)) }
+    ensures reads { ReadsAtMost 1 (D.state disk.old) (D.state disk.new) }
     ensures value { GivesLinked result (D.state disk.old) (D.state disk.new) blocks key link }
 {
     let value = long_at(disk, blocks, key, link, bytes)?;
@@ -72,6 +74,7 @@ fn get_in_leaf<'a, D: Disk>(
     requires { blocks ≤ (D.state disk.old).blocks }
     ensures looks { OnlyLooks result (D.state disk.old) (D.state disk.new) }
     ensures short { IfOk result (λ value. IfSome value (λ found. length found.now ≤ longest)) }
+    ensures reads { ReadsAtMost 2 (D.state disk.old) (D.state disk.new) }
     ensures path { FindsEnd result (D.state disk.old) (D.state disk.new) blocks top }
     ensures value { GivesValueUnder result (D.state disk.old) (D.state disk.new) blocks top key }
 {
@@ -91,6 +94,7 @@ fn get_in_leaf<'a, D: Disk>(
 fn has_in_leaf<D: Disk>(disk: &mut D, blocks: u32, top: Child, key: Key) -> Result<bool, TreeFault>
     requires { blocks ≤ (D.state disk.old).blocks }
     ensures looks { OnlyLooks result (D.state disk.old) (D.state disk.new) }
+    ensures reads { ReadsAtMost 1 (D.state disk.old) (D.state disk.new) }
     ensures path { FindsEnd result (D.state disk.old) (D.state disk.new) blocks top }
     ensures found { TellsRecordUnder result (D.state disk.old) (D.state disk.new) blocks top key }
 {
@@ -112,6 +116,8 @@ fn leaf_of<D: Disk>(
 ) -> Result<Child, TreeFault>
     requires { blocks ≤ (D.state disk.old).blocks }
     ensures looks { OnlyLooks result (D.state disk.old) (D.state disk.new) }
+    ensures reads { ReadsAtMost level (D.state disk.old) (D.state disk.new) }
+    ensures most { ReadsAtMost 7 (D.state disk.old) (D.state disk.new) }
     ensures path { FindsLeaf result (D.state disk.old) (D.state disk.new) blocks (place key) level top }
     ensures leaf { GivesLeaf result (D.state disk.old) (D.state disk.new) blocks level top key }
 {
@@ -144,6 +150,11 @@ pub fn get<'a, D: Disk>(
     // On a tree it is the value in its map, whatever the sizes of its blocks, unless the device
     // fails.
     ensures value { GivesValue result (D.state disk.old) (D.state disk.new) blocks root key }
+
+    // Whatever the answer, it reads at most one block per level and that of a long value, and no more
+    // than nine.
+    ensures reads { ReadsAtMost (root.level + 2) (D.state disk.old) (D.state disk.new) }
+    ensures most { ReadsAtMost 9 (D.state disk.old) (D.state disk.new) }
 {
     if root.block == 0 {
         return Ok(None);
@@ -166,6 +177,10 @@ pub fn has<D: Disk>(disk: &mut D, blocks: u32, root: Root, key: Key) -> Result<b
 
     // On a tree it answers for its map, whatever the sizes of its blocks, unless the device fails.
     ensures found { TellsRecord result (D.state disk.old) (D.state disk.new) blocks root key }
+
+    // Whatever the answer, it reads at most one block per level, and no more than eight.
+    ensures reads { ReadsAtMost (root.level + 1) (D.state disk.old) (D.state disk.new) }
+    ensures most { ReadsAtMost 8 (D.state disk.old) (D.state disk.new) }
 {
     if root.block == 0 {
         return Ok(false);

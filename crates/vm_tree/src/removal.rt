@@ -1,8 +1,9 @@
 //! Removing a record.
-ghost use Rattle.std.specs.Prelude.{◌≡◌, ◌≢◌, ◌+◌, ◌<◌, ◌≤◌, true, false, [], ◌∷◌, ◌++◌, None, length, IfOk, IfSome};
+ghost use Rattle.std.specs.Prelude.{◌≡◌, ◌≢◌, ◌+◌, ◌-◌, ◌<◌, ◌≤◌, true, false, [], ◌∷◌, ◌++◌, None, length, IfOk, IfSome};
 ghost use Rattle.vm_types.specs.Places.{KeyFits, place};
 ghost use Rattle.vm_alloc.specs.Held.{free_count};
 ghost use Rattle.vm_tree.specs.Calls.{OnlyLooks, LooksIf, LooksIfDamaged, WritesFree};
+ghost use Rattle.vm_tree.specs.Spent.{ReadsAtMost};
 ghost use Rattle.vm_tree.specs.Free.{TakesAtMost};
 ghost use Rattle.vm_tree.specs.Splits.{IsWide};
 ghost use Rattle.vm_tree.specs.Paths.{NamesLong, NamesPath, NamesPathUnder};
@@ -70,6 +71,7 @@ fn load_rows<D: Disk, const MOST: usize>(
 ) -> Result<(), TreeFault>
     requires { blocks ≤ (D.state disk.old).blocks }
     ensures looks { OnlyLooks result (D.state disk.old) (D.state disk.new) }
+    ensures reads { ReadsAtMost 1 (D.state disk.old) (D.state disk.new) }
     ensures end { FindsEnd result (D.state disk.old) (D.state disk.new) blocks top }
     ensures found { FindsRows result (D.state disk.old) (D.state disk.new) top MOST (D.hand disk.new) }
     ensures only { GivesRowsAmong result (D.state disk.old) (D.state disk.new)
@@ -95,6 +97,7 @@ fn remove_from_leaf<D: Disk, const LEAF: usize>(
     requires most { LEAF ≤ MAX_ROWS }
     requires free { 1 ≤ free_count held.old }
     ensures writes { WritesFree result held.old held.new (D.state disk.old) (D.state disk.new) }
+    ensures reads { ReadsAtMost 1 (D.state disk.old) (D.state disk.new) }
     ensures level { IfOk result (λ left. level_of left 0 ≡ 0) }
     ensures root { IfOk result (LeavesData (length held.old)) }
     ensures taken { TakesAtMost 1 held.old held.new }
@@ -133,6 +136,7 @@ fn narrowed<D: Disk, const FAN: usize>(
 ) -> Result<Root, TreeFault>
     requires { blocks ≤ (D.state disk.old).blocks }
     ensures looks { OnlyLooks result (D.state disk.old) (D.state disk.new) }
+    ensures reads { ReadsAtMost level (D.state disk.old) (D.state disk.new) }
     ensures level { IfOk result (λ root. root.level ≤ level) }
     ensures root { IfOk result (λ root. IsData blocks root.block) }
     ensures wide { IfOk result (IsWide (D.state disk.new)) }
@@ -169,6 +173,8 @@ fn write_rest<D: Disk, const FAN: usize>(
     requires most { FAN ≤ MAX_CHILDREN }
     requires free { 1 ≤ free_count held.old }
     ensures writes { WritesFree result held.old held.new (D.state disk.old) (D.state disk.new) }
+    ensures reads { ReadsAtMost (level - 1) (D.state disk.old) (D.state disk.new) }
+    ensures idle { result ≡ Ok Left.Nothing → ReadsAtMost 0 (D.state disk.old) (D.state disk.new) }
     ensures changed { result ≢ Ok Left.Same }
     ensures level { IfOk result (λ left. level_of left level ≤ level) }
     ensures same_level { is_root ≡ false → IfOk result (λ left. level_of left level ≡ level) }
@@ -211,6 +217,8 @@ fn remove_below<D: Disk, const LEAF: usize, const FAN: usize>(
     requires low { level ≤ 7 }
     requires free { level + 1 ≤ free_count held.old }
     ensures writes { WritesFree result held.old held.new (D.state disk.old) (D.state disk.new) }
+    ensures reads { ReadsAtMost (level + 1 + (level - 1)) (D.state disk.old) (D.state disk.new) }
+    ensures path_reads { result ≡ Ok Left.Nothing → ReadsAtMost (level + 1) (D.state disk.old) (D.state disk.new) }
     ensures fits { KeyFits key }
     ensures level { IfOk result (λ left. level_of left level ≤ level) }
     ensures same_level { is_root ≡ false → IfOk result (λ left. level_of left level ≡ level) }
@@ -275,9 +283,13 @@ pub fn remove<D: Disk, const LEAF: usize, const FAN: usize, const LEVELS: usize>
     // The new root is a data block, or that of the empty map.
     ensures root { IfOk result (λ rest. IfSome rest (IsRootAmong (length held.old))) }
 
-    // What is held stays held, and at no moment does a block that was held have other bytes than
-    // before.
+    // What is held stays held, at no moment does a block that was held have other bytes than before,
+    // and each block that is taken lies below each one that is still free.
     ensures writes { WritesFree result held.old held.new (D.state disk.old) (D.state disk.new) }
+
+    // It reads at most one block per level, and one more for each level between the root and the leaves if
+    // the root is replaced by a block below it.
+    ensures reads { ReadsAtMost (root.level + 1 + (root.level - 1)) (D.state disk.old) (D.state disk.new) }
 
     // At most 8 blocks are taken.
     ensures taken { TakesAtMost 8 held.old held.new }
@@ -317,7 +329,7 @@ pub fn remove<D: Disk, const LEAF: usize, const FAN: usize, const LEVELS: usize>
     ensures remove { RemovesFrom result (sizes_of LEAF FAN LEVELS) held.old held.new
         (D.state disk.old) (D.state disk.new) root key path.new }
 
-    // The new root is a leaf, or has at least two children.
+    // On a tree the new root is a leaf, or has at least two children.
     ensures wide { IfOk result (λ rest. IfSome rest (IsWide (D.state disk.new))) }
 
     // The path consists of blocks of the old tree.

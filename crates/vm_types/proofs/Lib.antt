@@ -16,6 +16,7 @@ pub mod PartLemmas
 pub mod Runs
 pub mod SettledLemmas
 pub mod ShapeLemmas
+pub mod SmallerLemmas
 pub mod SoundLemmas
 pub mod Steps
 pub mod WellFormed

@@ -222,7 +222,7 @@ filter_map_alike f g [] is = refl
 filter_map_alike f g (k ∷ keys) is = ap (λ o. cons_option o (filter_map f keys)) (is k) ∙ ap (cons_option (g k)) (filter_map_alike f g keys is)
 
 -- each key that gives something is in the list
-abbrev Covers : {X : Type 0} → (Key → Option X) → List Key → Type 0
+abbrev pub Covers : {X : Type 0} → (Key → Option X) → List Key → Type 0
 Covers f keys = (q : Key) → list_any (same_key q) keys ≡ false → f q ≡ None
 
 -- a mark at each key that gives something
@@ -257,7 +257,7 @@ module _ {X : Type 0} (f : Key → Option X) where
 
 -- ---- at one key
 
-same_value-sym : (u v : Option (List ℕ)) → same_value u v ≡ same_value v u
+pub same_value-sym : (u v : Option (List ℕ)) → same_value u v ≡ same_value v u
 same_value-sym u v = same_from_decides (same_value u v) (same_value v u) (same_value-Decides u v) ((λ h. sym ((same_value-Decides v u).0 h)), (λ e. (same_value-Decides v u).1 (sym e)))
 
 same_value-refl : (u : Option (List ℕ)) → same_value u u ≡ true
@@ -322,7 +322,7 @@ module _ (base parent own : Map) (g : IsMap parent) (h : IsMap own) where
       let none = no_change base parent q absent in
       ap (λ v. conflict_of q v (get parent q) (get own q)) none.0 ∙ ap (λ v. conflict_of q None v (get own q)) none.1
 
-  conflict_covers-right : Covers (conflict_at base parent own) (keys_of parent own)
+  pub conflict_covers-right : Covers (conflict_at base parent own) (keys_of parent own)
   conflict_covers-right q absent =
       let none = no_change parent own q absent in
       ap (λ v. conflict_of q (get base q) v (get own q)) none.0

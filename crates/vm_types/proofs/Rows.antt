@@ -14,7 +14,7 @@ use Rattle.vm_types.specs.declared.change.Conflict.{Conflict}
 use Rattle.vm_types.specs.Map.{Map, get, delta, conflicts}
 use Rattle.vm_types.specs.Tree.{Alternative, Tree, top, fresh, named, current_of}
 use Rattle.vm_types.specs.Step.{or_refuse, refuse_if, refuse_found}
-use Rattle.vm_types.specs.State.{State, opened, committed_of, working_of, answers_to, after, edits}
+use Rattle.vm_types.specs.State.{State, opened, committed_of, working_of, answers_to, after, edits, changes_made, merge_changes}
 
 abbrev key : ℕ → ℕ → Key
 key table number = record { table = table; number = number }
@@ -257,6 +257,28 @@ nine_come_in = refl
 nine_are_counted : edits (tree_of nine_beside_eight) (Merge a no_sides) ≡ 9
 unfolding or_refuse refuse_if refuse_found
 nine_are_counted = refl
+
+-- and eight are made in the parent's records: the smaller side
+eight_are_made : changes_made (tree_of nine_beside_eight) (Merge a no_sides) ≡ 8
+unfolding or_refuse refuse_if refuse_found
+eight_are_made = refl
+
+-- of equal sides the parent's: its record of table 1 is there, and one's own of table 2 is put
+abbrev one_of_each : List Command
+one_of_each = New a top ∷ Put top (key 1 1) x ∷ Put a (key 2 1) y ∷ []
+
+equal_sides_begin_above : merge_changes (tree_of one_of_each) a no_sides ≡ record { key = key 2 1; before = None; after = Some y } ∷ []
+unfolding or_refuse refuse_if refuse_found
+equal_sides_begin_above = refl
+
+-- a design without changes of its own, and a parent without any, are merged by no change
+nothing_is_made_above : changes_made (tree_of (New a top ∷ puts top 1 1 9)) (Merge a no_sides) ≡ 0
+unfolding or_refuse refuse_if refuse_found
+nothing_is_made_above = refl
+
+nothing_is_made_below : changes_made (tree_of (New a top ∷ puts a 1 1 9)) (Merge a no_sides) ≡ 0
+unfolding or_refuse refuse_if refuse_found
+nothing_is_made_below = refl
 
 nine_stand_before_eight : records (nine_beside_eight ++ Merge a no_sides ∷ []) a ≡ rows 1 1 9 ++ rows 2 1 8
 unfolding or_refuse refuse_if refuse_found

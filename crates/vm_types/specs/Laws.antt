@@ -1,5 +1,5 @@
 -- Laws of the model, each a sentence about every tree, map or list of commands.
-use Rattle.std.specs.Prelude.{◌≡◌, ◌≢◌, ◌↔◌, ℕ, ◌≤◌, List, [], Result, Ok, IsOk}
+use Rattle.std.specs.Prelude.{◌≡◌, ◌≢◌, ◌↔◌, ℕ, ◌≤◌, List, [], length, Result, Ok, IsOk}
 use Rattle.vm_types.specs.declared.key.Key.{Key}
 use Rattle.vm_types.specs.declared.answer.Answer.{Answer}
 use Rattle.vm_types.specs.declared.command.Side.{Side}
@@ -7,7 +7,7 @@ use Rattle.vm_types.specs.declared.command.Command.{Command}
 use Rattle.vm_types.specs.declared.command.Command.TheVariants.{Rollback}
 use Rattle.vm_types.specs.declared.refusal.Refusal.{Refusal}
 use Rattle.vm_types.specs.declared.sizes.TheConstants.{MIN_BLOCKS, MAX_BLOCKS}
-use Rattle.vm_types.specs.Map.{Map, IsMap, get, delta, merged_at, merge}
+use Rattle.vm_types.specs.Map.{Map, IsMap, IsSettled, get, delta, merged_at, merge, merge_start, turned, with_changes}
 use Rattle.vm_types.specs.Queries.{changes_in}
 use Rattle.vm_types.specs.Parts.{part, diff}
 use Rattle.vm_types.specs.Tree.{Tree, fresh, named, top}
@@ -25,6 +25,22 @@ StepsKeepTreesWellFormed = IsWellFormed fresh × ((tree : Tree) (command : Comma
 abbrev pub MergesAreThreeWay : Type 0
 MergesAreThreeWay = (base parent mine : Map) (settled : List (Key × Side)) →
     ((key : Key) → get (merge base parent mine settled) key ≡ merged_at base parent mine settled key) × (IsMap mine → IsMap (merge base parent mine settled))
+
+-- a merge is the same from both sides, where each conflict is settled: the own map with what the parent changed, and the parent's map with
+-- what is kept of one's own
+abbrev pub MergesAreSymmetric : Type 0
+MergesAreSymmetric = (base parent mine : Map) (settled : List (Key × Side)) →
+    IsSettled base parent mine settled
+    → ((key : Key) → merged_at base parent mine settled key ≡ merged_at base mine parent (turned settled) key)
+    × (IsMap parent → IsMap mine → merge base parent mine settled ≡ merge base mine parent (turned settled))
+
+-- the changes that a merge makes lead from the map that it begins with to the merged one, and from neither side's map fewer do
+abbrev pub MergesTakeTheSmallerSide : Type 0
+MergesTakeTheSmallerSide = (own parent merged : Map) → IsMap own → IsMap parent → IsMap merged →
+    let made = delta (merge_start own parent merged) merged in
+    (with_changes (merge_start own parent merged) made ≡ merged)
+    × (length made ≤ length (delta own merged))
+    × (length made ≤ length (delta parent merged))
 
 -- maps differ at no key exactly where they are equal
 abbrev pub DeltasTellEquality : Type 0

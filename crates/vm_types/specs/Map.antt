@@ -1,5 +1,5 @@
 -- Maps from keys to values: what a record is, where two maps differ, how changes are made, and how three are merged.
-use Rattle.std.specs.Prelude.{ℕ, Bool, not, ◌&&◌, List, [], ◌∷◌, map, filter_map, Option, Some, None, is_none, option_map, if◌then◌else◌, IsTrue, bytes_eq}
+use Rattle.std.specs.Prelude.{◌≡◌, ℕ, Bool, true, nat_le, length, is_some, not, ◌&&◌, List, [], ◌∷◌, map, filter_map, Option, Some, None, is_none, option_map, if◌then◌else◌, IsTrue, bytes_eq}
 use Rattle.std.specs.Option.{option_eq}
 use Rattle.std.specs.declared.cmp.Ordering.{Ordering}
 use Rattle.std.specs.Ordering.{nat_cmp, ordering_then, eq_by_cmp}
@@ -84,6 +84,15 @@ conflicts base parent mine = filter_map (conflict_at base parent mine) (keys_of 
 abbrev pub side_of : List (Key × Side) → Key → Option Side
 side_of settled key = entries.find key_cmp key settled
 
+-- the other side
+abbrev pub other_side : Side → Side
+other_side Mine = Theirs
+other_side Theirs = Mine
+
+-- the settlements as the parent has them: each to the other side
+abbrev pub turned : List (Key × Side) → List (Key × Side)
+turned settled = map (λ e. (e.0, other_side e.1)) settled
+
 -- what the three-way rule gives, and in a conflict the parent's value where the side is Theirs, else one's own
 abbrev pub settled_value : Option (Option (List ℕ)) → Option Side → Option (List ℕ) → Option (List ℕ) → Option (List ℕ)
 settled_value (Some value) side parent mine = value
@@ -99,6 +108,23 @@ merged_at base parent mine settled key =
 -- the map that has these values
 abbrev pub merge : Map → Map → Map → List (Key × Side) → Map
 merge base parent mine settled = filter_map (λ key. option_map (λ value. (key, value)) (merged_at base parent mine settled key)) (keys_of parent mine)
+
+-- each key in conflict is settled
+abbrev pub IsSettled : Map → Map → Map → List (Key × Side) → Type 0
+IsSettled base parent mine settled = (key : Key) → three (get base key) (get parent key) (get mine key) ≡ None → is_some (side_of settled key) ≡ true
+
+-- the side whose map a merge begins with: the parent's if no more changes lead from it to the merged map than from one's own
+abbrev pub start_side : Map → Map → Map → Side
+start_side own parent merged = if nat_le (length (delta parent merged)) (length (delta own merged)) then Theirs else Mine
+
+-- the map of a side
+abbrev pub map_of : Side → Map → Map → Map
+map_of Mine own parent = own
+map_of Theirs own parent = parent
+
+-- the map that a merge begins with
+abbrev pub merge_start : Map → Map → Map → Map
+merge_start own parent merged = map_of (start_side own parent merged) own parent
 
 -- whether two maps are equal, record by record
 abbrev pub same_map : Map → Map → Bool

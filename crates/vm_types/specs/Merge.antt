@@ -1,5 +1,5 @@
 -- What a change of the parent and one's own change at its key come to.
-use Rattle.std.specs.Prelude.{◌≡◌, ℕ, Bool, List, [], ◌∷◌, ◌++◌, Option, Some, None, Result, Vec, IfOk, OnOk, drop, map, slice_index_or, option_map, option_to_list, find, not, if◌then◌else◌}
+use Rattle.std.specs.Prelude.{◌≡◌, ℕ, Bool, List, [], ◌∷◌, ◌++◌, Option, Some, None, is_some, Result, Vec, IfOk, OnOk, drop, length, map, slice_index_or, option_map, option_to_list, find, not, if◌then◌else◌}
 use Rattle.std.specs.List.{list_any}
 use Rattle.std.specs.Ordering.{is_lt}
 use Rattle.vm_types.specs.declared.key.Key.{Key}
@@ -7,8 +7,9 @@ use Rattle.vm_types.specs.declared.change.Change.{Change}
 use Rattle.vm_types.specs.declared.change.Conflict.{Conflict}
 use Rattle.vm_types.specs.declared.command.Side.{Side}
 use Rattle.vm_types.specs.declared.command.Side.TheVariants.{Mine, Theirs}
+use Rattle.vm_types.specs.declared.merge.MergePlan.{MergePlan}
 use Rattle.vm_types.specs.declared.refusal.Refusal.{Refusal}
-use Rattle.vm_types.specs.Map.{Map, IsMap, key_cmp, same_key, same_value, side_of, delta, conflicts, merge}
+use Rattle.vm_types.specs.Map.{Map, IsMap, key_cmp, same_key, same_value, side_of, turned, IsSettled, delta, conflicts, merge, start_side, merge_start}
 use Rattle.vm_types.specs.Step.{first_repeated}
 
 -- the changes without the first ones that have lower keys
@@ -41,6 +42,11 @@ chosen (Some Theirs) theirs own = Some (record { key = theirs.key; before = own.
 chosen (Some Mine) theirs own = None
 chosen None theirs own = None
 
+-- the settlements where the changes of a side are taken: Theirs names this side
+abbrev pub taking : Side → List (Key × Side) → List (Key × Side)
+taking Theirs settled = settled
+taking Mine settled = turned settled
+
 -- what the merge changes at the key of a change of the parent
 abbrev pub taken : List (Key × Side) → Change → Option Change → Option Change
 taken settled theirs None = Some theirs
@@ -68,6 +74,10 @@ TellsKey answer key changes at = (d : Change) → first_at key (drop at changes)
 abbrev pub TellsClash : Bool → List Change → ℕ → List Change → ℕ → Type 0
 TellsClash answer theirs i mine at =
     (d : Change) → clash_at theirs i mine at d ≡ (if answer then Some (clash_of (slice_index_or theirs i d) (slice_index_or mine at d)) else None)
+
+-- it is told whether the merge changes something there
+abbrev pub TellsTaken : Bool → List (Key × Side) → List Change → ℕ → List Change → ℕ → Type 0
+TellsTaken answer settled theirs i mine at = (d : Change) → is_some (taken settled (slice_index_or theirs i d) (own_at theirs i mine at d)) ≡ answer
 
 -- what the merge changes there is added
 abbrev pub AddsTaken : {T E : Type 0} → Result T E → List (Key × Side) → List Change → ℕ → List Change → ℕ → List Change → List Change → Type 0
@@ -100,6 +110,21 @@ ListsKeys result theirs mine = OnSides theirs mine (λ base parent own. IfOk res
 -- the list is what their merge changes of one's own map
 abbrev pub ListsMerge : Result (List Change) Refusal → List Change → List Change → List (Key × Side) → Type 0
 ListsMerge result theirs mine settled = OnSides theirs mine (λ base parent own. IfOk result (λ list. list ≡ delta own (merge base parent own settled)))
+
+-- their number is told
+abbrev pub CountsMerge : ℕ → List Change → List Change → List (Key × Side) → Type 0
+CountsMerge count theirs mine settled = OnSides theirs mine (λ base parent own. count ≡ length (delta own (merge base parent own settled)))
+
+-- a merge is planned: the side that it begins with, the changes that it makes in that map, and how many records of one's own it changes
+pub record IsPlan (plan : MergePlan) (own parent merged : Map) : Type 0 where
+  pub start : plan.start ≡ start_side own parent merged
+  pub changes : plan.changes ≡ delta (merge_start own parent merged) merged
+  pub edits : plan.edits ≡ length (delta own merged)
+
+-- the merge of two sides is planned, if each conflict is settled
+abbrev pub PlansMerge : Result MergePlan Refusal → List Change → List Change → List (Key × Side) → Type 0
+PlansMerge result theirs mine settled =
+    OnSides theirs mine (λ base parent own. IsSettled base parent own settled → IfOk result (λ plan. IsPlan plan own parent (merge base parent own settled)))
 
 -- # Settlements
 

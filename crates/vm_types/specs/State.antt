@@ -1,13 +1,16 @@
 -- The state of a store: what is committed and what commands work on, and what commands make of them.
 use Rattle.std.specs.Prelude.{ℕ, ◌||◌, Bool, true, false, List, [], ◌∷◌, length, nat_lt, nat_le, Result, Ok, Err, if◌then◌else◌}
 use Rattle.vm_types.specs.declared.answer.Answer.{Answer}
+use Rattle.vm_types.specs.declared.change.Change.{Change}
 use Rattle.vm_types.specs.declared.command.Command.{Command}
+use Rattle.vm_types.specs.declared.command.Side.{Side}
+use Rattle.vm_types.specs.declared.key.Key.{Key}
 use Rattle.vm_types.specs.declared.command.Command.TheVariants.{Put, Remove, Merge, Commit, Rollback, Grow}
 use Rattle.vm_types.specs.declared.refusal.Refusal.{Refusal}
 use Rattle.vm_types.specs.declared.refusal.Refusal.TheVariants.{BadSize}
 use Rattle.vm_types.specs.declared.sizes.TheConstants.{MAX_BLOCKS}
-use Rattle.vm_types.specs.Map.{delta}
-use Rattle.vm_types.specs.Tree.{Tree, current_of}
+use Rattle.vm_types.specs.Map.{Map, delta, merge_start}
+use Rattle.vm_types.specs.Tree.{Tree, current_of, parent_current_of}
 use Rattle.vm_types.specs.Step.{Outcome, refuse_if, step}
 
 -- what a disk shows: a tree of alternatives, and how many blocks the store has
@@ -96,12 +99,29 @@ answers_to s (command ∷ commands) =
     let answer = answer_of (outcome s command) in
     answer ∷ answers_to (next s command answer) commands
 
+-- the records that an alternative has after a Merge
+abbrev pub merged_of : Tree → List ℕ → List (Key × Side) → Map
+merged_of tree alt settled = current_of (tree_after tree (step tree (Merge alt settled))) alt
+
 -- the number of record changes: one for a Put or a Remove, for a Merge the keys at which the alternative's records change
 abbrev pub edits : Tree → Command → ℕ
 edits tree (Put alt key value) = 1
 edits tree (Remove alt key) = 1
-edits tree (Merge alt settled) = length (delta (current_of tree alt) (current_of (tree_after tree (step tree (Merge alt settled))) alt))
+edits tree (Merge alt settled) = length (delta (current_of tree alt) (merged_of tree alt settled))
 edits tree command = 0
+
+-- the records in which a Merge makes its changes: those of the side from which fewer lead to the merged ones, of equal sides the parent's
+abbrev pub start_of : Tree → List ℕ → List (Key × Side) → Map
+start_of tree alt settled = merge_start (current_of tree alt) (parent_current_of tree alt) (merged_of tree alt settled)
+
+-- the changes that it makes in them
+abbrev pub merge_changes : Tree → List ℕ → List (Key × Side) → List Change
+merge_changes tree alt settled = delta (start_of tree alt settled) (merged_of tree alt settled)
+
+-- the number of changes that a command makes: its record changes, but for a Merge those that it makes on the smaller side
+abbrev pub changes_made : Tree → Command → ℕ
+changes_made tree (Merge alt settled) = length (merge_changes tree alt settled)
+changes_made tree command = edits tree command
 
 -- how many free blocks a record change wants: one more than it takes at most
 abbrev pub blocks_a_change : ℕ

@@ -1,7 +1,7 @@
 -- The tree of alternatives.
 use Rattle.std.specs.Prelude.{ℕ, ◌+◌, Bool, List, length, find, sum_by, Option, Some, option_map, unwrap_or, nat_le, bytes_eq, [], codes, ◌∷◌, None}
 use Rattle.std.specs.List.{list_any}
-use Rattle.std.specs.Option.{option_eq}
+use Rattle.std.specs.Option.{option_and_then, option_eq}
 use Rattle.vm_types.specs.declared.sizes.TheConstants.{MAX_VERSIONS}
 use Rattle.vm_types.specs.Map.{Map}
 use Rattle.vm_types.specs.Firsts.{change_first}
@@ -43,6 +43,11 @@ saved_as a name = find (λ c. bytes_eq c.name name) a.saved
 -- what an alternative shows as its records
 abbrev pub current_of : Tree → List ℕ → Map
 current_of tree name = unwrap_or (option_map (λ a. a.current) (named tree name)) []
+
+-- what its parent shows, if it has one
+abbrev pub parent_current_of : Tree → List ℕ → Map
+parent_current_of tree name =
+    unwrap_or (option_map (λ p. p.current) (option_and_then (λ parent. named tree parent) (option_and_then (λ a. a.parent) (named tree name)))) []
 
 -- whether some alternative has this one as its parent
 abbrev pub has_children : Tree → List ℕ → Bool

@@ -4,6 +4,6 @@
 #[derive(Clone, Copy, Debug, PartialEq, Eq, Hash)]
 pub enum Answer {
     Done,
-    /// The answer to a Merge, with the number of its record changes.
-    Merged(u32),
+    /// The answer to a Merge, with the number of records that it changed in the alternative.
+    Merged(usize),
 }

@@ -9,6 +9,21 @@ pub enum Side {
     Theirs,
 }
 
+impl Side {
+    ghost use Rattle.std.specs.Prelude.{◌≡◌};
+    ghost use Rattle.vm_types.specs.Map.{other_side};
+
+    /// The other side.
+    pub fn other(self) -> Side
+        ensures { result ≡ other_side self }
+    {
+        match self {
+            Side::Mine => Side::Theirs,
+            Side::Theirs => Side::Mine,
+        }
+    }
+}
+
 /// Settlements of conflicts, each a key and a side, in the order in which they were given.
 #[derive(Debug, Drop)]
 pub struct Settled {

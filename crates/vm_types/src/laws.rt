@@ -1,6 +1,6 @@
 //! Laws of the model. Each function does nothing: its contract is the law, and so the law is proved
 //! for every tree, map or list of commands.
-ghost use Rattle.vm_types.specs.Laws.{StepsKeepTreesWellFormed, MergesAreThreeWay, DeltasTellEquality, DiffsArePartwise, StoresOnlyGrow, AlternativesAreIsolated, ChangesBeginAtBases};
+ghost use Rattle.vm_types.specs.Laws.{StepsKeepTreesWellFormed, MergesAreThreeWay, MergesAreSymmetric, MergesTakeTheSmallerSide, DeltasTellEquality, DiffsArePartwise, StoresOnlyGrow, AlternativesAreIsolated, ChangesBeginAtBases};
 
 /// Names stay distinct, parents stay earlier, and `top` stays first and keeps the empty base.
 pub fn steps_keep_trees_well_formed()
@@ -10,6 +10,17 @@ pub fn steps_keep_trees_well_formed()
 /// Absence counts as a value, also in a conflict.
 pub fn merges_are_three_way()
     ensures { MergesAreThreeWay }
+{}
+
+/// If each conflict is settled, a merge brings what the parent changed into the alternative's map,
+/// or what it keeps of the alternative's changes into the parent's: the result is the same.
+pub fn merges_are_symmetric()
+    ensures { MergesAreSymmetric }
+{}
+
+/// A merge makes no more changes than lead to its result from either side's map.
+pub fn merges_take_the_smaller_side()
+    ensures { MergesTakeTheSmallerSide }
 {}
 
 /// A value that was written again is no difference.

@@ -30,7 +30,7 @@ pub use changes::{Changes, ChangesIter};
 pub use command::{Command, Settled, Side};
 pub use conflicts::{Conflicts, ConflictsIter};
 pub use key::Key;
-pub use merge::{changes_by_merge, conflicts_between, keys_in_conflict};
+pub use merge::{MergePlan, conflicts_between, keys_in_conflict, plan_merge};
 pub use name::Name;
 pub use records::{Records, RecordsIter};
 pub use refusal::Refusal;

@@ -1,8 +1,8 @@
-//! What a merge brings into an alternative: the conflicts of both sides, and the changes that the
-//! merge makes.
+//! What a merge makes of two sides: their conflicts, and the changes that it makes on the smaller
+//! side.
 ghost use Rattle.std.specs.Prelude.{◌≡◌, ◌<◌, ◌≤◌, IsTrue, drop, length, option_copied, IfErr};
-ghost use Rattle.vm_types.specs.Map.{same_value};
-ghost use Rattle.vm_types.specs.Merge.{AddsClash, AddsKey, AddsTaken, ListsConflicts, ListsKeys, ListsMerge, TellsClash, TellsKey, from_key, settled_from};
+ghost use Rattle.vm_types.specs.Map.{same_value, side_of};
+ghost use Rattle.vm_types.specs.Merge.{AddsClash, AddsKey, AddsTaken, CountsMerge, ListsConflicts, ListsKeys, ListsMerge, PlansMerge, TellsClash, TellsKey, TellsTaken, from_key, settled_from, taking};
 
 use crate::settlements::{by_rising_keys, settled_rise, side_of};
 use crate::{Changes, Conflicts, Key, Refusal, Side};
@@ -64,27 +64,61 @@ fn settled_from(settled: &[(Key, Side)], key: Key) -> &[(Key, Side)]
     &[]
 }
 
-/// Adds what the merge changes at the key of the parent's change `i`. The alternative's own change
-/// at `at` may have the same key.
+/// The side of a conflict, as the settlements have it if the changes of `side` are taken: `Theirs`
+/// is this side.
+fn side_taking(settled: &[(Key, Side)], side: Side, key: Key) -> Option<Side>
+    ensures { result ≡ side_of (taking side settled.now) key }
+{
+    match side {
+        Side::Mine => match side_of(settled, key) {
+            Some(found) => Some(found.other()),
+            None => None,
+        },
+        Side::Theirs => side_of(settled, key),
+    }
+}
+
+/// Whether the merge changes something at the key of change `i` of `theirs`. `mine` may have a
+/// change of the same key at `at`. `side` is the one whose changes `theirs` has.
+fn is_taken(
+    settled: &[(Key, Side)],
+    side: Side,
+    theirs: &Changes,
+    i: usize,
+    mine: &Changes,
+    at: usize,
+) -> bool
+    requires { i < length theirs.now }
+    ensures { TellsTaken result (taking side settled.now) theirs.now i mine.now at }
+{
+    let key = theirs.key(i);
+    if !has_key(mine, at, key) {
+        return true;
+    }
+    is_clash(theirs, i, mine, at) && side_taking(settled, side, key) == Some(Side::Theirs)
+}
+
+/// Adds what the merge changes there, if it changes something.
 fn add_taken(
     changes: &mut Changes,
     settled: &[(Key, Side)],
+    side: Side,
     theirs: &Changes,
     i: usize,
     mine: &Changes,
     at: usize,
 ) -> Result<(), AllocError>
     requires { i < length theirs.now }
-    ensures { AddsTaken result settled.now theirs.now i mine.now at changes.old changes.new }
+    ensures { AddsTaken result (taking side settled.now) theirs.now i mine.now at changes.old changes.new }
 {
-    let key = theirs.key(i);
-    if !has_key(mine, at, key) {
-        return changes.push(key, theirs.before(i), theirs.after(i));
+    if !is_taken(settled, side, theirs, i, mine, at) {
+        return Ok(());
     }
-    if is_clash(theirs, i, mine, at) && side_of(settled, key) == Some(Side::Theirs) {
+    let key = theirs.key(i);
+    if has_key(mine, at, key) {
         return changes.push(key, mine.after(at), theirs.after(i));
     }
-    Ok(())
+    changes.push(key, theirs.before(i), theirs.after(i))
 }
 
 /// Adds the conflict of the parent's change `i` with the alternative's own change at `at`, if they
@@ -165,17 +199,38 @@ pub fn keys_in_conflict(
     Ok(keys)
 }
 
-/// What a merge changes in the alternative, by rising keys. Returns `Memory` if there is none for
-/// the list. If the settlements have rising keys, too, and settle every conflict, this is one pass
-/// over all three lists; otherwise it searches the settlements for the key of each conflict.
-fn changes_in_turn(
+/// How many changes a merge takes from `theirs`, which has those of `side`. If the settlements have
+/// rising keys, too, this is one pass over all three lists. Takes no memory.
+fn count_taken(theirs: &Changes, mine: &Changes, settled: &[(Key, Side)], side: Side) -> usize
+    ensures { CountsMerge result theirs.now mine.now (taking side settled.now) }
+{
+    let mut count = 0;
+    let mut at = 0;
+    let mut unused = settled;
+    for i in 0..theirs.len() {
+        let key = theirs.key(i);
+        at = place_from(mine, at, key);
+        unused = settled_from(unused, key);
+        if is_taken(unused, side, theirs, i, mine, at) {
+            count += 1;
+        }
+    }
+    count
+}
+
+/// What a merge changes in the map of the other side, by rising keys, where `theirs` has the
+/// changes of `side`. Returns `Memory` if there is none for the list. If the settlements have
+/// rising keys, too, and settle every conflict, this is one pass over all three lists; otherwise it
+/// searches the settlements for the key of each conflict.
+fn list_taken(
     alloc: Global,
     theirs: &Changes,
     mine: &Changes,
     settled: &[(Key, Side)],
+    side: Side,
 ) -> Result<Changes, Refusal>
     ensures only { IfErr result (λ refusal. refusal ≡ Refusal.Memory) }
-    ensures list { ListsMerge result theirs.now mine.now settled.now }
+    ensures list { ListsMerge result theirs.now mine.now (taking side settled.now) }
 {
     let mut changes = Changes::new(alloc);
     let mut at = 0;
@@ -184,27 +239,69 @@ fn changes_in_turn(
         let key = theirs.key(i);
         at = place_from(mine, at, key);
         unused = settled_from(unused, key);
-        add_taken(&mut changes, unused, theirs, i, mine, at).map_err(|_| Refusal::Memory)?;
+        add_taken(&mut changes, unused, side, theirs, i, mine, at).map_err(|_| Refusal::Memory)?;
     }
     Ok(changes)
 }
 
-/// What a merge changes in the alternative, by rising keys. Returns `Memory` if there is none for
-/// the list. Settlements in another order are sorted first; if there is no memory for that, they
-/// are searched for the key of each conflict.
-pub fn changes_by_merge(
+/// What a merge does.
+#[derive(Debug, Drop)]
+pub struct MergePlan {
+    /// The side whose map it begins with.
+    pub start: Side,
+    /// The changes that it makes in that map, by rising keys.
+    pub changes: Changes,
+    /// How many records it changes in the alternative.
+    pub edits: usize,
+}
+
+/// What a merge does on the smaller side. Both sides are counted first, and only the list of the
+/// smaller one is made. Returns `Memory` if there is none for it.
+fn plan_in_turn(
     alloc: Global,
     theirs: &Changes,
     mine: &Changes,
     settled: &[(Key, Side)],
-) -> Result<Changes, Refusal>
+) -> Result<MergePlan, Refusal>
     ensures only { IfErr result (λ refusal. refusal ≡ Refusal.Memory) }
-    ensures list { ListsMerge result theirs.now mine.now settled.now }
+    ensures plan { PlansMerge result theirs.now mine.now settled.now }
+{
+    let edits = count_taken(theirs, mine, settled, Side::Theirs);
+    let kept = count_taken(mine, theirs, settled, Side::Mine);
+    if kept <= edits {
+        let changes = list_taken(alloc, mine, theirs, settled, Side::Mine)?;
+        return Ok(MergePlan {
+            start: Side::Theirs,
+            changes,
+            edits,
+        });
+    }
+    let changes = list_taken(alloc, theirs, mine, settled, Side::Theirs)?;
+    Ok(MergePlan {
+        start: Side::Mine,
+        changes,
+        edits,
+    })
+}
+
+/// What a merge does if every conflict is settled: it brings what the parent changed into the
+/// alternative's map, or what it keeps of the alternative's changes into the parent's map,
+/// whichever takes fewer changes. Returns `Memory` if there is none for their list. Settlements in
+/// another order are sorted first; if there is no memory for that, they are searched for the key of
+/// each conflict.
+pub fn plan_merge(
+    alloc: Global,
+    theirs: &Changes,
+    mine: &Changes,
+    settled: &[(Key, Side)],
+) -> Result<MergePlan, Refusal>
+    ensures only { IfErr result (λ refusal. refusal ≡ Refusal.Memory) }
+    ensures plan { PlansMerge result theirs.now mine.now settled.now }
 {
     if !settled_rise(settled)
         && let Some(sorted) = by_rising_keys(alloc, settled)
     {
-        return changes_in_turn(alloc, theirs, mine, &sorted);
+        return plan_in_turn(alloc, theirs, mine, &sorted);
     }
-    changes_in_turn(alloc, theirs, mine, settled)
+    plan_in_turn(alloc, theirs, mine, settled)
 }

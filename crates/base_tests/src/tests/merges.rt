@@ -6,8 +6,8 @@ use std::process::Abort;
 use std::test::Fail;
 use vm_types::Side::{Mine, Theirs};
 use vm_types::{
-    Change, Changes, Conflict, Key, Refusal, Side, Value, changes_by_merge, conflicts_between,
-    keys_in_conflict, settled_refusal,
+    Change, Changes, Conflict, Key, Refusal, Side, Value, conflicts_between, keys_in_conflict,
+    plan_merge, settled_refusal,
 };
 
 fn key(number: u64) -> Key {
@@ -183,13 +183,32 @@ fn finds_the_conflicts_and_their_keys(rt: HostRuntime) -> Result<(), Fail> {
     Ok(())
 }
 
+/// Whether a merge with these settlements begins with the map of this side and makes these changes
+/// in it, and changes this many records of the alternative.
+fn plans(
+    alloc: Global,
+    sides: &(Changes, Changes),
+    settled: &[(Key, Side)],
+    start: Side,
+    changes: &[Change],
+    edits: usize,
+) -> Result<bool, Fail> {
+    let (parent, own) = sides;
+    let plan = plan_merge(alloc, parent, own, settled)?;
+    Ok(
+        plan.start == start
+            && plan.edits == edits
+            && plan.changes.to_vec(alloc)?.as_slice() == changes,
+    )
+}
+
+// Three records come in, and two stay: the alternative removed key 5, and keeps its value at 6.
 #[test]
-fn merges_by_settlements_in_any_order(rt: HostRuntime) -> Result<(), Fail> {
-    let (parent, own) = both_sides(rt.alloc())?;
-    let taken: [Change; 3] = [
-        change(1, None, Some(b'p')),
-        change(2, Some(b'm'), Some(b'p')),
-        change(4, Some(b'm'), None),
+fn merge_keeps_the_own_changes_in_the_parents_map(rt: HostRuntime) -> Result<(), Fail> {
+    let sides = both_sides(rt.alloc())?;
+    let kept: [Change; 2] = [
+        change(5, Some(b'b'), None),
+        change(6, Some(b'p'), Some(b'm')),
     ];
     for settled in [
         [theirs(2), theirs(4), mine(6)],
@@ -197,18 +216,47 @@ fn merges_by_settlements_in_any_order(rt: HostRuntime) -> Result<(), Fail> {
         [theirs(4), mine(6), theirs(2)],
     ] {
         assert!(rt; settled_refusal(rt.alloc(), &settled, &rising()).is_none());
-        let changes = changes_by_merge(rt.alloc(), &parent, &own, &settled)?;
-        assert!(rt; changes.to_vec(rt.alloc())?.as_slice() == taken.as_slice());
+        assert!(rt; plans(rt.alloc(), &sides, &settled, Theirs, &kept, 3)?);
     }
     Ok(())
 }
 
+// One record comes in, and four stay.
 #[test]
-fn merge_keeps_the_own_values_by_settlements(rt: HostRuntime) -> Result<(), Fail> {
-    let (parent, own) = both_sides(rt.alloc())?;
+fn merge_takes_the_parents_changes_in_the_own_map(rt: HostRuntime) -> Result<(), Fail> {
+    let sides = both_sides(rt.alloc())?;
     let settled = [mine(2), mine(4), mine(6)];
-    let kept = changes_by_merge(rt.alloc(), &parent, &own, &settled)?;
-    assert_eq!(rt; kept.len(), 1);
-    assert!(rt; kept.at(0) == Some(change(1, None, Some(b'p'))));
+    let taken = [change(1, None, Some(b'p'))];
+    assert!(rt; plans(rt.alloc(), &sides, &settled, Mine, &taken, 1)?);
+    Ok(())
+}
+
+/// Whether a merge of these changes of both sides, none of them in conflict, begins with the map of
+/// this side and makes these changes in it, and changes this many records of the alternative.
+fn plans_of(
+    alloc: Global,
+    parent: &[Change],
+    own: &[Change],
+    start: Side,
+    changes: &[Change],
+    edits: usize,
+) -> Result<bool, Fail> {
+    let sides = (packed(alloc, parent)?, packed(alloc, own)?);
+    plans(alloc, &sides, &[], start, changes, edits)
+}
+
+#[test]
+fn merge_of_equal_sides_begins_with_the_parents_map(rt: HostRuntime) -> Result<(), Fail> {
+    let (one, other) = (change(1, None, Some(b'p')), change(5, Some(b'b'), None));
+    assert!(rt; plans_of(rt.alloc(), &[one], &[other], Theirs, &[other], 1)?);
+    assert!(rt; plans_of(rt.alloc(), &[one], &[one], Theirs, &[], 0)?);
+    Ok(())
+}
+
+#[test]
+fn merge_of_one_side_makes_no_change(rt: HostRuntime) -> Result<(), Fail> {
+    let change = change(1, None, Some(b'p'));
+    assert!(rt; plans_of(rt.alloc(), &[], &[change], Mine, &[], 0)?);
+    assert!(rt; plans_of(rt.alloc(), &[change], &[], Theirs, &[], 1)?);
     Ok(())
 }

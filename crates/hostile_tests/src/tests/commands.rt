@@ -18,12 +18,12 @@ pub enum Script {
 pub const LONG: &'static [u8] = &[b'd'; 300];
 
 /// How many device calls `format`, `open` and the commands make if the store does not grow. The
-/// Merge reads the long value, and writes it into a block of its own. The Remove goes on with the
-/// series of the Put before it, and reads its leaf once.
-const CALLS: u32 = 7 + 4 + 1 + 2 + 4 + 3 + 8 + 4 + 2 + 2 + 4;
+/// Merge reads the long value, and puts the record of `x` into the leaf of `top`, which has it. The
+/// Remove goes on with the series of the Put before it, and reads its leaf once.
+const CALLS: u32 = 7 + 4 + 1 + 2 + 4 + 3 + 7 + 4 + 2 + 2 + 4;
 
 /// How many of these are writes or syncs.
-const WRITES_AND_SYNCS: u32 = 6 + 1 + 1 + 1 + 4 + 2 + 2 + 4 + 1 + 1 + 4;
+const WRITES_AND_SYNCS: u32 = 6 + 1 + 1 + 1 + 4 + 2 + 1 + 4 + 1 + 1 + 4;
 
 /// The key of this number in table 1.
 pub(super) fn key(number: u64) -> Key {

@@ -5,7 +5,7 @@ use super::trees::{EMPTY, Trees};
 use plain_model::Plain;
 use std::alloc::Global;
 use testkit::{Reply, Wrong, top};
-use vm_types::{Change, Command, Key, Name, Refusal, Value};
+use vm_types::{Change, Command, Key, Name, Refusal, Side, Value};
 
 /// How many blocks come before the first data block.
 const FIRST_DATA: u32 = 34;
@@ -37,6 +37,15 @@ pub struct Model {
     trees: Trees,
     committed: Vec<Roots>,
     working: Vec<Roots>,
+    /// The side in whose map the last Merge made changes, if it made any.
+    pub merged_in: Option<Side>,
+}
+
+/// What a Merge does: the changes that it makes, in the map of a side.
+#[derive(Drop)]
+struct Plan {
+    side: Side,
+    changes: Vec<Change>,
 }
 
 fn position(entries: &[Roots], alt: &Name, saved: Option<Name>) -> Option<usize>
@@ -66,6 +75,7 @@ impl Model {
             trees: Trees::new(alloc)?,
             committed: Vec::from_elem(alloc, first, 1)?,
             working: Vec::from_elem(alloc, first, 1)?,
+            merged_in: None,
         })
     }
 
@@ -81,6 +91,7 @@ impl Model {
             trees: self.trees.copy()?,
             committed: Vec::from_slice(self.alloc, &self.committed)?,
             working: Vec::from_slice(self.alloc, &self.committed)?,
+            merged_in: None,
         };
         opened.mark()?;
         Ok(opened)
@@ -176,21 +187,40 @@ impl Model {
         }
     }
 
-    /// The answer to a Merge. Its record changes are made one after another, by rising keys, if
-    /// there is room for all.
+    /// What a Merge does that leaves these records: what came in is put into the alternative's map,
+    /// or what stays of its own into the parent's, whichever takes fewer changes.
+    fn plan(&self, alt: &Name, merged: &[(Key, Value)]) -> Result<Plan, Wrong> {
+        let parent = self.parent_of(alt)?.unwrap_or(*alt);
+        let came = plain_model::changes(self.alloc, &self.plain.list(alt)?, merged)?;
+        let stays = plain_model::changes(self.alloc, &self.plain.list(&parent)?, merged)?;
+        Ok(if came.len() < stays.len() {
+            Plan {
+                side: Side::Mine,
+                changes: came,
+            }
+        } else {
+            Plan {
+                side: Side::Theirs,
+                changes: stays,
+            }
+        })
+    }
+
+    /// The answer to a Merge. Its changes are made one after another, by rising keys, if there is
+    /// room for all.
     fn merge(&mut self, alt: &Name, command: &Command) -> Result<Reply, Wrong> {
+        self.merged_in = None;
         let mut merged = self.plain.copy()?;
         let reply = merged.apply(command);
         if reply.is_err() {
             return Ok(reply);
         }
-        let (before, after) = (self.plain.list(alt)?, merged.list(alt)?);
-        let changes = plain_model::changes(self.alloc, &before, &after)?;
-        if !self.has_room(changes.len())? {
+        let plan = self.plan(alt, &merged.list(alt)?)?;
+        if !self.has_room(plan.changes.len())? {
             return Ok(Err(Refusal::Full));
         }
         self.plain = merged;
-        self.follow_merge(alt, &changes)?;
+        self.follow_merge(alt, &plan)?;
         Ok(reply)
     }
 
@@ -296,19 +326,25 @@ impl Model {
         Ok(())
     }
 
-    /// After the changes the base is in the blocks of what the parent shows.
-    fn follow_merge(&mut self, alt: &Name, changes: &[Change]) -> Result<(), Wrong> {
-        for change in changes {
-            match &change.after {
-                Some(value) => self.follow_put(alt, change.key, value)?,
-                None => self.follow_remove(alt, change.key)?,
-            }
-        }
+    /// The base is in the blocks of what the parent shows. The changes are made on from there, or
+    /// from what the alternative showed.
+    fn follow_merge(&mut self, alt: &Name, plan: &Plan) -> Result<(), Wrong> {
         let parent = self.parent_of(alt)?.unwrap_or(*alt);
         let own = position(&self.working, alt, None);
         let above = position(&self.working, &parent, None);
         if let (Some(own), Some(above)) = (own, above) {
-            self.working[own].base = self.working[above].current;
+            let shown = self.working[above].current;
+            self.working[own].base = shown;
+            if plan.side == Side::Theirs {
+                self.working[own].current = shown;
+            }
+        }
+        for change in &plan.changes {
+            self.merged_in = Some(plan.side);
+            match &change.after {
+                Some(value) => self.follow_put(alt, change.key, value)?,
+                None => self.follow_remove(alt, change.key)?,
+            }
         }
         Ok(())
     }

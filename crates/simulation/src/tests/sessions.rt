@@ -99,6 +99,9 @@ fn play<D: Disk>(
         return Err(Wrong::Answer(answer, expected));
     }
     tally.count(command, &answer, before, sight(model, command));
+    if let Command::Merge { .. } = command {
+        tally.count_side(model.merged_in);
+    }
     count(store, model)?;
     Ok(None)
 }

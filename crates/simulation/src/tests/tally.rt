@@ -7,7 +7,7 @@ use vm_types::{Answer, Command, Key, Name, Refusal, Side};
 const KINDS: usize = 14;
 
 /// How many cases there are.
-const CASES: usize = 14;
+const CASES: usize = 16;
 
 /// What sessions must meet apart from each kind of command and of refusal.
 #[derive(Clone, Copy)]
@@ -24,6 +24,10 @@ pub enum Case {
     MergedNone,
     /// A Merge changed several records.
     MergedMany,
+    /// A Merge made its changes in the alternative's own map.
+    MergedInOwn,
+    /// A Merge made its changes in the parent's map.
+    MergedInParents,
     /// A conflict was settled with the alternative's value.
     Mine,
     /// A conflict was settled with the parent's value.
@@ -124,6 +128,15 @@ impl Tally {
                 self.meet(Case::GrowthUndone);
             }
             _ => {}
+        }
+    }
+
+    /// Counts in whose map a Merge made changes, if one did.
+    pub(super) fn count_side(&mut self, merged_in: Option<Side>) {
+        match merged_in {
+            Some(Side::Mine) => self.meet(Case::MergedInOwn),
+            Some(Side::Theirs) => self.meet(Case::MergedInParents),
+            None => {}
         }
     }
 

@@ -1,7 +1,7 @@
 //! How many device calls each call makes: none reads or writes a block twice without need.
 use super::records::TWO_RECORDS;
 use super::script::{DUCT, NEW, Row, SEVENTEEN, each_in_memory, from_disk, in_memory};
-use super::settlements::CONFLICT;
+use super::settlements::{CONFLICT, EACH_ADDED};
 use std::test::Fail;
 use vm_disk::MemDisk;
 
@@ -83,7 +83,7 @@ const CALLS: &[Row] = &[
         calls -> 36",
     ),
     // The Put reads and writes a root and a leaf. The Merge reads these two and the two before
-    // them, and then reads and writes a root and a leaf. From then on its base is the parent's map.
+    // them, and takes the parent's map. From then on this is its base, too.
     (
         "merge reads only what differs",
         SEVENTEEN,
@@ -93,20 +93,36 @@ const CALLS: &[Row] = &[
         merge spur -> ok 1
         post spur
         close
-        # 7 + (2 + 2) + (4 + 2 + 2)
-        calls -> 19",
+        # 7 + (2 + 2) + 4
+        calls -> 15",
     ),
     // Opening makes seven device calls, and the Merge reads two blocks to find what either side
-    // changed. It reads its own block once more, and writes the lowest free one.
+    // changed. It reads the parent's block once more, and writes the lowest free one.
     (
         "merge of one record writes one leaf",
-        CONFLICT,
+        EACH_ADDED,
         "
         open
-        merge a 1:1=theirs -> ok 1
+        merge a -> ok 1
         close
         calls -> 13
         dirty -> 37",
+    ),
+    // A root and two leaves differ on the side of `top`, and a leaf and the root above it on that of
+    // `spur`. The Merge puts the one record of `spur` into the map of `top`, which is a root and a
+    // leaf.
+    (
+        "merge makes its changes on the smaller side",
+        SEVENTEEN,
+        "
+        open
+        put top 1:1 w
+        put top 1:17 w
+        put spur 1:2 u
+        merge spur -> ok 2
+        close
+        # 7 + 3 * (2 + 2) + ((3 + 3) + (2 + 2)) + (2 + 2)
+        calls -> 33",
     ),
 ];
 
@@ -218,7 +234,7 @@ fn each_block_is_read_and_written_once(rt: HostRuntime) {
 }
 
 /// Opening makes seven device calls. Each Merge reads two blocks to find what either side changed.
-/// A Merge that is refused, or that keeps all values, writes no block.
+/// A Merge that is refused, or that keeps or takes all values, writes no block.
 #[test]
 fn merge_that_changes_nothing_writes_nothing(rt: HostRuntime) {
     let after = "
@@ -230,6 +246,7 @@ fn merge_that_changes_nothing_writes_nothing(rt: HostRuntime) {
         "merge a 1:1=theirs 1:17=theirs -> error 10 NotInConflict 1:17",
         "merge a -> error 9 Unsettled 1",
         "merge a 1:1=mine -> ok 0",
+        "merge a 1:1=theirs -> ok 1",
     ] {
         in_memory(&rt, &[CONFLICT, "open", merge, after]);
     }

@@ -1,7 +1,7 @@
 //! A device that fails at one call: what is answered then, and what goes on.
 use super::records::TWO_RECORDS;
 use super::script::{DUCT, Row, each_in_memory, each_on_both, in_memory};
-use super::settlements::CONFLICT;
+use super::settlements::{CONFLICT, EACH_ADDED};
 
 /// Opening the store of `duct` makes five device calls: a sync, and four reads.
 const ON_BOTH: &[Row] = &[
@@ -130,14 +130,13 @@ fn store_fails_after_a_failed_remove(rt: HostRuntime) {
     }
 }
 
-/// Opening the store of the conflict makes seven device calls. The Merge reads the blocks of the
-/// base and the parent, those of the base and the alternative, and the alternative's once more, and
-/// writes one.
+/// Opening this store makes seven device calls. The Merge reads the blocks of the base and the
+/// parent, those of the base and the alternative, and the parent's once more, and writes one.
 #[test]
 fn store_fails_after_a_failed_merge(rt: HostRuntime) {
     let row = "
         open
-        merge a 1:1=theirs -> error 15 Device
+        merge a -> error 15 Device
         merge a -> error 17 Failed
         post a -> error 17 Failed
         changes a -> error 17 Failed
@@ -146,8 +145,8 @@ fn store_fails_after_a_failed_merge(rt: HostRuntime) {
     let after = "
         anew
         open
-        get a 1:1 -> y
-        merge a 1:1=theirs -> ok 1";
+        list a -> 1:1=x 1:3=y
+        merge a -> ok 1";
     for (fails, calls) in &[
         ("once 7", "calls -> 8"),
         ("once 8", "calls -> 9"),
@@ -156,7 +155,7 @@ fn store_fails_after_a_failed_merge(rt: HostRuntime) {
         ("once 11", "calls -> 12"),
         ("once 12", "calls -> 13"),
     ] {
-        in_memory(&rt, &[CONFLICT, fails, row, calls, after]);
+        in_memory(&rt, &[EACH_ADDED, fails, row, calls, after]);
     }
 }
 

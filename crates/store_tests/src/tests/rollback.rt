@@ -88,7 +88,7 @@ const UNDONE: &[Row] = &[
         list top -> none
         list a -> 1:1=x
         changes a -> 1:1=~/x
-        free -> 27
+        free -> 28
         reclaim
         free -> 29
         post a

@@ -31,7 +31,8 @@ const LOAD_AND_MERGE: &[Row] = &[
         close
         forgotten -> 34 35 36 37 38 39 40 41 42 43 44 45 46 47 48 49 51 52 53 54 55 56",
     ),
-    // The Puts take blocks 34 to 36, and the changes of the Merge the next three.
+    // The Puts take blocks 34 to 38, and the two changes of the Merge, in the map of `top`, the next
+    // two.
     (
         "merge forgets what its own changes replace",
         "",
@@ -40,10 +41,11 @@ const LOAD_AND_MERGE: &[Row] = &[
         open
         new a top
         puts top 1:1 3 v
+        puts a 2:1 2 v
         merge a -> ok 3
         put a 1:4 w
         close
-        forgotten -> 34 35 37 38",
+        forgotten -> 34 35 37 39",
     ),
 ];
 

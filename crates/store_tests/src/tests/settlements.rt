@@ -15,6 +15,20 @@ pub(super) const CONFLICT: &str = "
     close
     anew";
 
+/// `top` and `a` under it have each added a record to those of the base. The three leaves are blocks
+/// 34 to 36.
+pub(super) const EACH_ADDED: &str = "
+    format 64
+    anew
+    open
+    put top 1:1 x
+    new a top
+    put top 1:2 z
+    put a 1:3 y
+    commit
+    close
+    anew";
+
 /// A key that is settled twice comes first, then one that is in no conflict, and then what is left.
 #[test]
 fn settlements_are_tested_in_their_order(rt: HostRuntime) {

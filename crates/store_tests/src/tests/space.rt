@@ -156,7 +156,8 @@ fn blocks_are_taken_kept_and_freed(rt: HostRuntime) {
 }
 
 const MERGES: &[Row] = &[
-    // Nine changes ask for 153 spare blocks. Beside the two leaves, 28 are spare.
+    // Eight records stay, and nine come in: eight changes ask for 136 spare blocks. Beside the two
+    // leaves, 28 are spare.
     (
         "merge is refused where too few blocks are spare",
         NEW,
@@ -172,17 +173,52 @@ const MERGES: &[Row] = &[
         put a 1:1 v
         free -> 27",
     ),
-    // There are 30 data blocks. Each of the 14 checkpoints keeps one, so 16 are spare, and one more
-    // after an Uncheck. A Merge without changes asks for none.
+    // One record stays, and nine come in: one change asks for 17 spare blocks. The Puts take ten of
+    // 30, and the Merge one.
+    (
+        "merge asks for the changes of the smaller side alone",
+        NEW,
+        "
+        new a top
+        puts top 1:1 9 v
+        put a 2:1 v
+        free -> 20
+        merge a -> ok 9
+        free -> 19
+        list a -> 1:1=v 1:2=v 1:3=v 1:4=v 1:5=v 1:6=v 1:7=v 1:8=v 1:9=v 2:1=v
+        changes a -> 2:1=~/v",
+    ),
+    // The Puts take ten blocks of 30, and the Merge one, in the map of `a`.
+    (
+        "merge makes the parent's changes in the own map where they are fewer",
+        NEW,
+        "
+        new a top
+        puts a 1:1 9 v
+        put top 2:1 v
+        free -> 20
+        merge a -> ok 1
+        free -> 19
+        list a -> 1:1=v 1:2=v 1:3=v 1:4=v 1:5=v 1:6=v 1:7=v 1:8=v 1:9=v 2:1=v",
+    ),
+    // There are 30 data blocks. Each of the 13 checkpoints of `top` keeps one, and that of `a`
+    // another, so 16 are spare, and one more after an Uncheck. A Merge of an alternative that
+    // changed nothing, or whose parent did not, asks for none and takes none.
     (
         "merge of one record asks for seventeen spare blocks",
         NEW,
         "
         new a top
-        kept top 1:1 v 14
+        new d top
+        put a 2:1 v
+        checkpoint a c
+        kept top 1:1 v 13
         new b top
         merge a -> error 13 Full
+        free -> 16
         merge b -> ok 0
+        merge d -> ok 1
+        free -> 16
         post b
         uncheck top k001
         merge a -> ok 1
@@ -193,8 +229,8 @@ const MERGES: &[Row] = &[
 ];
 
 const MERGES_IN_256_BLOCKS: &[Row] = &[
-    // Before it, 205 of 222 blocks are free. The first eight changes write a leaf each, and the
-    // ninth two leaves and a root.
+    // Before it, 205 of 222 blocks are free. The eight changes are made in the map of `top`. The
+    // first seven write a leaf each, and the eighth two leaves and a root.
     (
         "merge makes one change after another",
         "",
@@ -206,14 +242,15 @@ const MERGES_IN_256_BLOCKS: &[Row] = &[
         puts a 2:1 8 v
         free -> 205
         merge a -> ok 9
-        free -> 194
+        free -> 195
         list a -> 1:1=v 1:2=v 1:3=v 1:4=v 1:5=v 1:6=v 1:7=v 1:8=v 1:9=v \
             2:1=v 2:2=v 2:3=v 2:4=v 2:5=v 2:6=v 2:7=v 2:8=v
         post a
         list top -> 1:1=v 1:2=v 1:3=v 1:4=v 1:5=v 1:6=v 1:7=v 1:8=v 1:9=v \
             2:1=v 2:2=v 2:3=v 2:4=v 2:5=v 2:6=v 2:7=v 2:8=v",
     ),
-    // The map has two leaves under a root, so each change writes two blocks.
+    // Three records of `a` stay. The map of `top` has two leaves under a root, so each of the three
+    // changes writes two blocks.
     (
         "merge brings changes into a map of two levels",
         "",
@@ -233,7 +270,7 @@ const MERGES_IN_256_BLOCKS: &[Row] = &[
         free -> 181
         conflicts a -> none
         merge a -> ok 5
-        free -> 171
+        free -> 175
         list a -> 1:1=v 1:2=t 1:3=m 1:4=v 1:6=v 1:7=v 1:8=v 1:9=v 1:10=t 1:11=v 1:13=v \
             1:14=v 1:15=v 1:16=v 1:17=v 1:18=v 1:19=v 1:20=t 1:21=t 1:30=m
         list top -> 1:1=v 1:2=t 1:3=v 1:4=v 1:6=v 1:7=v 1:8=v 1:9=v 1:10=t 1:11=v 1:12=v \
@@ -243,7 +280,7 @@ const MERGES_IN_256_BLOCKS: &[Row] = &[
         post a
         list top -> 1:1=v 1:2=t 1:3=m 1:4=v 1:6=v 1:7=v 1:8=v 1:9=v 1:10=t 1:11=v 1:13=v \
             1:14=v 1:15=v 1:16=v 1:17=v 1:18=v 1:19=v 1:20=t 1:21=t 1:30=m
-        free -> 171
+        free -> 175
         changes a -> none",
     ),
 ];

@@ -13,7 +13,7 @@ pub enum Reply {
     Nothing,
     Done,
     /// A merge, with the number of its record changes.
-    Merged(u32),
+    Merged(usize),
     /// The number of free blocks.
     Free(u32),
     /// The number of blocks.
@@ -45,7 +45,7 @@ impl Reply {
             Reply::Done => text.push_bytes(b"ok\n"),
             Reply::Merged(changes) => {
                 text.push_bytes(b"ok ");
-                text.push_number(u64::from(*changes));
+                text.push_number(*changes as u64);
                 text.push(b'\n');
             }
             Reply::Free(count) => {

@@ -1,11 +1,12 @@
 //! The lock on a store's file: the system's (`flock`), taken before any byte of the file is read.
 //!
-//! It is at the edge of the program, and no contract rests on it: that no one else writes the file
-//! meanwhile remains an assumption about real files.
+//! Which lock the words ask for is proved (`lock_wanted`). The rest is at the edge of the program,
+//! and no contract rests on it: that no one else writes the file meanwhile remains an assumption
+//! about real files.
 
 use crate::program::words::lock_wanted;
+use clap::error::ErrorKind;
 use std::fs::{self, File, Metadata, OpenOptions, TryLockError};
-use std::io;
 use std::os::fd::AsRawFd;
 use std::os::unix::fs::{FileTypeExt, MetadataExt};
 use vm_disk::LAST_STANDARD;
@@ -28,55 +29,70 @@ pub struct LockWanted<'a> {
     pub waits: bool,
 }
 
-/// The outcome of locking.
-#[derive(Drop)]
-pub enum Locking<'a> {
-    /// The lock is held as long as this file is open; or no lock is wanted, or none can be held.
-    Held(Option<File>),
+/// Why no job is done: the lock that the words ask for is not held.
+#[derive(Clone, Copy, Debug, PartialEq, Eq)]
+pub enum NoLock<'a> {
+    /// Memory could not be allocated, so the words are not known.
+    Memory,
     /// Another process has locked the file of this name.
     InUse(&'a str),
+    /// The file cannot be opened as the job would open it.
+    CannotOpen(&'a str),
+    /// The system does not lock it.
+    CannotLock(&'a str),
 }
 
-/// Takes the lock that the words ask for. The first word is the program's name.
+/// Takes the lock that the words ask for. The first word is the program's name. The lock is held as
+/// long as the file is open.
 ///
-/// It takes none if the program was handed a descriptor on the file beside the standard streams, as
-/// by `flock FILE altctl ..`, since its caller then holds the lock; if the file cannot be opened,
-/// which the job will report; and on a file system without locks.
-pub fn lock<'a>(rt: &HostRuntime, words: &'a [String]) -> Locking<'a> {
-    let Some(wanted) = lock_wanted(rt.alloc(), words) else {
-        return Locking::Held(None);
-    };
-    let Some(file) = opened(rt, wanted) else {
-        return Locking::Held(None);
-    };
-    match taken(&file, wanted) {
-        Err(TryLockError::WouldBlock) => Locking::InUse(wanted.file),
-        Err(TryLockError::Error(_)) => Locking::Held(None),
-        Ok(()) => Locking::Held(Some(file)),
+/// There is none if the words ask for none, as by `--no-lock`, if they are wrong, which the job
+/// will report, or if the program was handed a descriptor on the file beside the standard streams,
+/// as by `flock FILE altctl ..`, since its caller then holds the lock. In every other case the job
+/// is done under the lock, or there is an `Err`, and it is not done.
+pub fn lock<'a>(rt: &HostRuntime, words: &'a [String]) -> Result<Option<File>, NoLock<'a>> {
+    match lock_wanted(rt.alloc(), words) {
+        Ok(Some(wanted)) => taken(rt, wanted),
+        Ok(None) => Ok(None),
+        Err(error) if error.kind() == ErrorKind::OutOfMemory => Err(NoLock::Memory),
+        Err(_) => Ok(None),
     }
 }
 
-/// Opens the file to be locked, if there is one that the program's caller has not locked.
-fn opened(rt: &HostRuntime, wanted: LockWanted<'_>) -> Option<File> {
-    // Opening another kind of file may wait, or have an effect.
-    let metadata = fs::metadata(rt, wanted.file).ok()?;
-    if !metadata.is_file() && !metadata.file_type().is_block_device() {
-        return None;
-    }
+/// Takes this lock, unless the program's caller has it.
+fn taken<'a>(rt: &HostRuntime, wanted: LockWanted<'a>) -> Result<Option<File>, NoLock<'a>> {
+    // Opening a file of another kind may wait, or have an effect.
+    let metadata = match fs::metadata(rt, wanted.file) {
+        Ok(metadata) if metadata.is_file() || metadata.file_type().is_block_device() => metadata,
+        _ => return Err(NoLock::CannotOpen(wanted.file)),
+    };
     if is_handed_down(rt, &metadata) {
-        return None;
+        return Ok(None);
     }
     let mut how = OpenOptions::new();
     how.read(true).write(wanted.access == Access::Write);
-    let file = how.open(rt, wanted.file).ok()?;
-    if file.as_raw_fd() <= LAST_STANDARD {
-        return None;
+    match how.open(rt, wanted.file) {
+        Ok(file) if file.as_raw_fd() > LAST_STANDARD => locked(file, wanted),
+        _ => Err(NoLock::CannotOpen(wanted.file)),
     }
-    Some(file)
+}
+
+/// Locks the file.
+fn locked<'a>(file: File, wanted: LockWanted<'a>) -> Result<Option<File>, NoLock<'a>> {
+    let answer = match (wanted.access, wanted.waits) {
+        (Access::Read, false) => file.try_lock_shared(),
+        (Access::Write, false) => file.try_lock(),
+        (Access::Read, true) => file.lock_shared().map_err(TryLockError::Error),
+        (Access::Write, true) => file.lock().map_err(TryLockError::Error),
+    };
+    match answer {
+        Ok(()) => Ok(Some(file)),
+        Err(TryLockError::WouldBlock) => Err(NoLock::InUse(wanted.file)),
+        Err(TryLockError::Error(_)) => Err(NoLock::CannotLock(wanted.file)),
+    }
 }
 
 /// Whether a descriptor beside the standard streams is open on this file, as far as the system
-/// shows that.
+/// shows that. If it does not show it, the lock is asked for, and found in use.
 fn is_handed_down(rt: &HostRuntime, metadata: &Metadata) -> bool {
     let Ok(descriptors) = fs::read_dir(rt, "/proc/self/fd") else {
         return false;
@@ -92,14 +108,4 @@ fn is_handed_down(rt: &HostRuntime, metadata: &Metadata) -> bool {
         }
     }
     false
-}
-
-/// Locks the file.
-fn taken(file: &File, wanted: LockWanted<'_>) -> Result<(), TryLockError> {
-    match (wanted.access, wanted.waits) {
-        (Access::Read, false) => file.try_lock_shared(),
-        (Access::Write, false) => file.try_lock(),
-        (Access::Read, true) => file.lock_shared().map_err(TryLockError::Error),
-        (Access::Write, true) => file.lock().map_err(TryLockError::Error),
-    }
 }

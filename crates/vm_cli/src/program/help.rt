@@ -49,7 +49,8 @@ not be read or an output could not be written; 4 where altctl do, or altctl run
 
 /// What `create` does.
 pub const CREATE: &str = "\
-Makes a file with an empty store, and prints the number of its blocks.";
+Makes a file with an empty store, which its owner alone can read and write, and
+prints the number of its blocks.";
 
 /// The file that `create` makes.
 pub const CREATE_FILE: &str = "The file to make, which must not exist";
@@ -71,9 +72,9 @@ larger, and no line makes it smaller. How many blocks a store needs:
     of one path through its tree, from one to eight.
   - Keep a tenth of the blocks spare. Where fewer than 17 are, each change is
     refused: error 13 Full.
-  - A merge wants 17 spare blocks for each record that it changes. 60,000
-    records with 8 designs of 500 changes each, merged and posted one after
-    another, took 79,000 blocks: or let the store grow, by run --grow.
+  - A merge wants 17 spare blocks for each record that came in, or for each
+    change of its own that stays, whichever are fewer. A design without changes
+    merges for nothing. Or let the store grow, by run --grow.
 
 docs/OPERATING.md says more.
 
@@ -156,8 +157,9 @@ share stays shared. The blocks in use lie at the beginning of TO in the order of
 the trees, so it opens quickly. If BLOCKS is less than are in use, the answer is
 13 Full, and no file is made.
 
-Until all was copied and synced, TO shows no store. If a copy fails, it
-is left: remove it.
+TO is for its owner alone to read and write. It is made as TO.part, and gets its
+name once all was copied and synced: if a copy fails or is killed, there is no
+TO. If there is a TO.part then, remove it before the next copy.
 
 A session:
 
@@ -174,7 +176,7 @@ pub const RUN_FILE: &str = "The file, as altctl create has made it";
 
 /// What `--no-lock` does.
 pub const NO_LOCK: &str = "\
-Takes no lock: for a caller that holds it";
+Takes no lock: for a caller that holds it, or where there are no locks";
 
 /// What `--wait` does.
 pub const WAIT: &str = "\

@@ -1,5 +1,5 @@
 //! Files in memory, found by name.
-ghost use Rattle.std.specs.Prelude.{◌≡◌, ◌+◌, ◌∷◌, ℕ, true, List, None, IfSome, IsSome, max, option_map};
+ghost use Rattle.std.specs.Prelude.{◌≡◌, ◌+◌, ◌∷◌, ℕ, true, false, not, List, None, IfSome, IsSome, is_some, max};
 ghost use Rattle.std.specs.Option.{ForSome};
 ghost use Rattle.vm_disk.specs.Memory.{memory_state, room_of};
 ghost use Rattle.vm_disk.specs.Past.{noted};
@@ -11,11 +11,13 @@ use std::snapshot::Snapshot;
 use vm_disk::{History, MemDisk};
 
 /// A file: its disk, unless that is out, and the disk as it was when it was made or last came back.
+/// The slot of a file that was removed stays, without a disk.
 #[derive(Drop)]
 struct Slot {
     disk: Option<MemDisk>,
     held: Snapshot<MemDisk>,
-    ghost same: { ForSome disk (λ there. (memory_state there).now.contents ≡ (memory_state held.value).now.contents) },
+    is_there: bool,
+    ghost same: { ForSome disk (λ it. (it ≡ held.value) × (is_there ≡ true)) },
 }
 
 /// Files in memory, each a `MemDisk` under its name. A file whose disk is out is not found. The
@@ -31,8 +33,8 @@ pub struct MemFiles {
 }
 
 impl MemFiles {
-    ghost use Rattle.vm_cli.specs.MemFiles.{IsIn, files_state, room_given};
-    ghost use Rattle.vm_cli.specs.Places.{CreatesIn, FindsIn, StaysHonest, WasHonest};
+    ghost use Rattle.vm_cli.specs.MemFiles.{IsIn, IsLast, IsSameState, files_state, room_given};
+    ghost use Rattle.vm_cli.specs.Places.{CreatesIn, FindsIn, LinksIn, StaysHonest, WasHonest};
 
     /// No files. Disks that are made cannot grow.
     pub fn new(alloc: Global) -> MemFiles
@@ -66,6 +68,16 @@ impl MemFiles {
         self.honest
     }
 
+    /// Whether there is a file of this name, whether its disk is in or out.
+    fn has(&self, file: &str) -> bool
+        ensures { result ≡ is_some ((files_state self.now).files file.now) }
+    {
+        match self.slots.get(file) {
+            Some(slot) => slot.is_there,
+            None => false,
+        }
+    }
+
     /// Makes a disk under a name that does not exist yet.
     fn made(&mut self, file: &str, blocks: u32) -> Option<MemDisk>
         ensures denied { noted self.new.denied ≡ noted self.old.denied }
@@ -75,7 +87,7 @@ impl MemFiles {
         ensures honest { CreatesIn files_state memory_state file.now blocks result self.old self.new }
         ensures room { IfSome result (λ disk. room_of disk ≡ max (room_given self.old) blocks) }
     {
-        if self.slots.contains_key(file) {
+        if self.has(file) {
             return None;
         }
         let name = String::from_str(self.alloc, file).ok()?;
@@ -84,9 +96,22 @@ impl MemFiles {
         let slot = Slot {
             disk: None,
             held: Snapshot::of(&disk),
+            is_there: true,
         };
         self.slots.insert(name, slot).ok()?;
         Some(disk)
+    }
+
+    /// Takes out a disk that is in, as it came back.
+    fn taken(&mut self, file: &str) -> Option<MemDisk>
+        ensures denied { noted self.new.denied ≡ noted self.old.denied }
+        ensures to_write { noted self.new.to_write ≡ noted self.old.to_write }
+        ensures stays { IsSameState (files_state self.old) (files_state self.new) }
+        ensures taken { IfSome result (λ disk. IsLast file.now (memory_state disk) (files_state self.old)) }
+        ensures there { IsIn file.now self.old → IsSome result }
+    {
+        let slot = self.slots.get_mut(file)?;
+        slot.disk.take()
     }
 
     /// Takes out a disk that is in.
@@ -98,10 +123,32 @@ impl MemFiles {
         ensures honest { FindsIn files_state memory_state file.now result self.old self.new }
         ensures there { IsIn file.now self.old → IsSome result }
     {
-        let slot = self.slots.get_mut(file)?;
-        let disk = slot.disk.take()?;
+        let disk = self.taken(file)?;
         // It came back whole, so what was not synced is durable, too.
         Some(disk.crash(&[]))
+    }
+
+    /// Gives the file of a disk that is in another name, under which the disk is in then.
+    fn linked(&mut self, from: &str, to: &str) -> Option<()>
+        ensures denied { noted self.new.denied ≡ noted self.old.denied }
+        ensures to_write { noted self.new.to_write ≡ noted self.old.to_write }
+        ensures earlier { WasHonest (files_state self.old) (files_state self.new) }
+        ensures stays { StaysHonest (files_state self.old) (files_state self.new) }
+        ensures honest { LinksIn files_state from.now to.now (is_some result) self.old self.new }
+    {
+        if self.has(to) {
+            return None;
+        }
+        let name = String::from_str(self.alloc, to).ok()?;
+        let disk = self.taken(from)?;
+        let held = Snapshot::of(&disk);
+        let slot = Slot {
+            disk: Some(disk),
+            held,
+            is_there: true,
+        };
+        self.slots.insert(name, slot).ok()?;
+        Some(())
     }
 }
 
@@ -109,7 +156,7 @@ impl Place for MemFiles {
     type D = MemDisk;
 
     ghost use Rattle.vm_cli.specs.MemFiles.{HasFile, IsIn, asked_to_write, files_state, names_denied};
-    ghost use Rattle.vm_cli.specs.Places.{CreatesIn, FindsIn, StaysHonest, TakesBackIn, WasHonest};
+    ghost use Rattle.vm_cli.specs.Places.{CreatesIn, FindsIn, LacksIn, LinksIn, RemovesIn, StaysHonest, TakesBackIn, WasHonest};
 
     ghost state = { files_state };
 
@@ -184,9 +231,59 @@ impl Place for MemFiles {
                 *slot = Slot {
                     disk: Some(disk),
                     held,
+                    is_there: true,
                 };
             }
             None => self.honest = false,
+        }
+    }
+
+    fn lacks(&mut self, file: &str) -> bool
+        ensures taken { result ≡ false → names_denied self.new ≡ file.now ∷ names_denied self.old }
+        ensures free { result ≡ true → names_denied self.new ≡ names_denied self.old }
+        ensures reads { asked_to_write self.new ≡ asked_to_write self.old }
+        ensures earlier { WasHonest (files_state self.old) (files_state self.new) }
+        ensures stays { StaysHonest (files_state self.old) (files_state self.new) }
+        ensures honest { LacksIn files_state file.now result self.old self.new }
+
+        // It is said just if there is no such file.
+        ensures said { result ≡ not (is_some ((files_state self.old).files file.now)) }
+    {
+        let is_taken = self.has(file);
+        if is_taken {
+            note_name(&mut self.denied, file);
+        }
+        !is_taken
+    }
+
+    fn link(&mut self, from: &str, to: &str) -> bool
+        ensures taken { result ≡ false → names_denied self.new ≡ to.now ∷ names_denied self.old }
+        ensures free { result ≡ true → names_denied self.new ≡ names_denied self.old }
+        ensures reads { asked_to_write self.new ≡ asked_to_write self.old }
+        ensures earlier { WasHonest (files_state self.old) (files_state self.new) }
+        ensures stays { StaysHonest (files_state self.old) (files_state self.new) }
+        ensures honest { LinksIn files_state from.now to.now result self.old self.new }
+    {
+        let is_linked = self.linked(from, to).is_some();
+        if !is_linked {
+            note_name(&mut self.denied, to);
+        }
+        is_linked
+    }
+
+    fn remove(&mut self, file: &str)
+        ensures denied { names_denied self.new ≡ names_denied self.old }
+        ensures reads { asked_to_write self.new ≡ asked_to_write self.old }
+        ensures earlier { WasHonest (files_state self.old) (files_state self.new) }
+        ensures stays { StaysHonest (files_state self.old) (files_state self.new) }
+        ensures honest { RemovesIn files_state file.now self.old self.new }
+
+        // Afterwards there is no such file.
+        ensures gone { (files_state self.new).files file.now ≡ None }
+    {
+        if let Some(slot) = self.slots.get_mut(file) {
+            slot.disk = None;
+            slot.is_there = false;
         }
     }
 }

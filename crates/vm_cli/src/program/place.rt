@@ -1,10 +1,12 @@
 //! Finding disks by name.
-ghost use Rattle.std.specs.Prelude.{◌≡◌, ◌+◌, ◌∷◌, ℕ, List, [], true, None, IfSome, option_map};
+ghost use Rattle.std.specs.Prelude.{◌≡◌, ◌+◌, ◌∷◌, ℕ, List, [], true, false, None, IfSome, option_map};
 ghost use Rattle.vm_disk.specs.Between.{Between};
-ghost use Rattle.vm_cli.specs.Places.{PlaceState, CreatesIn, FindsIn, TakesBackIn, WasHonest, names_in};
+ghost use Rattle.vm_cli.specs.Places.{PlaceState, CreatesIn, FindsIn, LacksIn, LinksIn, RemovesIn, TakesBackIn, WasHonest, names_in};
 
 use crate::program::progress::{Progress, Watched};
-use std::fs::File;
+use crate::program::selector::rewrite_selector;
+use std::fs::{self, File};
+use std::io::ErrorKind;
 use std::marker::PhantomData;
 use std::os::fd::AsRawFd;
 use std::rt::Files;
@@ -20,7 +22,8 @@ pub trait Place {
     /// What is known of it, for contracts alone.
     ghost state: { Self → PlaceState };
 
-    /// The names that it gave no disk for, the newest first, for contracts alone.
+    /// The names that it gave no disk for, or that it said to be taken, the newest first, for
+    /// contracts alone.
     ghost denied: { Self → List (List ℕ) };
 
     /// How often it was asked for a writable disk, for contracts alone.
@@ -56,6 +59,30 @@ pub trait Place {
         ensures reads { to_write self.new ≡ to_write self.old }
         ensures earlier { WasHonest (state self.old) (state self.new) }
         ensures honest { TakesBackIn state Self.D.state file.now disk self.old self.new };
+
+    /// Whether there is nothing of this name.
+    fn lacks(&mut self, file: &str) -> bool
+        ensures taken { result ≡ false → denied self.new ≡ file.now ∷ denied self.old }
+        ensures free { result ≡ true → denied self.new ≡ denied self.old }
+        ensures reads { to_write self.new ≡ to_write self.old }
+        ensures earlier { WasHonest (state self.old) (state self.new) }
+        ensures honest { LacksIn state file.now result self.old self.new };
+
+    /// Gives an existing file another name, beside its own or in its place. If something has that
+    /// name, or it cannot be done, nothing changes.
+    fn link(&mut self, from: &str, to: &str) -> bool
+        ensures taken { result ≡ false → denied self.new ≡ to.now ∷ denied self.old }
+        ensures free { result ≡ true → denied self.new ≡ denied self.old }
+        ensures reads { to_write self.new ≡ to_write self.old }
+        ensures earlier { WasHonest (state self.old) (state self.new) }
+        ensures honest { LinksIn state from.now to.now result self.old self.new };
+
+    /// Removes a file, if that is possible.
+    fn remove(&mut self, file: &str)
+        ensures denied { denied self.new ≡ denied self.old }
+        ensures reads { to_write self.new ≡ to_write self.old }
+        ensures earlier { WasHonest (state self.old) (state self.new) }
+        ensures honest { RemovesIn state file.now self.old self.new };
 }
 
 /// Notes a name.
@@ -67,22 +94,27 @@ pub(crate) fn note_name(names: &mut History<History<u8>>, name: &str)
 }
 
 /// What was done with a file of the system. `Missed`: a writable file was requested and could not
-/// be opened.
+/// be opened. `Lacking`: nothing had this name. `Linked`: the file of the first name got the
+/// second. `Removed`: a file lost this name.
 #[derive(Drop)]
 enum Event<'a, W> {
     Found(Snapshot<SystemFile<W>>),
     Made(Snapshot<SystemFile<W>>),
     Missed,
     Given(History<u8>, Snapshot<FileDisk<Watched<'a, SystemFile<W>>>>),
+    Lacking(History<u8>),
+    Linked(History<u8>, History<u8>),
+    Removed(History<u8>),
 }
 
 /// The files of the system. No program can know what they hold when they are opened: the world W
 /// says it, for contracts alone. They are honest as long as each is found as it was left, none is
-/// made that already existed, and each disk that comes back does so under its name and has kept the
-/// disk model.
+/// made that already existed, none is named or said to be lacking whose name is taken, and each
+/// disk that comes back does so under its name and has kept the disk model.
 ///
-/// Assumed, and in no contract: that no one else writes a file between two openings, and that a
-/// file keeps what the disk model says that a crash may leave.
+/// Assumed, and in no contract: that no one else writes a file between two openings, or changes its
+/// name, that a file keeps what the disk model says that a crash may leave, and that the system
+/// gives and takes names as it answers.
 ///
 /// While this value lives, the standard input, output and error are open, if a folder can be
 /// opened: one that was closed is open on the folder, and both reads and writes fail there. If no
@@ -155,7 +187,7 @@ impl<'a, R: Files<File = File>, W: World> RealFiles<'a, R, W> {
         FileDisk::create(Watched::new(made, self.progress), blocks).ok()
     }
 
-    /// Opens an existing file as a disk.
+    /// Opens an existing file as a disk, once its selector was written again.
     fn found(&mut self, file: &str) -> Option<FileDisk<Watched<'a, SystemFile<W>>>>
         ensures denied { names_denied self.new ≡ names_denied self.old }
         ensures to_write { asked_to_write self.new ≡ asked_to_write self.old + 1 }
@@ -163,12 +195,15 @@ impl<'a, R: Files<File = File>, W: World> RealFiles<'a, R, W> {
         ensures notes { NotesFound file.now self.old self.new }
         ensures honest { FindsReal W.held W.torn file.now result self.old self.new }
     {
-        let Some(found) = SystemFile::open(self.rt, file, &self.opened) else {
+        let Some(mut found) = SystemFile::open(self.rt, file, &self.opened) else {
             self.events.note(&Event::Missed);
             return None;
         };
         self.opened.note(&());
         self.events.note(&Event::Found(Snapshot::of(&found)));
+        let Ok(()) = rewrite_selector(&mut found) else {
+            return None;
+        };
         FileDisk::open(Watched::new(found, self.progress)).ok()
     }
 
@@ -187,10 +222,41 @@ impl<'a, R: Files<File = File>, W: World> RealFiles<'a, R, W> {
     }
 }
 
+impl<'a, R: Files<File = File>, W: World> RealFiles<'a, R, W> {
+    ghost use Rattle.vm_cli.specs.RealFiles.{names_denied, NotesLink, NotesRemoval};
+
+    /// Notes that a file got another name.
+    fn note_link(&mut self, from: &str, to: &str)
+        ensures denied { names_denied self.new ≡ names_denied self.old }
+        ensures notes { NotesLink from.now to.now self.old self.new }
+    {
+        let from = noted_bytes(from.as_bytes());
+        let to = noted_bytes(to.as_bytes());
+        self.events.note(&Event::Linked(from, to));
+    }
+
+    /// Notes that a file lost its name.
+    fn note_removal(&mut self, file: &str)
+        ensures denied { names_denied self.new ≡ names_denied self.old }
+        ensures notes { NotesRemoval file.now self.old self.new }
+    {
+        let name = noted_bytes(file.as_bytes());
+        self.events.note(&Event::Removed(name));
+    }
+}
+
+/// Whether the system says that nothing has this name, not even a link that leads nowhere.
+fn is_lacking(rt: &impl Files, file: &str) -> bool {
+    match fs::symlink_metadata(rt, file) {
+        Ok(_) => false,
+        Err(error) => error.kind() == ErrorKind::NotFound,
+    }
+}
+
 impl<'a, R: Files<File = File>, W: World> Place for RealFiles<'a, R, W> {
     type D = FileDisk<Watched<'a, SystemFile<W>>>;
 
-    ghost use Rattle.vm_cli.specs.RealFiles.{asked_to_write, real_disk, real_state, names_denied, CreatesReal, FindsReal, NotesFound, NotesGiven, NotesLooked, NotesMade, StaysReal};
+    ghost use Rattle.vm_cli.specs.RealFiles.{asked_to_write, real_disk, real_state, names_denied, CreatesReal, FindsReal, NotesFound, NotesGiven, NotesLacking, NotesLinked, NotesLooked, NotesMade, NotesRemoved, StaysReal};
 
     ghost state = { real_state W.held W.torn };
 
@@ -253,5 +319,56 @@ impl<'a, R: Files<File = File>, W: World> Place for RealFiles<'a, R, W> {
     {
         let name = noted_bytes(file.as_bytes());
         self.events.note(&Event::Given(name, Snapshot::of(&disk)));
+    }
+
+    fn lacks(&mut self, file: &str) -> bool
+        ensures taken { result ≡ false → names_denied self.new ≡ file.now ∷ names_denied self.old }
+        ensures free { result ≡ true → names_denied self.new ≡ names_denied self.old }
+        ensures reads { asked_to_write self.new ≡ asked_to_write self.old }
+        ensures earlier { Between (real_state W.held W.torn) WasHonest self.old self.new }
+        ensures notes { NotesLacking file.now result self.old self.new }
+        ensures honest { LacksIn (real_state W.held W.torn) file.now result self.old self.new }
+    {
+        if !is_lacking(self.rt, file) {
+            note_name(&mut self.denied, file);
+            return false;
+        }
+        let name = noted_bytes(file.as_bytes());
+        self.events.note(&Event::Lacking(name));
+        true
+    }
+
+    fn link(&mut self, from: &str, to: &str) -> bool
+        ensures taken { result ≡ false → names_denied self.new ≡ to.now ∷ names_denied self.old }
+        ensures free { result ≡ true → names_denied self.new ≡ names_denied self.old }
+        ensures reads { asked_to_write self.new ≡ asked_to_write self.old }
+        ensures earlier { Between (real_state W.held W.torn) WasHonest self.old self.new }
+        ensures notes { NotesLinked from.now to.now result self.old self.new }
+        ensures honest { LinksIn (real_state W.held W.torn) from.now to.now result self.old self.new }
+    {
+        if fs::hard_link(self.rt, from, to).is_ok() {
+            self.note_link(from, to);
+            return true;
+        }
+        // Not every file system gives a file two names.
+        if is_lacking(self.rt, to) && fs::rename(self.rt, from, to).is_ok() {
+            self.note_link(from, to);
+            self.note_removal(from);
+            return true;
+        }
+        note_name(&mut self.denied, to);
+        false
+    }
+
+    fn remove(&mut self, file: &str)
+        ensures denied { names_denied self.new ≡ names_denied self.old }
+        ensures reads { asked_to_write self.new ≡ asked_to_write self.old }
+        ensures earlier { Between (real_state W.held W.torn) WasHonest self.old self.new }
+        ensures notes { NotesRemoved file.now self.old self.new }
+        ensures honest { RemovesIn (real_state W.held W.torn) file.now self.old self.new }
+    {
+        if fs::remove_file(self.rt, file).is_ok() {
+            self.note_removal(file);
+        }
     }
 }

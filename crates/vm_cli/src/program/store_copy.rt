@@ -1,8 +1,10 @@
-//! Copying the store in a file to a new file.
-ghost use Rattle.std.specs.Prelude.{◌≡◌, true, false};
+//! Copying the store in a file to a new file. That is made under another name, and gets its own once
+//! everything was copied and synced.
+ghost use Rattle.std.specs.Prelude.{◌≡◌, true, false, IfOk};
+ghost use Rattle.std.specs.String.{string_bytes};
 ghost use Rattle.vm_store.specs.Store.{GoesOn, IsHonest, ReadsAlone, disk_of, has_failed};
-ghost use Rattle.vm_cli.specs.Copies.{CopiesIn, CopiesTo, Sizes, TakesCopy};
-ghost use Rattle.vm_cli.specs.Exits.{CopyEnds, JobEnds, OntoEnds, TellsOn, copied_text};
+ghost use Rattle.vm_cli.specs.Copies.{CopiesIn, CopiesTo, DropsIn, NamesIn, Sizes, TakesCopy};
+ghost use Rattle.vm_cli.specs.Exits.{CopyEnds, DropEnds, JobEnds, TellsOn, copied_text, part_of};
 ghost use Rattle.vm_cli.specs.Places.{WasHonest};
 ghost use Rattle.vm_cli.specs.Runs.{DuplicatesIn};
 ghost use Rattle.vm_cli.specs.Words.Wanted.{copy as copy_wanted};
@@ -10,7 +12,7 @@ ghost use Rattle.vm_cli.specs.Words.Wanted.{copy as copy_wanted};
 use crate::answers::text::Text;
 use crate::program::place::Place;
 use crate::program::{Exit, no_file, refused, say, unless_fault};
-use std::alloc::Global;
+use std::alloc::{AllocError, Global};
 use std::io::Write;
 use vm_disk::Disk;
 use vm_store::{Store, open};
@@ -24,7 +26,7 @@ pub struct Size {
 }
 
 /// Opens the store in a file read only, and makes the file `to` with a copy of it: of `blocks` blocks,
-/// or of as many as the store has.
+/// or of as many as the store has. Until the copy is whole and durable, nothing has that name.
 pub(crate) fn copy<P: Place, W: Write, F: Write>(
     alloc: Global,
     file: &str,
@@ -64,15 +66,17 @@ fn copy_disk<P: Place, W: Write, F: Write>(
 {
     match open(alloc, disk) {
         Ok(mut store) => {
-            let exit = copy_store(&mut store, to, blocks, place, output, errors);
+            let exit = copy_store(alloc, &mut store, to, blocks, place, output, errors);
             (exit, store.close())
         }
         Err((disk, refusal)) => (refused(&refusal, errors), disk),
     }
 }
 
-/// Copies a store to a new file. If that would be too small, no file is made.
+/// Copies a store to a new file. If that would be too small, or there is something of its name, no
+/// file is made.
 fn copy_store<S: Disk, P: Place, W: Write, F: Write>(
+    alloc: Global,
     store: &mut Store<S>,
     to: &str,
     blocks: Option<u32>,
@@ -91,12 +95,26 @@ fn copy_store<S: Disk, P: Place, W: Write, F: Write>(
         Ok(size) => size,
         Err(refusal) => return refused(&refusal, errors),
     };
-    let Some(disk) = place.create(to, size.blocks) else {
-        return no_file(b"altctl: cannot create ", to, errors);
+    let Ok(name) = part_name(alloc, to) else {
+        return refused(&Refusal::Memory, errors);
     };
-    let (exit, disk) = copy_onto(store, disk, size, output, errors);
-    place.give_back(to, disk);
-    exit
+    let part = name.as_str();
+    if !place.lacks(to) {
+        return no_file(b"altctl: cannot create ", to, errors);
+    }
+    let Some(disk) = place.create(part, size.blocks) else {
+        return no_file(b"altctl: cannot create ", part, errors);
+    };
+    copy_onto(store, disk, size, part, to, place, output, errors)
+}
+
+/// The name that a copy has until it is whole.
+fn part_name(alloc: Global, to: &str) -> Result<String, AllocError>
+    ensures { IfOk result (λ part. string_bytes part ≡ part_of to.now) }
+{
+    let mut part = String::from_str(alloc, to)?;
+    part.push_str(".part")?;
+    Ok(part)
 }
 
 /// The size of a copy of a store in `blocks` blocks, or in as many as the store has. It is refused if
@@ -113,25 +131,79 @@ fn size_for<D: Disk>(store: &Store<D>, blocks: Option<u32>) -> Result<Size, Refu
     Ok(Size { blocks, used })
 }
 
-/// Copies a store to a disk, and says so. If one of the two devices fails, the program stops.
-fn copy_onto<S: Disk, T: Disk, W: Write, F: Write>(
+/// Copies a store to the disk of the file `part`, which then gets the name `to`, and says so. If one
+/// of the two devices fails, the program stops.
+fn copy_onto<S: Disk, P: Place, W: Write, F: Write>(
     store: &mut Store<S>,
-    disk: T,
+    disk: P::D,
     size: Size,
+    part: &str,
+    to: &str,
+    place: &mut P,
     output: &mut W,
     errors: &mut F,
-) -> (Exit, T)
-    ensures ends { OntoEnds W.contents F.contents result.0 output.old output.new errors.old errors.new }
+) -> Exit
+    ensures ends { CopyEnds W.contents F.contents to.now result output.old output.new errors.old errors.new }
     ensures any { GoesOn ⊥ store.old store.new }
     ensures reads { IsHonest store.new → ReadsAlone store.old store.new }
-    ensures earlier { (T.state result.1).honest ≡ true → (T.state disk).honest ≡ true }
-    ensures told { CopiesTo store.old store.new size (T.state disk) (T.state result.1) result.0
+    ensures writes { P.to_write place.new ≡ P.to_write place.old }
+    ensures earlier { WasHonest (P.state place.old) (P.state place.new) }
+    ensures told { CopiesTo P.state P.denied place.old place.new part.now to.now store.old store.new size (P.D.Disk.state disk) result
         (W.contents output.old) (W.contents output.new) (F.contents errors.old) (F.contents errors.new) }
 {
     match vm_store::copy(store, disk, size.blocks) {
-        Ok(disk) => (copied(size, output), disk),
-        Err((disk, Refusal::Device)) => (Exit::Stopped, disk),
-        Err((disk, refusal)) => (refused(&refusal, errors), disk),
+        Ok(copy) => name_copy(copy, size, part, to, place, output, errors),
+        Err((disk, refusal)) => drop_copy(disk, &refusal, part, place, errors),
+    }
+}
+
+/// Gives the file `part`, whose disk has the whole copy, the name `to`, and says that a store was
+/// copied.
+fn name_copy<P: Place, W: Write, F: Write>(
+    copy: P::D,
+    size: Size,
+    part: &str,
+    to: &str,
+    place: &mut P,
+    output: &mut W,
+    errors: &mut F,
+) -> Exit
+    ensures ends { CopyEnds W.contents F.contents to.now result output.old output.new errors.old errors.new }
+    ensures writes { P.to_write place.new ≡ P.to_write place.old }
+    ensures earlier { WasHonest (P.state place.old) (P.state place.new) }
+    ensures named { NamesIn P.state P.D.Disk.state P.denied place.old place.new copy size part.now to.now result
+        (W.contents output.old) (W.contents output.new) (F.contents errors.old) (F.contents errors.new) }
+{
+    place.give_back(part, copy);
+    let is_named = place.link(part, to);
+    place.remove(part);
+    if is_named {
+        copied(size, output)
+    } else {
+        no_file(b"altctl: cannot create ", to, errors)
+    }
+}
+
+/// Removes the file `part`, to which nothing was copied, and says why. If it is that a device failed,
+/// the program stops.
+fn drop_copy<P: Place, F: Write>(
+    disk: P::D,
+    refusal: &Refusal,
+    part: &str,
+    place: &mut P,
+    errors: &mut F,
+) -> Exit
+    ensures ends { DropEnds F.contents refusal.now result errors.old errors.new }
+    ensures writes { P.to_write place.new ≡ P.to_write place.old }
+    ensures earlier { WasHonest (P.state place.old) (P.state place.new) }
+    ensures dropped { DropsIn P.state P.D.Disk.state place.old place.new disk part.now refusal.now result
+        (F.contents errors.old) (F.contents errors.new) }
+{
+    place.give_back(part, disk);
+    place.remove(part);
+    match refusal {
+        Refusal::Device => Exit::Stopped,
+        refusal => refused(refusal, errors),
     }
 }
 

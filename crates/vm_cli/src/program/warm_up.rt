@@ -100,7 +100,7 @@ impl WarmUp {
 /// Opens the file that the program's words name read only, if it is one with blocks.
 fn opened(rt: &HostRuntime) -> Option<File> {
     let words: Vec<String> = env::args(rt).ok()?.collect(rt.alloc()).ok()?;
-    let wanted = lock_wanted(rt.alloc(), words.as_slice())?;
+    let wanted = lock_wanted(rt.alloc(), words.as_slice()).ok()??;
     let metadata = fs::metadata(rt, wanted.file).ok()?;
     if !metadata.is_file() && !metadata.file_type().is_block_device() {
         return None;

@@ -2,6 +2,7 @@
 ghost use Rattle.clap.specs.Words.{FailsBy, app_of, fault_of, found_of, first_of, new_app, rows_of, rule_of, subcommand_rows_of};
 ghost use Rattle.std.specs.Prelude.{◌≡◌, ◌⊎◌, if◌then◌else◌, IfErr, IfOk, None, Some, false, map, ℕ, List, option_map, option_and_then, codes};
 ghost use Rattle.std.specs.String.{string_bytes};
+ghost use Rattle.vm_cli.specs.Locks.{IsLockOf, WordsLock, access_by, access_with, lock_by, lock_of_wanted};
 ghost use Rattle.vm_cli.specs.Words.{AddsTask, IsAsked, IsAskedOf, IsLocal, WordsAsk, altctl, amount_rule, blocks_rule, check_app, command_with, copy_app, create_app, do_app, file_rule, flag_rule, grow_to_rule, line_rule, is_set, manner_by, number_by, memory_by, run_app, to_rule, top_app, tree_app, wanted_of, with_lock, with_options};
 
 use crate::program::file_lock::{Access, LockWanted};
@@ -31,28 +32,71 @@ pub fn job<'a>(alloc: Global, words: &'a [String]) -> Result<Job<'a>, Error>
     }
 }
 
-/// The lock that the words ask for, if the program takes one. It takes none if they name no task,
-/// on a file that they make, which is nobody else's yet, if they say that it takes none, or if
-/// memory cannot be allocated.
-pub(crate) fn lock_wanted<'a>(alloc: Global, words: &'a [String]) -> Option<LockWanted<'a>> {
-    let matches = command(alloc).ok()?.try_get_matches_from(words).ok()?;
-    let (name, matches) = matches.subcommand()?;
-    let file = matches.get_str("file")?;
-    let access = match name {
-        "run" | "do" if is_given(matches, "read-only") => Access::Read,
-        "run" | "do" => Access::Write,
-        "check" | "tree" | "copy" => Access::Read,
-        _ => return None,
+/// The lock that the words ask for, if the job that they name takes one. An `Err` has the text to
+/// show, help included, or memory could not be allocated: then there is no job either.
+pub(crate) fn lock_wanted<'a>(
+    alloc: Global,
+    words: &'a [String],
+) -> Result<Option<LockWanted<'a>>, Error>
+    // It takes none exactly if the words say so, or if the job makes its file.
+    ensures ok { IfOk result (λ wanted. WordsLock (map string_bytes words.entry.now) wanted) }
+    ensures faults { FailsBy (fault_of altctl (map string_bytes words.entry.now)) result }
+{
+    let matches = command(alloc)?.try_get_matches_from(words)?;
+    Ok(lock_asked(&matches))
+}
+
+/// The lock that the matches ask for.
+fn lock_asked<'a>(matches: &ArgMatches<'a>) -> Option<LockWanted<'a>>
+    ensures { IsLockOf (subcommand_rows_of matches.now) result }
+{
+    let Some((name, matches)) = matches.subcommand() else {
+        return None;
     };
+    let Some(file) = matches.get_str("file") else {
+        return None;
+    };
+    lock_on(file, name, matches)
+}
+
+/// The lock on its file that a task of this name takes with these matches.
+fn lock_on<'a>(file: &'a str, name: &str, matches: &ArgMatches<'_>) -> Option<LockWanted<'a>>
+    ensures { option_map lock_of_wanted result ≡ lock_by name.now (rows_of (found_of matches.now)) file.now }
+{
     if is_given(matches, "no-lock") {
         return None;
     }
+    let access = access_of_task(name, matches)?;
     let waits = is_given(matches, "wait");
     Some(LockWanted {
         file,
         access,
         waits,
     })
+}
+
+/// What a task of this name does with its file, if that is there before it.
+fn access_of_task(name: &str, matches: &ArgMatches<'_>) -> Option<Access>
+    ensures { result ≡ access_by name.now (rows_of (found_of matches.now)) }
+{
+    match name {
+        "run" => Some(session_access(is_given(matches, "read-only"))),
+        "do" => Some(session_access(is_given(matches, "read-only"))),
+        "check" => Some(Access::Read),
+        "tree" => Some(Access::Read),
+        "copy" => Some(Access::Read),
+        _ => None,
+    }
+}
+
+/// What a session does with its file.
+fn session_access(read_only: bool) -> Access
+    ensures { result ≡ access_with read_only }
+{
+    if read_only {
+        return Access::Read;
+    }
+    Access::Write
 }
 
 /// The job that the matches ask for.

@@ -49,7 +49,9 @@ pub(crate) fn reply_to_merge<D: Disk>(
 }
 
 /// Merges an alternative with these settlements, and with this side for each other conflict. The
-/// conflicts take memory, and so do their settlements.
+/// conflicts take memory, and so do their settlements. If the device fails while they are listed,
+/// the merge has these settlements alone: it reads the same, so the session ends with it if the
+/// device fails again, as with any command, and otherwise it says what is not settled.
 fn reply_to_merge_all<D: Disk>(
     alloc: Global,
     alt: &Name,
@@ -66,6 +68,9 @@ fn reply_to_merge_all<D: Disk>(
     }
     let conflicts = match store.conflicts(alloc, alt) {
         Ok(conflicts) => conflicts,
+        Err(Refusal::Device) => {
+            return reply_to_command(&Command::Merge { alt: *alt, settled }, on_command, store);
+        }
         Err(refusal) => return Reply::from_refusal(refusal),
     };
     let Ok(settled) = for_all(alloc, &conflicts, side, settled) else {

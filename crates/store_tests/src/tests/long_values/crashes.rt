@@ -63,9 +63,10 @@ fn crash_in_a_put_of_a_long_value_or_its_commit_shows_before_or_after(rt: HostRu
     }
 }
 
-/// `top` has put another long value since `a` was made under it. An opening makes eight device
-/// calls: it reads both leaves and both values. The Merge reads these four, and the leaf of `a`,
-/// and writes the value and the leaf. The Commit makes four.
+/// `top` has added a record, and `a` a long value, to the long one of the base. An opening makes
+/// nine device calls: it reads three leaves and two values. The Merge reads the leaves of the base
+/// and of `top`, those of the base and of `a` with the value that `a` added, and the leaf of `top`
+/// once more, and writes the value and the leaf. The Commit makes four.
 #[test]
 fn crash_in_a_merge_of_a_long_value_shows_before_or_after(rt: HostRuntime) {
     let made = "
@@ -73,7 +74,8 @@ fn crash_in_a_merge_of_a_long_value_shows_before_or_after(rt: HostRuntime) {
         open
         put top 1:1 61*300
         new a top
-        put top 1:1 62*4000
+        put a 1:2 62*4000
+        put top 1:3 v
         commit
         close";
     let in_the_merge = "
@@ -87,27 +89,27 @@ fn crash_in_a_merge_of_a_long_value_shows_before_or_after(rt: HostRuntime) {
         close";
     let before = "
         open
-        list a -> 1:1=61*300
-        list top -> 1:1=62*4000
-        free -> 26
+        list a -> 1:1=61*300 1:2=62*4000
+        list top -> 1:1=61*300 1:3=v
+        free -> 25
         merge a -> ok 1
         post a";
     let after = "
         open
-        list a -> 1:1=62*4000
-        list top -> 1:1=62*4000
+        list a -> 1:1=61*300 1:2=62*4000 1:3=v
+        list top -> 1:1=61*300 1:3=v
         free -> 26
         post a";
     for (stop, row, crash, shown) in &[
-        ("stop 12 41 41", in_the_merge, "crash", before),
-        ("stop 13 41 41", in_the_merge, "crash", before),
-        ("stop 14 41 41", in_the_merge, "crash all=00", before),
-        ("stop 15 41 41", in_the_commit, "crash", before),
-        ("stop 16 41 41", in_the_commit, "crash all=FF", before),
-        ("stop 17 A5 00", in_the_commit, "crash", before),
-        ("stop 17 FE 00", in_the_commit, "crash", after),
-        ("stop 18 41 41", in_the_commit, "crash 1=01", before),
-        ("stop 18 41 41", in_the_commit, "crash", after),
+        ("stop 14 41 41", in_the_merge, "crash", before),
+        ("stop 15 41 41", in_the_merge, "crash", before),
+        ("stop 16 41 41", in_the_merge, "crash all=00", before),
+        ("stop 17 41 41", in_the_commit, "crash", before),
+        ("stop 18 41 41", in_the_commit, "crash all=FF", before),
+        ("stop 19 A5 00", in_the_commit, "crash", before),
+        ("stop 19 FE 00", in_the_commit, "crash", after),
+        ("stop 20 41 41", in_the_commit, "crash 1=01", before),
+        ("stop 20 41 41", in_the_commit, "crash", after),
     ] {
         in_memory(&rt, &[made, stop, row, crash, shown]);
     }

@@ -2,10 +2,10 @@
 use crate::tests::script::{NEW, Row, each_in_256_blocks, each_on_both};
 
 const ON_BOTH: &[Row] = &[
-    // The base has 34 and 35, `top` 36 and 37, and `a` 38 and 39. The Merge writes the value of
-    // `top` into a block of its own for `a`, and the leaf, which is then the map of both.
+    // The base has 34 and 35, `top` 36 and 37, and `a` 38 and 39. The Merge takes the map of `top`,
+    // which is then that of both.
     (
-        "merge of a long value writes a block of its own",
+        "merge that takes a long value shares its block",
         NEW,
         "
         put top 1:1 61*300
@@ -22,12 +22,27 @@ const ON_BOTH: &[Row] = &[
         merge a -> error 9 Unsettled 1
         post a -> error 8 NotMerged
         merge a 1:1=theirs -> ok 1
-        free -> 22
+        free -> 24
         list a -> 1:1=62*300
-        changes a -> none
+        changes a -> none",
+    ),
+    // `top` has 34, and `a` 35 and 36. The Merge writes the value of `a` into another block, and
+    // the leaf of `top` with it.
+    (
+        "merge that keeps a long value writes it anew",
+        NEW,
+        "
+        new a top
+        put top 1:1 x
+        put a 1:2 63*300
+        free -> 27
+        merge a -> ok 1
+        free -> 25
+        list a -> 1:1=x 1:2=63*300
+        changes a -> 1:2=~/63*300
         close
-        block 40 -> 0:4C4F4E47 8:2C01 16:01 18:01 26:62*300
-        block 41 -> 0:4C454632 8:01 16:01 18:01 26:2C0128",
+        block 37 -> 0:4C4F4E47 8:2C01 16:01 18:02 26:63*300
+        block 38 -> 0:4C454632 8:02 16:01 18:01 26:01 28:78 268:01 270:02 278:2C0125",
     ),
     (
         "reclaim frees the blocks of values that a merge replaced",
@@ -38,8 +53,9 @@ const ON_BOTH: &[Row] = &[
         put top 1:1 62*300
         put a 1:1 63*4000
         merge a 1:1=theirs -> ok 1
+        free -> 24
         reclaim
-        free -> 26
+        free -> 28
         post a
         reclaim
         free -> 28

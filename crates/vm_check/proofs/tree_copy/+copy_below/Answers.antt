@@ -13,7 +13,7 @@ use Rattle.vm_check.specs.TreeCopy.{ChildCopied, IsUpTo, NodeCopied}
 use Rattle.vm_check.specs.Renumbering.{count_of, number_at}
 use Rattle.vm_check.proofs.CopyLemmas.{child_here, child_on, child_under, children_here, copied_back, copied_in, copies_block, fresh_still, node_here, node_over, only_after, only_put, ups_then, ups_up}
 use Rattle.vm_check.proofs.CopySoFar.{so_far_length, so_far_more, so_far_next}
-use Rattle.vm_check.proofs.CopySteps.{same_fault, step_fails, step_on, step_put, step_read}
+use Rattle.vm_check.proofs.CopySteps.{same_fault, step_fails, step_none, step_on, step_put, step_read}
 use Rattle.vm_check.proofs.ReachedLemmas.{child_each, marked_put, marked_so, marked_then, node_each, none_copied}
 use Rattle.vm_check.proofs.tree_copy.+copy_below.Goals as goal
 
@@ -183,3 +183,9 @@ copy_node-returns-clause-reached g t c source sizes rs bs tree marks each =
     let same = same_medium _ _ (c.in_ok-count.ensures.looks.reads before) in
     marked_then marks _ _ _ (c.in_ok-copy_children.ensures.reached source sizes c.args.level at.0 rs under.0 read.0 read.1 (children_here same sizes c.args.blocks (c.args.level - 1) at.0 rs under.0 under.1) marks under.3)
     (marked_put marks c.put_copy.ensures.puts (at.1.inside.0, under.2)) (λ is. is)
+
+pub copy_node-returns-then-not-is_data-clause-step : goal.copy_node-returns-then-not-is_data-clause-step
+copy_node-returns-then-not-is_data-clause-step g t c = step_none _ _ _ (λ is. cc) (λ is. cc) (λ is. cc)
+
+pub copy_node-returns-then-number-ne0-clause-step : goal.copy_node-returns-then-number-ne0-clause-step
+copy_node-returns-then-number-ne0-clause-step g t c = step_none _ _ _ (λ is. cc) (λ is. cc) (λ is. cc)

@@ -11,7 +11,7 @@ use Rattle.vm_tree.proofs.TreeLemmas.{leaf_opens}
 use Rattle.vm_check.specs.TreeCopy.{IsUpTo, LeafCopied}
 use Rattle.vm_check.specs.Renumbering.{count_of, number_at}
 use Rattle.vm_check.proofs.CopyLemmas.{all_stand_here, copied_back, copied_in, copies_block, fresh_still, longs_up, only_after, only_put, rows_here}
-use Rattle.vm_check.proofs.CopySteps.{same_fault, step_fails, step_put}
+use Rattle.vm_check.proofs.CopySteps.{same_fault, step_fails, step_none, step_put}
 use Rattle.vm_check.proofs.ReachedLemmas.{beside_links, marked_put, marked_so, marked_then, none_copied}
 use Rattle.vm_check.proofs.tree_copy.copy_leaf.Goals as goal
 
@@ -99,3 +99,9 @@ returns-clause-reached g c source sizes rs bs tree marks each =
     let all = subst (AllByRecursion (IsMarked marks)) at.first each in
     marked_then marks _ _ _ (c.in_ok-copy_rows.ensures.reached marks at.holds.rows read.0 read.1 (beside_links (IsMarked marks) _ _ at.holds.rows rs at.under at.holds.stand all.1))
     (marked_put marks c.put_copy.ensures.puts (at.place.0, all.0)) (λ is. is)
+
+pub returns-then-not-is_data-clause-step : goal.returns-then-not-is_data-clause-step
+returns-then-not-is_data-clause-step g c = step_none _ _ _ (λ is. cc) (λ is. cc) (λ is. cc)
+
+pub returns-then-number-ne0-clause-step : goal.returns-then-number-ne0-clause-step
+returns-then-number-ne0-clause-step g c = step_none _ _ _ (λ is. cc) (λ is. cc) (λ is. cc)

@@ -3,6 +3,7 @@ use Rattle.vm_block.specs.Long.{IsLong}
 use Rattle.vm_check.specs.Renumbering.{count_of}
 use Rattle.vm_check.proofs.CopyLemmas.{copies_block, only_put}
 use Rattle.vm_tree.proofs.Looking.{passed_on}
+use Rattle.vm_check.proofs.CopySteps.{step_none}
 use Rattle.vm_check.proofs.ReachedLemmas.{marked_put, none_copied}
 use Rattle.vm_check.proofs.tree_copy.copy_long.Goals as goal
 
@@ -33,3 +34,9 @@ returns-in_default-clause-reached g c marks marked = none_copied marks c.args.nu
 
 pub returns-clause-reached : goal.returns-clause-reached
 returns-clause-reached g c marks marked = marked_put marks c.put_copy.ensures.puts ((c.is_data.ensures.0 c.if-not-is_data.false).0, marked)
+
+pub returns-then-not-is_data-clause-step : goal.returns-then-not-is_data-clause-step
+returns-then-not-is_data-clause-step g c = step_none _ _ _ (λ is. cc) (λ is. cc) (λ is. cc)
+
+pub returns-then-number-ne0-clause-step : goal.returns-then-number-ne0-clause-step
+returns-then-number-ne0-clause-step g c = step_none _ _ _ (λ is. cc) (λ is. cc) (λ is. cc)

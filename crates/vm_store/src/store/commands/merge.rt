@@ -1,20 +1,20 @@
 //! The command that brings into an alternative what its parent changed.
 ghost use Rattle.std.specs.Prelude.{◌≡◌, ◌≢◌, true, OnErr, IfErr};
 ghost use Rattle.vm_types.specs.State.{State};
-ghost use Rattle.vm_types.specs.declared.answer.Answer.TheVariants.{Merged};
 ghost use Rattle.vm_types.specs.declared.command.Command.TheVariants.{Merge};
 
 use crate::change_list::make_changes;
-use crate::sides::{ThreeRoots, changes_of_merge};
+use crate::sides::{ThreeRoots, plan_of_merge};
 use crate::store::Store;
 use vm_disk::Disk;
 use vm_types::{Answer, Key, Name, Refusal, Side};
 
 impl<D: Disk> Store<D> {
-    ghost use Rattle.vm_store.specs.Store.{has_failed, entries_of, Carries, Holds, IsHonest, GoesOn, EarlyKeeps, FirstReads, FullLeavesSpare, KeepsFree, ReadsAlone, ReadsFew};
+    ghost use Rattle.vm_store.specs.Store.{has_failed, entries_of, Carries, Holds, IsHonest, GoesOn, EarlyKeeps, FirstReads, FullLeavesSpare, KeepsFree, MakesNoneByReading, ReadsFew};
 
     /// Changes the alternative's records to those of the merge, and makes the parent's records its
-    /// base. Everything that takes memory comes before a marking and before the first write.
+    /// base. The changes are made in the tree of the alternative or of its parent, whichever takes
+    /// fewer. Everything that takes memory comes before a marking and before the first write.
     #[inline(never)]
     pub(super) fn merge(&mut self, alt: &Name, settled: &[(Key, Side)]) -> Result<Answer, Refusal>
         ensures any { GoesOn (result ≡ Err Refusal.Device) self.old self.new }
@@ -25,8 +25,7 @@ impl<D: Disk> Store<D> {
         ensures marked { IsHonest self.new → FullLeavesSpare result self.old self.new }
         ensures reads { IsHonest self.new → FirstReads result self.old self.new }
         ensures alike { IsHonest self.new
-            → result ≡ Ok (Merged 0)
-            → ReadsAlone self.old self.new }
+            → MakesNoneByReading alt.now settled.now result self.old self.new }
         ensures few { ReadsFew (Merge alt.now settled.now) result self.old self.new }
         ensures free { KeepsFree (Merge alt.now settled.now) result self.old self.new }
         ensures carried { IsHonest self.new → (s : State) (holds : Holds self.old s)
@@ -38,14 +37,14 @@ impl<D: Disk> Store<D> {
             parent: parent.current,
             own: own.current,
         };
-        let changes = changes_of_merge(
+        let plan = plan_of_merge(
             self.alloc,
             &mut self.disk,
             self.parts.blocks,
             roots,
             settled,
         )?;
-        if !self.has_spare(changes.len())? {
+        if !self.has_spare(plan.changes.len())? {
             return Err(Refusal::Full);
         }
         self.parts.series = None;
@@ -54,11 +53,11 @@ impl<D: Disk> Store<D> {
             &mut self.disk,
             &mut self.parts.held,
             &self.parts.before,
-            roots.own,
-            &changes,
+            roots.start(plan.start),
+            &plan.changes,
         )?;
         self.parts.working.set_current(alt, root);
         self.parts.working.set_base(alt, parent.current);
-        Ok(Answer::Merged(changes.len() as u32))
+        Ok(Answer::Merged(plan.edits))
     }
 }

@@ -1,5 +1,5 @@
 //! The query for one record of a version.
-ghost use Rattle.std.specs.Prelude.{◌≡◌, ◌≢◌, ◌≤◌, length, option_copied, IfOk, IfSome};
+ghost use Rattle.std.specs.Prelude.{◌≡◌, ◌≢◌, ◌+◌, ◌≤◌, length, option_copied, IfOk, IfSome};
 ghost use Rattle.vm_types.specs.Bytes.{longest};
 ghost use Rattle.vm_types.specs.Queries.{value_in};
 ghost use Rattle.vm_types.specs.Versions.{value_at};
@@ -23,6 +23,7 @@ fn copy_of(value: Option<&[u8]>) -> Option<Value>
 
 impl<D: Disk> Store<D> {
     ghost use Rattle.vm_store.specs.Queries.{Queries};
+    ghost use Rattle.vm_store.specs.Store.{reads_of};
 
     /// The value of a record of a version in the working state, lent from this buffer, into which
     /// it is read or copied.
@@ -36,6 +37,9 @@ impl<D: Disk> Store<D> {
             (λ s. IsDueOrDevice (copied_answer result) (value_at s.working at.now key)) }
         ensures no_memory { result ≢ Err Refusal.Memory }
         ensures short { IfOk result (λ value. IfSome value (λ bytes. length bytes.now ≤ longest)) }
+
+        // Whatever the store holds, it makes at most nine reads.
+        ensures bound { reads_of self.new ≤ reads_of self.old + 9 }
     {
         self.ready()?;
         let root = self.parts.working.root_at(at)?;
@@ -54,6 +58,9 @@ impl<D: Disk> Store<D> {
             (λ s. IsDueOrDevice (copied_answer result) (value_in s.working alt.now key)) }
         ensures no_memory { result ≢ Err Refusal.Memory }
         ensures short { IfOk result (λ value. IfSome value (λ bytes. length bytes.now ≤ longest)) }
+
+        // Whatever the store holds, it makes at most nine reads.
+        ensures bound { reads_of self.new ≤ reads_of self.old + 9 }
     {
         let current = At {
             alt: *alt,
@@ -67,6 +74,9 @@ impl<D: Disk> Store<D> {
         ensures query { Queries self.old self.new result
             (λ s. IsDueOrDevice result (value_at s.working at.now key)) }
         ensures no_memory { result ≢ Err Refusal.Memory }
+
+        // Whatever the store holds, it makes at most nine reads.
+        ensures bound { reads_of self.new ≤ reads_of self.old + 9 }
     {
         let mut room = [0; 4096];
         let value = self.look_at(at, key, &mut room)?;
@@ -78,6 +88,9 @@ impl<D: Disk> Store<D> {
         ensures query { Queries self.old self.new result
             (λ s. IsDueOrDevice result (value_in s.working alt.now key)) }
         ensures no_memory { result ≢ Err Refusal.Memory }
+
+        // Whatever the store holds, it makes at most nine reads.
+        ensures bound { reads_of self.new ≤ reads_of self.old + 9 }
     {
         let current = At {
             alt: *alt,

@@ -22,7 +22,7 @@ use Rattle.vm_tree.specs.Root.{sizes_of}
 use Rattle.vm_tree.specs.declared.faults.TreeFault.{TreeFault}
 use Rattle.vm_tree.specs.declared.faults.TreeFault.TheVariants.{Device}
 use Rattle.vm_tree.proofs.HandLemmas.{hand_node}
-use Rattle.vm_tree.proofs.Beside.{node_path, path_alone, path_grown, path_leaf}
+use Rattle.vm_tree.proofs.Beside.{keeps_above, node_path, path_alone, path_grown, path_leaf}
 use Rattle.vm_tree.proofs.Looking.{looks_free, looks_if, looks_if_on, looks_never, looks_write, passed_on, writes_on}
 use Rattle.vm_tree.proofs.Descent.{node_read}
 use Rattle.vm_tree.proofs.Leading.{leads_on, if_ok_is, if_ok_so}
@@ -354,6 +354,10 @@ returns-in-None-clause-looks g t c b = looks_if c.in_ok-way.ensures.looks c.in_o
 
 pub returns-in_ok-node-in-Rest-clause-writes : goal.returns-in_ok-node-in-Rest-clause-writes
 returns-in_ok-node-in-Rest-clause-writes g t c = looks_write c.in_ok-way.ensures.looks (writes_on c.in_ok-left.ensures.writes c.in_ok-node-in-Rest.ensures.writes (λ is. is)) (λ is. cc)
+
+pub returns-in_ok-node-in-Rest-clause-path_above : goal.returns-in_ok-node-in-Rest-clause-path_above
+returns-in_ok-node-in-Rest-clause-path_above g t c =
+    keeps_above c.remove_below.new.path c.args.path.now c.args.level c.from.result c.args.top.block c.in_ok-way.way.child.block c.from.ensures (omega (arith, c.if-level-eq0.false)) c.in_ok-left.ensures.path_above
 
 pub returns-in_err-node-in-Rest-clause-writes : goal.returns-in_err-node-in-Rest-clause-writes
 returns-in_err-node-in-Rest-clause-writes g t c = looks_write c.in_ok-way.ensures.looks (writes_on c.in_ok-left.ensures.writes c.in_err-node-in-Rest.ensures.writes (λ is. is)) (search rules)

@@ -6,12 +6,13 @@ use Rattle.vm_disk.proofs.MomentLemmas.{and_then, at_end, weaken}
 use Rattle.vm_disk.specs.Moments.{Leaves}
 use Rattle.vm_block.specs.Header.{IsHeader}
 use Rattle.vm_block.specs.declared.slot.Entry.{Entry}
-use Rattle.vm_check.specs.TreeCopy.{is_for_data}
+use Rattle.vm_check.specs.Renumbering.{next_of}
+use Rattle.vm_check.specs.TreeCopy.{is_for_copies}
 use Rattle.vm_check.specs.declared.tree_copy.CopyFault.{CopyFault}
 use Rattle.vm_store.specs.Layout.{HasMaps}
 use Rattle.vm_store.specs.Shown.{ShowsAtMost}
 use Rattle.vm_store.specs.Copies.{IsOfFill, IsOfTarget}
-use Rattle.vm_store.proofs.CopyingLemmas.{both_then, copied_now, fill_fault, first_apart, maps_copied, sound_fault, step_both, unused_copied}
+use Rattle.vm_store.proofs.CopyingLemmas.{both_then, copied_now, fill_fault, first_of_none, maps_copied, sound_fault, step_both, unused_copied}
 use Rattle.vm_store.proofs.FullLemmas.{full_fault, next_fewer, next_most}
 use Rattle.vm_store.proofs.LayoutLemmas.{KeepsFirst, first_untouched, no_header, nothing_most}
 use Rattle.vm_store.proofs.store.copies.fill.Goals as goal
@@ -32,7 +33,9 @@ returns-in-Err-clause-sound g c source tree has =
 pub returns-in-Err-clause-moments : goal.returns-in-Err-clause-moments
 returns-in-Err-clause-moments g c source tree has honest clean none =
     let old = (g.T.Disk.state c.args.target.now).now in
-    weaken _ _ _ _ (λ m touches. nothing_most _ m (no_header old m none (first_untouched is_for_data old m first_apart clean touches))) (c.in-Err.ensures.step.touches honest)
+    let touched = is_for_copies (next_of c.args.room.now.numbers) (next_of c.copy_entries.new.room.numbers) c.args.blocks in
+    let apart = first_of_none c.args.kept c.args.blocks c.args.room.now.numbers c.copy_entries.new.room.numbers c.requires.unused.numbers in
+    weaken _ _ _ _ (λ m touches. nothing_most _ m (no_header old m none (first_untouched touched old m apart clean touches))) (c.in-Err.ensures.step.touches honest)
 
 pub returns-in-Ok-put_down-clause-both : goal.returns-in-Ok-put_down-clause-both
 returns-in-Ok-put_down-clause-both g c = both_then c.in-Ok.ensures.step c.put_down.ensures.any (λ is. cc)
@@ -58,13 +61,15 @@ returns-in-Ok-put_down-clause-filled g c source tree has honest =
 pub returns-in-Ok-put_down-clause-moments : goal.returns-in-Ok-put_down-clause-moments
 returns-in-Ok-put_down-clause-moments g c source tree has honest clean none =
     let old = (g.T.Disk.state c.args.target.now).now in
+    let touched = is_for_copies (next_of c.args.room.now.numbers) (next_of c.copy_entries.new.room.numbers) c.args.blocks in
+    let apart = first_of_none c.args.kept c.args.blocks c.args.room.now.numbers c.copy_entries.new.room.numbers c.requires.unused.numbers in
     let before = c.put_down.ensures.any.earlier honest in
     let unused = unused_copied _ _ c.args.kept c.args.blocks _ c.requires.unused.numbers (omega (arith, c.requires.least)) in
     let m = (g.T.Disk.state c.copy_entries.new.target).now in
     let there = maps_copied tree _ m c.args.kept c.args.blocks _ c.args.versions.now _ c.requires.least c.requires.most has (c.in-Ok.ensures.copied source before unused) in
     let maps = subst (λ (es : List Entry). HasMaps tree c.args.blocks es m) (sym c.deref.ensures.value) there in
     let wanted : Seen = record { tree = tree; blocks = c.args.blocks } in
-    let keeps = weaken _ _ _ (KeepsFirst old) (λ m touches. first_untouched is_for_data old m first_apart clean touches) (c.in-Ok.ensures.step.touches before) in
+    let keeps = weaken _ _ _ (KeepsFirst old) (λ m touches. first_untouched touched old m apart clean touches) (c.in-Ok.ensures.step.touches before) in
     let last = at_end _ _ _ keeps in
     let first = weaken _ _ _ (Leaves (ShowsAtMost wanted)) (λ m is. nothing_most wanted m (no_header old m none is)) keeps in
     and_then _ _ _ (Leaves (ShowsAtMost wanted)) first (c.put_down.ensures.moments tree maps honest last.clean (λ header. none (subst IsHeader last.same header)))
@@ -72,13 +77,15 @@ returns-in-Ok-put_down-clause-moments g c source tree has honest clean none =
 pub returns-in-Err-put_down-clause-moments : goal.returns-in-Err-put_down-clause-moments
 returns-in-Err-put_down-clause-moments g c source tree has honest clean none =
     let old = (g.T.Disk.state c.args.target.now).now in
+    let touched = is_for_copies (next_of c.args.room.now.numbers) (next_of c.copy_entries.new.room.numbers) c.args.blocks in
+    let apart = first_of_none c.args.kept c.args.blocks c.args.room.now.numbers c.copy_entries.new.room.numbers c.requires.unused.numbers in
     let before = c.put_down.ensures.any.earlier honest in
     let unused = unused_copied _ _ c.args.kept c.args.blocks _ c.requires.unused.numbers (omega (arith, c.requires.least)) in
     let m = (g.T.Disk.state c.copy_entries.new.target).now in
     let there = maps_copied tree _ m c.args.kept c.args.blocks _ c.args.versions.now _ c.requires.least c.requires.most has (c.in-Ok.ensures.copied source before unused) in
     let maps = subst (λ (es : List Entry). HasMaps tree c.args.blocks es m) (sym c.deref.ensures.value) there in
     let wanted : Seen = record { tree = tree; blocks = c.args.blocks } in
-    let keeps = weaken _ _ _ (KeepsFirst old) (λ m touches. first_untouched is_for_data old m first_apart clean touches) (c.in-Ok.ensures.step.touches before) in
+    let keeps = weaken _ _ _ (KeepsFirst old) (λ m touches. first_untouched touched old m apart clean touches) (c.in-Ok.ensures.step.touches before) in
     let last = at_end _ _ _ keeps in
     let first = weaken _ _ _ (Leaves (ShowsAtMost wanted)) (λ m is. nothing_most wanted m (no_header old m none is)) keeps in
     and_then _ _ _ (Leaves (ShowsAtMost wanted)) first (c.put_down.ensures.moments tree maps honest last.clean (λ header. none (subst IsHeader last.same header)))

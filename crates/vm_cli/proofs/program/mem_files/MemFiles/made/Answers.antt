@@ -9,4 +9,4 @@ returns-clause-honest c honest =
     let blank : IsBlank c.args.blocks (memory_state c.in_ok-disk.disk) = ok_is _ _ _ (sym c.ok-2.ensures.value ∙ c.in_ok-disk.was) c.with_room.ensures.blank in
     let updates = ok_is _ _ _ (sym c.ok-3.ensures.value ∙ c.in_ok-ok.was) c.insert.ensures.updates in
     creates c.args.self.now.honest c.args.file.now c.args.self.now.slots c.insert.new.self _ (string_bytes c.in_ok-name.name) named updates
-    c.args.blocks (sym c.contains_key.ensures ∙ c.if-contains_key.false) c.in_ok-disk.disk blank
+    c.args.blocks (sym c.has.ensures ∙ c.if-has.false) c.in_ok-disk.disk blank

@@ -5,4 +5,4 @@ use Rattle.vm_cli.proofs.program.mem_files.MemFilesPlace.give_back.Goals as goal
 pub returns-in-Some-clause-honest : goal.returns-in-Some-clause-honest
 returns-in-Some-clause-honest c honest =
     takes_back c.args.self.now.honest c.args.file.now c.args.self.now.slots (c.get_mut.follows.lender _) _ c.args.file.now refl
-    ((c.get_mut.follows.holds _).3 (search rules)) c.args.disk c.of-held.ensures
+    ((c.get_mut.follows.holds _).3 (search rules)) c.args.disk c.of-held.ensures refl

@@ -1,0 +1,11 @@
+use Rattle.std.proofs.Common.{◌≡◌, ◌≤◌, ◌++◌, drop, length}
+use Rattle.vm_types.specs.Merge.{taking}
+use Rattle.vm_types.proofs.SettledLemmas.{three_by_side}
+use Rattle.vm_types.proofs.merge.list_taken.Given as goal
+
+-- the changes so far, with those that are ahead, are all
+abbrev pub invariant-loop-i : goal.invariant-loop-i
+invariant-loop-i l = record {
+  inside : l.at ≤ length l.mine;
+  all : three_by_side (taking l.side l.settled) l.theirs l.mine ≡ l.changes ++ three_by_side (taking l.side l.unused) (drop l.i l.theirs) (drop l.at l.mine);
+}

@@ -1,0 +1,1 @@
+"""Tests of `desk/altdesk`, which `desk/test_altdesk.py` runs."""
