@@ -89,9 +89,9 @@ pub record DropsCopy (part : Text) (given : DiskState) (refusal : Refusal) (exit
   pub told : ((refusal ≡ Device) × (exit ≡ Stopped)) ⊎ ((refusal ≢ Device) × Tells Refused exit errors errors' (refused_text refusal))
 
 -- a store was to be copied from a disk that went from the first to the second state to one that went from the third to the last, of a file
--- that is to have this name: what is told with this end, if the copy shows this and `used` blocks are in use, and what became of the name,
--- where no file had it but for the first case. It was copied, and the file has the name; or the place denied that; or it is told why it was
--- not copied; or a call of one of the two disks failed, and the program stops
+-- that is to have this name: what is told with this end, if the copy shows this and `used` blocks are in use, and what became of the name.
+-- No file had it, it was copied, and the file has the name; or the place denied that; or it is told why it was not copied; or a call of one
+-- of the two disks failed, and the program stops
 abbrev pub ToldOfCopy : (Denied : Type 0) (to : Text) (seen : Seen) (used : ℕ) → DiskState → DiskState → DiskState → DiskState → Exit → PlaceState → PlaceState
     → Option (List ℕ) → Option (List ℕ) → Option (List ℕ) → Option (List ℕ) → Type 0
 ToldOfCopy Denied to seen used s s' start end exit old new before after errors errors' =

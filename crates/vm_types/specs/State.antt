@@ -118,7 +118,7 @@ start_of tree alt settled = merge_start (current_of tree alt) (parent_current_of
 abbrev pub merge_changes : Tree → List ℕ → List (Key × Side) → List Change
 merge_changes tree alt settled = delta (start_of tree alt settled) (merged_of tree alt settled)
 
--- the number of changes that a command makes: its record changes, but for a Merge those that it makes on the smaller side
+-- the number of changes that a command makes: its record changes, or for a Merge those that it makes on the smaller side
 abbrev pub changes_made : Tree → Command → ℕ
 changes_made tree (Merge alt settled) = length (merge_changes tree alt settled)
 changes_made tree command = edits tree command

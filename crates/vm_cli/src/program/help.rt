@@ -176,7 +176,7 @@ pub const RUN_FILE: &str = "The file, as altctl create has made it";
 
 /// What `--no-lock` does.
 pub const NO_LOCK: &str = "\
-Takes no lock: for a caller that holds it, or where there are no locks";
+Takes no lock: the caller holds it, or there are no locks";
 
 /// What `--wait` does.
 pub const WAIT: &str = "\
