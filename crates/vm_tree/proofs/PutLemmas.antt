@@ -1,5 +1,5 @@
 -- What a Put under a block answers, from what it answers under the chosen child.
-use Rattle.std.proofs.Common.{◌≡◌, ℕ, suc, nat_lt, cond, Option, ◌+◌, ◌-◌, ◌<◌, ◌≤◌, Bool, List, [], ◌∷◌, ◌++◌, length, get_or, take, drop, Result, Ok, Err, refl, sym, ap, ◌∙◌, subst, arith, length-append, length-drop, length-take-le, take-append-drop}
+use Rattle.std.proofs.Common.{◌≡◌, ℕ, zero, suc, nat_lt, cond, Option, ◌+◌, ◌-◌, ◌<◌, ◌≤◌, Bool, List, [], ◌∷◌, ◌++◌, length, get_or, take, drop, Result, Ok, Err, refl, sym, ap, ◌∙◌, subst, arith, length-append, length-drop, length-take-le, take-append-drop}
 use Rattle.std.specs.List.{AllByRecursion}
 use Rattle.std.specs.Prelude.{IsSomeAnd}
 use Rattle.std.proofs.lemmas.Bool.{lt-ltb}
@@ -44,6 +44,18 @@ pub fault_below : (e : PutFault) (room above : ℕ) (grows goes : ℕ → Type 0
 fault_below (put.Tree Device) room above grows goes P Q fault so = tt
 fault_below (put.Tree (Damaged b)) room above grows goes P Q fault so = fault
 fault_below put.Deep room above grows goes P Q fault so = so refl fault.0 fault.1 fault.2
+
+-- what follows from what was answered
+pub below_so : (result : Result Copied PutFault) (room : ℕ) (grows goes : ℕ → Type 0) (P Q : List Child → Type 0) → PutsBelow result room grows P → ((more : ℕ) → grows more → goes more) → ((cs : List Child) → P cs → Q cs) → PutsBelow result room goes Q
+below_so (Ok copied) room grows goes P Q given so then = (then (children_of copied) given.0, so (extra copied) given.1)
+below_so (Err (put.Tree Device)) room grows goes P Q given so then = tt
+below_so (Err (put.Tree (Damaged b))) room grows goes P Q given so then = given
+below_so (Err put.Deep) room grows goes P Q given so then = (given.0, given.1, so given.0 given.2)
+
+-- what grows only where the one below grew stays as it is where that did
+pub stays_one : (n k : ℕ) (A : Type 0) → (0 < n → (0 < k) × A) → k ≡ 0 → n ≡ 0
+stays_one zero k A grows none = refl
+stays_one (suc n) k A grows none = absurd (omega (arith, (grows (omega arith)).0, none))
 
 -- an inner block has no other children
 pub only_one : (x : Contents) (limit level b most : ℕ) (cs : List Child) → IsNodeAt x limit level b cs → (ds : List Child) → IsNodeAt x limit level b ds → length ds ≤ most → cs ≡ ds
