@@ -89,7 +89,7 @@ returns-in_err-left-clause-remove g c honest m bs rooted =
     rw (passed_on _ c.from_residual.ensures.1) (c.in_err-left.ensures.remove g.row.LEVELS honest m bs top.subtree top.lowest top.rising)
 
 pub returns-then-root-eq0-clause-path_in : goal.returns-then-root-eq0-clause-path_in
-returns-then-root-eq0-clause-path_in g c honest m bs rooted = path_none c.args.root c.args.path.now bs c.told-path c.if-root-eq0.true
+returns-then-root-eq0-clause-path_in g c honest m bs rooted = path_none c.args.root c.args.path.now bs c.if-root-eq0.true
 
 pub returns-in-Same-clause-path_in : goal.returns-in-Same-clause-path_in
 returns-in-Same-clause-path_in g c honest m bs rooted =
