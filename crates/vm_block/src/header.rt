@@ -1,5 +1,5 @@
 //! Block 0, which identifies a store.
-ghost use Rattle.std.specs.Prelude.{◌≡◌, ◌<◌, ◌^◌, ◌↔◌, IsTrue};
+ghost use Rattle.std.specs.Prelude.{◌≡◌, ◌↔◌, IsTrue};
 ghost use Rattle.vm_block.specs.Header.{header_bytes, header_bytes_of, IsEarlierHeader, IsHeader};
 
 use crate::bytes::{put, put_zeros};
