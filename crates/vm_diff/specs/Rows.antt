@@ -1,19 +1,16 @@
 -- What stands in the bytes of a block.
 use Rattle.std.specs.Prelude.{◌≡◌, ℕ, zero, suc, ◌+◌, ◌-◌, ◌*◌, ◌<◌, ◌≤◌, List, [], ◌∷◌, length, take, drop, slice_index_or}
 use Rattle.byteorder.specs.Endian.{little_number}
+use Rattle.vm_block.specs.Bounds.{bounds_of}
 use Rattle.vm_block.specs.Leaf.{HasRecords, Record}
-use Rattle.vm_block.specs.Row.{key_of, child_of, node_row}
+use Rattle.vm_block.specs.Row.{child_of, node_row}
+use Rattle.vm_block.specs.declared.bounds.Bound.{Bound}
 use Rattle.vm_block.specs.declared.node.Child.{Child}
 
--- where the value of an entry of a leaf ends among the values
-abbrev pub end_of : List ℕ → ℕ
-end_of entry = little_number 2 (drop 10 entry)
-
--- so many records, by their entries and by their values, which stand behind `from` bytes of values
-abbrev pub records_with : ℕ → ℕ → List ℕ → List ℕ → List Record
-records_with zero from entries values = []
-records_with (suc n) from entries values =
-    (key_of entries, take (end_of entries - from) values) ∷ records_with n (end_of entries) (drop 12 entries) (drop (end_of entries - from) values)
+-- the records of these entries, whose values stand behind `from` bytes of values
+abbrev pub records_with : ℕ → List Bound → List ℕ → List Record
+records_with from [] values = []
+records_with from (b ∷ bs) values = (b.key, take (b.end - from) values) ∷ records_with b.end bs (drop (b.end - from) values)
 
 -- how many records the head of a leaf tells
 abbrev pub count_of : List ℕ → ℕ
@@ -21,7 +18,7 @@ count_of bytes = little_number 4 (drop 8 bytes)
 
 -- the records in the bytes of a leaf, whatever the bytes are
 unfoldable pub records_of : List ℕ → List Record
-records_of bytes = records_with (count_of bytes) 0 (drop 16 bytes) (drop (16 + 12 * count_of bytes) bytes)
+records_of bytes = records_with 0 (bounds_of (count_of bytes) (drop 16 bytes)) (drop (16 + 12 * count_of bytes) bytes)
 
 -- so many of them, from the one at i on
 abbrev pub records_from : List ℕ → ℕ → ℕ → List Record
