@@ -20,7 +20,7 @@ const ROOT_IS_REFUSED: &str = "
     dirty -> none
     free -> 25";
 
-const ROWS: [Row; 22] = [
+const ROWS: [Row; 23] = [
     (
         "a leaf with the letters of an inner block",
         &[SEVENTEEN, "set 36 0:4E4F4445", LEAF_IS_REFUSED],

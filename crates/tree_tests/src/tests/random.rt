@@ -1,4 +1,4 @@
-//! A hundred thousand random changes of a tree, at the sizes of the store and at small ones.
+//! Over a hundred thousand random changes of trees, at the sizes of the store and at small ones.
 ghost use Rattle.vm_tree.specs.Root.{AreSizes};
 
 use arrayvec::ArrayVec;
@@ -22,10 +22,10 @@ const NEEDED: u32 = 17;
 /// The lengths in bytes of one in eight values.
 const LENGTHS: [usize; 6] = [0, 1, 240, 241, 2000, 4000];
 
-const CHANGES: u32 = 100_000;
+const CHANGES: u32 = 40_000;
 
 /// How many changes are made with more puts than removes, and then again with fewer.
-const SEASON: u32 = 10_000;
+const SEASON: u32 = 5_000;
 
 /// What went wrong.
 #[derive(Clone, Copy, Debug, PartialEq, Eq)]

@@ -129,9 +129,11 @@ const ROWS: [Row; 8] = [
         # A byte behind the values, also where a value becomes shorter.
         set 34 341:01
         verify 34 -> error Damaged 34
-        set 34 341:00 38:2C
+        set 34 341:00
+        set 34 38:2C
         verify 34 -> error Damaged 34
-        set 34 38:2D 26:2E
+        set 34 38:2D
+        set 34 26:2E
         verify 34 -> error Damaged 34
         # The first value ends one byte earlier, and the second has it.
         set 34 26:2B
