@@ -103,7 +103,7 @@ fn values_of_each_size_are_there_after_opening(rt: HostRuntime) {
             "put top 7:1 61*240",
             "list top -> 7:1=61*240",
             "free -> 29",
-            "block 34 -> 0:4C454146 8:01 16:07 18:01 26:F0 28:61*240",
+            "block 34 -> 0:4C454633 8:01 16:07 18:01 26:F0 28:61*240",
         ),
         (
             "put top 7:1 61*241",
