@@ -10,15 +10,6 @@ use Rattle.vm_block.specs.Way.{ChoosesAmong}
 use Rattle.vm_tree.specs.BlockReads.{EndsAt, IsBlockAt, LeadsDown, StepsTo}
 use Rattle.vm_tree.specs.declared.faults.TreeFault.{TreeFault}
 
--- the block that was read is a leaf that begins with the key
-pub ends_at : (x : Contents) (limit b : ℕ) (low : Key) (bytes : List ℕ) (rs : List Record) → IsBlockAt x limit b low bytes → HasRecords bytes rs → BeginsWith low rs → EndsAt x limit b low
-ends_at x limit b low bytes rs at leaf begins = record {
-  records = rs;
-  inside = at.inside;
-  leaf = subst (λ (c : List ℕ). HasRecords c rs) at.bytes_are leaf;
-  begins = begins;
-}
-
 -- the block that was read has the head of an inner block, and this child
 pub steps_to : {p : ℕ} (x : Contents) (limit level b : ℕ) (low : Key) (bytes : List ℕ) (l n i : ℕ) (c : Child) → l ≡ level → IsBlockAt x limit b low bytes → IsNodeHead bytes l n → i < n → take 14 (drop (16 + 14 * i) bytes) ≡ child_bytes c → ChoosesAmong bytes 14 n p i
     → StepsTo x limit p level b low c

@@ -134,8 +134,7 @@ module _ (sizes : Sizes) (old mid : Medium) (limit level b : ℕ) (r : Record) (
       let s = at.way.split in
       let child = subst (λ (m : Medium). Subtree sizes m.contents limit (level - 1) (get_or cs i d).block s.sub s.own) (sym still) s.child in
       let got = below s.sub s.own child s.begins at.way.rising in
-      let here = subst (λ (m : Medium). GrowsBy sizes m.contents r (level - 1) (get_or cs i d).block (extra copied)) still got.1 in
-      (
+      let here = subst (λ (m : Medium). GrowsBy sizes m.contents r (level - 1) (get_or cs i d).block (extra copied)) still got.1 in (
         λ keep all keeps.
             let within = inside s.sub s.own (subst (λ (z : Child). Subtree sizes mid.contents limit (level - 1) z.block s.sub s.own) taken child) (subst (λ (z : Child). BeginsWith z.low s.sub) taken s.begins) at.way.rising in
             let P1 = IsRenewed before between keep in
