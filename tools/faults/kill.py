@@ -126,65 +126,82 @@ def merged(tree, name, settlements):
     return records
 
 
+def unchanged(tree):
+    return "ok", tree
+
+
+def new(tree, name, parent, checkpoint=None):
+    above = find(tree, parent)
+    if name in tree:
+        raise Refused("2 AlternativeExists")
+    records = above.current if checkpoint is None else find_checkpoint(above, checkpoint)[0]
+    return "ok", {**tree, name: Alternative(parent, records, records, {})}
+
+
+def drop(tree, name):
+    find_below_top(tree, name)
+    if any(other.parent == name for other in tree.values()):
+        raise Refused("7 HasChildren")
+    return "ok", without(tree, name)
+
+
+def merge(tree, name, *settlements):
+    alternative = find_below_top(tree, name)
+    records = merged(tree, name, settlements)
+    count = len(list(differences(alternative.current, records)))
+    alternative = alternative._replace(current=records, base=tree[alternative.parent].current)
+    return f"ok {count}", {**tree, name: alternative}
+
+
+def post(tree, name):
+    alternative = find_below_top(tree, name)
+    parent = tree[alternative.parent]
+    if alternative.base != parent.current:
+        raise Refused("8 NotMerged")
+    records = alternative.current
+    posted = {alternative.parent: parent._replace(current=records), name: alternative._replace(base=records)}
+    return "ok", {**tree, **posted}
+
+
+def put(alternative, table, number, value):
+    return alternative._replace(current={**alternative.current, key_of(table, number): value})
+
+
+def remove(alternative, table, number):
+    if key_of(table, number) not in alternative.current:
+        raise Refused("5 NoSuchRecord")
+    return alternative._replace(current=without(alternative.current, key_of(table, number)))
+
+
+def checkpoint(alternative, name):
+    if name in alternative.checkpoints:
+        raise Refused("4 CheckpointExists")
+    checkpoints = {**alternative.checkpoints, name: (alternative.current, alternative.base)}
+    return alternative._replace(checkpoints=checkpoints)
+
+
+def uncheck(alternative, name):
+    find_checkpoint(alternative, name)
+    return alternative._replace(checkpoints=without(alternative.checkpoints, name))
+
+
+def back(alternative, name):
+    current, base = find_checkpoint(alternative, name)
+    return alternative._replace(current=current, base=base)
+
+
+# Commands that change a tree, and those that change one alternative alone.
+COMMANDS = {"commit": unchanged, "rollback": unchanged, "reclaim": unchanged}
+COMMANDS.update(new=new, drop=drop, merge=merge, post=post)
+EDITS = {"put": put, "remove": remove, "checkpoint": checkpoint, "uncheck": uncheck, "back": back}
+
+
 def step(tree, verb, words):
     """What a command is answered, and the tree that it leaves."""
-    match verb, words:
-        case ("commit" | "rollback" | "reclaim"), []:
-            return "ok", tree
-        case "new", [name, parent]:
-            records = find(tree, parent).current
-            if name in tree:
-                raise Refused("2 AlternativeExists")
-            return "ok", {**tree, name: Alternative(parent, records, records, {})}
-        case "new", [name, parent, checkpoint]:
-            above = find(tree, parent)
-            if name in tree:
-                raise Refused("2 AlternativeExists")
-            records, _ = find_checkpoint(above, checkpoint)
-            return "ok", {**tree, name: Alternative(parent, records, records, {})}
-        case "drop", [name]:
-            find_below_top(tree, name)
-            if any(other.parent == name for other in tree.values()):
-                raise Refused("7 HasChildren")
-            return "ok", without(tree, name)
-        case "merge", [name, *settlements]:
-            alternative = find_below_top(tree, name)
-            records = merged(tree, name, settlements)
-            count = len(list(differences(alternative.current, records)))
-            alternative = alternative._replace(current=records, base=tree[alternative.parent].current)
-            return f"ok {count}", {**tree, name: alternative}
-        case "post", [name]:
-            alternative = find_below_top(tree, name)
-            parent = tree[alternative.parent]
-            if alternative.base != parent.current:
-                raise Refused("8 NotMerged")
-            records = alternative.current
-            posted = {alternative.parent: parent._replace(current=records), name: alternative._replace(base=records)}
-            return "ok", {**tree, **posted}
-        case _, [name, *rest]:
-            return "ok", {**tree, name: edit(find(tree, name), verb, rest)}
-
-
-def edit(alternative, verb, words):
-    """An alternative after a command that changes it alone."""
-    current, base, checkpoints = alternative.current, alternative.base, alternative.checkpoints
-    match verb, words:
-        case "put", [table, number, value]:
-            return alternative._replace(current={**current, key_of(table, number): value})
-        case "remove", [table, number]:
-            if key_of(table, number) not in current:
-                raise Refused("5 NoSuchRecord")
-            return alternative._replace(current=without(current, key_of(table, number)))
-        case "checkpoint", [name]:
-            if name in checkpoints:
-                raise Refused("4 CheckpointExists")
-            return alternative._replace(checkpoints={**checkpoints, name: (current, base)})
-        case "uncheck", [name]:
-            find_checkpoint(alternative, name)
-            return alternative._replace(checkpoints=without(checkpoints, name))
-        case "back", [name]:
-            current, base = find_checkpoint(alternative, name)
-            return alternative._replace(current=current, base=base)
+    if verb in COMMANDS:
+        return COMMANDS[verb](tree, *words)
+    name, *rest = words
+    return "ok", {**tree, name: EDITS[verb](find(tree, name), *rest)}
 
 
 def version(tree, word):
@@ -202,26 +219,35 @@ def in_part(key, part):
     return key[0] == table and (not ends or ends[0] <= key[1] <= ends[1])
 
 
-def query(tree, verb, words):
-    """The lines of a list, but for the last."""
-    match verb, words:
-        case "alts", []:
-            return [f"alternative {name} {alternative.parent}" for name, alternative in tree.items()]
-        case "list", [at, *part]:
-            return [record(*it) for it in sorted(version(tree, at).items()) if in_part(it[0], part)]
-        case "next", [at, table, number, count]:
-            found = [record(*it) for it in sorted(version(tree, at).items()) if it[0] >= key_of(table, number)]
-            return found[: int(count)]
-        case "diff", [first, second, *part]:
-            found = differences(version(tree, first), version(tree, second))
-            return [row("change", *it) for it in found if in_part(it[0], part)]
-        case "checks", [name]:
-            return [f"checkpoint {checkpoint}" for checkpoint in find(tree, name).checkpoints]
-        case "changes", [name]:
-            alternative = find(tree, name)
-            return [row("change", *each) for each in differences(alternative.base, alternative.current)]
-        case "conflicts", [name]:
-            return [row("conflict", *each) for each in conflicts(tree, name)]
+def alts(tree):
+    return [f"alternative {name} {alternative.parent}" for name, alternative in tree.items()]
+
+
+def listed(tree, at, *part):
+    return [record(*it) for it in sorted(version(tree, at).items()) if in_part(it[0], part)]
+
+
+def listed_next(tree, at, table, number, count):
+    found = [record(*it) for it in sorted(version(tree, at).items()) if it[0] >= key_of(table, number)]
+    return found[: int(count)]
+
+
+def diff(tree, first, second, *part):
+    found = differences(version(tree, first), version(tree, second))
+    return [row("change", *it) for it in found if in_part(it[0], part)]
+
+
+def checks(tree, name):
+    return [f"checkpoint {it}" for it in find(tree, name).checkpoints]
+
+
+def changes(tree, name):
+    alternative = find(tree, name)
+    return [row("change", *each) for each in differences(alternative.base, alternative.current)]
+
+
+def conflict_rows(tree, name):
+    return [row("conflict", *each) for each in conflicts(tree, name)]
 
 
 def record(key, value):
@@ -232,7 +258,9 @@ def row(word, key, values):
     return " ".join([word, *map(str, key), *("~" if value is None else value for value in values)])
 
 
-QUERIES = {"alts", "list", "next", "checks", "changes", "conflicts", "diff"}
+# The lines of a list, but for the last.
+QUERIES = {"alts": alts, "list": listed, "next": listed_next, "diff": diff, "checks": checks, "changes": changes}
+QUERIES["conflicts"] = conflict_rows
 
 
 def grown(state, blocks):
@@ -246,7 +274,7 @@ def answered(state, line):
     verb, *words = line.split(" ")
     try:
         if verb in QUERIES:
-            lines = query(state.tree, verb, words)
+            lines = QUERIES[verb](state.tree, *words)
             return [*lines, f"end {len(lines)}"], state
         if verb == "grow":
             answer, after = grown(state, int(*words))
