@@ -6,6 +6,7 @@ use Rattle.std.proofs.lemmas.List.{drop_at, drop-drop, take_at}
 use Rattle.byteorder.specs.Endian.{little_bytes}
 use Rattle.byteorder.specs.Numbers.{little_number-reads_back}
 use Rattle.vm_types.specs.Places.{place}
+use Rattle.vm_types.specs.declared.key.Key.{Key}
 use Rattle.vm_block.specs.Bounds.{bounds_of}
 use Rattle.vm_block.specs.Leaf.{HasRecords, Record, bound_bytes, bounds_from, leaf_head, size_of, values_of}
 use Rattle.vm_block.specs.Node.{IsNode}
@@ -16,6 +17,8 @@ use Rattle.vm_block.proofs.LeafLemmas.{leaf_bounds, leaf_headed, leaf_whole, val
 use Rattle.vm_block.proofs.RowLemmas.{node_child}
 use Rattle.vm_diff.specs.Ahead.{PassedBoth}
 use Rattle.vm_diff.specs.Cuts.{CutsChildren, FirstAt, SecondAt}
+use Rattle.vm_diff.specs.Front.{first_of}
+use Rattle.vm_diff.specs.Front.Front.{End, Pair}
 use Rattle.vm_diff.specs.Rows.{AreSameRecords, IsLeafTo, children_from, count_of, records_from, records_of, records_with, rows_from}
 
 module _ {X : Type 0} where
@@ -103,6 +106,10 @@ records_whole bytes rs leaf =
     ∙ ap₂ (λ bs vs. records_with 0 bs vs) (leaf_bounds bytes rs leaf) (values_there bytes rs leaf)
     ∙ with_values 0 rs (zeros (4080 - size_of rs))
 
+-- none of records
+pub part_none : (rs : List Record) (i n : ℕ) → n ≡ 0 → take n (drop i rs) ≡ []
+part_none rs i n none = ap (λ k. take k (drop i rs)) none
+
 -- so many of records, from one on, where there are any
 pub part_some : (rs : List Record) (i n : ℕ) (d : Record) → 0 < n → i + n ≤ length rs → take n (drop i rs) ≡ get_or rs i d ∷ take (n - 1) (drop (i + 1) rs)
 part_some rs i zero d some le = absurd (omega arith)
@@ -159,6 +166,13 @@ records_passed one other i j all rest many more n here there first second same =
   first = part_split (records_of one) i n all rest first;
   second = part_split (records_of other) j n many more second ∙ ap (λ ys. ys ++ take more (drop (j + n) (records_of other))) (sym (leaves_same one other i j n (i + all) (j + many) here there (omega (arith, first)) (omega (arith, second)) same));
 }
+
+-- what comes first of records is told by the first
+pub first_pair : (r : Record) (rest now : List Record) (key : Key) (value : List ℕ) → r ∷ rest ≡ now → first_of now [] ≡ Pair key value → r.1 ≡ value
+first_pair r rest now key value is first = let both : Pair r.0 r.1 ≡ Pair key value = ap (λ (rs : List Record). first_of rs []) is ∙ first in cc
+
+pub none_first : (now : List Record) (key : Key) (value : List ℕ) → [] ≡ now → first_of now [] ≡ Pair key value → [] ≡ value
+none_first now key value is first = let both : End ≡ Pair key value = ap (λ (rs : List Record). first_of rs []) is ∙ first in absurd cc
 
 -- # Children
 
