@@ -19,10 +19,7 @@ pub node_inner : (bytes : List ℕ) (level : ℕ) (cs : List Child) → IsNode b
 node_inner bytes level cs node = ap is_inner node.spelled ∙ node_letters level cs
 
 module _ (x : Contents) where
-  -- what a mark counts for
-  cost : ℕ → Bool → ℕ
-  cost n m = cond (is_inner (block x n) && not m) 1 0
-
+  -- what a mark more counts for
   cost_less : (inner m l : Bool) → (m ≡ true → l ≡ true) → cond (inner && not l) 1 0 ≤ cond (inner && not m) 1 0
   cost_less false m l so = omega arith
   cost_less true false true so = omega arith

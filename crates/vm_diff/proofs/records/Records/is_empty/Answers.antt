@@ -7,4 +7,4 @@ use Rattle.vm_diff.proofs.records.Records.is_empty.Goals as goal
 pub returns : goal.returns
 returns c t =
     let s = c.self.inside in
-    sym (sym (part_none (records_of s.bytes) s.at (s.count - s.at) (omega (arith, eqb-true s.at s.count t))) ∙ c.self.view_is)
+    sym (sym (part_none (records_of s.len s.bytes) s.at (s.count - s.at) (omega (arith, eqb-true s.at s.count t))) ∙ c.self.view_is)
