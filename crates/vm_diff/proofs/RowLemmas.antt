@@ -5,7 +5,7 @@ use Rattle.std.proofs.Math.Seq.{drop-cons, take-add}
 use Rattle.std.proofs.lemmas.List.{drop_at, drop-drop, take_at}
 use Rattle.vm_types.specs.Places.{place}
 use Rattle.vm_types.specs.declared.key.Key.{Key}
-use Rattle.vm_block.specs.Bounds.{bounds_of}
+use Rattle.vm_block.specs.Bounds.{bound_of, bounds_of}
 use Rattle.vm_block.specs.Leaf.{Record, bounds_from, size_of, values_of}
 use Rattle.vm_block.specs.Node.{IsNode}
 use Rattle.vm_block.specs.Padding.{zeros}
@@ -79,23 +79,29 @@ module _ {X : Type 0} where
 -- # Records
 
 -- the records that were written are read
-with_values : (from : ℕ) (rs : List Record) (tail : List ℕ) → records_with from (bounds_from from rs) (values_of rs ++ tail) ≡ rs
-with_values from [] tail = refl
-with_values from (r ∷ rs) tail =
+read_written : (from : ℕ) (rs : List Record) (entries tail : List ℕ) → bounds_of (length rs) entries ≡ bounds_from from rs → records_with (length rs) from entries (values_of rs ++ tail) ≡ rs
+read_written from [] entries tail e = refl
+read_written from (r ∷ rs) entries tail e =
+    let key : (bound_of entries).key ≡ r.0 = ap (λ bs. (get_or bs 0 (bound_of [])).key) e in
+    let end : (bound_of entries).end ≡ from + length r.1 = ap (λ bs. (get_or bs 0 (bound_of [])).end) e in
+    let next = ap (λ bs. drop 1 bs) e in
+    let vs : List ℕ = (r.1 ++ values_of rs) ++ tail in
     let n : from + length r.1 - from ≡ length r.1 = omega arith in
-    let here : (r.1 ++ values_of rs) ++ tail ≡ r.1 ++ (values_of rs ++ tail) = append_assoc r.1 (values_of rs) tail in
-    let value : take (from + length r.1 - from) ((r.1 ++ values_of rs) ++ tail) ≡ r.1 = ap₂ (λ k z. take k z) n here ∙ take_at r.1 (values_of rs ++ tail) (length r.1) refl in
-    let rest : drop (from + length r.1 - from) ((r.1 ++ values_of rs) ++ tail) ≡ values_of rs ++ tail = ap₂ (λ k z. drop k z) n here ∙ drop_at r.1 (values_of rs ++ tail) (length r.1) refl in
-    ap₂ (λ v vs. (r.0, v) ∷ records_with (from + length r.1) (bounds_from (from + length r.1) rs) vs) value rest ∙ ap (λ qs. r ∷ qs) (with_values (from + length r.1) rs tail)
+    let here : vs ≡ r.1 ++ (values_of rs ++ tail) = append_assoc r.1 (values_of rs) tail in
+    let value : take (from + length r.1 - from) vs ≡ r.1 = ap₂ (λ k z. take k z) n here ∙ take_at r.1 (values_of rs ++ tail) (length r.1) refl in
+    let rest : drop (from + length r.1 - from) vs ≡ values_of rs ++ tail = ap₂ (λ k z. drop k z) n here ∙ drop_at r.1 (values_of rs ++ tail) (length r.1) refl in
+    ap₂ (λ (k : Key) m. (k, take (m - from) vs) ∷ records_with (length rs) m (drop 12 entries) (drop (m - from) vs)) key end
+    ∙ ap₂ (λ (v ws : List ℕ). (r.0, v) ∷ records_with (length rs) (from + length r.1) (drop 12 entries) ws) value rest
+    ∙ ap (λ (qs : List Record). r ∷ qs) (read_written (from + length r.1) rs (drop 12 entries) tail next)
 
 -- what is read of a leaf are its records
 pub records_whole : (len : ℕ) (bytes : List ℕ) (leaf : IsLeafSize bytes len) → records_of len bytes ≡ leaf.records
 unfolding records_of
 records_whole len bytes leaf =
     let rs = leaf.records in
-    ap (λ n. records_with 0 (bounds_of n (drop 16 bytes)) (drop (16 + 12 * n) bytes)) leaf.many
-    ∙ ap₂ (λ bs vs. records_with 0 bs vs) (leaf_bounds bytes rs leaf.leaf) (values_there bytes rs leaf.leaf)
-    ∙ with_values 0 rs (zeros (4080 - size_of rs))
+    ap (λ n. records_with n 0 (drop 16 bytes) (drop (16 + 12 * n) bytes)) leaf.many
+    ∙ ap (λ vs. records_with (length rs) 0 (drop 16 bytes) vs) (values_there bytes rs leaf.leaf)
+    ∙ read_written 0 rs (drop 16 bytes) (zeros (4080 - size_of rs)) (leaf_bounds bytes rs leaf.leaf)
 
 -- so many of them, from one on
 pub records_part : (len : ℕ) (bytes : List ℕ) (i n : ℕ) (leaf : IsLeafSize bytes len) → take n (drop i (records_of len bytes)) ≡ take n (drop i leaf.records)
@@ -118,13 +124,13 @@ pub part_past : (rs : List Record) (i n all : ℕ) → n + 1 ≡ all → take n 
 part_past rs i n all many =
     ap (take n) (sym (drop-drop 1 i rs)) ∙ past n (drop i rs) ∙ ap (λ k. drop 1 (take k (drop i rs))) many
   where
-    past : (n : ℕ) (ys : List Record) → take n (drop 1 ys) ≡ drop 1 (take (n + 1) ys)
-    past n [] = let a : suc n ≡ n + 1 = omega arith in take-nil n ∙ ap (λ k. drop 1 (take k [])) a
-    past n (y ∷ ys) = let a : suc n ≡ n + 1 = omega arith in ap (λ k. drop 1 (take k (y ∷ ys))) a
+    none_taken : (n : ℕ) → take {A = Record} n [] ≡ []
+    none_taken zero = refl
+    none_taken (suc n) = refl
 
-    take-nil : (n : ℕ) → take n [] ≡ []
-    take-nil zero = refl
-    take-nil (suc n) = refl
+    past : (n : ℕ) (ys : List Record) → take n (drop 1 ys) ≡ drop 1 (take (n + 1) ys)
+    past n [] = let a : suc n ≡ n + 1 = omega arith in none_taken n ∙ ap (λ k. drop 1 (take k [])) a
+    past n (y ∷ ys) = let a : suc n ≡ n + 1 = omega arith in ap (λ k. drop 1 (take k (y ∷ ys))) a
 
 -- so many of two leaves' records are the same, where each is
 parts_same : (rs qs : List Record) (i j n : ℕ) → i + n ≤ length rs → j + n ≤ length qs → ((k : ℕ) (d : Record) → k < n → get_or rs (i + k) d ≡ get_or qs (j + k) d) → take n (drop i rs) ≡ take n (drop j qs)

@@ -1,20 +1,21 @@
 -- What stands in the bytes of a block.
 use Rattle.std.specs.Prelude.{◌≡◌, ℕ, zero, suc, ◌+◌, ◌-◌, ◌*◌, ◌<◌, ◌≤◌, List, [], ◌∷◌, length, take, drop, slice_index_or}
-use Rattle.vm_block.specs.Bounds.{bounds_of}
+use Rattle.vm_block.specs.Bounds.{bound_of}
 use Rattle.vm_block.specs.Leaf.{HasRecords, Record}
 use Rattle.vm_block.specs.Row.{child_of, node_row}
-use Rattle.vm_block.specs.declared.bounds.Bound.{Bound}
 use Rattle.vm_tree.specs.BlockReads.{IsLeafSize}
 use Rattle.vm_block.specs.declared.node.Child.{Child}
 
--- the records of these entries, whose values stand behind `from` bytes of values
-abbrev pub records_with : ℕ → List Bound → List ℕ → List Record
-records_with from [] values = []
-records_with from (b ∷ bs) values = (b.key, take (b.end - from) values) ∷ records_with b.end bs (drop (b.end - from) values)
+-- so many records, by their entries and by their values, which stand behind `from` bytes of values
+abbrev pub records_with : ℕ → ℕ → List ℕ → List ℕ → List Record
+records_with zero from entries values = []
+records_with (suc n) from entries values =
+    ((bound_of entries).key, take ((bound_of entries).end - from) values)
+    ∷ records_with n (bound_of entries).end (drop 12 entries) (drop ((bound_of entries).end - from) values)
 
 -- so many records in the bytes of a leaf, whatever the bytes are
 unfoldable pub records_of : ℕ → List ℕ → List Record
-records_of len bytes = records_with 0 (bounds_of len (drop 16 bytes)) (drop (16 + 12 * len) bytes)
+records_of len bytes = records_with len 0 (drop 16 bytes) (drop (16 + 12 * len) bytes)
 
 -- so many of them, from the one at i on
 abbrev pub records_from : ℕ → List ℕ → ℕ → ℕ → List Record
