@@ -32,13 +32,7 @@ fn write_cell(blocks: u32, entries: &[Entry], cell: usize, out: &mut [u8])
 }
 
 /// `count` cells, followed by zero bytes.
-fn write_cells(
-    blocks: u32,
-    entries: &[Entry],
-    first: usize,
-    count: usize,
-    out: &mut [u8],
-)
+fn write_cells(blocks: u32, entries: &[Entry], first: usize, count: usize, out: &mut [u8])
     requires few { length entries.now ≤ MAX_VERSIONS }
     requires inside { first + count ≤ length entries.now + 1 }
     requires room { 128 * count ≤ length out.old }

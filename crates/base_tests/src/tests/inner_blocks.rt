@@ -2,8 +2,8 @@
 use super::spelled::{is_block, key};
 use std::process::Abort;
 use vm_block::{
-    Child, Way, child_at, divide_child, divide_in_three, find_child, is_leaf, lowest_key, node_size,
-    read_node, records_len, set_child, write_node,
+    Child, Way, child_at, divide_child, divide_in_three, find_child, is_leaf, lowest_key,
+    node_size, read_node, records_len, set_child, write_node,
 };
 use vm_types::Block;
 

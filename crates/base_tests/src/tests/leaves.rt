@@ -63,7 +63,10 @@ fn record_is_found_by_its_key(rt: HostRuntime) {
         (8, 0, Look::Found(2)),
         (8, 1, Look::Missing(3)),
     ] {
-        assert!(rt; find_record(&three(), key(table, number)) == due, "{table}:{number}");
+        assert!(rt;
+            find_record(&three(), key(table, number)) == due,
+            "{table}:{number}"
+        );
     }
     let zeros = [0; 4096];
     assert!(rt; find_record(&zeros, key(0, 0)) == Look::Missing(0));
@@ -135,7 +138,10 @@ fn record_is_put_where_it_belongs(rt: HostRuntime) {
     let mut block = [0; 4096];
     first_record(key(7, 5), b"duct", &mut block);
     for (number, value) in [(9, b"pipe"), (1, b"wall"), (5, b"beam")] {
-        assert!(rt; put_record(&mut block, key(7, number), value) == Placed::Put, "{number}");
+        assert!(rt;
+            put_record(&mut block, key(7, number), value) == Placed::Put,
+            "{number}"
+        );
     }
     let records = [
         (key(7, 1), b"wall".as_slice()),
@@ -171,12 +177,12 @@ fn copy_has_the_record_and_the_leaf_is_as_it_was(rt: HostRuntime) {
 fn record_is_removed_where_another_is_left(rt: HostRuntime) {
     let mut block = three();
     assert!(rt; remove_record(&mut block, key(7, 3)) == Taken::Absent);
-    assert!(rt; block == three(), "the leaf without such a record is as it was");
+    assert!(rt;
+        block == three(),
+        "the leaf without such a record is as it was"
+    );
     assert!(rt; remove_record(&mut block, key(7, 1)) == Taken::Out);
-    let records = [
-        (key(7, 2), b"".as_slice()),
-        (key(8, 0), b"pipe".as_slice()),
-    ];
+    let records = [(key(7, 2), b"".as_slice()), (key(8, 0), b"pipe".as_slice())];
     assert!(rt; is_leaf_of(&block, &records));
     assert!(rt; remove_record(&mut block, key(8, 0)) == Taken::Out);
     let due = b"LEF3\0\0\0\0\x01\0\0\0\0\0\0\0\x07\0\x02";

@@ -31,9 +31,24 @@ const ROWS: [Row; 14] = [
         (4, 3539),
         &[],
     ),
-    ("the greatest value alone", &[(1, 0)], (1, 4000), &[(1, 4000)]),
-    ("beside the greatest", &[(1, 4000)], (2, 56), &[(1, 4000), (2, 56)]),
-    ("beside the greatest, a byte more", &[(1, 4000)], (2, 57), &[]),
+    (
+        "the greatest value alone",
+        &[(1, 0)],
+        (1, 4000),
+        &[(1, 4000)],
+    ),
+    (
+        "beside the greatest",
+        &[(1, 4000)],
+        (2, 56),
+        &[(1, 4000), (2, 56)],
+    ),
+    (
+        "beside the greatest, a byte more",
+        &[(1, 4000)],
+        (2, 57),
+        &[],
+    ),
     (
         "the first grows",
         &[(1, 4), (2, 300), (3, 7)],
@@ -116,7 +131,10 @@ fn values_grow_and_shrink_where_they_are(rt: HostRuntime) {
 fn leaf_has_340_empty_values(rt: HostRuntime) {
     let mut block = leaf_of(&rt, &[(1, 0)]);
     for number in 2..=340_u64 {
-        assert!(rt; put_len(&rt, &mut block, number, 0) == Placed::Put, "{number}");
+        assert!(rt;
+            put_len(&rt, &mut block, number, 0) == Placed::Put,
+            "{number}"
+        );
     }
     assert!(rt; is_leaf(&block) && records_len(&block) == 340);
     assert!(rt; put_len(&rt, &mut block, 341, 0) == Placed::TooBig);

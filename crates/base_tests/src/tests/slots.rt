@@ -1,9 +1,7 @@
 //! The head of a slot and its entries, byte for byte, and bytes that are not one.
 use super::spelled::name;
 use std::process::Abort;
-use vm_block::{
-    Entry, Kind, SlotHead, read_entry, read_slot_head, write_entry, write_slot_head,
-};
+use vm_block::{Entry, Kind, SlotHead, read_entry, read_slot_head, write_entry, write_slot_head};
 
 /// The head of a slot with one entry, in a store of 64 blocks.
 const HEAD: SlotHead = SlotHead {

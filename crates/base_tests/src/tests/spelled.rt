@@ -59,7 +59,10 @@ pub(super) fn leaf_of(rt: &impl Abort, lengths: &[(u64, usize)]) -> Block {
     let value = [letter(*number, *len); 4000];
     first_record(key(7, *number), &value[..*len], &mut block);
     for (number, len) in others {
-        assert!(rt; put_len(rt, &mut block, *number, *len) == Placed::Put, "{number}");
+        assert!(rt;
+            put_len(rt, &mut block, *number, *len) == Placed::Put,
+            "{number}"
+        );
     }
     block
 }

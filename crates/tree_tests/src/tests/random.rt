@@ -123,12 +123,7 @@ fn children_at(disk: &mut MemDisk, block: u32) -> Result<ArrayVec<Child, 256>, W
 }
 
 /// How many blocks there are from this one of this level down. Each must be held.
-fn count_under(
-    disk: &mut MemDisk,
-    held: &Held,
-    level: u8,
-    block: u32,
-) -> Result<u32, Wrong> {
+fn count_under(disk: &mut MemDisk, held: &Held, level: u8, block: u32) -> Result<u32, Wrong> {
     if block >= held.blocks() || !held.is_held(block) {
         return Err(Wrong::Free(block));
     }
@@ -259,10 +254,7 @@ impl Pair {
         }
     }
 
-    fn remove<const FAN: usize, const LEVELS: usize>(
-        &mut self,
-        number: u64,
-    ) -> Result<(), Wrong>
+    fn remove<const FAN: usize, const LEVELS: usize>(&mut self, number: u64) -> Result<(), Wrong>
         requires { AreSizes FAN LEVELS }
     {
         if self.held.free_count() < NEEDED || self.held.blocks() > self.disk.blocks() {
@@ -356,10 +348,7 @@ impl Pair {
     }
 
     /// Makes the changes, and compares after each thousand.
-    fn run<const FAN: usize, const LEVELS: usize>(
-        &mut self,
-        alloc: Global,
-    ) -> Result<(), Wrong>
+    fn run<const FAN: usize, const LEVELS: usize>(&mut self, alloc: Global) -> Result<(), Wrong>
         requires { AreSizes FAN LEVELS }
     {
         for change in 0..CHANGES {

@@ -75,7 +75,11 @@ fn put_bounds(disk: &mut MemDisk, n: u32, bounds: &[Bound]) -> Result<(), Wrong>
         lay(&mut block, at.wrapping_add(10), &end.to_le_bytes());
         last = *end;
     }
-    for place in block.iter_mut().skip(16 + 12 * count).take(usize::from(last)) {
+    for place in block
+        .iter_mut()
+        .skip(16 + 12 * count)
+        .take(usize::from(last))
+    {
         *place = b'a';
     }
     set_block(disk, n, &block)

@@ -93,25 +93,58 @@ pub const LEAF_ROWS: [(&'static [Piece], Result<u32, Refusal>); 52] = [
     (&[ONE, Word(34, 8, 341)], Err(Refusal::Damaged(34))),
     (&[ONE, Word(34, 8, 65_537)], Err(Refusal::Damaged(34))),
     (&[Empties(34, 340)], Ok(29)),
-    (&[Empties(34, 340), Byte(34, 8, 85)], Err(Refusal::Damaged(34))),
-    (&[Empties(34, 340), Byte(34, 8, 83)], Err(Refusal::Damaged(34))),
+    (
+        &[Empties(34, 340), Byte(34, 8, 85)],
+        Err(Refusal::Damaged(34)),
+    ),
+    (
+        &[Empties(34, 340), Byte(34, 8, 83)],
+        Err(Refusal::Damaged(34)),
+    ),
     // Keys.
     (&[Bounds(34, &[(1, 10), (2, 20)])], Ok(29)),
-    (&[Bounds(34, &[(1, 10), (1, 20)])], Err(Refusal::Damaged(34))),
-    (&[Bounds(34, &[(2, 10), (1, 20)])], Err(Refusal::Damaged(34))),
-    (&[Bounds(34, &[(1, 10), (2, 20)]), Byte(34, 16, 2)], Err(Refusal::Damaged(34))),
+    (
+        &[Bounds(34, &[(1, 10), (1, 20)])],
+        Err(Refusal::Damaged(34)),
+    ),
+    (
+        &[Bounds(34, &[(2, 10), (1, 20)])],
+        Err(Refusal::Damaged(34)),
+    ),
+    (
+        &[Bounds(34, &[(1, 10), (2, 20)]), Byte(34, 16, 2)],
+        Err(Refusal::Damaged(34)),
+    ),
     (&[Bounds(34, &[(1, 10), (2, 20)]), Byte(34, 28, 2)], Ok(29)),
     // Ends.
-    (&[Bounds(34, &[(1, 0), (2, 0), (3, 1), (4, 241), (5, 482), (6, 4000)])], Ok(29)),
-    (&[Bounds(34, &[(1, 300), (2, 299)])], Err(Refusal::Damaged(34))),
+    (
+        &[Bounds(34, &[(1, 0), (2, 0), (3, 1), (4, 241), (5, 482), (6, 4000)])],
+        Ok(29),
+    ),
+    (
+        &[Bounds(34, &[(1, 300), (2, 299)])],
+        Err(Refusal::Damaged(34)),
+    ),
     (&[Bounds(34, &[(1, 4000)])], Ok(29)),
     (&[Bounds(34, &[(1, 4001)])], Err(Refusal::Damaged(34))),
     (&[Bounds(34, &[(1, 10), (2, 4010)])], Ok(29)),
-    (&[Bounds(34, &[(1, 10), (2, 4011)])], Err(Refusal::Damaged(34))),
+    (
+        &[Bounds(34, &[(1, 10), (2, 4011)])],
+        Err(Refusal::Damaged(34)),
+    ),
     (&[Bounds(34, &[(1, 4000), (2, 4056)])], Ok(29)),
-    (&[Bounds(34, &[(1, 4000), (2, 4057)])], Err(Refusal::Damaged(34))),
-    (&[Bounds(34, &[(1, 2000), (2, 65_535)])], Err(Refusal::Damaged(34))),
-    (&[Bounds(34, &[(1, 65_535), (2, 20)])], Err(Refusal::Damaged(34))),
+    (
+        &[Bounds(34, &[(1, 4000), (2, 4057)])],
+        Err(Refusal::Damaged(34)),
+    ),
+    (
+        &[Bounds(34, &[(1, 2000), (2, 65_535)])],
+        Err(Refusal::Damaged(34)),
+    ),
+    (
+        &[Bounds(34, &[(1, 65_535), (2, 20)])],
+        Err(Refusal::Damaged(34)),
+    ),
     // The value, which ends before byte 328.
     (&[ONE, Byte(34, 327, 0)], Ok(29)),
     (&[ONE, Byte(34, 28, b'b')], Ok(29)),
@@ -148,11 +181,19 @@ pub const LEAF_ROWS: [(&'static [Piece], Result<u32, Refusal>); 52] = [
     ),
     (&[ONE, Slot(&[(b"a", b"top", 34, 34)])], Ok(29)),
     (
-        &[ONE, Slot(&[(b"a", b"top", 35, 34)]), Bounds(35, &[(1, 301), (2, 301)])],
+        &[
+            ONE,
+            Slot(&[(b"a", b"top", 35, 34)]),
+            Bounds(35, &[(1, 301), (2, 301)]),
+        ],
         Ok(28),
     ),
     (
-        &[ONE, Slot(&[(b"a", b"top", 35, 34)]), Bounds(35, &[(1, 301), (2, 300)])],
+        &[
+            ONE,
+            Slot(&[(b"a", b"top", 35, 34)]),
+            Bounds(35, &[(1, 301), (2, 300)]),
+        ],
         Err(Refusal::Damaged(35)),
     ),
     (
