@@ -56,7 +56,7 @@ def damaged(block: int) -> Fault:
 
 
 class Version(NamedTuple):
-    """An entry of a slot: an alternative with its parent, or a checkpoint with its alternative. Maps are numbers of roots."""
+    """An entry of a slot: an alternative with its parent, or a checkpoint with its alternative. Maps are roots."""
 
     is_alternative: bool
     name: str
@@ -303,7 +303,8 @@ class Maker:
     @staticmethod
     def first_base(alternative: Version, later: List[Version]) -> int:
         """The base that an alternative has to have first: that of its first checkpoint, if it has one."""
-        return next((it.base for it in later if not it.is_alternative and it.owner == alternative.name), alternative.base)
+        own = (it.base for it in later if not it.is_alternative and it.owner == alternative.name)
+        return next(own, alternative.base)
 
     def new(self, version: Version, base: int) -> Iterator[str]:
         yield from self.show(version.owner, base)
@@ -319,8 +320,8 @@ class Maker:
         self.current[name] = root
 
     def rebase(self, name: str, base: int) -> Iterator[str]:
-        """Gives an alternative a map as its base and records: it posts them into its parent, which shows its base then, so
-        that nothing is refused."""
+        """Gives an alternative a map as its base and records. It posts them into its parent, which shows the old base
+        then, as a post demands, and whose own records follow later."""
         if self.base[name] == base:
             return
         yield from self.show(self.parent[name], self.base[name])
@@ -333,8 +334,8 @@ class Maker:
 
 
 class Comparison:
-    """Queries of the new store, and the answers that it has to give if it has what the old one has. Each version is compared
-    by what differs from one that was compared before."""
+    """Queries of the new store, and the answers that it has to give if it has what the old one has. Each version is
+    compared by what differs from one that was compared before."""
 
     def __init__(self, old: Old):
         self.old = old
@@ -362,8 +363,9 @@ class Comparison:
                 yield self.diff(f"{it.owner}@{it.name}", it.current, f"{it.owner}@", it.base)
 
     def diff(self, one: str, before: int, other: str, after: int) -> Tuple[str, Iterator[str]]:
-        changes = self.old.changes(before, after)
-        return f"diff {one} {other}", (f"change {key[0]} {key[1]} {spelled(old)} {spelled(new)}" for key, old, new in changes)
+        rows = self.old.changes(before, after)
+        told = (f"change {key[0]} {key[1]} {spelled(old)} {spelled(new)}" for key, old, new in rows)
+        return f"diff {one} {other}", told
 
     def lines(self) -> List[str]:
         return [query for query, _ in self.queries()]
