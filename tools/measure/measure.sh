@@ -766,7 +766,7 @@ both() {
 mkfifo "$work/input"
 echo checks top >"$work/ready.lines"
 echo end 0 >"$work/ready.answers"
-"$tools/faults/compare.py" --short -n 20 "$work/plain" >"$work/compared" ||
+"$tools/faults/compare.py" --plain -n 20 "$work/plain" >"$work/compared" ||
     fail 'plain.c answers otherwise than compare.py expects'
 
 if [ -n "$long" ]; then
