@@ -239,6 +239,9 @@ class UpgradeTests(unittest.TestCase):
         return found
 
     def test_files_that_are_no_old_stores_are_refused(self):
+        for name in (os.path.join(self.folder, "nothing"), self.folder, "/dev/null"):
+            ran = subprocess.run([UPGRADE, name, self.new, ALTCTL], capture_output=True, text=True, timeout=60)
+            self.assertEqual((1, "", []), (ran.returncode, ran.stdout, os.listdir(self.folder)), ran.stderr)
         self.write(b"")
         self.refused("19 NotAStore")
         self.write(unpacked(2)[: 63 * BLOCK])

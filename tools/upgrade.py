@@ -26,6 +26,7 @@ import mmap
 import os
 import shutil
 import signal
+import stat
 import struct
 import subprocess
 import sys
@@ -443,6 +444,9 @@ def name_whole(part: str, new: str) -> None:
 
 def upgrade(old_name: str, new_name: str, altctl: str) -> str:
     part = f"{new_name}.part"
+    mode = os.stat(old_name).st_mode
+    if not stat.S_ISREG(mode) and not stat.S_ISBLK(mode):
+        raise Fault(f"{old_name} is no file")
     with open(old_name, "rb") as file, contextlib.ExitStack() as undone:
         try:
             fcntl.flock(file, fcntl.LOCK_SH | fcntl.LOCK_NB)
