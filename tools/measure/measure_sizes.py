@@ -1,5 +1,6 @@
 #!/usr/bin/env python3
-"""Measures how many bytes a record takes, beside LMDB and SQLite: `tools/measure/measure_sizes.py [-n RECORDS] [ALTCTL]`.
+"""Measures how many bytes a record takes, beside LMDB and SQLite: `tools/measure/measure_sizes.py [-n RECORDS]
+[ALTCTL]`.
 
 One load of 100,000 records, and one of a million, is put in one commit, by rising keys and in random order, with values
 of several sizes: the same one for each, sizes between two, and the mixture of a network, of which 60% have 40 to 180
@@ -103,7 +104,8 @@ def main():
                     for _, program, tells in found:
                         with tempfile.TemporaryDirectory(dir=folder) as room:
                             sizes.append(tells(program, os.path.join(room, "store"), records, order, size_of) / records)
-                    print(f"| {records:,} of {what}, {order} | {' | '.join(f'{it:,.0f}' for it in sizes)} |", flush=True)
+                    told = " | ".join(f"{it:,.0f}" for it in sizes)
+                    print(f"| {records:,} of {what}, {order} | {told} |", flush=True)
     return 0
 
 
