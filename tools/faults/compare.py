@@ -963,7 +963,8 @@ def compared(altctl, rng, folder, waits, is_plain):
         if not why and not editor.is_plain and rng.random() < 0.3:
             why = copies(altctl, rng, file, store, [])
         if why:
-            return f"{why}, after these lines:\n{lines}"
+            shown = "\n".join(it if len(it) <= 120 else f"{it[:110]}.. ({len(it)} bytes)" for it in lines.split("\n"))
+            return f"{why}, after these lines:\n{shown}"
     why = opened(altctl, rng, file, store.disk)
     if why:
         os.replace(file, "spoiled.alt")
