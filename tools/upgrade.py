@@ -22,7 +22,6 @@ import argparse
 import contextlib
 import fcntl
 import itertools
-import mmap
 import os
 import shutil
 import signal
@@ -104,10 +103,9 @@ class Old:
     UNMET, LONG = 0, 255
 
     def __init__(self, file: BinaryIO):
-        size = file.seek(0, os.SEEK_END) // BLOCK
+        self.file, size = file.fileno(), file.seek(0, os.SEEK_END) // BLOCK
         if size < LEAST:
             raise Fault("19 NotAStore")
-        self.bytes = mmap.mmap(file.fileno(), size * BLOCK, prot=mmap.PROT_READ)
         if self.block(0) == header(3):
             raise Fault("it is of format 3 already")
         if self.block(0) != header(1):
@@ -122,7 +120,10 @@ class Old:
                     self.verify(root, None)
 
     def block(self, number: int) -> bytes:
-        return self.bytes[number * BLOCK : (number + 1) * BLOCK]
+        text = os.pread(self.file, BLOCK, number * BLOCK)
+        if len(text) != BLOCK:
+            raise Fault(f"block {number} cannot be read")
+        return text
 
     def slot(self, first: int) -> Tuple[int, int, List[Version]]:
         """The format, the number of blocks and the entries of the slot that begins with a block."""
@@ -133,8 +134,9 @@ class Old:
         if not LEAST <= blocks <= MOST or not 1 <= count <= ENTRIES:
             raise damaged(first)
         versions: List[Version] = []
-        for at in range(first * BLOCK + CELL, first * BLOCK + CELL * (count + 1), CELL):
-            found = version_in(self.bytes[at : at + CELL], versions)
+        text = b"".join(map(self.block, range(first, first + (count + 32) // 32)))
+        for at in range(CELL, CELL * (count + 1), CELL):
+            found = version_in(text[at : at + CELL], versions)
             if found is None:
                 raise damaged(first)
             versions.append(found)
@@ -267,13 +269,16 @@ class Old:
 # --- the lines that make the new store
 
 
+SPELLED = [chr(it) if 0x21 <= it <= 0x7D and it != 0x25 else f"%{it:02X}" for it in range(256)]
+
+
 def spelled(value: Optional[bytes]) -> str:
     """How a value stands in a line and in an answer."""
     if value is None:
         return "~"
     if value == b"-":
         return "%2D"
-    return "".join(chr(it) if 0x21 <= it <= 0x7D and it != 0x25 else f"%{it:02X}" for it in value) or "-"
+    return "".join([SPELLED[it] for it in value]) or "-"
 
 
 class Maker:
