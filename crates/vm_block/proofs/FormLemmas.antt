@@ -1,5 +1,5 @@
 -- No block has two forms.
-use Rattle.std.proofs.Common.{◌≡◌, ℕ, List, ◌++◌, length, get_or, sym, ap, ◌∙◌, refl, arith}
+use Rattle.std.proofs.Common.{◌≡◌, ℕ, List, get_or, sym, ap, ◌∙◌, refl, arith}
 use Rattle.vm_block.specs.declared.node.Child.{Child}
 use Rattle.vm_block.specs.Leaf.{HasRecords, Record, leaf_bytes, leaf_head}
 use Rattle.vm_block.specs.Node.{IsNode, node_bytes, node_head}

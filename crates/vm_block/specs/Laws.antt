@@ -8,7 +8,6 @@ use Rattle.vm_block.specs.Node.{ChildFits, IsNode, lows, node_bytes}
 use Rattle.vm_block.specs.Slot.{EntryFits, HeadFits, IsEntry, IsHead, IsSlot, entry_bytes, head_bytes}
 use Rattle.vm_block.specs.declared.node.Child.{Child}
 use Rattle.vm_block.specs.declared.slot.Entry.{Entry}
-use Rattle.vm_block.specs.declared.slot.SlotFormat.{SlotFormat}
 
 -- the same bytes are one leaf
 abbrev pub RecordsAreOne : Type 0
@@ -22,21 +21,19 @@ NodesAreOne = (c : List ℕ) (l m : ℕ) (cs ds : List Child) → IsNode c l cs 
 abbrev pub NoLeafIsANode : Type 0
 NoLeafIsANode = (c : List ℕ) (rs : List Record) (l : ℕ) (cs : List Child) → HasRecords c rs → IsNode c l cs → ⊥
 
--- the same bytes are one head of a slot, of one format
+-- the same bytes are one head of a slot
 abbrev pub HeadsAreOne : Type 0
 HeadsAreOne =
-    (c : List ℕ) (format other : SlotFormat) (limit n most m : ℕ) → IsHead c format limit n → IsHead c other most m
-    → (format ≡ other) × (limit ≡ most) × (n ≡ m)
+    (c : List ℕ) (limit n most m : ℕ) → IsHead c limit n → IsHead c most m → (limit ≡ most) × (n ≡ m)
 
 -- the same bytes are one entry
 abbrev pub EntriesAreOne : Type 0
 EntriesAreOne = (c : List ℕ) (e f : Entry) → IsEntry c e → IsEntry c f → e ≡ f
 
--- the same blocks are one slot, of one format
+-- the same blocks are one slot
 abbrev pub SlotsAreOne : Type 0
 SlotsAreOne =
-    (blocks : List (List ℕ)) (format other : SlotFormat) (limit most : ℕ) (es fs : List Entry) → IsSlot blocks format limit es → IsSlot blocks other most fs
-    → (format ≡ other) × (limit ≡ most) × (es ≡ fs)
+    (blocks : List (List ℕ)) (limit most : ℕ) (es fs : List Entry) → IsSlot blocks limit es → IsSlot blocks most fs → (limit ≡ most) × (es ≡ fs)
 
 -- the leaf of records that rise, each within its limits, and for which it has room, is a leaf of these
 abbrev pub WrittenRecordsAreRecords : Type 0
@@ -51,7 +48,7 @@ WrittenNodesAreNodes =
 
 -- the head of a slot with counts that it may have is one with these
 abbrev pub WrittenHeadsAreHeads : Type 0
-WrittenHeadsAreHeads = (format : SlotFormat) (limit n : ℕ) → HeadFits limit n → IsHead (head_bytes format limit n) format limit n
+WrittenHeadsAreHeads = (limit n : ℕ) → HeadFits limit n → IsHead (head_bytes limit n) limit n
 
 -- an entry that is written is that entry, where its names are names
 abbrev pub WrittenEntriesAreEntries : Type 0

@@ -34,7 +34,7 @@ mod way;
 
 pub use changes::{Placed, Taken, first_record, put_into, put_record, remove_record};
 pub use edits::{divide_child, divide_in_three, set_child};
-pub use header::{is_header, write_header};
+pub use header::{FORMAT, is_earlier_header, is_header, write_header};
 pub use laws::{one_form, written_is_a_form};
 pub use leaf::is_leaf;
 pub use look::{Look, find_record, record_key, record_value, records_len};

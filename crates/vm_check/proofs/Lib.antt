@@ -1,4 +1,3 @@
-pub mod BesideLemmas
 pub mod ChildLemmas
 pub mod CopyLemmas
 pub mod CopySoFar
@@ -6,13 +5,10 @@ pub mod CopySteps
 pub mod FoundLemmas
 pub mod JoinLemmas
 pub mod KnownLemmas
-pub mod LinkLemmas
 pub mod MarkLemmas
-pub mod NotedLemmas
 pub mod OnlyLemmas
 pub mod ReachedLemmas
 pub mod RenumberLemmas
 pub mod RootLemmas
-pub mod RowLemmas
 pub mod SpanLemmas
 pub mod WalkLemmas

@@ -1,18 +1,22 @@
 -- By how many blocks a tree grows with a record.
-use Rattle.std.proofs.Common.{◌≡◌, ℕ, zero, suc, ◌+◌, ◌-◌, ◌<◌, ◌≤◌, nat_lt, cond, Bool, true, false, List, [], ◌∷◌, length, get_or, Some, sym, ap, ap₂, ◌∙◌, subst, refl, arith, ⊎_elim, length-append}
-use Rattle.std.specs.Prelude.{nat_eq, slice_index}
+use Rattle.std.proofs.Common.{◌≡◌, ℕ, zero, suc, ◌+◌, ◌-◌, ◌<◌, ◌≤◌, nat_lt, cond, Bool, true, false, List, [], ◌∷◌, length, get_or, take, drop, Option, None, Some, sym, ap, ap₂, ◌∙◌, subst, refl, arith, ⊎_elim, length-append}
+use Rattle.std.specs.Prelude.{IsSomeAnd, nat_eq, slice_index}
 use Rattle.std.proofs.lemmas.Bool.{cases_order, eq-eqb, le-ltb, ne_eqb}
-use Rattle.std.proofs.lemmas.List.{get_or-map, length-map}
+use Rattle.std.proofs.Math.Nat.{max-le}
+use Rattle.std.proofs.lemmas.List.{get_or-map, length-drop, length-map, length-take}
 use Rattle.vm_types.specs.Places.{place, RisesFrom, places, value_at, with_record}
 use Rattle.vm_disk.specs.Disk.{Contents, block}
 use Rattle.vm_block.specs.Leaf.{HasRecords, Record, size_of, values_of}
 use Rattle.vm_block.specs.Node.{IsNode, lows}
+use Rattle.vm_block.specs.Split.{InTwo}
 use Rattle.vm_block.specs.Way.{IsChosen}
 use Rattle.vm_block.specs.declared.node.Child.{Child}
+use Rattle.vm_block.specs.declared.sizes.TheConstants.{LEAF_ROOM}
 use Rattle.vm_block.proofs.FormLemmas.{leaf_or_node}
 use Rattle.vm_block.proofs.NodeLemmas.{node_one}
 use Rattle.vm_block.proofs.SpelledLemmas.{records_one}
 use Rattle.vm_tree.specs.FullPath.{GrowsBy, NeedsMore, blocks_of}
+use Rattle.vm_tree.specs.Insertion.{HasAsLong}
 use Rattle.vm_tree.specs.Tree.{Sizes, Subtree}
 use Rattle.vm_tree.proofs.Descent.{Opened}
 use Rattle.vm_tree.proofs.Placing.{none_below}
@@ -41,6 +45,16 @@ needs_few rs zero needs = omega arith
 needs_few rs (suc zero) needs = omega arith
 needs_few rs (suc (suc zero)) needs = omega arith
 needs_few rs (suc (suc (suc k))) needs = absurd needs
+
+-- a cut that leaves records on both sides
+cut_within : (h : ℕ) (all : List Record) → 0 < length (take h all) → 0 < length (drop h all) → (0 < h) × (h < length all)
+cut_within h all before behind = (omega (arith, before, length-take h all), omega (arith, behind, length-drop h all))
+
+-- two leaves are one more
+pub needs_two : (r : Record) (rs all : List Record) (left right : List ℕ) → LEAF_ROOM < size_of all → InTwo r rs all left right → NeedsMore all 1
+needs_two r rs all left right over two =
+    let within = cut_within two.cut all two.before.some two.behind.some in
+    (over, two.cut, within.0, within.1, max-le two.before.room two.behind.room)
 
 -- # A record in the place of one of its key
 
@@ -71,6 +85,14 @@ as_long r value low (x ∷ m) rises is le =
     let below = as_long r value (place x.0 + 1) m rises.1 rest le in
     omega (arith, ap size_of (with_beyond r x m g), below, length-append x.1 (values_of (with_record r m)), length-append x.1 (values_of m))))
     (cases_order (place r.0) (place x.0))
+
+-- where a record of its key is there, whose value is not shorter, it has room
+pub long_room : (r : Record) (rs : List Record) → HasAsLong r rs → RisesFrom 0 (places rs) → size_of (with_record r rs) ≤ size_of rs
+long_room r rs there rises = by_value (value_at (place r.0) rs) refl there
+  where
+    by_value : (found : Option (List ℕ)) → value_at (place r.0) rs ≡ found → IsSomeAnd found (λ v. length r.1 ≤ length v) → size_of (with_record r rs) ≤ size_of rs
+    by_value None is h = absurd h
+    by_value (Some v) is h = as_long r v 0 rs rises is h
 
 -- # Descents
 
@@ -109,7 +131,7 @@ unfolding GrowsBy
 leaf_grows sizes x r b k rs leaf needs = (rs, leaf, needs)
 
 -- what follows from how many more there are
-more_one : (fan n m : ℕ) → n ≡ m → cond (nat_lt fan n) 1 0 ≡ cond (nat_lt fan m) 1 0
+more_one : (fan n m : ℕ) → n ≡ m → ◌≡◌ {A = ℕ} (cond (nat_lt fan n) 1 0) (cond (nat_lt fan m) 1 0)
 more_one fan n m e = ap (λ k. cond (nat_lt fan k) 1 0) e
 
 module _ (sizes : Sizes) (x : Contents) (r : Record) where

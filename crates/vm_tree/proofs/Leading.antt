@@ -10,15 +10,6 @@ use Rattle.vm_block.specs.Way.{ChoosesAmong}
 use Rattle.vm_tree.specs.BlockReads.{EndsAt, IsBlockAt, LeadsDown, StepsTo}
 use Rattle.vm_tree.specs.declared.faults.TreeFault.{TreeFault}
 
--- the block that was read is a leaf that begins with the key
-pub ends_at : (x : Contents) (limit b : ℕ) (low : Key) (bytes : List ℕ) (rs : List Record) → IsBlockAt x limit b low bytes → HasRecords bytes rs → BeginsWith low rs → EndsAt x limit b low
-ends_at x limit b low bytes rs at leaf begins = record {
-  records = rs;
-  inside = at.inside;
-  leaf = subst (λ (c : List ℕ). HasRecords c rs) at.bytes_are leaf;
-  begins = begins;
-}
-
 -- the block that was read has the head of an inner block, and this child
 pub steps_to : {p : ℕ} (x : Contents) (limit level b : ℕ) (low : Key) (bytes : List ℕ) (l n i : ℕ) (c : Child) → l ≡ level → IsBlockAt x limit b low bytes → IsNodeHead bytes l n → i < n → take 14 (drop (16 + 14 * i) bytes) ≡ child_bytes c → ChoosesAmong bytes 14 n p i
     → StepsTo x limit p level b low c
@@ -65,3 +56,8 @@ if_ok_is (Err e) A a = tt
 pub if_ok_so : {T E : Type 0} (result : Result T E) (A B : Type 0) → IfOk result (λ x. A) → (A → B) → IfOk result (λ x. B)
 if_ok_so (Ok x) A B h so = so h
 if_ok_so (Err e) A B h so = tt
+
+-- and what follows from each answer
+pub if_ok_map : {T E : Type 0} (result : Result T E) (P Q : T → Type 0) → IfOk result P → ((x : T) → P x → Q x) → IfOk result Q
+if_ok_map (Ok x) P Q h so = so x h
+if_ok_map (Err e) P Q h so = tt

@@ -1,5 +1,5 @@
 -- What a Put under a block answers, from what it answers under the chosen child.
-use Rattle.std.proofs.Common.{◌≡◌, ℕ, suc, nat_lt, cond, Option, ◌+◌, ◌-◌, ◌<◌, ◌≤◌, Bool, List, [], ◌∷◌, ◌++◌, length, get_or, take, drop, Result, Ok, Err, refl, sym, ap, ◌∙◌, subst, arith, length-append, length-drop, length-take-le, take-append-drop}
+use Rattle.std.proofs.Common.{◌≡◌, ℕ, zero, suc, nat_lt, cond, Option, ◌+◌, ◌-◌, ◌<◌, ◌≤◌, Bool, List, [], ◌∷◌, ◌++◌, length, get_or, take, drop, Result, Ok, Err, refl, sym, ap, ◌∙◌, subst, arith, length-append, length-drop, length-take-le, take-append-drop}
 use Rattle.std.specs.List.{AllByRecursion}
 use Rattle.std.specs.Prelude.{IsSomeAnd}
 use Rattle.std.proofs.lemmas.Bool.{lt-ltb}
@@ -44,6 +44,18 @@ pub fault_below : (e : PutFault) (room above : ℕ) (grows goes : ℕ → Type 0
 fault_below (put.Tree Device) room above grows goes P Q fault so = tt
 fault_below (put.Tree (Damaged b)) room above grows goes P Q fault so = fault
 fault_below put.Deep room above grows goes P Q fault so = so refl fault.0 fault.1 fault.2
+
+-- what follows from what was answered
+pub below_so : (result : Result Copied PutFault) (room : ℕ) (grows goes : ℕ → Type 0) (P Q : List Child → Type 0) → PutsBelow result room grows P → ((more : ℕ) → grows more → goes more) → ((cs : List Child) → P cs → Q cs) → PutsBelow result room goes Q
+below_so (Ok copied) room grows goes P Q given so then = (then (children_of copied) given.0, so (extra copied) given.1)
+below_so (Err (put.Tree Device)) room grows goes P Q given so then = tt
+below_so (Err (put.Tree (Damaged b))) room grows goes P Q given so then = given
+below_so (Err put.Deep) room grows goes P Q given so then = (given.0, given.1, so given.0 given.2)
+
+-- what grows only where the one below grew stays as it is where that did
+pub stays_one : (n k : ℕ) (A : Type 0) → (0 < n → (0 < k) × A) → k ≡ 0 → n ≡ 0
+stays_one zero k A grows none = refl
+stays_one (suc n) k A grows none = absurd (omega (arith, (grows (omega arith)).0, none))
 
 -- an inner block has no other children
 pub only_one : (x : Contents) (limit level b most : ℕ) (cs : List Child) → IsNodeAt x limit level b cs → (ds : List Child) → IsNodeAt x limit level b ds → length ds ≤ most → cs ≡ ds
@@ -122,8 +134,7 @@ module _ (sizes : Sizes) (old mid : Medium) (limit level b : ℕ) (r : Record) (
       let s = at.way.split in
       let child = subst (λ (m : Medium). Subtree sizes m.contents limit (level - 1) (get_or cs i d).block s.sub s.own) (sym still) s.child in
       let got = below s.sub s.own child s.begins at.way.rising in
-      let here = subst (λ (m : Medium). GrowsBy sizes m.contents r (level - 1) (get_or cs i d).block (extra copied)) still got.1 in
-      (
+      let here = subst (λ (m : Medium). GrowsBy sizes m.contents r (level - 1) (get_or cs i d).block (extra copied)) still got.1 in (
         λ keep all keeps.
             let within = inside s.sub s.own (subst (λ (z : Child). Subtree sizes mid.contents limit (level - 1) z.block s.sub s.own) taken child) (subst (λ (z : Child). BeginsWith z.low s.sub) taken s.begins) at.way.rising in
             let P1 = IsRenewed before between keep in

@@ -91,6 +91,7 @@ pub(crate) fn load_block<D: Disk>(disk: &mut D, blocks: u32, top: Child) -> Resu
 pub(crate) fn load_leaf<D: Disk>(disk: &mut D, blocks: u32, top: Child) -> Result<(), TreeFault>
     requires { blocks ≤ (D.state disk.old).blocks }
     ensures looks { OnlyLooks result (D.state disk.old) (D.state disk.new) }
+    ensures reads { ReadsAtMost 1 (D.state disk.old) (D.state disk.new) }
     ensures leaf { IfOk result (λ _. (rs : List Record) × HasRecords (D.hand disk.new) rs) }
     ensures found { FindsLeafBytes result (D.state disk.old) (D.state disk.new) top (D.hand disk.new) }
     ensures end { FindsEnd result (D.state disk.old) (D.state disk.new) blocks top }

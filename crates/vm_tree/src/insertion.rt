@@ -85,7 +85,7 @@ fn write_replaced<D: Disk, const FAN: usize>(
     ensures reads { ReadsAtMost 0 (D.state disk.old) (D.state disk.new) }
     ensures device { OkOrDevice result (λ done. AreTaken held.new (children_of done)) }
     ensures grows { GrowsOnly result copied FAN way.count }
-    ensures one { extra copied ≡ 0 → TakesAtMost 1 held.old held.new }
+    ensures one { way.count + extra copied ≤ FAN → TakesAtMost 1 held.old held.new }
     ensures single { IfOne result (TakesAtMost 1 held.old held.new) }
     ensures taken { TakesAtMost 2 held.old held.new }
     ensures fine { GrowsOver result FAN level way bytes.old copied }

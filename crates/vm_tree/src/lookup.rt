@@ -35,7 +35,7 @@ fn get_in_leaf<'a, D: Disk>(
     requires { blocks ≤ (D.state disk.old).blocks }
     ensures looks { OnlyLooks result (D.state disk.old) (D.state disk.new) }
     ensures short { IfOk result (λ value. IfSome value (λ found. length found.now ≤ longest)) }
-    ensures reads { ReadsAtMost 2 (D.state disk.old) (D.state disk.new) }
+    ensures reads { ReadsAtMost 1 (D.state disk.old) (D.state disk.new) }
     ensures path { FindsEnd result (D.state disk.old) (D.state disk.new) blocks top }
     ensures value { GivesValueUnder result (D.state disk.old) (D.state disk.new) blocks top key }
 {
@@ -106,10 +106,9 @@ pub fn get<'a, D: Disk>(
     // fails.
     ensures value { GivesValue result (D.state disk.old) (D.state disk.new) blocks root key }
 
-    // Whatever the answer, it reads at most one block per level and that of a long value, and no more
-    // than nine.
-    ensures reads { ReadsAtMost (root.level + 2) (D.state disk.old) (D.state disk.new) }
-    ensures most { ReadsAtMost 9 (D.state disk.old) (D.state disk.new) }
+    // Whatever the answer, it reads at most one block per level, and no more than eight.
+    ensures reads { ReadsAtMost (root.level + 1) (D.state disk.old) (D.state disk.new) }
+    ensures most { ReadsAtMost 8 (D.state disk.old) (D.state disk.new) }
 {
     if root.block == 0 {
         return Ok(None);

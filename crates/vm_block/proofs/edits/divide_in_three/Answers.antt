@@ -1,4 +1,4 @@
-use Rattle.std.proofs.Common.{◌≡◌, ◌<◌, ◌+◌, List, ◌∷◌, ◌++◌, length, take, drop, sym, ap, ◌∙◌, arith}
+use Rattle.std.proofs.Common.{◌≡◌, ◌<◌, ◌+◌, List, ◌∷◌, ◌++◌, length, take, drop, ap, ◌∙◌, arith}
 use Rattle.vm_block.specs.declared.node.Child.{Child}
 use Rattle.vm_block.specs.Node.{node_bytes}
 use Rattle.vm_block.proofs.DividingLemmas.{pair_fit, pair_length, three_in_place}

@@ -17,10 +17,10 @@ decreases-mark_node g l = l.level + l.level
 
 abbrev pub invariant-mark_node-loop-i : goal.invariant-mark_node-loop-i
 invariant-mark_node-loop-i g l =
-    let old = g.D.Disk.state l.fn.disk.inner in
-    let now = g.D.Disk.state l.disk.inner in record {
+    let old = g.D.Disk.state l.fn.disk in
+    let now = g.D.Disk.state l.disk in record {
       looks : OnlyLooks {T = Unit {0}} (Ok tt) old now;
-      since : now.honest ≡ true → (g.D.Disk.state l.initial.disk.inner).honest ≡ true;
+      since : now.honest ≡ true → (g.D.Disk.state l.initial.disk).honest ≡ true;
       many : length l.marks ≡ l.blocks;
       once : now.reads + unmarked l.marks ≤ old.reads + unmarked l.fn.marks;
       growing : HoldsMore l.fn.marks l.marks;

@@ -9,8 +9,8 @@ use Rattle.vm_check.proofs.marks.mark.Given as goal
 
 abbrev pub invariant-loop-root : goal.invariant-loop-root
 invariant-loop-root g l =
-    let old = g.D.Disk.state l.fn.disk.inner in
-    let now = g.D.Disk.state l.disk.inner in record {
+    let old = g.D.Disk.state l.fn.disk in
+    let now = g.D.Disk.state l.disk in record {
       looks : OnlyLooks {T = Unit {0}} (Ok tt) old now;
       many : length l.marks ≡ l.blocks;
       once : now.reads + unmarked l.marks ≤ old.reads + unmarked l.fn.marks;

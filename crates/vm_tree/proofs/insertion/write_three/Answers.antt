@@ -24,3 +24,12 @@ returns-clause-made g c honest before keep more sizes front mid back is_left is_
     (λ n is. held_kept _ _ _ (third.ensures.writes.moments honest) n (two.writes.still.still n is.now) ∙ held_kept _ _ _ (two.writes.moments then_two) n is.now)
     (λ n is. renewed_more before _ _ keep third.ensures.writes.still n (renewed_more before _ _ keep two.writes.still n is)) one.writes.still.same_length
     _ _ _ _ (front ++ (mid ++ back)) refl left rest
+
+pub returns-clause-writes : goal.returns-clause-writes
+returns-clause-writes g c = writes_on c.in_ok-left.ensures.writes (writes_on c.in_ok-middle.ensures.writes c.write_bytes-3.ensures.writes (λ is. is)) (λ is. cc)
+
+pub returns-in_err-middle-clause-writes : goal.returns-in_err-middle-clause-writes
+returns-in_err-middle-clause-writes g c = writes_on c.in_ok-left.ensures.writes c.write_bytes-2.ensures.writes (search rules)
+
+pub returns-in_err-right-clause-writes : goal.returns-in_err-right-clause-writes
+returns-in_err-right-clause-writes g c = writes_on c.in_ok-left.ensures.writes (writes_on c.in_ok-middle.ensures.writes c.write_bytes-3.ensures.writes (λ is. is)) (search rules)
