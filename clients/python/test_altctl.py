@@ -643,7 +643,7 @@ class StoreTests(unittest.TestCase):
             it.write(b"ALTSTORE\1\0\0\0\0\x10\0\0" + bytes(64 * 4096 - 16))
         with self.assertRaises(Ended) as came:
             self.open()
-        told = f"altctl: {self.file} is of an earlier format: tools/upgrade.py makes a new store of it\n"
+        told = "altctl: the file is of an earlier format: tools/upgrade.py OLD NEW carries it over\n"
         self.assertEqual((1, f"altctl: 19 NotAStore\n{told}"), (came.exception.status, came.exception.said))
 
     def test_one_process_at_a_time(self):

@@ -568,11 +568,11 @@ class Walk:
         return keys
 
 
-def refusal(disk, file):
+def refusal(disk):
     """What opening a file of these blocks is answered, if it is refused."""
     if len(disk) < 64 or disk[0] != header(3):
-        is_earlier = disk[0] == header(1)
-        return "19 NotAStore" + f"\naltctl: {file} is of an earlier format: tools/upgrade.py makes a new store of it" * is_earlier
+        is_earlier = disk[0] in (header(1), header(2))
+        return "19 NotAStore" + "\naltctl: the file is of an earlier format: tools/upgrade.py OLD NEW carries it over" * is_earlier
     try:
         blocks, entries = slot_in(disk, 18 if disk[1][0] & 1 else 2)
         if blocks > len(disk):
@@ -640,7 +640,7 @@ def opened(altctl, rng, file, disk):
         with open(file, "wb") as it:
             it.write(b"".join(blocks))
         ran = subprocess.run([altctl, "run", file], input=b"alts\nlist top\nfree\n", stdout=subprocess.PIPE, stderr=subprocess.PIPE)
-        why, answers = refusal(blocks, file), ""
+        why, answers = refusal(blocks), ""
         if why is None:
             store = Store(64)
             store.disk = blocks

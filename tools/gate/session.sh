@@ -626,7 +626,7 @@ cp earlier earlier.before
 : >output
 for words in 'run earlier' 'run --read-only earlier' 'do earlier free' 'check earlier' 'tree earlier' 'copy earlier made'; do
     echo 'altctl: 19 NotAStore' >faults
-    echo 'altctl: earlier is of an earlier format: tools/upgrade.py makes a new store of it' >>faults
+    echo 'altctl: the file is of an earlier format: tools/upgrade.py OLD NEW carries it over' >>faults
     program "$words, of an earlier format" 1 $words
     compare "$words, of an earlier format: the file" earlier.before earlier
 done

@@ -1035,8 +1035,10 @@ static void open_store(void)
     if (file_blocks < LEAST_BLOCKS)
         refuse(NOT_A_STORE);
     read_file(0, block);
-    make_header(header, 1);
-    is_earlier = memcmp(block, header, BLOCK) == 0;
+    for (uint32_t version = 1; version < FORMAT; version++) {
+        make_header(header, version);
+        is_earlier |= memcmp(block, header, BLOCK) == 0;
+    }
     make_header(header, FORMAT);
     if (memcmp(block, header, BLOCK) != 0)
         refuse(NOT_A_STORE);
@@ -1864,7 +1866,7 @@ static void open_file(const char *name, int how)
     if (setjmp(refused) != 0) {
         fprintf(stderr, "altctl: %s\n", refusal_text);
         if (is_earlier)
-            fprintf(stderr, "altctl: %s is of an earlier format: tools/upgrade.py makes a new store of it\n", name);
+            fputs("altctl: the file is of an earlier format: tools/upgrade.py OLD NEW carries it over\n", stderr);
         exit(1);
     }
     open_store();
