@@ -389,8 +389,8 @@ class Comparison:
 
 def program(said: Optional[str]) -> str:
     """The program: the one that was said, else that of the sources or the installation that this script belongs to."""
-    top = os.path.join(os.path.dirname(os.path.abspath(__file__)), "..")
-    near = [os.path.join(top, "altctl"), os.path.join(top, "..", "..", "bin", "altctl")]
+    top = os.path.dirname(os.path.dirname(os.path.realpath(__file__)))
+    near = [os.path.join(top, "altctl"), os.path.join(os.path.dirname(os.path.dirname(top)), "bin", "altctl")]
     return said or os.environ.get("ALTCTL") or next(filter(os.path.exists, near), shutil.which("altctl") or "altctl")
 
 
