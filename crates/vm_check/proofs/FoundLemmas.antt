@@ -116,7 +116,7 @@ module _ (sizes : Sizes) (limit : ℕ) where
   number_more old mid ns i roots pushed root marks later spans now same lt push found visit =
       let here = subst (λ (m : Medium). Known sizes m.contents limit (sizes.levels - 1) marks spans → RootVisited sizes m.contents limit (get_or ns i 0) root marks spans later now) same visit in
       subst (λ (rs : List Root). FoundSoFar sizes old.contents limit (take (i + 1) ns) rs later now) (sym push)
-      (subst (λ (ks : List ℕ). FoundSoFar sizes old.contents limit long ks (roots ++ root ∷ []) later now) (sym (take_more ns i 0 lt))
+      (subst (λ (ks : List ℕ). FoundSoFar sizes old.contents limit ks (roots ++ root ∷ []) later now) (sym (take_more ns i 0 lt))
       (one_found sizes old.contents limit (take i ns) roots (get_or ns i 0) root marks later spans now found (here found.known)))
 
   -- a fault under a number, where each has a tree

@@ -3,6 +3,7 @@ pub mod CopyLemmas
 pub mod CopySoFar
 pub mod CopySteps
 pub mod FoundLemmas
+pub mod InnerLemmas
 pub mod JoinLemmas
 pub mod KnownLemmas
 pub mod MarkLemmas

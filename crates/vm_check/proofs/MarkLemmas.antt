@@ -291,11 +291,11 @@ node_marked sizes x limit level b i bs cs marks first new inside is above all st
 -- a leaf for which a mark was made
 pub leaf_marked : (result : Result ⊤ TreeFault) (b : ℕ) (bs : List ℕ) (marks later : List Bool) → bs ≡ b ∷ [] → IsOk result → HoldsMore marks later → OnOk result (IsMarked later b) → MarksOnly (b ∷ []) marks later → OkOrDevice result (λ done. MarksMore bs marks later)
 leaf_marked (Ok x) b bs marks later is fine grows here only = subst (λ (ds : List ℕ). MarksMore ds marks later) (sym is) (record { grows = grows; each = (here, tt); only = only })
-leaf_marked (Err fault) b bs marks later is fine grows here only = absurd fine
+leaf_marked (Err fault) b bs marks later is fine grows here only = absurd (false≢true fine)
 
 pub ok_fine : (result : Result ⊤ TreeFault) → IsOk result → OkUnlessDevice result
 ok_fine (Ok x) fine = tt
-ok_fine (Err fault) fine = absurd fine
+ok_fine (Err fault) fine = absurd (false≢true fine)
 
 -- a fault under an inner block
 pub node_fault : (sizes : Sizes) (old mid : Medium) (limit level b i : ℕ) (bs : List ℕ) (cs : List Child) (d : Child) (marks first now : List Bool) (F : Type 0) → mid ≡ old → b < length marks → first ≡ slice_set marks b true

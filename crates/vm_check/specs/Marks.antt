@@ -1,5 +1,6 @@
 -- Marks on the blocks of trees.
-use Rattle.std.specs.Prelude.{◌≡◌, ◌⊎◌, ℕ, ◌+◌, ◌≤◌, Bool, true, List, [], ◌∷◌, ◌++◌, length, drop, Contains, Result, OnOk}
+use Rattle.std.specs.Prelude.{◌≡◌, ◌⊎◌, ℕ, suc, ◌+◌, ◌≤◌, ◌&&◌, not, Bool, true, List, [], ◌∷◌, ◌++◌, length, take, drop, codes, Contains, Result, OnOk, if◌then◌else◌}
+use Rattle.std.specs.Str.{bytes_eq}
 use Rattle.std.specs.List.{AllByRecursion}
 use Rattle.vm_types.specs.declared.sizes.TheConstants.{FIRST_DATA}
 use Rattle.vm_types.specs.Map.{Map}
@@ -63,6 +64,24 @@ PaysReads old new marks later = new.reads + unmarked later ≤ old.reads + unmar
 -- and just one
 abbrev pub PaysJustReads : DiskState → DiskState → List Bool → List Bool → Type 0
 PaysJustReads old new marks later = new.reads + unmarked later ≡ old.reads + unmarked marks
+
+-- the bytes begin with the letters of an inner block
+abbrev pub is_inner : List ℕ → Bool
+is_inner bytes = bytes_eq (take 4 bytes) (codes "NODE")
+
+-- of the blocks from n on, to which these marks belong, so many begin as inner blocks and are not marked
+abbrev pub inner_from : Contents → ℕ → List Bool → ℕ
+inner_from x n [] = 0
+inner_from x n (m ∷ ms) = (if is_inner (block x n) && not m then 1 else 0) + inner_from x (suc n) ms
+
+-- how many blocks that begin as inner blocks are not marked
+abbrev pub unmarked_inner : Contents → List Bool → ℕ
+unmarked_inner x marks = inner_from x 0 marks
+
+-- where the disk is honest after the call, and the answer is Ok, for each block that was read an inner block was marked
+abbrev pub PaysInner : {T : Type 0} → Result T TreeFault → DiskState → DiskState → List Bool → List Bool → Type 0
+PaysInner result old new marks later =
+    new.honest ≡ true → OnOk result (new.reads + unmarked_inner old.now.contents later ≤ old.reads + unmarked_inner old.now.contents marks)
 
 -- # What is marked of trees, where the disk is honest after the call
 

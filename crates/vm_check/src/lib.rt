@@ -5,9 +5,9 @@
 //! It stands on `vm_types`, `vm_disk`, `vm_alloc`, `vm_block` and `vm_tree`. Its promises: the
 //! walks only read the disk that they walk, with at most one read for each block that they mark or
 //! copy; the marks grow by exactly what is reached; `verify` is Ok exactly when each number has a
-//! tree, unless the device fails or memory cannot be allocated;
-//! and under the root of a copy lies the same map, in the copies of its blocks. `mark` reads inner
-//! blocks alone.
+//! tree, unless the device fails or memory cannot be allocated; and under the root of a copy lies
+//! the same map, in the copies of its blocks. Nothing in a leaf names a block, so `mark` reads no
+//! leaf.
 #![tactic(auto)]
 
 mod form;

@@ -4,7 +4,7 @@ ghost use Rattle.vm_alloc.specs.Held.{HoldsMore};
 ghost use Rattle.vm_alloc.specs.Marks.{IsMarked};
 ghost use Rattle.vm_tree.specs.Calls.{OnlyLooks};
 ghost use Rattle.vm_tree.specs.Tree.{IsData};
-ghost use Rattle.vm_check.specs.Marks.{Closes, Covers, CoversBelow, CoversUnder, MarksFit, MarksOnly, MarksOnlyBelow, MarksOnlyOn, MarksOnlyUnder, PaysReads, SoundBelow, SoundOn, SoundUnder, unmarked};
+ghost use Rattle.vm_check.specs.Marks.{Closes, Covers, CoversBelow, CoversUnder, MarksFit, MarksOnly, MarksOnlyBelow, MarksOnlyOn, MarksOnlyUnder, PaysInner, PaysReads, SoundBelow, SoundOn, SoundUnder, unmarked};
 
 use vm_alloc::Marks;
 use vm_block::child_at;
@@ -43,6 +43,7 @@ fn mark_node<D: Disk>(
     requires inner { 0 < level }
     ensures looks { OnlyLooks result (D.state disk.old) (D.state disk.new) }
     ensures once { PaysReads (D.state disk.old) (D.state disk.new) marks.old marks.new }
+    ensures inner { PaysInner result (D.state disk.old) (D.state disk.new) marks.old marks.new }
     ensures growing { HoldsMore marks.old marks.new }
     ensures marked { CoversBelow result (D.state disk.old) (D.state disk.new)
         blocks level block marks.old marks.new }
@@ -80,6 +81,7 @@ fn mark_below<D: Disk>(
     requires fit { MarksFit blocks (D.state disk.old) marks.old }
     ensures looks { OnlyLooks result (D.state disk.old) (D.state disk.new) }
     ensures once { PaysReads (D.state disk.old) (D.state disk.new) marks.old marks.new }
+    ensures inner { PaysInner result (D.state disk.old) (D.state disk.new) marks.old marks.new }
     ensures growing { HoldsMore marks.old marks.new }
     ensures marked { CoversBelow result (D.state disk.old) (D.state disk.new)
         blocks level block marks.old marks.new }
@@ -104,6 +106,7 @@ fn mark_root<D: Disk>(
     requires fit { MarksFit blocks (D.state disk.old) marks.old }
     ensures looks { OnlyLooks result (D.state disk.old) (D.state disk.new) }
     ensures once { PaysReads (D.state disk.old) (D.state disk.new) marks.old marks.new }
+    ensures inner { PaysInner result (D.state disk.old) (D.state disk.new) marks.old marks.new }
     ensures growing { HoldsMore marks.old marks.new }
     ensures marked { CoversUnder result (D.state disk.old) (D.state disk.new)
         blocks root marks.old marks.new }
@@ -127,8 +130,10 @@ pub fn mark<D: Disk>(disk: &mut D, roots: &[Root], marks: &mut Marks) -> Result<
     ensures looks { OnlyLooks result (D.state disk.old) (D.state disk.new) }
     ensures growing { HoldsMore marks.old marks.new }
 
-    // For each block that it reads, it marks a data block that was not marked.
+    // For each block that it reads, it marks a data block that was not marked, and with Ok an inner
+    // block: no leaf is read.
     ensures once { PaysReads (D.state disk.old) (D.state disk.new) marks.old marks.new }
+    ensures inner { PaysInner result (D.state disk.old) (D.state disk.new) marks.old marks.new }
 
     // On trees, whatever the sizes of their blocks and whatever was marked before, it is Ok unless
     // the device fails. Whatever the answer, it marks only blocks under the roots.

@@ -1,27 +1,24 @@
 -- What is left of a leaf or an inner block where what does not lie in a part is left out.
-use Rattle.std.proofs.Common.{◌≡◌, ◌⊎◌, inl, inr, ℕ, zero, suc, ◌+◌, ◌-◌, ◌<◌, ◌≤◌, ◌&&◌, nat_le, Bool, true, false, cond, List, [], ◌∷◌, ◌++◌, length, take, drop, map, max, refl, sym, ap, ap₂, ◌∙◌, subst, arith, append_assoc, append-nil, take-append-drop}
-use Rattle.std.specs.List.{AllByRecursion, list_any}
+use Rattle.std.proofs.Common.{◌≡◌, ◌⊎◌, inl, inr, ℕ, zero, suc, ◌+◌, ◌-◌, ◌<◌, ◌≤◌, nat_le, Bool, true, false, List, [], ◌∷◌, ◌++◌, take, drop, max, refl, sym, ap, ap₂, ◌∙◌, subst, arith, append_assoc, append-nil, take-append-drop}
+use Rattle.std.specs.List.{AllByRecursion}
 use Rattle.std.proofs.Math.Seq.{take-add}
 use Rattle.std.proofs.lemmas.Bool.{and_from, cases_lt, le-leb}
 use Rattle.std.proofs.lemmas.List.{drop-drop}
 use Rattle.vm_types.specs.declared.key.Key.{Key}
 use Rattle.vm_types.specs.Parts.{is_within, part}
 use Rattle.vm_types.specs.Places.{KeyFits, RisesFrom, place, places}
-use Rattle.vm_types.proofs.Bridge.{RisesFrom-lower}
 use Rattle.vm_types.proofs.PartLemmas.{is_before, is_behind, part-append, part_before, part_behind}
 use Rattle.vm_disk.specs.Disk.{Contents}
 use Rattle.vm_block.specs.Leaf.{BeginsWith, Record}
 use Rattle.vm_block.specs.declared.node.Child.{Child}
 use Rattle.vm_block.proofs.EachLemmas.{each_back, each_front, each_join, each_so}
-use Rattle.vm_tree.specs.Over.{children_over, is_between, only_if, subtree_over}
-use Rattle.vm_tree.specs.Spent.{reads_aside}
+use Rattle.vm_tree.specs.Over.{children_over, is_between, subtree_over}
 use Rattle.vm_tree.specs.Tree.{Sizes, Children, Subtree}
 use Rattle.vm_tree.specs.declared.root.Root.{Root}
-use Rattle.vm_tree.proofs.OverLemmas.{aside_few, aside_none, aside_some}
 use Rattle.vm_tree.proofs.OverParts.{NonePass, children_none, subtree_none}
 use Rattle.vm_tree.proofs.Rising.{Above, Below, below_more, rises_above, rises_back, rises_before, rises_front}
 use Rattle.vm_diff.specs.Cuts.{CutAt, CutsChildren, CutsRecords, FirstAt, SecondAt}
-use Rattle.vm_diff.specs.Differ.{AreRising, aside}
+use Rattle.vm_diff.specs.Differ.{AreRising}
 use Rattle.vm_diff.specs.Walk.{Under, tops_of}
 
 -- # Records with some left out

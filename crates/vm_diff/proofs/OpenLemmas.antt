@@ -1,10 +1,9 @@
 -- What is ahead of a walk once it has opened a subtree, and that this is less.
-use Rattle.std.proofs.Common.{◌≡◌, inl, inr, ℕ, zero, suc, ◌+◌, ◌-◌, ◌*◌, ◌<◌, ◌≤◌, ◌||◌, nat_le, Bool, true, List, [], ◌∷◌, ◌++◌, length, drop, Some, None, Result, Ok, Err, refl, sym, ap, ap₂, ◌∙◌, subst, arith, append_assoc}
+use Rattle.std.proofs.Common.{◌≡◌, inl, inr, ℕ, zero, suc, ◌+◌, ◌-◌, ◌*◌, ◌<◌, ◌≤◌, ◌||◌, nat_le, Bool, true, List, [], ◌∷◌, ◌++◌, length, drop, Result, Ok, Err, refl, sym, ap, ◌∙◌, subst, arith, append_assoc}
 use Rattle.std.specs.Prelude.{⊤, OnOk}
 use Rattle.vm_types.specs.declared.key.Key.{Key}
 use Rattle.vm_disk.specs.Disk.{Contents}
 use Rattle.vm_block.specs.Leaf.{BeginsWith, Record}
-use Rattle.vm_block.specs.Node.{IsNode}
 use Rattle.vm_block.specs.declared.node.Child.{Child}
 use Rattle.vm_tree.specs.Tree.{Sizes, Children, Subtree}
 use Rattle.vm_tree.specs.BlockReads.{IsLeafAt, IsNodeAt}

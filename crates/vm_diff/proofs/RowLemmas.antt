@@ -1,22 +1,24 @@
 -- Records and children in the bytes of blocks, one after another, and what two blocks share of them.
 use Rattle.std.proofs.Common.{◌≡◌, ◌⊎◌, inl, inr, ℕ, zero, suc, ◌+◌, ◌-◌, ◌*◌, ◌<◌, ◌≤◌, subst, List, [], ◌∷◌, ◌++◌, length, get_or, take, drop, refl, sym, ap, ap₂, ◌∙◌, arith, append_assoc}
-use Rattle.std.specs.List.{AllByRecursion, flat_map}
+use Rattle.std.specs.List.{AllByRecursion}
 use Rattle.std.proofs.Math.Seq.{drop-cons, take-add}
 use Rattle.std.proofs.lemmas.List.{drop_at, drop-drop, take_at}
-use Rattle.byteorder.specs.Endian.{little_bytes}
-use Rattle.byteorder.specs.Numbers.{little_number-reads_back}
 use Rattle.vm_types.specs.Places.{place}
-use Rattle.vm_block.specs.Bounds.{bounds_of}
-use Rattle.vm_block.specs.Leaf.{HasRecords, Record, bound_bytes, bounds_from, leaf_head, size_of, values_of}
+use Rattle.vm_types.specs.declared.key.Key.{Key}
+use Rattle.vm_block.specs.Bounds.{bound_of, bounds_of}
+use Rattle.vm_block.specs.Leaf.{Record, bounds_from, size_of, values_of}
 use Rattle.vm_block.specs.Node.{IsNode}
 use Rattle.vm_block.specs.Padding.{zeros}
 use Rattle.vm_block.specs.Row.{child_of, node_row}
 use Rattle.vm_block.specs.declared.node.Child.{Child}
-use Rattle.vm_block.proofs.LeafLemmas.{leaf_bounds, leaf_headed, leaf_whole, values_there}
+use Rattle.vm_block.proofs.LeafLemmas.{leaf_bounds, values_there}
 use Rattle.vm_block.proofs.RowLemmas.{node_child}
+use Rattle.vm_tree.specs.BlockReads.{IsLeafSize}
 use Rattle.vm_diff.specs.Ahead.{PassedBoth}
 use Rattle.vm_diff.specs.Cuts.{CutsChildren, FirstAt, SecondAt}
-use Rattle.vm_diff.specs.Rows.{AreSameRecords, IsLeafTo, children_from, count_of, records_from, records_of, records_with, rows_from}
+use Rattle.vm_diff.specs.Front.{first_of}
+use Rattle.vm_diff.specs.Front.Front.{End, Pair}
+use Rattle.vm_diff.specs.Rows.{AreSameRecords, IsLeafTo, children_from, records_from, records_of, records_with, rows_from}
 
 module _ {X : Type 0} where
   rows_same : (f g : ℕ → X) (n i j : ℕ) → ((k : ℕ) → k < n → f (i + k) ≡ g (j + k)) → rows_from f i n ≡ rows_from g j n
@@ -77,31 +79,37 @@ module _ {X : Type 0} where
 -- # Records
 
 -- the records that were written are read
-with_values : (from : ℕ) (rs : List Record) (tail : List ℕ) → records_with from (bounds_from from rs) (values_of rs ++ tail) ≡ rs
-with_values from [] tail = refl
-with_values from (r ∷ rs) tail =
+read_written : (from : ℕ) (rs : List Record) (entries tail : List ℕ) → bounds_of (length rs) entries ≡ bounds_from from rs → records_with (length rs) from entries (values_of rs ++ tail) ≡ rs
+read_written from [] entries tail e = refl
+read_written from (r ∷ rs) entries tail e =
+    let key : (bound_of entries).key ≡ r.0 = ap (λ bs. (get_or bs 0 (bound_of [])).key) e in
+    let end : (bound_of entries).end ≡ from + length r.1 = ap (λ bs. (get_or bs 0 (bound_of [])).end) e in
+    let next = ap (λ bs. drop 1 bs) e in
+    let vs : List ℕ = (r.1 ++ values_of rs) ++ tail in
     let n : from + length r.1 - from ≡ length r.1 = omega arith in
-    let here : (r.1 ++ values_of rs) ++ tail ≡ r.1 ++ (values_of rs ++ tail) = append_assoc r.1 (values_of rs) tail in
-    let value : take (from + length r.1 - from) ((r.1 ++ values_of rs) ++ tail) ≡ r.1 = ap₂ (λ k z. take k z) n here ∙ take_at r.1 (values_of rs ++ tail) (length r.1) refl in
-    let rest : drop (from + length r.1 - from) ((r.1 ++ values_of rs) ++ tail) ≡ values_of rs ++ tail = ap₂ (λ k z. drop k z) n here ∙ drop_at r.1 (values_of rs ++ tail) (length r.1) refl in
-    ap₂ (λ v vs. (r.0, v) ∷ records_with (from + length r.1) (bounds_from (from + length r.1) rs) vs) value rest ∙ ap (λ qs. r ∷ qs) (with_values (from + length r.1) rs tail)
-
--- and their number
-count_told : (n : ℕ) (rest : List ℕ) → n < 4294967296 → count_of (leaf_head n ++ rest) ≡ n
-unfolding leaf_head
-count_told n rest few = little_number-reads_back 4 n (little_bytes 4 0 ++ rest) few
-
-leaf_count : (bytes : List ℕ) (rs : List Record) → HasRecords bytes rs → count_of bytes ≡ length rs
-leaf_count bytes rs leaf =
-    ap count_of (leaf_whole bytes rs leaf) ∙ count_told (length rs) (flat_map bound_bytes (bounds_from 0 rs) ++ (values_of rs ++ zeros (4080 - size_of rs))) (omega (arith, (leaf_headed bytes rs leaf).few))
+    let here : vs ≡ r.1 ++ (values_of rs ++ tail) = append_assoc r.1 (values_of rs) tail in
+    let value : take (from + length r.1 - from) vs ≡ r.1 = ap₂ (λ k z. take k z) n here ∙ take_at r.1 (values_of rs ++ tail) (length r.1) refl in
+    let rest : drop (from + length r.1 - from) vs ≡ values_of rs ++ tail = ap₂ (λ k z. drop k z) n here ∙ drop_at r.1 (values_of rs ++ tail) (length r.1) refl in
+    ap₂ (λ (k : Key) m. (k, take (m - from) vs) ∷ records_with (length rs) m (drop 12 entries) (drop (m - from) vs)) key end
+    ∙ ap₂ (λ (v ws : List ℕ). (r.0, v) ∷ records_with (length rs) (from + length r.1) (drop 12 entries) ws) value rest
+    ∙ ap (λ (qs : List Record). r ∷ qs) (read_written (from + length r.1) rs (drop 12 entries) tail next)
 
 -- what is read of a leaf are its records
-pub records_whole : (bytes : List ℕ) (rs : List Record) → HasRecords bytes rs → records_of bytes ≡ rs
+pub records_whole : (len : ℕ) (bytes : List ℕ) (leaf : IsLeafSize bytes len) → records_of len bytes ≡ leaf.records
 unfolding records_of
-records_whole bytes rs leaf =
-    ap (λ n. records_with 0 (bounds_of n (drop 16 bytes)) (drop (16 + 12 * n) bytes)) (leaf_count bytes rs leaf)
-    ∙ ap₂ (λ bs vs. records_with 0 bs vs) (leaf_bounds bytes rs leaf) (values_there bytes rs leaf)
-    ∙ with_values 0 rs (zeros (4080 - size_of rs))
+records_whole len bytes leaf =
+    let rs = leaf.records in
+    ap (λ n. records_with n 0 (drop 16 bytes) (drop (16 + 12 * n) bytes)) leaf.many
+    ∙ ap (λ vs. records_with (length rs) 0 (drop 16 bytes) vs) (values_there bytes rs leaf.leaf)
+    ∙ read_written 0 rs (drop 16 bytes) (zeros (4080 - size_of rs)) (leaf_bounds bytes rs leaf.leaf)
+
+-- so many of them, from one on
+pub records_part : (len : ℕ) (bytes : List ℕ) (i n : ℕ) (leaf : IsLeafSize bytes len) → take n (drop i (records_of len bytes)) ≡ take n (drop i leaf.records)
+records_part len bytes i n leaf = ap (λ qs. take n (drop i qs)) (records_whole len bytes leaf)
+
+-- none of records
+pub part_none : (rs : List Record) (i n : ℕ) → n ≡ 0 → take n (drop i rs) ≡ []
+part_none rs i n none = ap (λ k. take k (drop i rs)) none
 
 -- so many of records, from one on, where there are any
 pub part_some : (rs : List Record) (i n : ℕ) (d : Record) → 0 < n → i + n ≤ length rs → take n (drop i rs) ≡ get_or rs i d ∷ take (n - 1) (drop (i + 1) rs)
@@ -116,13 +124,13 @@ pub part_past : (rs : List Record) (i n all : ℕ) → n + 1 ≡ all → take n 
 part_past rs i n all many =
     ap (take n) (sym (drop-drop 1 i rs)) ∙ past n (drop i rs) ∙ ap (λ k. drop 1 (take k (drop i rs))) many
   where
-    past : (n : ℕ) (ys : List Record) → take n (drop 1 ys) ≡ drop 1 (take (n + 1) ys)
-    past n [] = let a : suc n ≡ n + 1 = omega arith in take-nil n ∙ ap (λ k. drop 1 (take k [])) a
-    past n (y ∷ ys) = let a : suc n ≡ n + 1 = omega arith in ap (λ k. drop 1 (take k (y ∷ ys))) a
+    none_taken : (n : ℕ) → take {A = Record} n [] ≡ []
+    none_taken zero = refl
+    none_taken (suc n) = refl
 
-    take-nil : (n : ℕ) → take n [] ≡ []
-    take-nil zero = refl
-    take-nil (suc n) = refl
+    past : (n : ℕ) (ys : List Record) → take n (drop 1 ys) ≡ drop 1 (take (n + 1) ys)
+    past n [] = let a : suc n ≡ n + 1 = omega arith in none_taken n ∙ ap (λ k. drop 1 (take k [])) a
+    past n (y ∷ ys) = let a : suc n ≡ n + 1 = omega arith in ap (λ k. drop 1 (take k (y ∷ ys))) a
 
 -- so many of two leaves' records are the same, where each is
 parts_same : (rs qs : List Record) (i j n : ℕ) → i + n ≤ length rs → j + n ≤ length qs → ((k : ℕ) (d : Record) → k < n → get_or rs (i + k) d ≡ get_or qs (j + k) d) → take n (drop i rs) ≡ take n (drop j qs)
@@ -140,25 +148,36 @@ parts_same rs qs i j (suc n) one other same =
     ∙ ap₂ (λ r rest. r ∷ rest) first (parts_same rs qs (suc i) (suc j) n (omega (arith, one)) (omega (arith, other)) next)
     ∙ ap (take (suc n)) (sym (drop-cons qs j d (omega (arith, other))))
 
-leaves_same : (one other : List ℕ) (i j n count many : ℕ) → IsLeafTo one count → IsLeafTo other many → i + n ≤ count → j + n ≤ many → AreSameRecords one i other j n → take n (drop i (records_of one)) ≡ take n (drop j (records_of other))
-leaves_same one other i j zero count many here there le most same = refl
-leaves_same one other i j (suc n) count many here there le most same =
-    let a = here (omega (arith, le)) in
-    let b = there (omega (arith, most)) in
-    ap (λ rs. take (suc n) (drop i rs)) (records_whole one a.0 a.1)
-    ∙ parts_same a.0 b.0 i j (suc n) (omega (arith, le, a.2)) (omega (arith, most, b.2)) (λ k d lt. same k lt a.0 b.0 d a.1 b.1 (omega (arith, le, lt, a.2)) (omega (arith, most, lt, b.2)))
-    ∙ ap (λ rs. take (suc n) (drop j rs)) (sym (records_whole other b.0 b.1))
+leaves_same : (k l : ℕ) (one other : List ℕ) (i j n count many : ℕ) → IsLeafTo k one count → IsLeafTo l other many → i + n ≤ count → j + n ≤ many → AreSameRecords one i other j n
+    → take n (drop i (records_of k one)) ≡ take n (drop j (records_of l other))
+leaves_same k l one other i j zero count many here there le most same = refl
+leaves_same k l one other i j (suc n) count many here there le most same =
+    let a = here.1 (omega (arith, le)) in
+    let b = there.1 (omega (arith, most)) in
+    ap (λ rs. take (suc n) (drop i rs)) (records_whole k one a)
+    ∙ parts_same a.records b.records i j (suc n) (omega (arith, le, here.0, a.many)) (omega (arith, most, there.0, b.many))
+    (λ m d lt. same m lt a.records b.records d a.leaf b.leaf (omega (arith, le, lt, here.0, a.many)) (omega (arith, most, lt, there.0, b.many)))
+    ∙ ap (λ rs. take (suc n) (drop j rs)) (sym (records_whole l other b))
 
 part_split : (rs : List Record) (i n all rest : ℕ) → all ≡ n + rest → take all (drop i rs) ≡ take n (drop i rs) ++ take rest (drop (i + n) rs)
 part_split rs i n all rest many = ap (λ k. take k (drop i rs)) many ∙ take-add n rest (drop i rs) ∙ ap (λ ys. take n (drop i rs) ++ take rest ys) (drop-drop n i rs)
 
-pub records_passed : (one other : List ℕ) (i j all rest many more n : ℕ) → IsLeafTo one (i + all) → IsLeafTo other (j + many) → all ≡ n + rest → many ≡ n + more → AreSameRecords one i other j n
-    → PassedBoth (records_from one i all) (records_from other j many) (records_from one (i + n) rest) (records_from other (j + n) more)
-records_passed one other i j all rest many more n here there first second same = record {
-  front = take n (drop i (records_of one));
-  first = part_split (records_of one) i n all rest first;
-  second = part_split (records_of other) j n many more second ∙ ap (λ ys. ys ++ take more (drop (j + n) (records_of other))) (sym (leaves_same one other i j n (i + all) (j + many) here there (omega (arith, first)) (omega (arith, second)) same));
+pub records_passed : (k l : ℕ) (one other : List ℕ) (i j all rest many more n : ℕ) → IsLeafTo k one (i + all) → IsLeafTo l other (j + many) → all ≡ n + rest → many ≡ n + more → AreSameRecords one i other j n
+    → PassedBoth (records_from k one i all) (records_from l other j many) (records_from k one (i + n) rest) (records_from l other (j + n) more)
+records_passed k l one other i j all rest many more n here there first second same = record {
+  front = take n (drop i (records_of k one));
+  first = part_split (records_of k one) i n all rest first;
+  second =
+      part_split (records_of l other) j n many more second
+      ∙ ap (λ ys. ys ++ take more (drop (j + n) (records_of l other))) (sym (leaves_same k l one other i j n (i + all) (j + many) here there (omega (arith, first)) (omega (arith, second)) same));
 }
+
+-- what comes first of records is told by the first
+pub first_pair : (r : Record) (rest now : List Record) (key : Key) (value : List ℕ) → r ∷ rest ≡ now → first_of now [] ≡ Pair key value → r.1 ≡ value
+first_pair r rest now key value is first = let both : Pair r.0 r.1 ≡ Pair key value = ap (λ (rs : List Record). first_of rs []) is ∙ first in cc
+
+pub none_first : (now : List Record) (key : Key) (value : List ℕ) → [] ≡ now → first_of now [] ≡ Pair key value → [] ≡ value
+none_first now key value is first = let both : End ≡ Pair key value = ap (λ (rs : List Record). first_of rs []) is ∙ first in absurd cc
 
 -- # Children
 

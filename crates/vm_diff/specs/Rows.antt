@@ -1,32 +1,29 @@
 -- What stands in the bytes of a block.
 use Rattle.std.specs.Prelude.{◌≡◌, ℕ, zero, suc, ◌+◌, ◌-◌, ◌*◌, ◌<◌, ◌≤◌, List, [], ◌∷◌, length, take, drop, slice_index_or}
-use Rattle.byteorder.specs.Endian.{little_number}
-use Rattle.vm_block.specs.Bounds.{bounds_of}
+use Rattle.vm_block.specs.Bounds.{bound_of}
 use Rattle.vm_block.specs.Leaf.{HasRecords, Record}
 use Rattle.vm_block.specs.Row.{child_of, node_row}
-use Rattle.vm_block.specs.declared.bounds.Bound.{Bound}
+use Rattle.vm_tree.specs.BlockReads.{IsLeafSize}
 use Rattle.vm_block.specs.declared.node.Child.{Child}
 
--- the records of these entries, whose values stand behind `from` bytes of values
-abbrev pub records_with : ℕ → List Bound → List ℕ → List Record
-records_with from [] values = []
-records_with from (b ∷ bs) values = (b.key, take (b.end - from) values) ∷ records_with b.end bs (drop (b.end - from) values)
+-- so many records, by their entries and by their values, which stand behind `from` bytes of values
+abbrev pub records_with : ℕ → ℕ → List ℕ → List ℕ → List Record
+records_with zero from entries values = []
+records_with (suc n) from entries values =
+    ((bound_of entries).key, take ((bound_of entries).end - from) values)
+    ∷ records_with n (bound_of entries).end (drop 12 entries) (drop ((bound_of entries).end - from) values)
 
--- how many records the head of a leaf tells
-abbrev pub count_of : List ℕ → ℕ
-count_of bytes = little_number 4 (drop 8 bytes)
-
--- the records in the bytes of a leaf, whatever the bytes are
-unfoldable pub records_of : List ℕ → List Record
-records_of bytes = records_with 0 (bounds_of (count_of bytes) (drop 16 bytes)) (drop (16 + 12 * count_of bytes) bytes)
+-- so many records in the bytes of a leaf, whatever the bytes are
+unfoldable pub records_of : ℕ → List ℕ → List Record
+records_of len bytes = records_with len 0 (drop 16 bytes) (drop (16 + 12 * len) bytes)
 
 -- so many of them, from the one at i on
-abbrev pub records_from : List ℕ → ℕ → ℕ → List Record
-records_from bytes i n = take n (drop i (records_of bytes))
+abbrev pub records_from : ℕ → List ℕ → ℕ → ℕ → List Record
+records_from len bytes i n = take n (drop i (records_of len bytes))
 
--- the bytes are a leaf of so many records at least, if there are any
-abbrev pub IsLeafTo : List ℕ → ℕ → Type 0
-IsLeafTo bytes count = 0 < count → (rs : List Record) × HasRecords bytes rs × (count ≤ length rs)
+-- `count` is no more than the number of records of a leaf, and if it is not 0, the bytes are that leaf
+abbrev pub IsLeafTo : ℕ → List ℕ → ℕ → Type 0
+IsLeafTo len bytes count = (count ≤ len) × (0 < count → IsLeafSize bytes len)
 
 -- two leaves have the same record at these indices
 abbrev pub IsSameRecord : List ℕ → ℕ → List ℕ → ℕ → Type 0

@@ -20,6 +20,8 @@ use vm_types::{Block, BlockNumber, Key};
 #[derive(Drop)]
 pub(crate) struct Records {
     bytes: Block,
+    /// How many records the leaf has.
+    len: usize,
     at: usize,
     count: usize,
 }
@@ -33,9 +35,9 @@ impl Model for Records {
     ghost use Rattle.vm_diff.specs.Rows.{IsLeafTo, records_from};
     ghost use Rattle.vm_block.specs.declared.sizes.TheConstants.{MAX_RECORDS};
 
-    ghost view = { λ r. records_from r.bytes r.at (r.count - r.at) };
+    ghost view = { λ r. records_from r.len r.bytes r.at (r.count - r.at) };
 
-    ghost invariant = { λ r. (r.at ≤ r.count) × (r.count ≤ MAX_RECORDS) × IsLeafTo r.bytes r.count };
+    ghost invariant = { λ r. (r.at ≤ r.count) × (r.len ≤ MAX_RECORDS) × IsLeafTo r.len r.bytes r.count };
 }
 
 impl Records {
@@ -45,6 +47,7 @@ impl Records {
     {
         Records {
             bytes: [0; 4096],
+            len: 0,
             at: 0,
             count: 0,
         }
@@ -119,7 +122,7 @@ impl Records {
         // Until the leaf is read, the bytes may be anything.
         self.at = 0;
         self.count = 0;
-        leaf_into(disk, blocks, block, &mut self.bytes)?;
+        self.len = leaf_into(disk, blocks, block, &mut self.bytes)?;
         let first = first_from(&self.bytes, part.low);
         let end = first_after(&self.bytes, part.high);
         self.at = first;

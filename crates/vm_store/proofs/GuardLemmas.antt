@@ -78,12 +78,12 @@ module _ (m : Medium) (limit : ℕ) (slot_name : SlotName) (bits : List Bool) (c
 
       safe_old : Standing (IsSafe bits now) now.contents s.kept committed rests.old
       safe_old = standing_in (λ n. IsSafe bits m n × IsData s.kept n) (IsSafe bits now) m.contents now.contents s.kept (λ n safe. publishing.same n safe.1.0)
-          (λ n safe. record { held = safe.0.held; clean = publishing.still_clean n safe.1.0 safe.0.clean}) committed rests.old
+          (λ n safe. record { held = safe.0.held; clean = publishing.still_clean n safe.1.0 safe.0.clean }) committed rests.old
           (standing_data (IsSafe bits m) m.contents s.kept committed rests.old rests.safe)
 
       safe_new : ((n : ℕ) → IsData limit n → now.dirty n ≡ false) → Standing (IsSafe bits now) now.contents limit working rests.new
       safe_new clean = standing_in (λ n. IsHeld bits n × IsData limit n) (IsSafe bits now) m.contents now.contents limit (λ n held. publishing.same n held.1.0)
-          (λ n held. record { held = held.0; clean = clean n held.1}) working rests.new
+          (λ n held. record { held = held.0; clean = clean n held.1 }) working rests.new
           (standing_data (IsHeld bits) m.contents limit working rests.new rests.stands)
 
       by_slot : AtRest slot_name now s.kept (slot_entries committed) ⊎ (AtRest (other_slot slot_name) now limit (slot_entries working) × IsClean now) → IsWhole bits now (selected now.contents)

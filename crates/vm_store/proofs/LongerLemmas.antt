@@ -97,7 +97,7 @@ module _ (old new : Medium) (longer : Lengthens old new) (limit more : ℕ) (slo
       ledger = rests.fits.ledger;
     };
     safe = standing_in (λ n. IsSafe bits old n × IsData s.kept n) (IsSafe after new) old.contents new.contents s.kept (λ n safe. longer.same n (old_inside n safe.1))
-        (λ n safe. record { held = still n safe.0.held; clean = longer.same_dirty n (old_inside n safe.1) ∙ safe.0.clean}) committed rests.old
+        (λ n safe. record { held = still n safe.0.held; clean = longer.same_dirty n (old_inside n safe.1) ∙ safe.0.clean }) committed rests.old
         (standing_data (IsSafe bits old) old.contents s.kept committed rests.old rests.safe);
     stands = standing_wider (IsHeld after) new.contents limit more few working rests.new
         (standing_in (λ n. IsHeld bits n × IsData limit n) (IsHeld after) old.contents new.contents limit (λ n held. longer.same n (new_inside n held.1)) (λ n held. still n held.0) working rests.new

@@ -72,7 +72,7 @@ module _ (m : Medium) (limit : ℕ) (slot_name : SlotName) (bits : List Bool) (c
         rest = rests.rest;
         fits = rests.fits;
         safe = standing_in (λ n. (IsSafe bits m n × IsMarked marking n) × IsData s.kept n) (IsSafe after m) m.contents m.contents s.kept (λ n h. refl)
-            (λ n h. record { held = replaced n h.1.0 ∙ h.0.1; clean = h.0.0.clean}) committed rests.old
+            (λ n h. record { held = replaced n h.1.0 ∙ h.0.1; clean = h.0.0.clean }) committed rests.old
             (standing_data (λ n. IsSafe bits m n × IsMarked marking n) m.contents s.kept committed rests.old
             (standing_and (IsSafe bits m) (IsMarked marking) m.contents s.kept committed rests.old rests.safe committed_marked));
         stands = standing_in (λ n. (IsHeld bits n × IsMarked marking n) × IsData limit n) (IsHeld after) m.contents m.contents limit (λ n h. refl)

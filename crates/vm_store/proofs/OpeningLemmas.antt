@@ -138,7 +138,7 @@ module _ (m : Medium) (limit : ℕ) (slot_name : SlotName) (es : List Entry) (cl
         system = system;
         rest = record { names = subst (λ (l : List Entry). Names m.contents limit l) (sym same) names; in_use = sym in_use; clean = λ n used. clean n };
         fits = subst (SlotFits limit) (sym same) slot.fits;
-        safe = standing_in (λ n. IsMarked marks n × IsData limit n) (IsSafe bits m) m.contents m.contents limit (λ n is. refl) (λ n is. record { held = replaced n is.1.0 ∙ is.0; clean = clean n}) vs fs data_blocks;
+        safe = standing_in (λ n. IsMarked marks n × IsData limit n) (IsSafe bits m) m.contents m.contents limit (λ n is. refl) (λ n is. record { held = replaced n is.1.0 ∙ is.0; clean = clean n }) vs fs data_blocks;
         stands = standing_in (λ n. IsMarked marks n × IsData limit n) (IsHeld bits) m.contents m.contents limit (λ n is. refl) (λ n is. replaced n is.1.0 ∙ is.0) vs fs data_blocks;
         gives_old = refl;
         gives_new = refl;

@@ -98,7 +98,7 @@ module _ (m : Medium) (limit : ℕ) (slot_name : SlotName) (bits : List Bool) (c
   pub safe_on : (now : Medium) (after : List Bool) → TouchesOnly (is_free bits) m now → HoldsMore bits after → Standing (IsSafe after now) now.contents s.kept committed rests.old
   safe_on now after spares more =
       standing_in (IsSafe bits m) (IsSafe after now) m.contents now.contents s.kept (λ n safe. spares.same n (held_not_free bits n safe.held))
-      (λ n safe. record { held = more.still n safe.held; clean = spares.clean n (held_not_free bits n safe.held) safe.clean}) committed rests.old rests.safe
+      (λ n safe. record { held = more.still n safe.held; clean = spares.clean n (held_not_free bits n safe.held) safe.clean }) committed rests.old rests.safe
 
   pub stands_on : (now : Medium) (after : List Bool) → TouchesOnly (is_free bits) m now → HoldsMore bits after → Standing (IsHeld after) now.contents limit working rests.new
   stands_on now after spares more =
@@ -185,7 +185,7 @@ module _ (m : Medium) (limit : ℕ) (slot_name : SlotName) (bits : List Bool) (c
         rest = subst (λ n. AtRest (other_slot slot_name) now n (slot_entries working)) rests.blocks done.rest;
         fits = rests.fits;
         safe = subst (λ n. Standing (IsSafe bits now) now.contents n working rests.new) rests.blocks
-            (standing_in (λ n. IsHeld bits n × IsData limit n) (IsSafe bits now) m.contents now.contents limit (λ n held. done.same n held.1.0) (λ n held. record { held = held.0; clean = done.clean n}) working rests.new stands);
+            (standing_in (λ n. IsHeld bits n × IsData limit n) (IsSafe bits now) m.contents now.contents limit (λ n held. done.same n held.1.0) (λ n held. record { held = held.0; clean = done.clean n }) working rests.new stands);
         stands = standing_in (λ n. IsHeld bits n × IsData limit n) (IsHeld bits) m.contents now.contents limit (λ n held. done.same n held.1.0) (λ n held. held.0) working rests.new stands;
         gives_old = rests.gives_new;
         gives_new = rests.gives_new;

@@ -35,7 +35,7 @@ rests_rolled m limit kept slot_name bits after committed working copied s answer
       rest = rests.rest;
       fits = rests.rest.names.slot.fits;
       safe = standing_in (λ n. IsSafe bits m n × IsData s.kept n) (IsSafe after m) m.contents m.contents s.kept (λ n safe. refl)
-          (λ n safe. record { held = still n (omega (arith, safe.1.1, same)) safe.0.held; clean = safe.0.clean}) committed rests.old placed;
+          (λ n safe. record { held = still n (omega (arith, safe.1.1, same)) safe.0.held; clean = safe.0.clean }) committed rests.old placed;
       stands = standing_in (λ n. IsSafe bits m n × IsData s.kept n) (IsHeld after) m.contents m.contents s.kept (λ n safe. refl)
           (λ n safe. still n (omega (arith, safe.1.1, same)) safe.0.held) committed rests.old placed;
       gives_old = rests.gives_old;

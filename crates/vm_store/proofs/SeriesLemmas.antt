@@ -171,7 +171,7 @@ rests_both m limit slot_name one other both committed working s so rests rests' 
   system = λ n low. so n (rests.system n low) (rests'.system n low);
   rest = rests.rest;
   fits = rests.fits;
-  safe = standing_in (λ n. IsSafe one m n × IsSafe other m n) (IsSafe both m) m.contents m.contents s.kept (λ n h. refl) (λ n h. record { held = so n h.0.held h.1.held; clean = h.0.clean}) committed rests.old
+  safe = standing_in (λ n. IsSafe one m n × IsSafe other m n) (IsSafe both m) m.contents m.contents s.kept (λ n h. refl) (λ n h. record { held = so n h.0.held h.1.held; clean = h.0.clean }) committed rests.old
       (standing_both (IsSafe one m) (IsSafe other m) m.contents s.kept committed rests.old rests'.old rests.safe rests'.safe);
   stands = standing_in (λ n. IsHeld one n × IsHeld other n) (IsHeld both) m.contents m.contents limit (λ n h. refl) (λ n h. so n h.0 h.1) working rests.new
       (standing_both (IsHeld one) (IsHeld other) m.contents limit working rests.new rests'.new rests.stands rests'.stands);

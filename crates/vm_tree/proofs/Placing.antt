@@ -1,5 +1,5 @@
 -- Records by place: where a look-up finds one, and where one more is put.
-use Rattle.std.proofs.Common.{◌≡◌, ℕ, ◌+◌, ◌<◌, ◌≤◌, ◌==◌, nat_lt, cond, [], ◌∷◌, length, None, refl, sym, ap, ap₂, subst, Bool, ⊎_elim, arith}
+use Rattle.std.proofs.Common.{◌≡◌, ℕ, ◌+◌, ◌<◌, ◌≤◌, ◌==◌, nat_lt, cond, [], ◌∷◌, None, refl, sym, ap, ap₂, subst, Bool, ⊎_elim, arith}
 use Rattle.std.proofs.lemmas.Bool.{cases_order, eq-eqb, ne_eqb, lt-ltb, le-ltb}
 use Rattle.std.proofs.lemmas.Bool.Decides.{nat_tests}
 use Rattle.vm_types.specs.Map.{Map}

@@ -4,7 +4,7 @@ use Rattle.vm_types.specs.declared.key.Key.{Key}
 use Rattle.vm_types.specs.Map.{Map, with_value}
 use Rattle.vm_types.specs.Places.{KeyFits, FitKeys, RisesFrom, places, with_record}
 use Rattle.vm_types.proofs.Bridge.{with_record-value}
-use Rattle.vm_disk.specs.Disk.{Contents, block}
+use Rattle.vm_disk.specs.Disk.{Contents}
 use Rattle.vm_block.specs.Leaf.{Record, RecordFits, BeginsWith}
 use Rattle.vm_block.specs.declared.node.Child.{Child}
 use Rattle.vm_block.proofs.EachLemmas.{each_so}

@@ -1,4 +1,4 @@
-use Rattle.std.proofs.Common.{ℕ, ◌<◌, List, refl, sym, ap, ◌∙◌, subst, arith, length, rules}
+use Rattle.std.proofs.Common.{◌<◌, refl, sym, ap, ◌∙◌, arith, length, rules}
 use Rattle.std.proofs.Math.ListN.{length-set}
 use Rattle.std.proofs.lemmas.Bool.{false≢true}
 use Rattle.vm_disk.proofs.MomentLemmas.{same_medium}
@@ -16,7 +16,7 @@ use Rattle.vm_check.proofs.SpanLemmas.{keys_same, keys_differ}
 use Rattle.vm_check.proofs.WalkLemmas.{leaf_as, node_as, lowest_first, leaf_exit, node_exit, node_fault, children_none, children_done, child_step, child_fault, child_fits}
 use Rattle.vm_check.proofs.verification.+walk.Goals as goal
 use Rattle.vm_check.proofs.verification.+walk.Goals.{visit-then-span-least-via-then-span-least, visit-then-span-least-via-else-span-least+then-span-most}
-use Rattle.vm_check.proofs.verification.+walk.Goals.{visit-then-level-least-via-then-level-least, visit-then-level-least-via-else-level-least+then-level-most, visit-then-level-least-via-else-level-least+else-level-most+then-count-2}
+use Rattle.vm_check.proofs.verification.+walk.Goals.{visit-then-level-least-via-then-level-least, visit-then-level-least-via-else-level-least+then-level-most, visit-then-level-least-via-else-level-least+else-level-most+then-count}
 use Rattle.vm_check.proofs.verification.+walk.Goals.{visit_children-then-ne-via-then-ne, visit_children-then-ne-via-else-ne+then-not-is_below_next}
 
 pub visit-returns-then-least-gt0-clause-once : goal.visit-returns-then-least-gt0-clause-once
@@ -68,7 +68,7 @@ visit-returns-then-level-least-clause-only g t c honest levels l rs bs known lea
     elim c.then-level-least.branch [
       | visit-then-level-least-via-then-level-least w ↦ absurd (omega (arith, top.same_level, w.if-level-least.true, least))
       | visit-then-level-least-via-else-level-least+then-level-most w ↦ absurd (omega (arith, top.same_level, w.if-level-most.true, most))
-      | visit-then-level-least-via-else-level-least+else-level-most+then-count-2 w ↦ absurd (omega (arith, top.few, w.if-count-2.true, form.2))
+      | visit-then-level-least-via-else-level-least+else-level-most+then-count w ↦ absurd (omega (arith, top.few, w.if-count.true, form.2))
     ]
 
 pub visit-returns-then-is_set-clause-found : goal.visit-returns-then-is_set-clause-found
@@ -90,8 +90,8 @@ visit-returns-else-least-gt0-clause-found g t c honest levels known =
         inside = inside;
         leaf = leaf_as _ _ form.0 (c.in_ok-form.ensures.found honest) form.1;
         level = c.leaf_span-span.ensures.level;
-        lowest = c.leaf_span-span.ensures.low form.0 (hand_records (sym c.at_hand-in-Leaf.ensures) form.1);
-        highest = c.leaf_span-span.ensures.high form.0 (hand_records (sym c.at_hand-in-Leaf.ensures) form.1) form.2;
+        lowest = c.leaf_span-span.ensures.low form.0 (hand_records (sym c.at_hand.ensures) form.1);
+        highest = c.leaf_span-span.ensures.high form.0 (hand_records (sym c.at_hand.ensures) form.1) form.2;
       };
     })
     (omega (arith, c.if-least-gt0.false)) known
@@ -110,11 +110,11 @@ visit-returns-in_ok-high-in-Node-clause-found g t c honest levels known =
       fresh = λ is. false≢true (sym c.if-is_set.false ∙ c.is_set.ensures.1 is);
       data_block = inside;
       node = node_as _ _ _ form.0 (c.in_ok-form.ensures.found (c.in_ok-high-in-Node.ensures.looks.goes.earlier honest)) form.1;
-      few = omega (arith, c.if-count-2.false, form.2);
+      few = omega (arith, c.if-count.false, form.2);
       at_least = c.if-level-least.false;
       at_most = c.if-level-most.false;
     })
-    (c.visit_children.auto.spans ∙ length-set c.args.spans.now c.args.block (met_of first)) refl (lowest_first _ form.0 lowest (c.lowest_key-low.ensures.node _ form.0 (hand_node (sym c.at_hand.ensures) form.1))) (λ here. c.in_ok-high-in-Node.ensures.found honest levels _ form.0 (hand_node (sym c.at_hand.ensures) form.1) form.2 here) known)
+    (c.visit_children.auto.spans ∙ length-set c.args.spans.now c.args.block (met_of first)) refl (lowest_first _ form.0 lowest (c.lowest_key-low.ensures.node _ form.0 (hand_node (sym c.at_hand-in-Node.ensures) form.1))) (λ here. c.in_ok-high-in-Node.ensures.found honest levels _ form.0 (hand_node (sym c.at_hand-in-Node.ensures) form.1) form.2 here) known)
 
 pub visit-returns-in_err-high-in-Node-clause-only : goal.visit-returns-in_err-high-in-Node-clause-only
 visit-returns-in_err-high-in-Node-clause-only g t c honest levels l rs bs known least most tree rises =
@@ -129,11 +129,11 @@ visit-returns-in_err-high-in-Node-clause-only g t c honest levels l rs bs known 
       fresh = λ is. false≢true (sym c.if-is_set.false ∙ c.is_set.ensures.1 is);
       data_block = inside;
       node = node_as _ _ _ form.0 (c.in_ok-form.ensures.found (c.in_err-high-in-Node.ensures.looks.goes.earlier honest)) form.1;
-      few = omega (arith, c.if-count-2.false, form.2);
+      few = omega (arith, c.if-count.false, form.2);
       at_least = c.if-level-least.false;
       at_most = c.if-level-most.false;
     })
-    known tree (λ ds here under. c.in_err-high-in-Node.ensures.only honest levels _ form.0 rs ds (hand_node (sym c.at_hand.ensures) form.1) form.2 here under rises))
+    known tree (λ ds here under. c.in_err-high-in-Node.ensures.only honest levels _ form.0 rs ds (hand_node (sym c.at_hand-in-Node.ensures) form.1) form.2 here under rises))
 
 pub visit-returns-in_err-form-clause-only : goal.visit-returns-in_err-form-clause-only
 visit-returns-in_err-form-clause-only g t c honest levels l rs bs known least most tree rises =
@@ -144,7 +144,7 @@ visit_children-returns-in_err-span-clause-only g t c honest levels above cs rs b
     let so_far = c.loop-i.invariant in
     let lt : c.loop-i.i < length cs = omega (arith, c.loop-i-test.true, count) in
     rw (passed_on _ c.from_residual.ensures.1) (child_fault _ _ _ _ _ _ cs c.child_at-child.result rs bs _ _ _ _ _ _ (same_medium _ _ (so_far.looks.reads (c.in_err-span.ensures.looks.goes.earlier honest))) lt (c.child_at-child.ensures.child above cs node lt)
-    (so_far.found (c.in_err-span.ensures.looks.goes.earlier honest) levels above cs node count known) under rises suit
+    (so_far.found (c.in_err-span.ensures.looks.goes.earlier honest) levels above cs node count known) under rises
     (λ qs ds here sub up. c.in_err-span.ensures.only honest levels _ qs ds here (omega arith) (omega arith) sub up))
 
 pub visit_children-returns-then-ne-clause-only : goal.visit_children-returns-then-ne-clause-only

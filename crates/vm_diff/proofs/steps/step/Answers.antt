@@ -18,7 +18,7 @@ returns-in-Subtree-clause-steps g c honest sizes most changes differ =
     let at = next_top (front_of c.args.one.now) c.in-Subtree.top (sym c.next-here.ensures ∙ c.in-Subtree.is) in
     let lt : place_of (front_of c.args.one.now) < place_of (front_of c.args.other.now) = omega (arith, c.if-near-far.true, c.place-near.ensures.place, place_next (front_of c.args.one.now) c.next-here.result c.next-here.ensures, c.place-far.ensures.place, place_next (front_of c.args.other.now) c.next-there.result c.next-there.ensures) in
     let first = subst (λ (f : Front). GoesFirst f (front_of c.args.other.now)) at (lower_first (front_of c.args.one.now) (front_of c.args.other.now) lt) in
-    left_opened sizes (g.D.Disk.state c.args.disk.now).now.contents c.args.blocks (place c.args.part.low) (place c.args.part.high) (g.D.Disk.state c.args.disk.now).reads most c.args.one.now c.args.other.now c.open.new.walk (g.D.Disk.state c.open.new.disk).reads (Top c.in-Subtree.top) changes c.open.result c.moved-in-Subtree.result c.moved-in-Subtree.ensures at first c.open.ensures.once differ
+    left_opened sizes (g.D.Disk.state c.args.disk.now).now.contents c.args.blocks (place c.args.part.low) (place c.args.part.high) (g.D.Disk.state c.args.disk.now).reads most c.args.one.now c.args.other.now c.open.new.walk (g.D.Disk.state c.open.new.disk).reads (Top c.in-Subtree.top) changes c.open.result c.moved.result c.moved.ensures at first c.open.ensures.once differ
     (c.open.ensures.opens honest sizes differ.first differ.first_blocks differ.first_ahead differ.first_rising differ.first_in)
 
 pub returns-in-Subtree-there-clause-bound : goal.returns-in-Subtree-there-clause-bound
