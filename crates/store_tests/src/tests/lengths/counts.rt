@@ -38,9 +38,17 @@ fn leaf_is_read_once_whatever_the_lengths_of_its_values(rt: HostRuntime) {
         ("conflicts spur -> none", "", "calls -> 5"),
         ("merge spur -> ok 0", "", "calls -> 5"),
         ("put top 7:2 pipe", "conflicts spur -> none", "calls -> 9"),
-        ("put top 7:1 61*3000", "conflicts spur -> none", "calls -> 9"),
+        (
+            "put top 7:1 61*3000",
+            "conflicts spur -> none",
+            "calls -> 9",
+        ),
         ("put top 7:1 61*3000", "post spur", "calls -> 9"),
-        ("put top 7:3 62*4000", "conflicts spur -> none", "calls -> 13"),
+        (
+            "put top 7:3 62*4000",
+            "conflicts spur -> none",
+            "calls -> 13",
+        ),
     ] {
         in_memory(&rt, &[GREAT_AND_SHORT, "open", call, query, "close", calls]);
     }
