@@ -1,5 +1,5 @@
 -- Why a disk is refused.
-use Rattle.std.proofs.Common.{◌≡◌, inl, inr, List, [], ◌∷◌, length, sym, subst, ◌∙◌, arith}
+use Rattle.std.proofs.Common.{◌≡◌, inl, inr, [], ◌∷◌, length, sym, subst, ◌∙◌, arith}
 use Rattle.vm_types.specs.declared.refusal.Refusal.{Refusal}
 use Rattle.vm_types.specs.declared.refusal.Refusal.TheVariants.{Device, NotAStore}
 use Rattle.vm_disk.specs.Disk.{Contents, Medium, block}

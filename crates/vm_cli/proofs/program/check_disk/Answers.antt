@@ -7,7 +7,6 @@ use Rattle.vm_disk.proofs.GoesLemmas.{goes_at}
 use Rattle.vm_store.specs.Refused.{IsAtMostSynced, IsRefused}
 use Rattle.vm_cli.specs.declared.program.opening.NoStore.TheVariants.{Refused}
 use Rattle.vm_cli.proofs.CountingLemmas.{counted_shown, is_err, is_ok}
-use Rattle.vm_cli.proofs.PassLemmas.{goes_any}
 use Rattle.vm_cli.proofs.program.check_disk.Goals as goal
 
 pub returns-in-Ok-counts-clause-told : goal.returns-in-Ok-counts-clause-told
@@ -59,3 +58,6 @@ pub returns-in-Ok-counts-clause-ends : goal.returns-in-Ok-counts-clause-ends
 returns-in-Ok-counts-clause-ends g c =
     let counts = c.in-Ok-counts.counts in
     inl (refl, (counts.alternatives, counts.checkpoints, counts.free, c.counted.ensures))
+
+pub returns-in-Err-counts-clause-ends : goal.returns-in-Err-counts-clause-ends
+returns-in-Err-counts-clause-ends g c = inr (refl, (Refused c.in-Err-counts.refusal, c.refused.ensures))

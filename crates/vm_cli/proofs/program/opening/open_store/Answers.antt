@@ -1,7 +1,5 @@
-use Rattle.std.proofs.Common.{inl, inr, arith, sym, subst, ap, ◌∙◌}
-use Rattle.vm_disk.specs.Disk.{Medium}
+use Rattle.std.proofs.Common.{inl, inr, arith, sym, ◌∙◌}
 use Rattle.vm_disk.proofs.MomentLemmas.{then_reads}
-use Rattle.vm_cli.specs.Openings.{TellsEarlier}
 use Rattle.vm_cli.proofs.OpeningLemmas.{earlier_kept, reason_kept}
 use Rattle.vm_cli.proofs.PassLemmas.{goes_any}
 use Rattle.vm_cli.proofs.program.opening.open_store.Goals as goal
@@ -30,7 +28,7 @@ returns-in-Err-clause-refused g c =
           | inr failed ↦ omega (arith, first.rising, then.fault failed)
         ];
       };
-      why = λ honest. reason_kept _ c.in-Err.refusal _ only (c.in-Err.ensures.refused (then.earlier honest));
-      earlier = λ honest. earlier_kept _ _ _ _ only (c.in-Err.ensures.synced (then.earlier honest)) (c.why_refused-why.ensures.told honest);
+      why = λ honest. reason_kept _ c.in-Err.refusal c.why_refused-why.result only (c.in-Err.ensures.refused (then.earlier honest));
+      earlier = λ honest. earlier_kept _ _ c.in-Err.refusal c.why_refused-why.result only (c.in-Err.ensures.synced (then.earlier honest)) (c.why_refused-why.ensures.told honest);
       moments = λ honest. then_reads _ _ _ _ (c.in-Err.ensures.moments (then.earlier honest)) (c.why_refused-why.ensures.reads honest);
     }

@@ -5,7 +5,7 @@ use Rattle.vm_disk.specs.Moments.{Throughout}
 use Rattle.vm_disk.proofs.MomentLemmas.{then_reads}
 use Rattle.vm_store.specs.Refused.{IsAtMostSynced}
 use Rattle.vm_cli.proofs.CopyingLemmas.{copied_from, in_use_shown}
-use Rattle.vm_cli.proofs.PassLemmas.{goes_any, goes_both}
+use Rattle.vm_cli.proofs.PassLemmas.{goes_both}
 use Rattle.vm_cli.proofs.program.store_copy.copy_disk.Goals as goal
 
 pub returns-in-Ok-clause-copied : goal.returns-in-Ok-clause-copied

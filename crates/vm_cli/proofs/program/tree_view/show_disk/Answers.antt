@@ -10,7 +10,7 @@ use Rattle.vm_cli.specs.Exits.{Tells}
 use Rattle.vm_cli.specs.declared.program.Exit.TheVariants.{Done}
 use Rattle.vm_cli.specs.declared.program.opening.NoStore.TheVariants.{Refused}
 use Rattle.vm_cli.proofs.CountingLemmas.{is_err, is_ok}
-use Rattle.vm_cli.proofs.PassLemmas.{goes_any, goes_both, passes_goes}
+use Rattle.vm_cli.proofs.PassLemmas.{goes_both, passes_goes}
 use Rattle.vm_cli.proofs.program.tree_view.show_disk.Goals as goal
 
 pub returns-in-Ok-drawn-clause-ends : goal.returns-in-Ok-drawn-clause-ends
@@ -63,3 +63,6 @@ returns-in-Err-drawn-clause-told g c honest =
       },
       c.refused.ensures,
     )
+
+pub returns-in-Err-drawn-clause-ends : goal.returns-in-Err-drawn-clause-ends
+returns-in-Err-drawn-clause-ends g c = inr (refl, (Refused c.in-Err-drawn.refusal, c.refused.ensures))
