@@ -10,7 +10,7 @@ sys.dont_write_bytecode = True
 HERE = Path(__file__).resolve().parent
 sys.path[:0] = [str(HERE), str(HERE.parent / "clients" / "python")]
 from service_tests.test_archives import ArchiveTests, RestoreFromArchivesTests
-from service_tests.test_backups import BackupTests
+from service_tests.test_backups import BackupTests, PacingTests
 from service_tests.test_batches import BatchTests
 from service_tests.test_changed import ChangedTests, LastChangesTests
 from service_tests.test_crashes import CrashTests
