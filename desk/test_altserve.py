@@ -26,7 +26,7 @@ from service_tests.test_restore import RestoreTests
 from service_tests.test_rules import RulesTests
 from service_tests.test_signals import ShortageTests, SignalTests
 from service_tests.test_sockets import SocketTests
-from service_tests.test_starts import StartTests
+from service_tests.test_starts import ReasonTests, StartTests
 from service_tests.test_status import RoomTests, StatusTests
 from service_tests.test_stores import StoreTests
 from service_tests.test_turns import PaceTests, TurnsTests

@@ -8,7 +8,7 @@ import stat
 import subprocess
 import threading
 import time
-from typing import Callable, Iterable, List
+from typing import Callable, Iterable, List, Tuple
 
 from service import pacing
 from service.batch import Batch
@@ -26,9 +26,9 @@ READ_BYTES = 64 << 10
 STOPPED = 3
 # Blocks that have to be free for a record that is to change.
 MARGIN = 17
-# How a program is started that signals to the service do not reach.
-NOTHING = subprocess.DEVNULL
-SILENTLY = {"stdin": NOTHING, "stdout": NOTHING, "stderr": NOTHING, "start_new_session": True}
+# How a program is started that signals to the service do not reach. What it says is little.
+QUIETLY = {"stdin": subprocess.DEVNULL, "stdout": subprocess.DEVNULL, "stderr": subprocess.PIPE}
+QUIETLY["start_new_session"] = True
 # How often a copy is made beside batches before it is made while they wait.
 TRIES = 2
 
@@ -59,14 +59,16 @@ class Backups:
     def copy_alone(self, part: str) -> None:
         """Copies while nothing else is done: by the program if it can, under the lock that is held here, else the file as it is,
         which holds nothing uncommitted."""
-        file = self.store.file
+        file, said = self.store.file, ""
         if self.has_copy:
-            status = quietly([self.store.altctl, "copy", "--no-lock", "--", file, part])
+            status, said = quietly([self.store.altctl, "copy", "--no-lock", "--", file, part])
             self.has_copy = status != 2
             if status == 0:
                 return
-        if self.has_copy or quietly(["cp", "--reflink=auto", "--", file, part]):
-            raise OSError(errno.EIO, "it could not be copied")
+        if not self.has_copy:
+            status, said = quietly(["cp", "--reflink=auto", "--", file, part])
+        if self.has_copy or status:
+            raise OSError(errno.EIO, said or f"the copy ended with status {status}")
 
 
 class Copy:
@@ -88,10 +90,10 @@ class Copy:
         self.free, self.commits, self.is_spoiled, self.starts = free_blocks(self.store), 0, False, self.store.starts
         # How much the second program had read when it had opened the store, and whether it has read the slot.
         self.before, self.is_open = None, False
-        self.size, self.fault, self.tries = 0, None, self.tries + 1
+        self.size, self.fault, self.said, self.tries = 0, None, "", self.tries + 1
         self.end, ended = os.pipe()
         try:
-            self.process = subprocess.Popen(at_end_killed(self._words()), **SILENTLY)
+            self.process = subprocess.Popen(at_end_killed(self._words()), **QUIETLY)
             program = os.pidfd_open(self.process.pid)
         except OSError:
             os.close(self.end)
@@ -107,6 +109,8 @@ class Copy:
         """Has the second program hold up nobody, and syncs the copy, so that no other work waits for that."""
         try:
             pacing.pace(program, names_of(self.part))
+            with self.process.stderr as stream:
+                self.said = text_of(stream.read())
             self.size = synced(self.part)
         except OSError as fault:
             self.fault = fault
@@ -173,7 +177,7 @@ class Copy:
             self._close()
             status = self.process.wait()
             if status == STOPPED:
-                raise OSError(errno.EIO, "a device failed, or there is no space")
+                raise OSError(errno.EIO, f"a device failed, or there is no space\n{self.said}".strip())
             if self._is_worthless(status):
                 remove_copy(self.part)
                 copy_alone(self.part)
@@ -182,8 +186,10 @@ class Copy:
                 raise self.fault
             self._name()
         except OSError as fault:
+            self.fault = fault
             remove_copy(self.part)
             return refused(fault)
+        self.fault = None
         return b"ok %d %.3f" % (self.size, time.monotonic() - self.begun)
 
     def _name(self) -> None:
@@ -237,9 +243,14 @@ def refused(fault: OSError) -> bytes:
     return refusal(98, errno.errorcode.get(fault.errno, "EIO"))
 
 
-def quietly(words: List[str]) -> int:
-    """Runs a command that signals to the service do not reach, and returns its status."""
-    return subprocess.run(words, **SILENTLY).returncode
+def quietly(words: List[str]) -> Tuple[int, str]:
+    """Runs a command that signals to the service do not reach, and returns its status and what it said."""
+    ran = subprocess.run(words, **QUIETLY)
+    return ran.returncode, text_of(ran.stderr)
+
+
+def text_of(said: bytes) -> str:
+    return said.decode(errors="replace").strip()
 
 
 def synced(path: str) -> int:

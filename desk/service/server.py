@@ -8,6 +8,7 @@ import time
 from collections import deque
 from typing import Callable, Dict, List, Optional
 
+from reasons import why
 from service import limits
 from service.archives import is_moment
 from service.backups import NAME, Backups, Copy, refused
@@ -291,7 +292,7 @@ class Server:
             self.copy = begin()
             self.selector.register(self.copy.end, selectors.EVENT_READ, self._end_backup)
         except OSError as fault:
-            self._answer_backup(refused(fault))
+            self._answer_backup(refused(fault), fault)
 
     def _end_backup(self, _events: int) -> None:
         copy, self.copy = self.copy, None
@@ -299,11 +300,13 @@ class Server:
         if copy.is_to_be_made_again():
             self._go_on(copy.begin_again)
         else:
-            self._answer_backup(copy.finish(self.backups.copy_alone))
+            self._answer_backup(copy.finish(self.backups.copy_alone), copy.fault)
         self._begin_backup()
 
-    def _answer_backup(self, answer: bytes) -> None:
-        planner, _ = self.wanted.popleft()
+    def _answer_backup(self, answer: bytes, fault: Optional[OSError] = None) -> None:
+        planner, name = self.wanted.popleft()
+        if fault is not None:
+            self.batches.teller.tell("no backup", f"{name} could not be made\n{why(fault)}")
         planner.job = None
         planner.answer(answer + b"\n")
 
