@@ -31,7 +31,8 @@ ALTCTL = os.environ.get("ALTCTL", str(HERE.parent.parent / "altctl"))
 NAMED = "1 to 32 letters, digits, _, - and ."
 # Words of lines, good and bad ones, by what stands for them in FORMS; and the lines with rows of answer.
 NAMES = ["top", "a" * 32, "a" * 33, "a/b", "-", "top@", "top@a", "top@a@", "@", "%41", "~", "1"]
-NUMBERS = ["0", "7", *(f"{it}" for bits in (16, 32, 64) for it in (2**bits - 1, 2**bits)), "0" * 20, "0" * 21, "1.5", "-1"]
+NUMBERS = ["0", "7", "0" * 20, "0" * 21, "1.5", "-1"]
+NUMBERS += [f"{it}" for bits in (16, 32, 64) for it in (2**bits - 1, 2**bits)]
 WORDS = {
     **dict.fromkeys(["TABLE", "NUMBER", "FIRST", "LAST", "COUNT", "BLOCKS"], NUMBERS),
     "VALUE": ["-", "%", "%4", "%4G", "%fF", "a%41", "%41" * 4000, "%41" * 4001, "a" * 4000, "a" * 4001],

@@ -1,5 +1,5 @@
-"""Large files that come and go without holding up those who sync meanwhile. A gigabyte that is synced at once fills the queue
-of a device, and a gigabyte that is removed may take it as long. So both are done in small pieces, with pauses between them."""
+"""Large files that come and go without holding up those who sync meanwhile. A gigabyte that is synced at once fills
+the queue of a device, and one that is removed may keep it as busy. So both are done in small pieces, with pauses."""
 import contextlib
 import fcntl
 import os
@@ -27,8 +27,8 @@ STEP = 4 << 20
 
 
 def pace(program: int, paths: List[str]) -> None:
-    """Lets the program of a descriptor (pidfd) run until it has ended, and has what it writes into the file of the first of these
-    paths that is there go to the device bit by bit. It stands still while the device is at work."""
+    """Lets the program of a descriptor (pidfd) run until it has ended. What it writes into the first of these files
+    that is there goes to the device bit by bit, and it stands still meanwhile."""
     file = None
     ends = select.poll()
     ends.register(program, select.POLLIN)
@@ -55,8 +55,8 @@ def opened(paths: List[str]) -> Optional[int]:
 
 
 def write_out(file: int) -> None:
-    """Waits until the device has been given what was written into a file. That makes nothing durable, which is for a sync to do.
-    What the device has need not stay in memory."""
+    """Has what was written into a file go to the device, and waits for it. Nothing is durable by that: a sync comes
+    later. What the device has need not stay in memory."""
     if _sync_file_range is None:
         os.fdatasync(file)
     else:
@@ -84,8 +84,8 @@ def held(path: str) -> Optional[int]:
 
 
 def let_go(file: Optional[int]) -> None:
-    """Closes a file that was held, beside all other work. If nobody else has it, by a name or open, its blocks become free bit by
-    bit."""
+    """Closes a file that was held, beside all other work. If nobody else has it, by a name or open, its blocks become
+    free bit by bit."""
     if file is not None:
         threading.Thread(target=_let_go, args=(file,), daemon=True).start()
 
@@ -102,8 +102,8 @@ def _let_go(file: int) -> None:
 
 
 def has_alone(file: int) -> bool:
-    """Whether no other process has a file open: only then a file system lends it for writing. One without a device of its own may be
-    on other machines, too, and cannot tell."""
+    """Whether no other process has a file open: only then a file system lends it for writing. One without a device of
+    its own may be on other machines, too, and cannot tell."""
     if os.major(os.fstat(file).st_dev) == 0:
         return False
     try:

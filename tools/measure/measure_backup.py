@@ -1,7 +1,8 @@
 #!/usr/bin/env python3
 """Measures how long planners wait for an answer while the service makes a backup, beside the same without one:
 
-    tools/measure/measure_backup.py [--mebibytes N] [--planners N] [--backups N] [--folder FOLDER] [--times FILE] [ALTCTL]
+    tools/measure/measure_backup.py [--mebibytes N] [--planners N] [--backups N] [--folder FOLDER] [--times FILE]
+        [ALTCTL]
 
 The store is made here, in FOLDER, with long values. Each planner changes one record, waits for the answer, and changes
 the next. The first backup makes a file, and each other one replaces it. `--times` writes when each line was sent, and
