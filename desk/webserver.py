@@ -14,6 +14,7 @@ from altctl import Ended, Refusal, Store
 from designs import Designs
 from edits import CHANGED, Person, carry_out
 from features import Late
+from figures import figures
 from finding import read_texts
 from maps.history import history
 from news import Journal, told
@@ -24,6 +25,7 @@ LEAFLET = Path("/usr/share/javascript/leaflet")
 HOST = "127.0.0.1"
 PAGES = {
     "/": (HERE / "page" / "desk.html", "text/html"),
+    "/service": (HERE / "page" / "service.html", "text/html"),
     **{f"/{it.name}": (it, "text/javascript") for it in sorted((HERE / "page").glob("*.js"))},
     **{f"/{it.name}": (it, "text/css") for it in sorted((HERE / "page").glob("*.css"))},
     "/leaflet.js": (LEAFLET / "leaflet.min.js", "text/javascript"),
@@ -104,7 +106,8 @@ class Desk:
     def __init__(self, path, port, program):
         self.path, self.port = path, port
         self.token = secrets.token_urlsafe(24)
-        self.thread, self.journal_thread, self.texts_thread = (ThreadPoolExecutor(1) for _ in range(3))
+        threads = (ThreadPoolExecutor(1) for _ in range(4))
+        self.thread, self.journal_thread, self.texts_thread, self.figures_thread = threads
         self.designs, self.journal, self.person = None, None, Person()
         self.office = Office(path, program, lambda: self.arrived.set())
 
@@ -120,6 +123,7 @@ class Desk:
         made.router.add_get("/api/choices", self.query(self.choices))
         made.router.add_get("/api/state", self.state)
         made.router.add_get("/api/history", self.history)
+        made.router.add_get("/api/status", self.status)
         made.router.add_post("/api/batch", self.sent(self.carried_out))
         made.router.add_post("/api/office", self.sent(self.carried_between))
         made.cleanup_ctx.append(self.following)
@@ -216,6 +220,10 @@ class Desk:
             return [it._asdict() for it in events]
 
         return await self.reply(found())
+
+    async def status(self, _):
+        """The figures of the service, for the page that shows them."""
+        return await self.reply(asyncio.get_running_loop().run_in_executor(self.figures_thread, figures, self.path))
 
     def sent(self, work):
         """The answer to what changes something."""

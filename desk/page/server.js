@@ -11,7 +11,7 @@ export async function begin() {
   if (!sessionStorage.getItem("token")) await askOtherTabs();
   tabs.onmessage = ({ data }) => data === "token?" && tabs.postMessage({ token: sessionStorage.getItem("token") });
   given.delete("token");
-  history.replaceState(null, "", `/${given.size ? `#${given}` : ""}`);
+  history.replaceState(null, "", `${location.pathname}${given.size ? `#${given}` : ""}`);
   return given;
 }
 

@@ -8,6 +8,7 @@ import time
 from collections import deque
 from typing import Callable, Dict, List, Optional
 
+from reasons import why
 from service import limits
 from service.archives import is_moment
 from service.backups import NAME, Backups, Copy, refused
@@ -284,21 +285,28 @@ class Server:
     def _begin_backup(self) -> None:
         """Begins the next backup that is wanted, if none is under way."""
         while self.wanted and self.copy is None:
-            planner, name = self.wanted[0]
-            try:
-                self.copy = self.backups.begin(name)
-                self.selector.register(self.copy.end, selectors.EVENT_READ, self._end_backup)
-            except OSError as fault:
-                self._answer_backup(refused(fault))
+            self._go_on(lambda: self.backups.begin(self.wanted[0][1]))
+
+    def _go_on(self, begin: Callable[[], Copy]) -> None:
+        try:
+            self.copy = begin()
+            self.selector.register(self.copy.end, selectors.EVENT_READ, self._end_backup)
+        except OSError as fault:
+            self._answer_backup(refused(fault), fault)
 
     def _end_backup(self, _events: int) -> None:
         copy, self.copy = self.copy, None
         self.selector.unregister(copy.end)
-        self._answer_backup(copy.finish(self.backups.copy_alone))
+        if copy.is_to_be_made_again():
+            self._go_on(copy.begin_again)
+        else:
+            self._answer_backup(copy.finish(self.backups.copy_alone), copy.fault)
         self._begin_backup()
 
-    def _answer_backup(self, answer: bytes) -> None:
-        planner, _ = self.wanted.popleft()
+    def _answer_backup(self, answer: bytes, fault: Optional[OSError] = None) -> None:
+        planner, name = self.wanted.popleft()
+        if fault is not None:
+            self.batches.teller.tell("no backup", f"{name} could not be made\n{why(fault)}")
         planner.job = None
         planner.answer(answer + b"\n")
 
