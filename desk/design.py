@@ -7,7 +7,7 @@ import styles
 from altctl import Conflict
 from changes import Changes
 from density import cells
-from joining import clashes
+from joining import clashes_of
 from maps import GEOMETRY
 from places import box_of
 from values import Course, attributes_of, side_of
@@ -23,7 +23,7 @@ class Design:
     def __init__(self, store, alt, parent, index):
         self.store, self.alt, self.parent, self.base = store, alt, parent, f"{alt}@" if parent else alt
         self.stale, self.courses, self.texts, self.styles = set(), {}, {}, None
-        self._clashes = None  # The conflicts that were looked at, and those of them that need a choice.
+        self._clashes = None  # The conflicts that were looked at, and what of them needs a choice.
         self.mine = Changes(store, self.base, alt)
         self.conflicts = {(it.table, it.number): it for it in store.conflicts(alt)} if parent else {}
         self.layers = {it: layer for it, layer in self.mine.layers.items() if store.get(alt, 0, it) is not None}
@@ -80,16 +80,16 @@ class Design:
     # --- conflicts ------------------------------------------------------------------------------
 
     @property
-    def to_choose(self):
-        """The conflicts that need a choice, with the fields that do. They are looked at once, as long as they stay the same."""
+    def clashes(self):
+        """What needs a choice. It is looked at once, as long as the conflicts stay the same."""
         if self._clashes is None or self._clashes[0] != self.conflicts:
-            self._clashes = dict(self.conflicts), clashes(self.store, self.alt, self.conflicts)
+            self._clashes = dict(self.conflicts), clashes_of(self.store, self.alt, self.conflicts)
         return self._clashes[1]
 
     @property
     def status(self):
         """Whether features are added, changed, removed or in conflict."""
-        return {**self.mine.kinds, **{self.mine.feature_of(it) or it: "conflict" for it in self.to_choose}}
+        return {**self.mine.kinds, **{self.mine.feature_of(it) or it: "conflict" for it in self.clashes.features}}
 
     # --- features -------------------------------------------------------------------------------
 

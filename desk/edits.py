@@ -4,8 +4,8 @@ looked at."""
 import joining
 import maps
 from features import changed_features, split_feature
+from joining import Choice
 from maps import Fault
-from maps.merging import SIDES
 
 CHANGED = 103  # The service refuses a batch by this number if an alternative has changed meanwhile.
 MOST_STEPS = 200  # that can be undone
@@ -29,9 +29,9 @@ class Person:
         self.undone[alt] = []
 
     def chosen(self, alt, design):
-        """The choices for those conflicts that are still as they were."""
-        its = self.choices.get(alt, {})
-        return {key: side for key, (side, it) in its.items() if design.conflicts.get((it.table, it.number)) == it}
+        """The choices for those clashes that are still as they were."""
+        marks = design.clashes.marks
+        return {key: it.side for key, it in self.choices.get(alt, {}).items() if marks.get(key) == it.mark}
 
     def told(self):
         """What the next undo and the next redo of each design would be."""
@@ -40,13 +40,12 @@ class Person:
 
 
 def merge(designs, alt, it, person):
-    """Merges with the choices that were made, and the rest by one side where that is said."""
+    """Merges with the choices that were made, and tells of which features both are kept."""
     design = designs.design(alt)
     chosen = {**person.chosen(alt, design), **it.get("choices", {})}
-    sides = {tuple(map(int, key.split(":"))): side for key, side in chosen.items() if side in SIDES}
-    rest = it["rest"] if it.get("rest") in SIDES else None
-    joining.merge(designs.store, alt, design.conflicts, sides, rest, lambda: as_seen(designs, alt, designs.parents[alt]))
+    renamed = joining.merge(designs.store, alt, design.clashes, chosen, seen(designs, alt, designs.parents[alt]))
     person.choices.pop(alt, None)
+    return [f"{design.mine.name(table)} {number} of {alt} is {new} now." for (table, number), new in renamed.items()]
 
 
 def change(designs, alt, it, person):
@@ -119,13 +118,16 @@ def back(designs, alt, it, _person):
 
 
 def choose(designs, alt, it, person):
-    """Keeps choices for conflicts until the merge is sent. They are for the conflicts as the person saw them."""
-    its, conflicts = person.choices.setdefault(alt, {}), designs.design(alt).conflicts
-    for key, side in it["choices"].items():
+    """Keeps choices until the merge is sent. Each has the mark of the clash that the person saw: it is for no other one."""
+    its, marks, late = person.choices.setdefault(alt, {}), designs.design(alt).clashes.marks, []
+    for key, made in it["choices"].items():
         its.pop(key, None)
-        conflict = conflicts.get(tuple(map(int, key.split(":"))))
-        if side in SIDES and conflict is not None:
-            its[key] = side, conflict
+        if made is not None and marks.get(key) == made["mark"]:
+            its[key] = Choice(made["side"], made["mark"])
+        elif made is not None:
+            late.append(key)
+    if late:
+        raise Fault(f"{late[0]} has changed meanwhile: look at it again")
 
 
 def describe(designs, alt, it, _person):
@@ -152,7 +154,11 @@ def put_records(designs, alt, records):
 
 def as_seen(designs, *alts):
     """A batch that is refused if one of these has changed since the desk looked at it."""
-    return designs.store.batch(dict.fromkeys(filter(None, alts), designs.batch))
+    return designs.store.batch(seen(designs, *alts))
+
+
+def seen(designs, *alts):
+    return dict.fromkeys(filter(None, alts), designs.batch)
 
 
 ACTIONS = {
@@ -172,12 +178,13 @@ ACTIONS = {
     "checkpoint": lambda designs, alt, it, _: designs.store.checkpoint(alt, it["name"]),
 }
 # These go by what the person saw as a whole, and are not done where that has changed.
-BY_SIGHT = {"merge", "post", "drop", "back", "take-back", "choose"}
+BY_SIGHT = {"merge", "post", "drop", "back", "take-back"}
 
 
 def carry_out(designs, it, person):
+    """Does what a person asks for. Gives what there is to say of it, as lines, or None."""
     alt = designs.known(it["at"])
     is_by_sight = it["do"] in BY_SIGHT
     if is_by_sight and (designs.epoch != it["epoch"] or designs.stamp(alt) > it["seen"]):
         raise Fault(f"{alt} or its parent has changed meanwhile: look at it again")
-    ACTIONS[it["do"]](designs, alt, it, person)
+    return ACTIONS[it["do"]](designs, alt, it, person)

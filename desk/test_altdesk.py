@@ -28,6 +28,7 @@ if not all(map(shutil.which, ("chromium", "chromedriver"))) or not os.path.exist
     print(f"test_altdesk: skipped, for a browser or Leaflet is not there (`apt install {PACKAGES}`)")
     sys.exit(0)
 from desk_tests.test_bad_records import BadRecordTests
+from desk_tests.test_conflicts import ConflictTests
 from desk_tests.test_demo import DemoTests
 from desk_tests.test_designs import DesignsTests
 from desk_tests.test_door import DoorTests

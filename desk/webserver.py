@@ -235,13 +235,13 @@ class Desk:
     async def carried_out(self, it):
         for tries in range(1, TRIES + 1):
             try:
-                await self.asked(lambda designs: carry_out(designs, it, self.person))
+                said = await self.asked(lambda designs: carry_out(designs, it, self.person))
                 break
             except Refusal as refusal:
                 if refusal.number != CHANGED or tries == TRIES or not await self.catch_up():
                     raise
         await self.catch_up()
-        return {"batch": self.designs and self.designs.batch}
+        return {"batch": self.designs and self.designs.batch, "said": said or []}
 
     async def carried_between(self, it):
         """Pull, push, or a look at HEAD."""

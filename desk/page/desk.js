@@ -84,7 +84,7 @@ export async function carryOut(it, done, late) {
   }));
   const state = told && (await trying(() => ask("state", {})));
   if (state) await trying(() => take(state, told.batch));
-  if (told) say(done);
+  if (told) say([done, ...told.said].join(" "));
   desk.isSending = false;
   if (now && late) await late(now);
   return told;
