@@ -95,8 +95,11 @@ class Design:
 
     def sides(self, feature, at):
         """A feature as a version has it, None where it has none."""
-        keys = self.mine.keys_of(feature)
-        return side_of(maps.read(self.store, at, keys), feature, keys, self.mine.layers.get(feature[0]))
+        return self.side_of(maps.read(self.store, at, self.mine.keys_of(feature)), feature)
+
+    def side_of(self, records, feature):
+        """A feature as records have it."""
+        return side_of(records, feature, self.mine.keys_of(feature), self.mine.layers.get(feature[0]))
 
     def box(self, feature):
         key = feature[0] + GEOMETRY, feature[1]
