@@ -8,7 +8,8 @@ import maps
 from altctl import Store
 from designs import Designs
 from desk_tests.support import ALTCTL, PlanningTest, attributes, course, place
-from edits import Person, carry_out
+from edits import carry_out
+from people import Person
 
 
 class ConflictTests(PlanningTest):

@@ -10,7 +10,8 @@ import maps
 from altctl import Refusal, Store
 from designs import Designs
 from desk_tests.support import ALTCTL, LONGEST_WAIT, DeskTest, PlanningTest, attributes
-from edits import carry_out, Person
+from edits import carry_out
+from people import Person
 from webserver import REFUSALS
 
 

@@ -1,5 +1,6 @@
 // The map: what its window shows, what is marked on it, its scale, and the place of the pointer.
 import { $, make, fill, say, trying } from "./dom.js";
+import { showBackground } from "./background.js";
 import { ask } from "./server.js";
 import { desk } from "./shared.js";
 import { layersOff, pointOf, showLayers, STATES, styleOf } from "./styles.js";
@@ -23,6 +24,7 @@ export function makeMap({ bounds, aspect, metres }) {
   chosen = L.featureGroup().addTo(map);
   whole(bounds);
   map.on("moveend", () => trying(showWindow));
+  map.on("moveend", () => trying(showBackground));
   map.on("moveend zoomend", showScale);
   map.on("mousemove", ({ latlng }) => showPlace(latlng));
   map.on("click", (event) => trying(() => (tool.isOn() ? tool.click(event.latlng) : clicked(event))));
@@ -37,7 +39,10 @@ export const whole = (bounds) => map.fitBounds(corners(bounds || [0, 0, 1, 1]), 
 export const zoomTo = (bounds) => bounds && map.fitBounds(L.latLngBounds(corners(bounds)).pad(0.4), { animate: false });
 
 export function showMap() {
-  if (!map) makeMap(desk.design);
+  if (!map) {
+    makeMap(desk.design);
+    trying(showBackground);
+  }
   return trying(showWindow);
 }
 
