@@ -82,6 +82,7 @@ else
     try 600 ../desk/test_altserve.py
     try 1800 ../desk/test_altgis.py
     try 600 ../desk/test_altdesk.py
+    try 900 ../desk/test_altqgis.py
     try 900 ../desk/test_altcarry.py
     try 1800 release/test_package.py
     try 300 faults/kill_service.py "$tools/../altctl" 20
