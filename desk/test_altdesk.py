@@ -32,7 +32,7 @@ from desk_tests.test_bad_records import BadRecordTests
 from desk_tests.test_behind import BehindTests, NotBehindTests
 from desk_tests.test_conflicts import ConflictTests
 from desk_tests.test_demo import DemoTests
-from desk_tests.test_designs import DesignsTests
+from desk_tests.test_designs import DesignsTests, IndexedDesignsTests
 from desk_tests.test_door import DoorTests
 from desk_tests.test_drawing import DrawingTests
 from desk_tests.test_journal import JournalTests

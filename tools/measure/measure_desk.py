@@ -1,7 +1,8 @@
 #!/usr/bin/env python3
 """Measures the desk over a made-up network: how long it takes to show the first map, a design, a window of about 300 features, and
-what is found, each asked for as the page does. `tools/measure/measure_desk.py [--chambers N] [--store FILE]`: N chambers (30,000), 2 ducts
-and 3 cables for each, and service points, 7.3 features a chamber in all. It needs what `desk/altdesk` does."""
+what is found, each asked for as the page does. `tools/measure/measure_desk.py [--chambers N] [--store FILE] [--browser]`: N chambers
+(30,000), 2 ducts and 3 cables for each, and service points, 7.3 features a chamber in all. With `--browser` it measures them in
+Chromium, from the click until the page shows it. It needs what `desk/altdesk` does, and Chromium what its tests need."""
 import argparse
 import json
 import os
@@ -115,10 +116,49 @@ def measured(asking: Asking) -> None:
         say(f"find {text}", [it for it, _ in found], f"{len(found[0][1]['found'])} found")
 
 
+def seen(url: str) -> None:
+    """Measures in a browser, from the click until it is drawn."""
+    sys.argv[1:] = []  # What its tests would take for theirs.
+    from desk_tests.support import Browser
+
+    def seconds(begin: str, is_done: str) -> float:
+        look = f"const look = () => ({is_done}) ? done((performance.now() - begun) / 1000) : requestAnimationFrame(look); look();"
+        return browser.driver.execute_async_script(f"const done = arguments[0], begun = performance.now(); {begin}; {look}")
+
+    def say(what: str, time_taken: float) -> None:
+        print(f"in a browser: {what:<26} {time_taken:8.3f} s {browser.text('#note')}", flush=True)
+
+    browser = Browser()
+    try:
+        browser.size(1120, 680)
+        begun = time.monotonic()
+        browser.open(url)
+        say("first map", time.monotonic() - begun)
+        shows = "document.querySelector('#chosen').textContent.startsWith('{0}, ') && document.querySelector('#map path.{1}')"
+        for what in ("a design, never seen", "a design, seen before"):
+            say(what, seconds("document.getElementById('design-north').click()", shows.format("north", "is-changed")))
+            seconds("document.getElementById('design-top').click()", shows.format("top", "is-same"))
+        script = "document.getElementById('find-text').value = 'RB-0047'; document.querySelector('#search button').click()"
+        is_found = "document.querySelectorAll('#view li').length > 50 && /RB-0047/.test(document.querySelector('#view').textContent)"
+        browser.driver.set_script_timeout(120)
+        say("found, with reading the texts", seconds(script, is_found))
+        seconds("document.getElementById('view-changes').click()", "!/RB-0047/.test(document.querySelector('#view').textContent)")
+        say("found", seconds(script, is_found))
+        script = "document.getElementById('find-number').value = '4711'; document.querySelector('#find button').click()"
+        near = "/ 4711:/.test(document.querySelector('#view h3')?.textContent) && /^all/.test(document.querySelector('#layers small').textContent)"
+        say("a window", seconds(script, near))
+        say("the whole map again", seconds("document.getElementById('whole').click()", "/features are drawn/.test(document.querySelector('#note').textContent)"))
+        drawn = [it.text for it in browser.all("#layers small")]
+        print(*(f"in a browser: {it}" for it in drawn), sep="\n")
+    finally:
+        browser.quit()
+
+
 def main() -> None:
     parser = argparse.ArgumentParser(description=__doc__.split(":")[0])
     parser.add_argument("--chambers", type=int, default=30_000)
     parser.add_argument("--store", help="where the store is kept, for another time")
+    parser.add_argument("--browser", action="store_true", help="measure in a browser")
     words = parser.parse_args()
     with tempfile.TemporaryDirectory() as folder:
         file = words.store or f"{folder}/network.alt"
@@ -127,7 +167,10 @@ def main() -> None:
         desk = subprocess.Popen([sys.executable, str(TOP / "desk" / "altdesk"), "--program", ALTCTL, file], stdout=subprocess.PIPE, text=True)
         try:
             url = next(it for it in map(lambda it: re.search(r"http://\S+", it), desk.stdout) if it)[0]
-            measured(Asking(url))
+            if words.browser:
+                seen(url)
+            else:
+                measured(Asking(url))
         finally:
             desk.terminate()
             desk.wait()
