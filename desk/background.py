@@ -1,5 +1,6 @@
-"""The office's map below the features: a picture for each window, from a file or a folder of georeferenced pictures, from a folder of
-tiles as gdal2tiles makes them, or from a WMS. GDAL brings pictures into the map's coordinate system."""
+"""The office's map below the features: a picture for each window, from a file or a folder of georeferenced pictures,
+from a folder of tiles as gdal2tiles makes them, or from a WMS. GDAL brings pictures into the map's coordinate
+system."""
 import os
 import threading
 import urllib.error
@@ -62,7 +63,9 @@ class Pictures:
         if system is not None:
             own = osr.CoordinateTransformation(system, self.source.GetSpatialRef())
             west, south, east, north = own.TransformBounds(west, south, east, north, 21)
-        across, down = min((east - west) / width, self.source.RasterXSize), min((south - north) / height, self.source.RasterYSize)
+        across, down = min((east - west) / width, self.source.RasterXSize), min(
+            (south - north) / height, self.source.RasterYSize
+        )
         if across * down > MOST_PIXELS:
             raise Fault("the background has no overviews (gdaladdo makes them): zoom in to see it")
 
@@ -131,7 +134,9 @@ class MapServer:
 
     def __init__(self, url):
         self.url = urllib.parse.urlsplit(url)
-        self.words = {name.upper(): text for name, text in urllib.parse.parse_qsl(self.url.query, keep_blank_values=True)}
+        self.words = {
+            name.upper(): text for name, text in urllib.parse.parse_qsl(self.url.query, keep_blank_values=True)
+        }
         self.name = self.url.hostname or url
         if not self.words.get("LAYERS"):
             raise Fault(f"{url}: the address of a WMS says which layers, as in {url.split('?')[0]}?LAYERS=streets")
@@ -147,9 +152,13 @@ class MapServer:
             with urllib.request.urlopen(url, timeout=WAIT_SECONDS) as answer:
                 kind, value = answer.headers.get_content_type(), answer.read(MOST_BYTES + 1)
         except (OSError, ValueError) as fault:
-            raise Fault(f"the background's server {self.name} does not answer: {getattr(fault, 'reason', fault)}") from None
+            raise Fault(
+                f"the background's server {self.name} does not answer: {getattr(fault, 'reason', fault)}"
+            ) from None
         if kind not in ("image/png", "image/jpeg") or len(value) > MOST_BYTES:
-            raise Fault(f"the background's server {self.name} gives no picture: {value[:200].decode('utf-8', 'replace')}")
+            raise Fault(
+                f"the background's server {self.name} gives no picture: {value[:200].decode('utf-8', 'replace')}"
+            )
         return value, kind
 
 

@@ -130,7 +130,8 @@ class Design:
         each layer it tells how many there are, and where they lie if not all are drawn."""
         found = {table: self._in_window(table, box) for table in sorted(self.on_map - set(off))}
         tables = numpy.repeat(list(found), [len(it[0]) for it in found.values()]) if found else numpy.empty(0, int)
-        numbers, sizes = (numpy.concatenate([numpy.empty(0, kind), *(it[at] for it in found.values())]) for at, kind in ((0, "<u8"), (1, float)))
+        numbers = numpy.concatenate([numpy.empty(0, "<u8"), *(it[0] for it in found.values())])
+        sizes = numpy.concatenate([numpy.empty(0), *(it[1] for it in found.values())])
         if len(numbers) > MOST_FEATURES:
             largest = numpy.argpartition(-sizes, MOST_FEATURES)[:MOST_FEATURES]
             tables, numbers = tables[largest], numbers[largest]
@@ -166,7 +167,8 @@ class Design:
         return its.courses if isinstance(its, places.Index) and number not in self.moved[table] else self.courses[table]
 
     def _read_courses(self, keys):
-        for it in [*self.courses.values(), *(it.courses for it in self.places.values() if isinstance(it, places.Index))]:
+        shared = [it.courses for it in self.places.values() if isinstance(it, places.Index)]
+        for it in [*self.courses.values(), *shared]:
             if len(it) > MOST_COURSES:
                 it.clear()
         due = [(table + GEOMETRY, number) for table, number in keys if number not in self._courses_of((table, number))]

@@ -237,7 +237,8 @@ class Designs:
     def _clash(self, design, clash):
         is_course = isinstance(clash.mine, bytes) or isinstance(clash.parent, bytes)
         sides = zip(("base", "parent", "mine"), (clash.base, clash.parent, clash.mine))
-        texts = {} if is_course or not clash.field else {name: None if it is None else text_of(it) for name, it in sides}
+        has_texts = clash.field and not is_course
+        texts = {name: None if it is None else text_of(it) for name, it in sides} if has_texts else {}
         key = str(clash)
         told = {"key": key, "field": clash.field, "is_course": is_course, "texts": texts}
         return {**told, "mark": design.clashes.marks[key], "sides": joining.can_be(clash)}

@@ -92,7 +92,8 @@ def back(designs, alt, it, person):
 
 
 def choose(designs, alt, it, person):
-    """Keeps choices until the merge is sent. Each has the mark of the clash that the person saw: it is for no other one."""
+    """Keeps choices until the merge is sent. Each has the mark of the clash that the person saw: it is for no other
+    one."""
     its, marks, late = person.choices.setdefault(alt, {}), designs.design(alt).clashes.marks, []
     for key, made in it["choices"].items():
         its.pop(key, None)

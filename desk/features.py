@@ -21,7 +21,8 @@ class Late(Fault):
 
 
 def changed_features(designs, alt, features, hand):
-    """The update of records that draws, changes and removes features, and what it is in words. New numbers are taken by `hand`."""
+    """The update of records that draws, changes and removes features, and what it is in words. New numbers are taken by
+    `hand`."""
     design, texts = designs.design(alt), []
     numbered = [(int(it["table"]), int(it["number"]) if it.get("number") else None, it) for it in features]
     for table, _, _ in numbered:
@@ -43,8 +44,8 @@ def changed_features(designs, alt, features, hand):
 
 
 def refuse_late(design, records, numbered):
-    """Refuses an edit of features that are not as they were shown. The records that it changes are looked at, and no later ones: an
-    edit that changes nothing then, and is not sent, has nothing to be late for."""
+    """Refuses an edit of features that are not as they were shown. The records that it changes are looked at, and no
+    later ones: an edit that changes nothing then, and is not sent, has nothing to be late for."""
     late = {}
     for table, number, it in numbered:
         now = None if number is None else design.side_of(records, (table, number))

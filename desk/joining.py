@@ -1,5 +1,6 @@
-"""Conflicts as people settle them. A *clash* is what a design and its parent have both changed differently: a field of a feature, its
-course, or all of it. Each takes a choice of its own; what one side alone has changed is joined. maps/merging.py has how."""
+"""Conflicts as people settle them. A *clash* is what a design and its parent have both changed differently: a field of
+a feature, its course, or all of it. Each takes a choice of its own; what one side alone has changed is joined.
+maps/merging.py has how."""
 import hashlib
 from typing import Dict, List, NamedTuple, Optional, Tuple
 
@@ -13,8 +14,9 @@ Feature = Tuple[int, int]
 
 
 class Clashes:
-    """The clashes of a design. `features` has those of each feature, or record that is of none, and `by_key` each by what it is
-    called, `7:1.dn` or `7:1`. The mark of a clash is another one where a value of it is, so a choice is known to be for it."""
+    """The clashes of a design. `features` has those of each feature, or record that is of none, and `by_key` each by
+    what it is called, `7:1.dn` or `7:1`. The mark of a clash is another one where a value of it is, so a choice is
+    known to be for it. """
 
     def __init__(self, clashes: List[Clash], is_by_field: bool):
         self.is_by_field, self.features = is_by_field, {}
@@ -54,13 +56,18 @@ def merging_of(store, alt: str, sides: Dict[Tuple[int, int, str], str], rest: Op
 
 def can_be(clash: Clash) -> List[str]:
     """The sides that may be chosen for a clash. Of two features that were added under one number both can be kept."""
-    is_number = not clash.field and clash.base is None and not isinstance(clash.mine, bytes) and None not in (clash.parent, clash.mine)
+    is_number = (
+        not clash.field
+        and clash.base is None
+        and not isinstance(clash.mine, bytes)
+        and None not in (clash.parent, clash.mine)
+    )
     return [*SIDES, *(["both"] if is_number else [])]
 
 
 def merge(store, alt: str, clashes: Clashes, choices: Dict[str, str], seen: Dict[str, int]) -> Dict[Feature, int]:
-    """Merges by these choices as one batch, which is refused if something seen has changed. Gives the new numbers of own features
-    where both are kept."""
+    """Merges by these choices as one batch, which is refused if something seen has changed. Gives the new numbers of
+    own features where both are kept."""
     rest = choices.get(REST) if choices.get(REST) in SIDES else None
     sides = {clash[:3]: choices[key] for key, clash in clashes.by_key.items() if choices.get(key) in can_be(clash)}
     if clashes.is_by_field:

@@ -1,5 +1,5 @@
-"""Those at the desk: what each can undo, and has chosen for conflicts, and the connection by which the service is told for whom it
-acts."""
+"""Those at the desk: what each can undo, and has chosen for conflicts, and the connection by which the service is told
+for whom it acts."""
 import contextlib
 
 from altctl import Refusal, Store
@@ -18,8 +18,8 @@ class Step:
 
 
 class Person:
-    """Somebody at the desk: the steps that can be undone and done again in each design, and the choices for conflicts. Without a
-    name it is the user that started the desk."""
+    """Somebody at the desk: the steps that can be undone and done again in each design, and the choices for conflicts.
+    Without a name it is the user that started the desk."""
 
     def __init__(self, name=None, path=None):
         self.name, self.path, self.store = name, path, None
@@ -37,7 +37,9 @@ class Person:
                 store.close(quietly=True)
                 if refusal.number != DENIED:
                     raise
-                raise Fault("the desk cannot act for others: the rules of the service give its user no right `act`") from None
+                raise Fault(
+                    "the desk cannot act for others: the rules of the service give its user no right `act`"
+                ) from None
             self.store = store
         return self.store
 

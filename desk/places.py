@@ -134,8 +134,8 @@ class Found:
 
 
 class Index:
-    """The stored index of a table. What a window needs of it is read from the store, once for all designs. `courses` has what designs
-    draw of features that lie where the index says."""
+    """The stored index of a table. What a window needs of it is read from the store, once for all designs. `courses`
+    has what designs draw of features that lie where the index says."""
 
     def __init__(self, store, table):
         self._store, self._table, self._entries, self.courses = store, PAGES + table, {}, {}

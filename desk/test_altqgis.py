@@ -1,8 +1,8 @@
 #!/usr/bin/env python3
 """Tests of the plugin for QGIS in a real QGIS, under Xvfb, over a real service and a store of 20,000 features:
-`desk/test_altqgis.py [TEST ..]`, with the program's path in the variable ALTCTL, or else with the one that `./altctl` at the top
-builds. `--pictures` writes those of docs/pictures anew. Where QGIS is not there, a line says that they are skipped. What QGIS itself
-runs is `desk/qgis_tests/within.py`."""
+`desk/test_altqgis.py [TEST ..]`, with the program's path in the variable ALTCTL, or else with the one that `./altctl`
+at the top builds. `--pictures` writes those of docs/pictures anew. Where QGIS is not there, a line says that they are
+skipped. What QGIS itself runs is `desk/qgis_tests/within.py`."""
 import json
 import os
 import re
@@ -29,7 +29,13 @@ PACKAGES = "qgis python3-qgis xvfb"
 
 def records(count):
     """Ducts and chambers along a street, half of these features each."""
-    names = [("dn", "Integer", {}), ("mat", "String", {}), ("laid", "Date", {}), ("live", "Integer", {"subtype": "Boolean"}), ("tags", "StringList", {})]
+    names = [
+        ("dn", "Integer", {}),
+        ("mat", "String", {}),
+        ("laid", "Date", {}),
+        ("live", "Integer", {"subtype": "Boolean"}),
+        ("tags", "StringList", {}),
+    ]
     fields = [{"name": name, "number": at, "type": kind, **more} for at, (name, kind, more) in enumerate(names, 1)]
     layer = {"crs": "EPSG:2056", "id": None, "next": 9}
     yield 0, 7, json.dumps({**layer, "name": "ducts", "geometry": "Line String", "fields": fields}).encode()
@@ -55,18 +61,43 @@ def profile(folder):
     """A profile of QGIS in which the plugin is switched on, and nothing else is asked."""
     settings = Path(folder, "profiles", "default", "QGIS", "QGIS3.ini")
     settings.parent.mkdir(parents=True)
-    settings.write_text("[PythonPlugins]\naltqgis=true\n[qgis]\nfirstRunVersionFlag=32216\n[locale]\nuserLocale=en_US\noverrideFlag=true\n")
+    settings.write_text(
+        "[PythonPlugins]\naltqgis=true\n[qgis]\nfirstRunVersionFlag=32216\n"
+        "[locale]\nuserLocale=en_US\noverrideFlag=true\n"
+    )
 
 
 def run_qgis(folder, socket, tests, pictures):
-    more = {"ALTQGIS_SOCKET": socket, "ALTQGIS_FOLDER": folder, "ALTQGIS_FEATURES": str(FEATURES), "ALTQGIS_TESTS": " ".join(tests)}
-    more.update({"QGIS_PLUGINPATH": str(HERE), "HOME": folder, "LC_ALL": "C.UTF-8", "PYTHONDONTWRITEBYTECODE": "1", "ALTQGIS_SECONDS": str(WAIT_SECONDS)})
+    more = {
+        "ALTQGIS_SOCKET": socket,
+        "ALTQGIS_FOLDER": folder,
+        "ALTQGIS_FEATURES": str(FEATURES),
+        "ALTQGIS_TESTS": " ".join(tests),
+    }
+    more.update(
+        {
+            "QGIS_PLUGINPATH": str(HERE),
+            "HOME": folder,
+            "LC_ALL": "C.UTF-8",
+            "PYTHONDONTWRITEBYTECODE": "1",
+            "ALTQGIS_SECONDS": str(WAIT_SECONDS),
+        }
+    )
     more["PATH"] = "/usr/bin:/bin"  # QGIS takes the modules of the first Python there.
     more.update({"ALTQGIS_PICTURES": "yes"} if pictures else {})
-    words = ["xvfb-run", "--auto-servernum", "--server-args=-screen 0 1280x800x24", "qgis", "--nologo", "--noversioncheck"]
+    words = [
+        "xvfb-run",
+        "--auto-servernum",
+        "--server-args=-screen 0 1280x800x24",
+        "qgis",
+        "--nologo",
+        "--noversioncheck",
+    ]
     words += ["--profiles-path", folder, "--code", str(HERE / "qgis_tests" / "within.py")]
     with open(Path(folder, "said"), "w") as said:
-        program = subprocess.Popen(words, env={**os.environ, **more}, stdout=said, stderr=subprocess.STDOUT, start_new_session=True)
+        program = subprocess.Popen(
+            words, env={**os.environ, **more}, stdout=said, stderr=subprocess.STDOUT, start_new_session=True
+        )
         try:
             program.wait(WAIT_SECONDS)
         except subprocess.TimeoutExpired:
@@ -83,7 +114,9 @@ def main(words):
         file = os.path.join(folder, "map.alt")
         make(file)
         profile(folder)
-        service = subprocess.Popen([sys.executable, str(HERE / "altserve"), "--program", ALTCTL, file], stderr=subprocess.DEVNULL)
+        service = subprocess.Popen(
+            [sys.executable, str(HERE / "altserve"), "--program", ALTCTL, file], stderr=subprocess.DEVNULL
+        )
         try:
             while not os.path.exists(f"{file}.sock"):
                 time.sleep(0.1)
@@ -93,7 +126,11 @@ def main(words):
             service.terminate()
             service.wait()
         told = Path(folder, "told")
-        text = told.read_text() if told.exists() else f"QGIS said nothing of its tests:\n{Path(folder, 'said').read_text()[-4000:]}"
+        text = (
+            told.read_text()
+            if told.exists()
+            else f"QGIS said nothing of its tests:\n{Path(folder, 'said').read_text()[-4000:]}"
+        )
         print(text, f"{time.monotonic() - begun:.0f} s in QGIS", sep="\n", file=sys.stderr)
         for it in Path(folder).glob("*.png"):
             keep(it)
@@ -102,7 +139,20 @@ def main(words):
 
 def keep(picture):
     """Keeps a picture for the documents, with few colours."""
-    words = ["gdal_translate", "-q", "-b", "1", "-b", "2", "-b", "3", "-of", "PNG", str(picture), str(picture) + ".rgb.png"]
+    words = [
+        "gdal_translate",
+        "-q",
+        "-b",
+        "1",
+        "-b",
+        "2",
+        "-b",
+        "3",
+        "-of",
+        "PNG",
+        str(picture),
+        str(picture) + ".rgb.png",
+    ]
     subprocess.run(words, check=True, env={**os.environ, "GDAL_PAM_ENABLED": "NO"})
     words = ["rgb2pct.py", "-n", "128", "-of", "PNG", str(picture) + ".rgb.png", str(PICTURES / picture.name)]
     subprocess.run(words, check=True, stdout=subprocess.DEVNULL, env={**os.environ, "GDAL_PAM_ENABLED": "NO"})

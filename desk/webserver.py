@@ -135,7 +135,8 @@ class Desk:
             except web.HTTPException as fault:
                 answer = web.Response(status=fault.status, text=fault.reason)
         answer.headers.update(HEADERS)
-        if isinstance(answer, web.Response) and answer.body and len(answer.body) > LONG and not answer.content_type.startswith("image/"):
+        is_long = isinstance(answer, web.Response) and answer.body and len(answer.body) > LONG
+        if is_long and not answer.content_type.startswith("image/"):
             answer.enable_compression()
         return answer
 

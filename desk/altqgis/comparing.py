@@ -1,5 +1,14 @@
-"""How two designs differ, as layers that are styled by what changed: by colour, also to the colour-blind, by width and by pattern."""
-from qgis.core import QgsCategorizedSymbolRenderer, QgsFeature, QgsField, QgsRendererCategory, QgsSymbol, QgsVectorLayer, QgsWkbTypes
+"""How two designs differ, as layers that are styled by what changed: by colour, also to the colour-blind, by width and
+by pattern."""
+from qgis.core import (
+    QgsCategorizedSymbolRenderer,
+    QgsFeature,
+    QgsField,
+    QgsRendererCategory,
+    QgsSymbol,
+    QgsVectorLayer,
+    QgsWkbTypes,
+)
 from qgis.PyQt.QtCore import Qt, QVariant
 from qgis.PyQt.QtGui import QColor
 
@@ -10,7 +19,11 @@ from .fields import geometry_of, qgis_fields, to_qgis
 from .layers import crs_of
 
 # The colours of Okabe and Ito, as the desk has them.
-LOOKS = {"added": ("#009E73", 1.2, Qt.SolidLine), "changed": ("#0072B2", 1.0, Qt.DashLine), "removed": ("#000000", 0.9, Qt.DotLine)}
+LOOKS = {
+    "added": ("#009E73", 1.2, Qt.SolidLine),
+    "changed": ("#0072B2", 1.0, Qt.DashLine),
+    "removed": ("#000000", 0.9, Qt.DotLine),
+}
 
 
 def compared(store, old, new):
@@ -40,7 +53,11 @@ def feature_of(record, number, before, after):
     names, made = maps.Fields(record), QgsFeature()
     attributes, course = after or before
     values = [safe(names, it and it[0]) for it in (before, after)]
-    what = [it for it in {**values[0], **values[1]} if values[0].get(it) != values[1].get(it)] if status == "changed" else []
+    what = (
+        [it for it in {**values[0], **values[1]} if values[0].get(it) != values[1].get(it)]
+        if status == "changed"
+        else []
+    )
     moved = ["geometry"] if status == "changed" and before[1] != after[1] else []
     its = safe(names, attributes)
     fields = [to_qgis(it, its.get(it["name"])) for it in record["fields"]]

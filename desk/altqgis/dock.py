@@ -4,7 +4,17 @@ import functools
 from qgis.core import Qgis, QgsCoordinateTransform, QgsProject
 from qgis.PyQt.QtCore import QSettings, QTimer
 from qgis.PyQt.QtWidgets import (
-    QDockWidget, QGridLayout, QInputDialog, QLabel, QLineEdit, QMessageBox, QPushButton, QTreeWidget, QTreeWidgetItem, QVBoxLayout, QWidget,
+    QDockWidget,
+    QGridLayout,
+    QInputDialog,
+    QLabel,
+    QLineEdit,
+    QMessageBox,
+    QPushButton,
+    QTreeWidget,
+    QTreeWidgetItem,
+    QVBoxLayout,
+    QWidget,
 )
 
 import joining
@@ -23,7 +33,11 @@ LOOK_MILLISECONDS = 1500
 AROUND = 20.0  # metres that are shown around a feature
 DEGREE = 111_320.0  # metres of a degree from north to south
 NAMES = {"mine": "mine", "theirs": "the parent's", "both": "both"}
-REFUSALS = {8: "merge first: the parent has changed since", 90: "you may not do that", 103: "somebody has changed it meanwhile: look again"}
+REFUSALS = {
+    8: "merge first: the parent has changed since",
+    90: "you may not do that",
+    103: "somebody has changed it meanwhile: look again",
+}
 
 
 class Dock(QDockWidget):
@@ -54,8 +68,14 @@ class Dock(QDockWidget):
         its = QVBoxLayout(frame)
         connect = QPushButton("&Connect")
         connect.clicked.connect(lambda: self.try_to(self.connect_to, self.path.text()))
-        buttons = [("&Open as layers", self.open_design), ("&Save all edits", self.save_all), ("&Merge…", self.merge), ("&Post…", self.ask_post),
-                   ("Chec&kpoint…", self.ask_checkpoint), ("Com&pare…", self.ask_compare)]
+        buttons = [
+            ("&Open as layers", self.open_design),
+            ("&Save all edits", self.save_all),
+            ("&Merge…", self.merge),
+            ("&Post…", self.ask_post),
+            ("Chec&kpoint…", self.ask_checkpoint),
+            ("Com&pare…", self.ask_compare),
+        ]
         for at, (text, work) in enumerate(buttons):
             button = QPushButton(text)
             button.clicked.connect(lambda _, work=work: self.try_to(work, self.chosen()))
@@ -81,9 +101,17 @@ class Dock(QDockWidget):
         except Late as fault:
             self.show_late(fault)
         except (Fault, Refusal) as fault:
-            self.tell(str(fault) if isinstance(fault, Fault) else REFUSALS.get(fault.number, f"the store refused it: {fault}"), Qgis.Warning)
+            self.tell(
+                str(fault)
+                if isinstance(fault, Fault)
+                else REFUSALS.get(fault.number, f"the store refused it: {fault}"),
+                Qgis.Warning,
+            )
         except (OSError, Ended) as fault:
-            self.tell(f"The service is not there: {fault}. What was sent last may be done or not: look once it is back.", Qgis.Critical)
+            self.tell(
+                f"The service is not there: {fault}. What was sent last may be done or not: look once it is back.",
+                Qgis.Critical,
+            )
         return False
 
     # --- designs --------------------------------------------------------------------------------------
@@ -136,7 +164,10 @@ class Dock(QDockWidget):
                 project.addMapLayer(its.layer, False)
                 group.addLayer(its.layer)
         left_out = sum(it.left_out for it in design_layers)
-        self.tell(f"{alt} has {len(design_layers)} layers" + (f", without {left_out} features that QGIS cannot show there" if left_out else ""))
+        self.tell(
+            f"{alt} has {len(design_layers)} layers"
+            + (f", without {left_out} features that QGIS cannot show there" if left_out else "")
+        )
 
     def _follow(self, its):
         its.layer.beforeCommitChanges.connect(functools.partial(self.before_commit, its))
@@ -226,15 +257,22 @@ class Dock(QDockWidget):
         clashes, batch = self.session.clashes(alt)
         if not clashes.by_key:
             return self.carry_out_merge(alt, clashes, batch, {})
-        self.show_choices((alt, clashes, batch), ["Feature", "Field", "Base", "Parent", "Mine"], list(self._rows(alt, clashes)))
+        self.show_choices(
+            (alt, clashes, batch), ["Feature", "Field", "Base", "Parent", "Mine"], list(self._rows(alt, clashes))
+        )
         return self.tell(f"{len(clashes.by_key)} fields of {alt} need a choice.", Qgis.Warning)
 
     def _rows(self, alt, clashes):
         names = {table: its["name"] for table, its in maps.layers(self.session.store, alt).items()}
         for key, it in clashes.by_key.items():
             feature = f"{names.get(it.table, f'table {it.table}')} {it.number}"
-            values = [text_of(side) if it.field or isinstance(side, bytes) else "–" if side is None else "there" for side in it[3:]]
-            yield key, [feature, it.field or "all of it", *values], [(NAMES[side], side) for side in joining.can_be(it)], None
+            values = [
+                text_of(side) if it.field or isinstance(side, bytes) else "–" if side is None else "there"
+                for side in it[3:]
+            ]
+            yield key, [feature, it.field or "all of it", *values], [
+                (NAMES[side], side) for side in joining.can_be(it)
+            ], None
 
     def carry_out_merge(self, alt, clashes, batch, choices):
         renamed = self.session.merge(alt, clashes, choices, batch)
@@ -264,7 +302,10 @@ class Dock(QDockWidget):
         self.tell(f"From {old} to {new} {count} features differ." if made else f"{old} and {new} are the same.")
 
     def ask_post(self, alt):
-        if QMessageBox.question(self, "Post", f"Post {alt}? Its parent then shows what {alt} shows.") == QMessageBox.Yes:
+        if (
+            QMessageBox.question(self, "Post", f"Post {alt}? Its parent then shows what {alt} shows.")
+            == QMessageBox.Yes
+        ):
             self.post(alt)
 
     def ask_checkpoint(self, alt):

@@ -1,5 +1,5 @@
-"""The fields of a layer in QGIS, and values between JSON and QGIS. What QGIS would not keep exactly, as moments with a zone, and
-lists, is shown as the text that it is."""
+"""The fields of a layer in QGIS, and values between JSON and QGIS. What QGIS would not keep exactly, as moments with a
+zone, and lists, is shown as the text that it is."""
 import json
 
 from qgis.core import QgsField, QgsGeometry
@@ -72,5 +72,9 @@ def text_of(value):
         return "–"
     if isinstance(value, bytes):
         found = geometry_of(value)
-        return f"{found.constGet().geometryType()}, {found.constGet().nCoordinates()} points" if not found.isNull() else "bad geometry"
+        return (
+            f"{found.constGet().geometryType()}, {found.constGet().nCoordinates()} points"
+            if not found.isNull()
+            else "bad geometry"
+        )
     return value if isinstance(value, str) else json.dumps(value, ensure_ascii=False)

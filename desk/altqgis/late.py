@@ -48,6 +48,8 @@ def settle_changed(its, number, now, fields):
     for name, (clash, side) in fields.items():
         if name in names:
             field = its.record["fields"][names.index(name)]
-            its.layer.changeAttributeValue(fid, names.index(name) + 1, mine[name] if side == "mine" else to_qgis(field, clash.theirs))
+            its.layer.changeAttributeValue(
+                fid, names.index(name) + 1, mine[name] if side == "mine" else to_qgis(field, clash.theirs)
+            )
         else:
             its.layer.changeGeometry(fid, course if side == "mine" else geometry_of(clash.theirs))

@@ -22,7 +22,9 @@ def type_of(name):
 def crs_of(text):
     if not text:
         return QgsCoordinateReferenceSystem()
-    return QgsCoordinateReferenceSystem(text) if text.startswith("EPSG:") else QgsCoordinateReferenceSystem.fromWkt(text)
+    return (
+        QgsCoordinateReferenceSystem(text) if text.startswith("EPSG:") else QgsCoordinateReferenceSystem.fromWkt(text)
+    )
 
 
 class DesignLayer:
@@ -75,7 +77,11 @@ class DesignLayer:
         made.setAttributes([number, *(to_qgis(it, its.get(it["name"])) for it in self.record["fields"])])
         shape = geometry_of(course)
         has_type = FLAT(shape.wkbType()) == FLAT(self.layer.wkbType())
-        if course and not has_type and not (self.layer.geometryType() == shape.type() and QgsWkbTypes.isMultiType(self.layer.wkbType())):
+        if (
+            course
+            and not has_type
+            and not (self.layer.geometryType() == shape.type() and QgsWkbTypes.isMultiType(self.layer.wkbType()))
+        ):
             return None
         made.setGeometry(shape)
         return made
@@ -98,7 +104,8 @@ class DesignLayer:
         self.ids[number], self.numbers[fid] = fid, number
 
     def catch_up(self, numbers=None):
-        """Takes in what others have changed: features by their numbers, or anything. What is being edited stays until that ends."""
+        """Takes in what others have changed: features by their numbers, or anything. What is being edited stays until
+        that ends."""
         self.pending = None if numbers is None or self.pending is None else self.pending | set(numbers)
         if self.layer.isEditable() or self.pending == set():
             return
@@ -128,7 +135,11 @@ class DesignLayer:
     def found(self, records, numbers):
         """These features as records have them."""
         sides = {it: [maps.value_at(records, *key) for key in self.keys(it)] for it in numbers}
-        return {it: (attributes or b"{}", course) for it, (attributes, course) in sides.items() if (attributes, course) != (None, None)}
+        return {
+            it: (attributes or b"{}", course)
+            for it, (attributes, course) in sides.items()
+            if (attributes, course) != (None, None)
+        }
 
     def keys(self, number):
         return (self.table, number), (self.table + GEOMETRY, number)

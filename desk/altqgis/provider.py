@@ -1,6 +1,13 @@
-"""The provider of a design's layers: the features lie in memory, and QGIS reads them there. What is edited is taken only once the store
-has it: QGIS then keeps an edit session that was refused as it is."""
-from qgis.core import QgsDataProvider, QgsFeatureRequest, QgsProviderMetadata, QgsProviderRegistry, QgsVectorDataProvider, QgsVectorLayer
+"""The provider of a design's layers: the features lie in memory, and QGIS reads them there. What is edited is taken
+only once the store has it: QGIS then keeps an edit session that was refused as it is."""
+from qgis.core import (
+    QgsDataProvider,
+    QgsFeatureRequest,
+    QgsProviderMetadata,
+    QgsProviderRegistry,
+    QgsVectorDataProvider,
+    QgsVectorLayer,
+)
 
 KEY = "altqgis"
 

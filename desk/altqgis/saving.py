@@ -1,5 +1,5 @@
-"""Saving an edit session: all of it is one batch, and none of it is made if somebody has changed one of its features since it was
-read. What was edited stays in QGIS then, beside what others have made."""
+"""Saving an edit session: all of it is one batch, and none of it is made if somebody has changed one of its features
+since it was read. What was edited stays in QGIS then, beside what others have made."""
 from typing import Any, List, NamedTuple
 
 import maps
@@ -12,8 +12,8 @@ CHANGED, TRIES = 103, 5
 
 
 class Clash(NamedTuple):
-    """A field that somebody changed meanwhile: as it was read, as it is now, and as it was to be. The field "" is all of a feature,
-    which somebody has removed."""
+    """A field that somebody changed meanwhile: as it was read, as it is now, and as it was to be. The field "" is all
+    of a feature, which somebody has removed."""
 
     number: int
     field: str
@@ -26,7 +26,10 @@ class Late(Fault):
     """Somebody was faster. `clashes` are those fields of the edited features that others have changed."""
 
     def __init__(self, design_layer, clashes):
-        super().__init__(f"Somebody has changed {len({it.number for it in clashes})} of these features meanwhile, so nothing was saved")
+        super().__init__(
+            f"Somebody has changed {len({it.number for it in clashes})} of these features meanwhile, "
+            "so nothing was saved"
+        )
         self.design_layer, self.clashes = design_layer, clashes
 
 
@@ -46,7 +49,9 @@ class Edits:
             if 0 in values:
                 raise Fault("the number of a feature stays as it is")
             fields = self.its.record["fields"]
-            self.of(fid).update({fields[at - 1]["name"]: from_qgis(fields[at - 1], value) for at, value in values.items()})
+            self.of(fid).update(
+                {fields[at - 1]["name"]: from_qgis(fields[at - 1], value) for at, value in values.items()}
+            )
         for fid, geometry in buffer.changedGeometries().items():
             if fid not in gone:
                 self.of(fid)[""] = wkb_of(geometry)
@@ -94,7 +99,11 @@ class Edits:
         update = maps.Update(dict(old))
         for number, values in self.changed.items():
             before = its.seen[number] or its.lost[number]
-            its_own = None if its.seen[number] is None or set(values) != {""} else maps.value_at(old, *its.keys(number)[0]) or b""
+            its_own = (
+                None
+                if its.seen[number] is None or set(values) != {""}
+                else maps.value_at(old, *its.keys(number)[0]) or b""
+            )
             self._set(update, number, {**self._values(before), **values}, its_own)
         for fid, values in self.added.items():
             self._set(update, hand[fid], values)
@@ -112,8 +121,8 @@ class Edits:
 
 
 def save(session, design_layers):
-    """Saves the edit sessions of layers of one design as one batch. Gives for each layer the numbers of its new features, by their
-    ids in QGIS."""
+    """Saves the edit sessions of layers of one design as one batch. Gives for each layer the numbers of its new
+    features, by their ids in QGIS."""
     edits = [Edits(it) for it in design_layers]
     hands = [dict(zip(it.added, session.numbers(it.its.table, len(it.added)))) for it in edits]
     for tries in range(TRIES):

@@ -1,4 +1,5 @@
-"""A connection to a service: the tree of designs, what others have changed since the last look, and what is done with a design."""
+"""A connection to a service: the tree of designs, what others have changed since the last look, and what is done with a
+design."""
 from typing import NamedTuple, Optional
 
 import joining

@@ -64,7 +64,9 @@ class MapServer(http.server.BaseHTTPRequestHandler):
         self.send_response(200)
         self.send_header("Content-Type", self.server.kind)
         self.end_headers()
-        self.wfile.write(text if self.server.kind.startswith("image/") else b"<ServiceException>no such layer</ServiceException>")
+        self.wfile.write(
+            text if self.server.kind.startswith("image/") else b"<ServiceException>no such layer</ServiceException>"
+        )
 
     def log_message(self, *_):
         pass
@@ -73,7 +75,9 @@ class MapServer(http.server.BaseHTTPRequestHandler):
 class BackgroundTests(AskingTest):
     def desk(self, file=None, *options):
         folder = tiles(os.path.join(self.folder, "pictures"))
-        subprocess.run(["gdalbuildvrt", "-q", f"{self.folder}/all.vrt", *sorted(map(str, Path(folder).iterdir()))], check=True)
+        subprocess.run(
+            ["gdalbuildvrt", "-q", f"{self.folder}/all.vrt", *sorted(map(str, Path(folder).iterdir()))], check=True
+        )
         self.server = http.server.ThreadingHTTPServer(("127.0.0.1", 0), MapServer)
         self.server.asked, self.server.kind, self.server.daemon_threads = [], "image/png", True
         threading.Thread(target=self.server.serve_forever, daemon=True).start()
@@ -105,15 +109,37 @@ class BackgroundTests(AskingTest):
         self.assertEqual([RED, RED, GREEN, GREEN], self.picture((2600000, 1200450, 2600100, 1200550), self.CORNERS))
         self.assertEqual([None] * 4, self.picture((2700000, 1200000, 2701000, 1201000), self.CORNERS))
         self.assertEqual(403, self.ask("/api/background?at=north&box=0,0,1,1&width=9&height=9")[0])
-        for words in ({"box": "0,0,0,0"}, {"box": "0,0,nan,1"}, {"box": "1,2"}, {"width": "0"}, {"width": "100000"}, {"width": "a"}):
+        for words in (
+            {"box": "0,0,0,0"},
+            {"box": "0,0,nan,1"},
+            {"box": "1,2"},
+            {"width": "0"},
+            {"width": "100000"},
+            {"width": "a"},
+        ):
             self.assertEqual(400, self.fault(**words)[0], words)
 
     def test_a_folder_of_tiles_and_a_file(self):
         for profile, levels in (("raster", "0-2"), ("mercator", "12-17")):
             folder = f"{self.folder}/{profile}"
-            subprocess.run(["gdal2tiles.py", "-q", "-w", "none", f"--profile={profile}", "-z", levels, f"{self.folder}/all.vrt", folder], check=True)
+            subprocess.run(
+                [
+                    "gdal2tiles.py",
+                    "-q",
+                    "-w",
+                    "none",
+                    f"--profile={profile}",
+                    "-z",
+                    levels,
+                    f"{self.folder}/all.vrt",
+                    folder,
+                ],
+                check=True,
+            )
             self.other_desk(folder)
-            self.assertEqual([RED, BLUE, GREEN], self.picture((2600000, 1200000, 2601000, 1201000), self.CORNERS)[:3], profile)
+            self.assertEqual(
+                [RED, BLUE, GREEN], self.picture((2600000, 1200000, 2601000, 1201000), self.CORNERS)[:3], profile
+            )
         # Another coordinate system: degrees, in which the map is not.
         gdal.Warp(f"{self.folder}/degrees.tif", f"{self.folder}/all.vrt", dstSRS=system(4326), dstAlpha=True)
         self.other_desk(f"{self.folder}/degrees.tif")
@@ -133,9 +159,20 @@ class BackgroundTests(AskingTest):
     def test_a_map_server(self):
         self.other_desk(f"http://127.0.0.1:{self.server.server_port}/wms?map=town&layers=streets")
         self.assertEqual([RED], self.picture((2600000, 1200000, 2601000.5, 1201000), [(5, 5)]))
-        due = {"LAYERS": "streets", "MAP": "town", "SERVICE": "WMS", "VERSION": "1.1.1", "REQUEST": "GetMap", "SRS": "EPSG:2056"}
-        due.update({"BBOX": "2600000.0,1200000.0,2601000.5,1201000.0", "WIDTH": "100", "HEIGHT": "100", "FORMAT": "image/png"})
-        self.assertEqual(due, {name: text for name, text in self.server.asked[0].items() if name not in ("STYLES", "TRANSPARENT")})
+        due = {
+            "LAYERS": "streets",
+            "MAP": "town",
+            "SERVICE": "WMS",
+            "VERSION": "1.1.1",
+            "REQUEST": "GetMap",
+            "SRS": "EPSG:2056",
+        }
+        due.update(
+            {"BBOX": "2600000.0,1200000.0,2601000.5,1201000.0", "WIDTH": "100", "HEIGHT": "100", "FORMAT": "image/png"}
+        )
+        self.assertEqual(
+            due, {name: text for name, text in self.server.asked[0].items() if name not in ("STYLES", "TRANSPARENT")}
+        )
         self.server.kind = "application/vnd.ogc.se_xml"
         status, said = self.fault()
         self.assertEqual((409, True), (status, "no such layer" in json.loads(said)["fault"]), said)
@@ -147,8 +184,13 @@ class BackgroundTests(AskingTest):
         os.makedirs(f"{self.folder}/empty")
         os.makedirs(f"{self.folder}/bad")
         Path(self.folder, "bad", "tilemapresource.xml").write_text("<TileMap/>")
-        for source, due in (("empty", "there are no pictures in it"), ("bad", "describes no tiles"), ("none", "no background can be read"),
-                            ("map.alt", "no background can be read"), ("http://gis.example/wms", "says which layers")):
+        for source, due in (
+            ("empty", "there are no pictures in it"),
+            ("bad", "describes no tiles"),
+            ("none", "no background can be read"),
+            ("map.alt", "no background can be read"),
+            ("http://gis.example/wms", "says which layers"),
+        ):
             words = [sys.executable, str(DESK / "altdesk"), "--program", ALTCTL, "--background", source, "map.alt"]
             ran = subprocess.run(words, cwd=self.folder, capture_output=True, text=True, timeout=60)
             self.assertEqual((1, True), (ran.returncode, due in ran.stderr), ran.stderr)
@@ -177,10 +219,17 @@ class BackgroundPageTests(PlanningTest):
         browser.until(lambda: browser.run("return arguments[0].complete && arguments[0].naturalWidth", image))
         self.assertEqual("Background: aerial", browser.one("#layers li:last-child label").text)
         # It fills the map, and features are above it.
-        box, frame = (browser.run("const it = arguments[0].getBoundingClientRect(); return [it.left, it.top, it.right, it.bottom].map(Math.round)", it)
-                      for it in (browser.one("#map img.background"), browser.one("#map")))
+        box, frame = (
+            browser.run(
+                "const it = arguments[0].getBoundingClientRect();"
+                "return [it.left, it.top, it.right, it.bottom].map(Math.round)",
+                it,
+            )
+            for it in (browser.one("#map img.background"), browser.one("#map"))
+        )
         self.assertLess(max(abs(one - other) for one, other in zip(box, frame)), 3)
-        script = "const it = document.querySelector('#map path').getBoundingClientRect(); return document.elementFromPoint(it.left + it.width / 2, it.top + it.height / 2).tagName"
+        script = "const it = document.querySelector('#map path').getBoundingClientRect();"
+        script += "return document.elementFromPoint(it.left + it.width / 2, it.top + it.height / 2).tagName"
         self.assertEqual("path", browser.run(script))
         browser.picture("desk-background")
         browser.click("#layer-background")

@@ -54,9 +54,17 @@ class Passing(http.server.BaseHTTPRequestHandler):
 
     def pass_on(self):
         body = self.rfile.read(int(self.headers.get("Content-Length", 0)))
-        headers = {name: it for name, it in self.headers.items() if name.lower() not in ("x-desk-person", "connection", "accept-encoding")}
-        with contextlib.closing(UnixConnection(self.server.path)) as there, contextlib.suppress(OSError):  # The desk has ended.
-            there.request(self.command, self.path.removeprefix("/desk"), body, {**headers, "X-Desk-Person": self.server.name})
+        headers = {
+            name: it
+            for name, it in self.headers.items()
+            if name.lower() not in ("x-desk-person", "connection", "accept-encoding")
+        }
+        with contextlib.closing(UnixConnection(self.server.path)) as there, contextlib.suppress(
+            OSError
+        ):  # The desk has ended.
+            there.request(
+                self.command, self.path.removeprefix("/desk"), body, {**headers, "X-Desk-Person": self.server.name}
+            )
             answer = there.getresponse()
             text = answer.read()
             self.send_response(answer.status)
@@ -82,7 +90,11 @@ class BehindTests(DeskTest):
 
     def ask(self, path, *names, body=None, **headers):
         """The status and the text of an answer to a request that the web server passes on."""
-        given = {"Host": "desk.example", "X-Desk-Token": "behind", **{it.replace("_", "-"): text for it, text in headers.items()}}
+        given = {
+            "Host": "desk.example",
+            "X-Desk-Token": "behind",
+            **{it.replace("_", "-"): text for it, text in headers.items()},
+        }
         with contextlib.closing(UnixConnection(self.path)) as there:
             there.putrequest("GET" if body is None else "POST", path, skip_host=True)
             if body is not None:
@@ -105,15 +117,24 @@ class BehindTests(DeskTest):
             for path in ("/", "/api/state", "/desk.js"):
                 self.assertEqual((403, "The web server has not said who you are."), self.ask(path, *names), names)
         good = [{}, {"Origin": "https://desk.example"}, {"Sec_Fetch_Site": "same-origin"}]
-        bad = [{"Origin": "https://elsewhere.example"}, {"Origin": "null"}, {"Sec_Fetch_Site": "cross-site"}, {"X_Desk_Token": None}]
+        bad = [
+            {"Origin": "https://elsewhere.example"},
+            {"Origin": "null"},
+            {"Sec_Fetch_Site": "cross-site"},
+            {"X_Desk_Token": None},
+        ]
         for due, some in ((200, good), (403, bad)):
             for headers in some:
                 self.assertEqual(due, self.ask("/api/state", "anna", **headers)[0], headers)
         self.assertIn('class="behind"', self.ask("/", "anna", X_Desk_Token=None)[1])
-        self.assertEqual((404, 200), (self.ask("/api/office", "anna", body={"do": "pull"})[0], self.ask("/api/state", "anna")[0]))
+        self.assertEqual(
+            (404, 200), (self.ask("/api/office", "anna", body={"do": "pull"})[0], self.ask("/api/state", "anna")[0])
+        )
 
     def test_the_service_is_told_for_whom_the_desk_acts(self):
-        self.assertEqual(["anna", "berta"], [json.loads(self.ask("/api/state", it)[1])["planner"] for it in ("anna", "berta")])
+        self.assertEqual(
+            ["anna", "berta"], [json.loads(self.ask("/api/state", it)[1])["planner"] for it in ("anna", "berta")]
+        )
         feature = json.loads(self.ask("/api/feature?at=north&table=7&number=5", "anna")[1])["now"]
         edit = {"do": "change", "features": [{"table": 7, "number": "5", "before": feature, "values": {"dn": "125"}}]}
         status, said = self.do("berta", **edit)
@@ -126,7 +147,15 @@ class BehindTests(DeskTest):
         self.assertEqual(200, self.do("berta", at="south", do="describe", title="Station road")[0])
         self.assertEqual(200, self.do("anna", do="new", name="west")[0])
         found = [(it.planner, *it.line.split()[:2]) for it in self.store().log()]
-        self.assertEqual([("anna", "put", "north"), ("berta", "new", ".designs"), ("berta", "put", ".designs"), ("anna", "new", "west")], found)
+        self.assertEqual(
+            [
+                ("anna", "put", "north"),
+                ("berta", "new", ".designs"),
+                ("berta", "put", ".designs"),
+                ("anna", "new", "west"),
+            ],
+            found,
+        )
 
     def test_the_service_may_end_and_come_again(self):
         self.assertEqual(200, self.do("anna", do="new", name="west")[0])
@@ -159,9 +188,14 @@ class BehindTests(DeskTest):
         berta.edit(6, dn=160)
         berta.confirm()
         berta.says("Changed ducts 6.")
-        self.assertEqual([True, True], [it.driver.current_url.startswith(server.url("#")) for it, server in zip((anna, berta), servers)])
+        self.assertEqual(
+            [True, True],
+            [it.driver.current_url.startswith(server.url("#")) for it, server in zip((anna, berta), servers)],
+        )
         store = self.store()
-        self.assertEqual([("anna", "north"), ("berta", "south")], [(it.planner, it.line.split()[1]) for it in store.log()])
+        self.assertEqual(
+            [("anna", "north"), ("berta", "south")], [(it.planner, it.line.split()[1]) for it in store.log()]
+        )
         self.assertEqual([[], []], [anna.faults(), berta.faults()])
 
 
@@ -179,6 +213,11 @@ class NotBehindTests(DeskTest):
             headers = {"X-Desk-Person": "anna", "X-Desk-Token": token, "Content-Type": "application/json"}
             there.request("GET", "/api/state", None, headers)
             state = json.loads(there.getresponse().read())
-            there.request("POST", "/api/batch", json.dumps({"at": "top", "do": "new", "name": "west", "epoch": state["epoch"], "seen": 0}), headers)
+            there.request(
+                "POST",
+                "/api/batch",
+                json.dumps({"at": "top", "do": "new", "name": "west", "epoch": state["epoch"], "seen": 0}),
+                headers,
+            )
             self.assertEqual(200, there.getresponse().status)
         self.assertEqual((ME, [ME]), (state["planner"], [it.planner for it in self.store().log()]))

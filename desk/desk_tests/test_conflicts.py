@@ -14,7 +14,8 @@ from people import Person
 
 class ConflictTests(PlanningTest):
     def clash(self, **of):
-        """Has north and top change ducts and chambers in different ways: of each key what they put, None for nothing."""
+        """Has north and top change ducts and chambers in different ways: of each key what they put, None for
+        nothing."""
         with Store(self.file, ALTCTL) as store:
             for alt, records in of.items():
                 store.put_many(alt, ((*key, value) for key, value in records.items() if value is not None))
@@ -41,7 +42,13 @@ class ConflictTests(PlanningTest):
         browser.until(lambda: browser.text("#open").startswith("north and top have both changed these. 1 of 3"))
         browser.click("#do-merge")
         browser.says("1 conflicts have no choice yet.")
-        self.assertEqual("", browser.run("return [...document.getElementById('view').childNodes].map((it) => it.nodeType === 3 ? it.data : '').join('')"))
+        self.assertEqual(
+            "",
+            browser.run(
+                "const nodes = [...document.getElementById('view').childNodes];"
+                "return nodes.map((it) => it.nodeType === 3 ? it.data : '').join('')"
+            ),
+        )
         browser.run("document.querySelector('#view fieldset').scrollIntoView({ block: 'end' })")
         browser.picture("desk-fields")
         browser.click("[id='theirs-7:5.geometry']")
@@ -57,7 +64,8 @@ class ConflictTests(PlanningTest):
 
     def test_all_fields_of_one_feature_by_a_click(self):
         self.clash(
-            top={(7, it): attributes(dn=160, mat="PE") for it in (5, 6)}, north={(7, it): attributes(dn=125, mat="HDPE") for it in (5, 6)}
+            top={(7, it): attributes(dn=160, mat="PE") for it in (5, 6)},
+            north={(7, it): attributes(dn=125, mat="HDPE") for it in (5, 6)},
         )
         browser, store = self.opened(), self.store()
         browser.click("#view-conflicts")
@@ -74,14 +82,29 @@ class ConflictTests(PlanningTest):
     def test_a_feature_that_one_side_removed_or_both_added(self):
         here, there = place(2600000, 1200000), place(2600100, 1200000)
         self.clash(
-            top={(8, 1): attributes(name="moved"), (8, 2): None, (108, 2): None, (8, 99): attributes(name="theirs"), (108, 99): there},
-            north={(8, 1): None, (108, 1): None, (8, 2): attributes(name="kept"), (8, 99): attributes(name="mine"), (108, 99): here},
+            top={
+                (8, 1): attributes(name="moved"),
+                (8, 2): None,
+                (108, 2): None,
+                (8, 99): attributes(name="theirs"),
+                (108, 99): there,
+            },
+            north={
+                (8, 1): None,
+                (108, 1): None,
+                (8, 2): attributes(name="kept"),
+                (8, 99): attributes(name="mine"),
+                (108, 99): here,
+            },
         )
         browser, store = self.opened(), self.store()
         browser.click("#view-conflicts")
         due = ["chambers 1: removed in north", "chambers 2: removed in top", "chambers 99: added by both"]
         self.assertEqual(due, [it.text for it in browser.all("#view legend")])
-        self.assertEqual(["mine-8:99", "theirs-8:99", "both-8:99"], [it.get_attribute("id") for it in browser.all("#conflict-8\\:99 input")])
+        self.assertEqual(
+            ["mine-8:99", "theirs-8:99", "both-8:99"],
+            [it.get_attribute("id") for it in browser.all("#conflict-8\\:99 input")],
+        )
         for it in ("theirs-8:1", "mine-8:2", "both-8:99"):
             browser.click(f"[id='{it}']")
         browser.click("#do-merge")
@@ -91,11 +114,17 @@ class ConflictTests(PlanningTest):
         found = [names.named(it) for it in store.get_many("north", [(8, 1), (8, 2), (8, 99), (8, 100)])]
         self.assertEqual(["moved", "kept", "theirs", "mine"], [it["name"] for it in found])
         # What goes together stays together.
-        self.assertEqual([place(*self.chamber(1)), place(*self.chamber(2)), there, here], list(store.get_many("north", [(108, it) for it in (1, 2, 99, 100)])))
+        self.assertEqual(
+            [place(*self.chamber(1)), place(*self.chamber(2)), there, here],
+            list(store.get_many("north", [(108, it) for it in (1, 2, 99, 100)])),
+        )
         self.assertEqual([], browser.faults())
 
     def test_what_others_change_meanwhile_leaves_other_choices(self):
-        self.clash(top={(7, it): attributes(dn=160, mat="PVC") for it in (5, 6)}, north={(7, it): attributes(dn=125, mat="PVC") for it in (5, 6)})
+        self.clash(
+            top={(7, it): attributes(dn=160, mat="PVC") for it in (5, 6)},
+            north={(7, it): attributes(dn=125, mat="PVC") for it in (5, 6)},
+        )
         browser, store = self.opened(), self.store()
         browser.click("#view-conflicts")
         browser.click("#all-mine")
@@ -146,7 +175,9 @@ class ConflictTests(PlanningTest):
         browser.click("#view-conflicts")
         self.assertEqual(["ducts 5: mat"], [it.text for it in browser.all("#view legend")])
         self.assertEqual(["mat"], [it.text for it in browser.all("#view fieldset > table th[scope=row]")])
-        self.assertEqual("north and top have changed different fields of 1 feature, which a merge joins.", browser.text("#joined"))
+        self.assertEqual(
+            "north and top have changed different fields of 1 feature, which a merge joins.", browser.text("#joined")
+        )
         browser.until(lambda: len(browser.all("path.is-conflict")) == 1)
         browser.click("[id='theirs-7:5.mat']")
         browser.click("#do-merge")
@@ -179,6 +210,9 @@ class ConflictTests(PlanningTest):
         other.put("top", 7, 1, attributes(dn=200, mat="PVC"))
         designs.refresh()
         self.assertEqual({}, person.chosen("north", designs.design("north")))
-        for it, why in ((choose, "7:1.dn has changed meanwhile"), ({**seen, "seen": designs.batch, "do": "merge"}, "1 conflicts have no choice")):
+        for it, why in (
+            (choose, "7:1.dn has changed meanwhile"),
+            ({**seen, "seen": designs.batch, "do": "merge"}, "1 conflicts have no choice"),
+        ):
             with self.assertRaisesRegex(maps.Fault, why):
                 carry_out(designs, it, person)

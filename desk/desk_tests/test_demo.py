@@ -26,7 +26,8 @@ class DemoTests(DeskTest):
         browser.picture("desk-map")
         browser.click("#view-conflicts")
         # One of both has two courses to choose from.
-        course = next(it for it in browser.all("fieldset") if "course" in it.find_element("css selector", "legend").text)
+        legends = browser.all("fieldset legend")
+        course = next(it for it, legend in zip(browser.all("fieldset"), legends) if "course" in legend.text)
         course.find_element("css selector", "[id^=look-]").click()
         browser.picture("desk-conflict")
         shown = [it.text.split() for it in browser.all("#tree tr")]

@@ -123,7 +123,7 @@ class TwoPeopleTests(DeskTest):
 class TogetherTests(PlanningTest):
     """Two planners at the same ducts of one design."""
 
-    ROUNDS = 100
+    ROUNDS = 200
 
     def plan(self, seed, counts, said):
         """One of them: counts ducts up, moves their ends by a metre, draws, and deletes and takes that back."""

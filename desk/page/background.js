@@ -1,4 +1,4 @@
-// The office's map below the features: one picture for each window. It is grey, so that colours are those of features alone.
+// The office's map below the features: one picture for each window. It is grey, so that colours are those of features.
 import { $, make, trying } from "./dom.js";
 import { map } from "./chart.js";
 import { askPicture } from "./server.js";
@@ -17,7 +17,8 @@ export async function showBackground() {
   const box = [bounds.getWest(), bounds.getSouth(), bounds.getEast(), bounds.getNorth()].join(",");
   const { signal } = request;
   try {
-    const picture = URL.createObjectURL(await askPicture("background", { at: desk.at, box, width, height }, { signal }));
+    const words = { at: desk.at, box, width, height };
+    const picture = URL.createObjectURL(await askPicture("background", words, { signal }));
     if (signal.aborted) return URL.revokeObjectURL(picture);
     hide();
     if (!map.getPane("background")) map.createPane("background").style.zIndex = 150;
@@ -49,6 +50,6 @@ export function backgroundItem() {
     trying(showBackground);
   };
   const box = make("input", { type: "checkbox", id: "layer-background", checked: isOn, onchange: toggle });
-  const said = $("background-said")?.textContent || "";
-  return make("li", {}, make("label", {}, box, ` Background: ${desk.state.background}`), make("small", { id: "background-said", role: "status" }, said));
+  const said = make("small", { id: "background-said", role: "status" }, $("background-said")?.textContent || "");
+  return make("li", {}, make("label", {}, box, ` Background: ${desk.state.background}`), said);
 }

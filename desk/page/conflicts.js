@@ -1,5 +1,5 @@
-// Conflicts: base, parent and mine side by side, and a choice for each field that both have changed differently. Choices are kept on
-// the server until the merge is sent.
+// Conflicts: base, parent and mine side by side, and a choice for each field that both have changed differently. Choices
+// are kept on the server until the merge is sent.
 import { $, button, fill, make, own, sample, say, trying } from "./dom.js";
 import { mark, zoomToMarks } from "./chart.js";
 import { showHead } from "./desk.js";
@@ -28,21 +28,25 @@ export function keepChoices(old, design) {
 // The choices that this person made before, perhaps in another tab.
 export async function readChoices() {
   const told = await ask("choices", { at: desk.at });
-  for (const key of toChoose(desk.design).keys()) if (Object.hasOwn(told, key) && !desk.choices.has(key)) desk.choices.set(key, told[key]);
+  const made = [...toChoose(desk.design).keys()].filter((key) => Object.hasOwn(told, key) && !desk.choices.has(key));
+  for (const key of made) desk.choices.set(key, told[key]);
 }
 
 export function fillConflicts() {
   const { conflicts, conflicts_in_all: count, joined, name, parent } = desk.design;
+  const features = `${joined} ${joined === 1 ? "feature" : "features"}`;
   const told = joined ? make("p", { id: "joined" },
-    `${name} and ${parent} have changed different fields of ${joined} ${joined === 1 ? "feature" : "features"}, which a merge joins.`) : null;
+    `${name} and ${parent} have changed different fields of ${features}, which a merge joins.`) : null;
   if (!count) return fill($("view"), make("p", { id: "open" }, "There is no conflict."), told);
   const keys = [...toChoose(desk.design).keys()];
   const all = (side, text) => button(`all-${side}`, text, () => choose(keys, side));
   const undo = button("undo", "Undo the last choice", takeBack, { disabled: !desk.made.length });
   const text = `${name} and ${parent} have both changed these. ${openChoices()} of ${keys.length} have no choice yet.`;
-  const steps = make("div", { class: "buttons" }, button("previous-conflict", "Previous", () => step(-1)), button("next-conflict", "Next", () => step(1)));
+  const steps = make("div", { class: "buttons" }, button("previous-conflict", "Previous", () => step(-1)),
+    button("next-conflict", "Next", () => step(1)));
   const buttons = make("div", { class: "buttons" }, all("mine", `All as in ${name}`), all("theirs", `All as in ${parent}`), undo);
-  return fill($("view"), make("p", { id: "open" }, text), told, buttons, steps, ...conflicts.map(conflict), ...rest(count - conflicts.length));
+  return fill($("view"), make("p", { id: "open" }, text), told, buttons, steps, ...conflicts.map(conflict),
+    ...rest(count - conflicts.length));
 }
 
 function rest(left) {
@@ -67,7 +71,8 @@ const sideText = (side) => ({ mine: "mine", theirs: "the parent's", both: "both,
 
 function radio(key, side, text, label) {
   const checked = desk.choices.get(key) === side;
-  const given = { type: "radio", id: `${side}-${key}`, name: key, value: side, checked, "aria-label": label, onchange: () => choose([key], side) };
+  const given = { type: "radio", id: `${side}-${key}`, name: key, value: side, checked, "aria-label": label,
+    onchange: () => choose([key], side) };
   return make("label", {}, make("input", given), ` ${text}`);
 }
 
@@ -82,20 +87,22 @@ function conflict(it) {
   const keys = it.clashes.map((clash) => clash.key);
   const [first] = it.clashes;
   const shown = first.field ? byField(it, keys) : asWhole(it, first);
-  const look = button(`look-${it.key}`, "On the map", () => lookAt(it), { "aria-label": `Show ${it.layer} ${it.number} on the map` });
+  const label = `Show ${it.layer} ${it.number} on the map`;
+  const look = button(`look-${it.key}`, "On the map", () => lookAt(it), { "aria-label": label });
   return box(it.key, keys, `${it.layer} ${it.number}: ${it.what}`, ...shown, look);
 }
 
 function table(lines) {
   const { name, parent } = desk.design;
   const heads = { base: "Base", parent: `Parent (${parent})`, mine: `Mine (${name})` };
-  const head = make("tr", {}, make("td"), ...Object.entries(heads).map(([side, text]) => make("th", { scope: "col" }, sample(SIDES[side]), text)));
+  const cell = ([side, text]) => make("th", { scope: "col" }, sample(SIDES[side]), text);
+  const head = make("tr", {}, make("td"), ...Object.entries(heads).map(cell));
   return make("table", {}, make("thead", {}, head), make("tbody", {}, ...lines));
 }
 
 const line = (title, ...cells) => make("tr", {}, make("th", { scope: "row" }, title), ...cells);
 
-// Each field with the value of both sides to choose from; those of one click for all of them, and folded what needs no choice.
+// Each field with the values of both sides to choose from, one click for all of them, and folded what needs no choice.
 function byField(it, keys) {
   const { name, parent } = desk.design;
   const rows = it.clashes.map((clash) => {
@@ -106,9 +113,11 @@ function byField(it, keys) {
     return line(title, make("td", {}, text("base")), cell("theirs", "parent", parent), cell("mine", "mine", name));
   });
   const both = (side, text) => button(`${side}-${it.key}`, text, () => choose(keys, side));
-  const all = keys.length > 1 ? make("div", { class: "buttons" }, both("theirs", `All as in ${parent}`), both("mine", `All as in ${name}`)) : null;
+  const buttons = [both("theirs", `All as in ${parent}`), both("mine", `All as in ${name}`)];
+  const all = keys.length > 1 ? make("div", { class: "buttons" }, ...buttons) : null;
   const fields = new Set(it.clashes.map((clash) => clash.field));
-  const others = values(it).filter(([title, isCourse]) => (isCourse ? !it.clashes.some((clash) => clash.is_course) : !fields.has(title)));
+  const hasCourse = it.clashes.some((clash) => clash.is_course);
+  const others = values(it).filter(([title, isCourse]) => (isCourse ? !hasCourse : !fields.has(title)));
   return [table(rows), all, folded(others)];
 }
 
@@ -121,11 +130,13 @@ function asWhole(it, { key, sides }) {
   return [table((differs.length ? differs : same).map(plain)), differs.length ? folded(same) : null, ...radios];
 }
 
-const plain = ([title, , texts]) => line(title, ...texts.map((text) => make("td", { class: text !== texts[0] ? "differs" : "" }, text)));
+const plain = ([title, , texts]) =>
+  line(title, ...texts.map((text) => make("td", { class: text !== texts[0] ? "differs" : "" }, text)));
 
 function folded(rows) {
   if (!rows.length) return null;
-  return make("details", {}, make("summary", {}, `${rows.length} ${rows.length === 1 ? "needs" : "need"} no choice`), table(rows.map(plain)));
+  const text = `${rows.length} ${rows.length === 1 ? "needs" : "need"} no choice`;
+  return make("details", {}, make("summary", {}, text), table(rows.map(plain)));
 }
 
 // The fields and the course of a feature, each with what the three sides have.
@@ -170,7 +181,8 @@ function choose(keys, side) {
 
 function keep(keys) {
   const marks = toChoose(desk.design);
-  const its = keys.map((key) => [key, desk.choices.has(key) ? { side: desk.choices.get(key), mark: marks.get(key) } : null]);
+  const made = (key) => (desk.choices.has(key) ? { side: desk.choices.get(key), mark: marks.get(key) } : null);
+  const its = keys.map((key) => [key, made(key)]);
   trying(() => send({ do: "choose", choices: Object.fromEntries(its) }));
 }
 

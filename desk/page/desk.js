@@ -113,7 +113,8 @@ export function showHead() {
   const press = (view) => () => trying(() => (view === "feature" && desk.feature.number ? show(desk.feature, false) : showOther(view)));
   fill($("views"), ...Object.entries(VIEWS).map(([view, { text }]) => [view, text(desk.design)]).filter(([, text]) => text)
     .map(([view, text]) => button(`view-${view}`, text, press(view), { "aria-pressed": `${desk.view === view}` })));
-  history.replaceState(null, "", `${location.pathname}${link(desk.view === "feature" && desk.feature?.number ? desk.feature : null)}`);
+  const feature = desk.view === "feature" && desk.feature?.number ? desk.feature : null;
+  history.replaceState(null, "", `${location.pathname}${link(feature)}`);
 }
 
 // What stands behind the # for what is shown.

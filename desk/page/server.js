@@ -4,7 +4,8 @@ import { desk } from "./shared.js";
 // The address that altdesk prints has the token behind the #. It stays with this tab and with others of this page, for no other page
 // or port to read. The rest behind the # says what to show: a design, and a feature of it.
 const tabs = new BroadcastChannel("desk");
-// Behind a web server nobody needs a token: that knows who somebody is. The header says nevertheless that it is this page that asks.
+// Behind a web server nobody needs a token: that knows who somebody is. The header says then that it is this page that
+// asks.
 const isBehind = document.documentElement.classList.contains("behind");
 
 export async function begin() {

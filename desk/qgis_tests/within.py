@@ -1,5 +1,5 @@
-"""What a planner does in QGIS. QGIS itself runs this file, with the service's socket in the variable ALTQGIS_SOCKET, and a folder for
-what is told in ALTQGIS_FOLDER."""
+"""What a planner does in QGIS. QGIS itself runs this file, with the service's socket in the variable ALTQGIS_SOCKET,
+and a folder for what is told in ALTQGIS_FOLDER."""
 import faulthandler
 import json
 import os
@@ -120,7 +120,9 @@ class PlannerTests(unittest.TestCase):
         self.dock.take_choices()
         self.assertTrue(self.ducts.layer.commitChanges())
         self.assertEqual(before + 1, self.batches())
-        self.assertEqual([201, 202, 203, 204, 205, 206, 207, 208, 209, 210], [self.stored(it)["1"] for it in range(1, 11)])
+        self.assertEqual(
+            [201, 202, 203, 204, 205, 206, 207, 208, 209, 210], [self.stored(it)["1"] for it in range(1, 11)]
+        )
         self.assertEqual({"1": 204, "2": "HDPE", "3": "1998-05-04", "4": True, "5": ["a"]}, self.stored(4))
         self.assertEqual(line((2600000, 1200000), (2600005, 1200009)), self.other.get(self.alt, DUCTS + 100, 2))
         self.assertEqual([204, "HDPE"], self.shown(self.ducts, 4).attributes()[1:3])
@@ -242,7 +244,10 @@ class PlannerTests(unittest.TestCase):
         self.assertIn("merge first", self.dock.said.text())
         self.dock.merge(below)
         table = self.dock.table
-        rows = {table.item(row, 1).text(): [table.item(row, column).text() for column in (2, 3, 4)] for row in range(table.rowCount())}
+        rows = {
+            table.item(row, 1).text(): [table.item(row, column).text() for column in (2, 3, 4)]
+            for row in range(table.rowCount())
+        }
         self.assertEqual({"dn": ["110", "160", "125"], "mat": ["PVC", "PE", "HDPE"]}, rows)
         self.dock.zoom(f"{DUCTS}:1.dn")
         self.assertTrue(iface.mapCanvas().extent().contains(QgsRectangle(2600007, 1200000, 2600014, 1200000)))
@@ -262,7 +267,9 @@ class PlannerTests(unittest.TestCase):
     def test_two_designs_are_compared_as_layers(self):
         self.other.put(self.alt, DUCTS, 1, b'{"1":125,"2":"PVC","3":"1998-05-01","4":true,"5":["a"]}')
         self.other.remove_many(self.alt, [(7, 2), (107, 2)])
-        self.other.put_many(self.alt, [(7, 500000, b'{"1":63}'), (107, 500000, line((2600000, 1200005), (2600009, 1200005)))])
+        self.other.put_many(
+            self.alt, [(7, 500000, b'{"1":63}'), (107, 500000, line((2600000, 1200005), (2600009, 1200005)))]
+        )
         known = set(QgsProject.instance().mapLayers())
         self.dock.compare("top", self.alt)
         [layer] = [it for name, it in QgsProject.instance().mapLayers().items() if name not in known]
@@ -301,7 +308,11 @@ def run():
         sys.excepthook = lambda kind, fault, trace: traceback.print_exception(kind, fault, trace, file=told)
         names = [it for it in os.environ.get("ALTQGIS_TESTS", "").split() if it]
         loader = unittest.defaultTestLoader
-        tests = unittest.TestSuite(PlannerTests(it) for it in names) if names else loader.loadTestsFromTestCase(PlannerTests)
+        tests = (
+            unittest.TestSuite(PlannerTests(it) for it in names)
+            if names
+            else loader.loadTestsFromTestCase(PlannerTests)
+        )
         iface.mainWindow().resize(1280, 720)
         for it in iface.mainWindow().findChildren(QDockWidget):
             it.setVisible(it.objectName() in ("Layers", "altqgis"))

@@ -47,7 +47,8 @@ RIGHTS = {verb: line.right for verb, line in LINES.items() if line.kind == "chan
 OF_THE_STORE = {"reclaim", "grow", "backup", "archive", "act"}
 
 # Lines that the service itself answers.
-OWN_WORDS = {b"begin", b"commit", b"abort", b"rollback", b"whoami", b"batches", b"backup", b"archive", b"log", b"status", b"for"}
+OWN_WORDS = {b"begin", b"commit", b"abort", b"rollback"}
+OWN_WORDS |= {b"for", b"whoami", b"batches", b"backup", b"archive", b"log", b"status"}
 
 NAME = re.compile(rb"[A-Za-z0-9_.-]{1,32}")
 # The alternative of a field office, and its marks: checkpoints of any alternative. docs/FIELD-OFFICES.md has what they are for.

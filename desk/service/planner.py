@@ -8,7 +8,8 @@ from typing import Dict, List, Optional, Union
 from service import limits
 from service.batch import Batch
 from service.limits import BAD_LINE, LONG_LINE, refusal
-from service.lines import OWN_WORDS, PERSON, RIGHTS, ROWS, SINGLE, alternative_of, line_of, office_of, printable, seen_of, words_of
+from service.lines import OWN_WORDS, PERSON, RIGHTS, ROWS, SINGLE
+from service.lines import alternative_of, line_of, office_of, printable, seen_of, words_of
 from service.rules import acted_for
 from service.unread import Unread
 
@@ -180,7 +181,8 @@ class Planner:
             self._add(BAD_LINE + b"\n")
 
     def _act_for(self, name: str) -> bytes:
-        """Takes the lines from now on as another person's, if the user at the other end may act for others. Gives the answer."""
+        """Takes the lines from now on as another person's, if the user at the other end may act for others. Gives the
+        answer."""
         denial = self.server.rules.denial(self.user, "act")
         if denial is not None:
             return refusal(90, *denial)

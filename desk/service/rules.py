@@ -16,10 +16,11 @@
     [entries]
     anna = 200
 
-A rule lists users, groups (`@NAME`), or `*` for everybody. Rules for `change`, `new`, `post` and `drop` name alternatives, those
-for `office` field offices: an exact name takes precedence over patterns, and otherwise one matching pattern that lists the person is
-enough. What no rule allows is denied. Who may `act` says for whom: rules are then about that person. `entries` has how many alternatives and checkpoints users may have made. Without the file only
-the user that the service runs as may change anything."""
+A rule lists users, groups (`@NAME`), or `*` for everybody. Rules for `change`, `new`, `post` and `drop` name
+alternatives, those for `office` field offices: an exact name takes precedence over patterns, and otherwise one matching
+pattern that lists the person is enough. What no rule allows is denied. Who may `act` says for whom: rules are then
+about that person. `entries` has how many alternatives and checkpoints users may have made. Without the file only the
+user that the service runs as may change anything."""
 import fnmatch
 import grp
 import os
@@ -38,7 +39,8 @@ TOP = b"top"
 
 
 class Person(NamedTuple):
-    """Who is at the other end of a socket, according to the kernel, or the one for whom that user acts, who is `through` then."""
+    """Who is at the other end of a socket, according to the kernel, or the one for whom that user acts, who is
+    `through` then."""
 
     uid: int
     name: str
@@ -58,7 +60,8 @@ def person_of(connection):
 
 
 def acted_for(user: Person, name: str) -> Person:
-    """The person of this name, for whom a user acts: with the groups that the system gives a user of that name, if there is one."""
+    """The person of this name, for whom a user acts: with the groups that the system gives a user of that name, if
+    there is one."""
     try:
         gids = os.getgrouplist(name, pwd.getpwnam(name).pw_gid)
     except KeyError:

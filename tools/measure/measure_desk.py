@@ -1,8 +1,9 @@
 #!/usr/bin/env python3
-"""Measures the desk over a made-up network: how long it takes to show the first map, a design, a window of about 300 features, and
-what is found, each asked for as the page does. `tools/measure/measure_desk.py [--chambers N] [--store FILE] [--browser]`: N chambers
-(30,000), 2 ducts and 3 cables for each, and service points, 7.3 features a chamber in all. With `--browser` it measures them in
-Chromium, from the click until the page shows it. It needs what `desk/altdesk` does, and Chromium what its tests need."""
+"""Measures the desk over a made-up network: how long it takes to show the first map, a design, a window of about 300
+features, and what is found, each asked for as the page does. `tools/measure/measure_desk.py [--chambers N] [--store
+FILE] [--browser]`: N chambers (30,000), 2 ducts and 3 cables for each, and service points, 7.3 features a chamber in
+all. With `--browser` it measures them in Chromium, from the click until the page shows it. It needs what `desk/altdesk`
+does, and Chromium what its tests need."""
 import argparse
 import json
 import os
@@ -122,34 +123,41 @@ def seen(url: str) -> None:
     from desk_tests.support import Browser
 
     def seconds(begin: str, is_done: str) -> float:
-        look = f"const look = () => ({is_done}) ? done((performance.now() - begun) / 1000) : requestAnimationFrame(look); look();"
-        return browser.driver.execute_async_script(f"const done = arguments[0], begun = performance.now(); {begin}; {look}")
+        again = "done((performance.now() - begun) / 1000) : requestAnimationFrame(look)"
+        script = f"const done = arguments[0], begun = performance.now(); {begin}; "
+        return browser.driver.execute_async_script(f"{script} const look = () => ({is_done}) ? {again}; look();")
 
     def say(what: str, time_taken: float) -> None:
-        print(f"in a browser: {what:<26} {time_taken:8.3f} s {browser.text('#note')}", flush=True)
+        print(f"in a browser: {what:<30} {time_taken:8.3f} s {browser.text('#note')}", flush=True)
+
+    def click(name: str, **texts: str) -> str:
+        return "; ".join([*(set_text(*it) for it in texts.items()), f"document.querySelector('{name}').click()"])
+
+    def set_text(name: str, text: str) -> str:
+        return f"document.getElementById('find-{name}').value = '{text}'"
+
+    def has(node: str, pattern: str) -> str:
+        return f"/{pattern}/.test(document.querySelector('{node}')?.textContent)"
 
     browser = Browser()
     try:
         browser.size(1120, 680)
+        browser.driver.set_script_timeout(120)
         begun = time.monotonic()
         browser.open(url)
         say("first map", time.monotonic() - begun)
-        shows = "document.querySelector('#chosen').textContent.startsWith('{0}, ') && document.querySelector('#map path.{1}')"
+        is_changed = "document.querySelector('#map path.is-changed')"
         for what in ("a design, never seen", "a design, seen before"):
-            say(what, seconds("document.getElementById('design-north').click()", shows.format("north", "is-changed")))
-            seconds("document.getElementById('design-top').click()", shows.format("top", "is-same"))
-        script = "document.getElementById('find-text').value = 'RB-0047'; document.querySelector('#search button').click()"
-        is_found = "document.querySelectorAll('#view li').length > 50 && /RB-0047/.test(document.querySelector('#view').textContent)"
-        browser.driver.set_script_timeout(120)
-        say("found, with reading the texts", seconds(script, is_found))
-        seconds("document.getElementById('view-changes').click()", "!/RB-0047/.test(document.querySelector('#view').textContent)")
-        say("found", seconds(script, is_found))
-        script = "document.getElementById('find-number').value = '4711'; document.querySelector('#find button').click()"
-        near = "/ 4711:/.test(document.querySelector('#view h3')?.textContent) && /^all/.test(document.querySelector('#layers small').textContent)"
-        say("a window", seconds(script, near))
-        say("the whole map again", seconds("document.getElementById('whole').click()", "/features are drawn/.test(document.querySelector('#note').textContent)"))
-        drawn = [it.text for it in browser.all("#layers small")]
-        print(*(f"in a browser: {it}" for it in drawn), sep="\n")
+            say(what, seconds(click("#design-north"), f"{has('#chosen', '^north, ')} && {is_changed}"))
+            seconds(click("#design-top"), f"{has('#chosen', '^top, ')} && !{is_changed}")
+        found = click("#search button", text="RB-0047"), has("#view", "RB-0047")
+        say("found, with reading the texts", seconds(*found))
+        seconds(click("#view-changes"), f"!{found[1]}")
+        say("found", seconds(*found))
+        near = f"{has('#view h3', ' 4711:')} && {has('#layers small', '^all')}"
+        say("a feature and its window", seconds(click("#find button", number="4711"), near))
+        say("the whole map again", seconds(click("#whole"), has("#note", "features are drawn")))
+        print(*(f"in a browser: {it.text}" for it in browser.all("#layers small")), sep="\n")
     finally:
         browser.quit()
 
