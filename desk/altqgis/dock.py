@@ -179,6 +179,7 @@ class Dock(QDockWidget):
 
     def before_commit(self, its, *_):
         """QGIS saves a layer: the store comes first, and where it refuses, the edits stay edits."""
+        its.provider.takes = False
         its.provider.takes = its in self.sent or self.try_to(self.send, [its])
 
     def send(self, design_layers):
