@@ -23,7 +23,7 @@ from service_tests.test_lines import LineTests
 from service_tests.test_log import IndexTests, LogTests
 from service_tests.test_parts import PartsTests
 from service_tests.test_restore import RestoreTests
-from service_tests.test_rules import RulesTests
+from service_tests.test_rules import ActingTests, RulesTests
 from service_tests.test_signals import ShortageTests, SignalTests
 from service_tests.test_sockets import SocketTests
 from service_tests.test_starts import ReasonTests, StartTests

@@ -752,6 +752,10 @@ class Store:
         """The name of the planner whom a service sees here."""
         return self._ask("whoami")[1]
 
+    def act_for(self, name: str) -> None:
+        """Has a service take what follows as another person's, whom its rules name. It needs the right `act`."""
+        self._ask("for", name)
+
     def log(self, **filters: object) -> Rows[Entry]:
         """Who changed what, and when, as a service's journal tells it: Entry rows, the latest one last. The filters are those of
         its line `log`, for instance record="7:1" or last=10."""

@@ -1026,6 +1026,13 @@ class ServiceTests(unittest.TestCase):
             self.assertEqual(found[1:2], list(store.log(alternative="north", last=1)))
             with self.assertRaises(Refusal):
                 store.log(nothing="x")
+            store.act_for("anna")
+            self.assertEqual("anna", store.whoami())
+            with self.assertRaises(Refusal) as caught:  # Without rules whom somebody acts for may change nothing.
+                store.put("top", 7, 3, b"d")
+            self.assertEqual("Denied change ~", str(caught.exception).split(" ", 1)[1])
+            with self.assertRaises(Refusal):
+                store.act_for("@north")
 
     def test_a_service_that_ends_is_an_error(self):
         with self.assertRaises(Ended), self.open() as store:

@@ -84,7 +84,7 @@ export async function carryOut(it, done, late) {
   }));
   const state = told && (await trying(() => ask("state", {})));
   if (state) await trying(() => take(state, told.batch));
-  if (told) say(done);
+  if (told) say([done, ...told.said].join(" "));
   desk.isSending = false;
   if (now && late) await late(now);
   return told;
@@ -113,7 +113,8 @@ export function showHead() {
   const press = (view) => () => trying(() => (view === "feature" && desk.feature.number ? show(desk.feature, false) : showOther(view)));
   fill($("views"), ...Object.entries(VIEWS).map(([view, { text }]) => [view, text(desk.design)]).filter(([, text]) => text)
     .map(([view, text]) => button(`view-${view}`, text, press(view), { "aria-pressed": `${desk.view === view}` })));
-  history.replaceState(null, "", `/${link(desk.view === "feature" && desk.feature?.number ? desk.feature : null)}`);
+  const feature = desk.view === "feature" && desk.feature?.number ? desk.feature : null;
+  history.replaceState(null, "", `${location.pathname}${link(feature)}`);
 }
 
 // What stands behind the # for what is shown.

@@ -17,7 +17,7 @@ from service.batches import Batches
 from service.journal_log import filter_of
 from service.limits import BAD_LINE, refusal
 from service.planner import LOOK_LONG, Forgotten, Planner, Query, Request, Word
-from service.rules import Rules, Unreadable, person_of
+from service.rules import Person, Rules, Unreadable, person_of
 from service.signals import Signals
 from service.status import Value, memory, status_lines
 from service.turns import Pace, Turns, work_of
@@ -181,7 +181,7 @@ class Server:
                 self.batches.look_at_changes(it)
                 planner.settled(it)
             elif isinstance(it, Word):
-                self._answer_word(planner, it.words)
+                self._answer_word(planner, it)
             else:
                 planner.answer(next(answers) + b"\n" if isinstance(it, Query) else it if isinstance(it, bytes) else it.text())
 
@@ -219,11 +219,11 @@ class Server:
                 if not self.batches.ask_rows(request.line, planner.answer):
                     planner.close()
             else:
-                self._answer_word(planner, request.words)
+                self._answer_word(planner, request)
 
-    def _answer_word(self, planner: Planner, words: List[bytes]) -> None:
-        verb, *others = words
-        person = planner.person
+    def _answer_word(self, planner: Planner, request: Word) -> None:
+        verb, *others = request.words
+        person = request.person
         if verb == b"whoami" and not others:
             planner.answer(" ".join(["planner", person.name, str(person.uid), *sorted(person.groups)]).encode() + b"\n")
         elif verb == b"batches" and not others:
@@ -233,20 +233,20 @@ class Server:
         elif verb == b"log":
             self._begin_log(planner, others)
         elif verb == b"backup" and len(others) == 1 and NAME.fullmatch(others[0]):
-            if self._has_right(planner, "backup"):
+            if self._has_right(person, planner, "backup"):
                 planner.job = self.wanted
                 self.wanted.append((planner, others[0].decode()))
                 self._begin_backup()
         elif verb == b"archive" and len(others) == 2 and NAME.fullmatch(others[0]) and is_moment(others[1].decode("latin-1")):
-            if self._has_right(planner, "archive"):
+            if self._has_right(person, planner, "archive"):
                 planner.job = self.batches.archive(*(it.decode() for it in others))
                 self.logs.append(planner)
         else:
             planner.answer(BAD_LINE + b"\n")
 
-    def _has_right(self, planner: Planner, right: str) -> bool:
-        """Whether a planner has a right of the store as a whole; if not, that is the answer."""
-        denial = self.rules.denial(planner.person, right)
+    def _has_right(self, person: Person, planner: Planner, right: str) -> bool:
+        """Whether a person has a right of the store as a whole; if not, that is the answer."""
+        denial = self.rules.denial(person, right)
         if denial is not None:
             planner.answer(refusal(90, *denial) + b"\n")
         return denial is None
