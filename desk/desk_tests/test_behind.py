@@ -10,9 +10,10 @@ import stat
 import subprocess
 import sys
 import threading
+import time
 from pathlib import Path
 
-from desk_tests.support import ALTCTL, DESK, DeskTest
+from desk_tests.support import ALTCTL, DESK, LONGEST_WAIT, DeskTest
 
 ME = pwd.getpwuid(os.geteuid()).pw_name
 RULES = f"""act = ["{ME}"]
@@ -166,6 +167,10 @@ class BehindTests(DeskTest):
             while True:
                 self.do("anna", do="new", name="east")
         self.serve()
+        # A connection that the old service has still accepted is told to be gone once.
+        late = time.monotonic() + LONGEST_WAIT
+        while self.ask("/api/state", "anna")[0] != 200:
+            self.assertLess(time.monotonic(), late)
         self.assertEqual(200, self.do("anna", do="new", name="far")[0])
 
     def test_two_people_in_two_browsers(self):

@@ -104,6 +104,7 @@ export const scale = () => desk.design.metres / (2 ** map.getZoom() * PIXEL);
 export const zoomOf = (number) => Math.log2(desk.design.metres / (number * PIXEL));
 
 export function showScale() {
+  if (!desk.design) return; // Another one is read just now.
   const number = scale();
   const metres = [1, 2, 5].flatMap((it) => [...Array(9).keys()].map((n) => it * 10 ** (n - 1))).sort((a, b) => a - b);
   const length = metres.filter((it) => it / (number * PIXEL) <= 140).pop() || metres[0];

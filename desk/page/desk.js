@@ -5,7 +5,7 @@ import { showMap, unmark } from "./chart.js";
 import { fillConflicts, keepChoices, readChoices } from "./conflicts.js";
 import { fillAbout, fillCompared, rows, showActions, showTree } from "./designs.js";
 import * as drawing from "./drawing.js";
-import { fillFeature, fillHere, show } from "./feature.js";
+import { fillFeature, fillHere, show, showAgain } from "./feature.js";
 import * as find from "./find.js";
 import { showOffice } from "./office.js";
 import { fillPrint, listen as listenToPrint } from "./printing.js";
@@ -62,7 +62,7 @@ export async function open(name) {
   find.showFields();
   showMap();
   if (desk.view !== "feature") await showView(true);
-  else if (!desk.edits) await show(desk.feature, false).catch(() => showOther("changes"));
+  else await showAgain();
   showHead();
 }
 
