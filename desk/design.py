@@ -7,12 +7,12 @@ import styles
 from altctl import Conflict
 from changes import Changes
 from density import cells
-from joining import clashes
+from joining import clashes_of
 from maps import GEOMETRY
 from places import box_of
 from values import Course, attributes_of, side_of
 
-MOST_COURSES = 20000  # geometries of a design that stay in memory, and attributes
+MOST_COURSES = 20000  # geometries of a table that stay in memory, and attributes of a design
 MOST_FEATURES = 3000  # in a window
 PIXELS = 2000  # that a window has across, at most
 
@@ -22,8 +22,8 @@ class Design:
 
     def __init__(self, store, alt, parent, index):
         self.store, self.alt, self.parent, self.base = store, alt, parent, f"{alt}@" if parent else alt
-        self.stale, self.courses, self.texts, self.styles = set(), {}, {}, None
-        self._clashes = None  # The conflicts that were looked at, and those of them that need a choice.
+        self.stale, self.texts, self.styles = set(), {}, None
+        self._clashes = None  # The conflicts that were looked at, and what of them needs a choice.
         self.mine = Changes(store, self.base, alt)
         self.conflicts = {(it.table, it.number): it for it in store.conflicts(alt)} if parent else {}
         self.layers = {it: layer for it, layer in self.mine.layers.items() if store.get(alt, 0, it) is not None}
@@ -31,6 +31,7 @@ class Design:
         systems = {table: it["crs"] for table, it in sorted(self.layers.items())}
         self.crs = next(iter(systems.values()), None)
         self.on_map = {table for table, crs in systems.items() if crs == self.crs}
+        self.courses = {it: {} for it in self.on_map}
         self.places = {it: index(it) or places.scanned(store, alt, it) for it in self.on_map}
         # Where features lie that have moved since the index was made, None for nowhere, and those that have changed otherwise.
         self.moved, self.beside = {}, {it: {} for it in self.on_map}
@@ -55,7 +56,7 @@ class Design:
         records = maps.read(self.store, self.alt, moved)
         for table, number in moved:
             self.moved[table - GEOMETRY][number] = box_of(places.safe_value(records, (table, number)))
-            self.courses.pop((table - GEOMETRY, number), None)
+            self.courses[table - GEOMETRY].pop(number, None)
         self._survey()
 
     def _survey(self):
@@ -80,23 +81,26 @@ class Design:
     # --- conflicts ------------------------------------------------------------------------------
 
     @property
-    def to_choose(self):
-        """The conflicts that need a choice, with the fields that do. They are looked at once, as long as they stay the same."""
+    def clashes(self):
+        """What needs a choice. It is looked at once, as long as the conflicts stay the same."""
         if self._clashes is None or self._clashes[0] != self.conflicts:
-            self._clashes = dict(self.conflicts), clashes(self.store, self.alt, self.conflicts)
+            self._clashes = dict(self.conflicts), clashes_of(self.store, self.alt, self.conflicts)
         return self._clashes[1]
 
     @property
     def status(self):
         """Whether features are added, changed, removed or in conflict."""
-        return {**self.mine.kinds, **{self.mine.feature_of(it) or it: "conflict" for it in self.to_choose}}
+        return {**self.mine.kinds, **{self.mine.feature_of(it) or it: "conflict" for it in self.clashes.features}}
 
     # --- features -------------------------------------------------------------------------------
 
     def sides(self, feature, at):
         """A feature as a version has it, None where it has none."""
-        keys = self.mine.keys_of(feature)
-        return side_of(maps.read(self.store, at, keys), feature, keys, self.mine.layers.get(feature[0]))
+        return self.side_of(maps.read(self.store, at, self.mine.keys_of(feature)), feature)
+
+    def side_of(self, records, feature):
+        """A feature as records have it."""
+        return side_of(records, feature, self.mine.keys_of(feature), self.mine.layers.get(feature[0]))
 
     def box(self, feature):
         key = feature[0] + GEOMETRY, feature[1]
@@ -125,11 +129,13 @@ class Design:
         """The features in a window, but those of layers that are off: those that are changed go first, and then the largest. Of
         each layer it tells how many there are, and where they lie if not all are drawn."""
         found = {table: self._in_window(table, box) for table in sorted(self.on_map - set(off))}
-        keys = [(table, it) for table, (numbers, *_) in found.items() for it in numbers.tolist()]
-        if len(keys) > MOST_FEATURES:
-            sizes = numpy.concatenate([it[1] for it in found.values()])
+        tables = numpy.repeat(list(found), [len(it[0]) for it in found.values()]) if found else numpy.empty(0, int)
+        numbers = numpy.concatenate([numpy.empty(0, "<u8"), *(it[0] for it in found.values())])
+        sizes = numpy.concatenate([numpy.empty(0), *(it[1] for it in found.values())])
+        if len(numbers) > MOST_FEATURES:
             largest = numpy.argpartition(-sizes, MOST_FEATURES)[:MOST_FEATURES]
-            keys = [keys[it] for it in largest.tolist()]
+            tables, numbers = tables[largest], numbers[largest]
+        keys = list(zip(tables.tolist(), numbers.tolist()))
         self._read_courses(keys)
         tolerance = (box[2] - box[0]) / PIXELS
         status = self.status
@@ -154,14 +160,25 @@ class Design:
         size[numpy.isin(numbers, self.changed[table])] += 1e300
         return numbers, size, max(about - int((~stays).sum()) + count, len(numbers)), is_about
 
+    def _courses_of(self, key):
+        """Where the course of a feature is kept: with the index, for all designs, if it lies where that says."""
+        table, number = key
+        its = self.places[table]
+        return its.courses if isinstance(its, places.Index) and number not in self.moved[table] else self.courses[table]
+
     def _read_courses(self, keys):
-        if len(self.courses) > MOST_COURSES:
-            self.courses = {}
-        due = [(table + GEOMETRY, number) for table, number in keys if (table, number) not in self.courses]
+        shared = [it.courses for it in self.places.values() if isinstance(it, places.Index)]
+        for it in [*self.courses.values(), *shared]:
+            if len(it) > MOST_COURSES:
+                it.clear()
+        due = [(table + GEOMETRY, number) for table, number in keys if number not in self._courses_of((table, number))]
         records = {**self.gone, **maps.read(self.store, self.alt, due)}
         for table, number in due:
-            self.courses[table - GEOMETRY, number] = Course(places.parsed(places.safe_value(records, (table, number))))
-        self._read_texts([it for it in keys if self.style_of(it[0])["by"] or self.style_of(it[0])["label"]])
+            course = Course(places.parsed(places.safe_value(records, (table, number))))
+            self._courses_of((table - GEOMETRY, number))[number] = course
+        styles_of = {table: self.style_of(table) for table in self.on_map}
+        with_texts = {table for table, it in styles_of.items() if it["by"] or it["label"]}
+        self._read_texts([it for it in keys if it[0] in with_texts] if with_texts else [])
 
     def _read_texts(self, keys):
         """Reads the attributes that styles need."""
@@ -178,4 +195,4 @@ class Design:
         for name in ("by", "label"):
             if style[name]:
                 properties[name] = self.texts[key].get(style[name])
-        return {"type": "Feature", "properties": properties, "geometry": self.courses[key].at(tolerance)}
+        return {"type": "Feature", "properties": properties, "geometry": self._courses_of(key)[key[1]].at(tolerance)}

@@ -8,6 +8,7 @@ import contextlib
 import secrets
 
 import descriptions
+import joining
 import maps
 import places
 from altctl import Refusal
@@ -19,7 +20,7 @@ from finding import Finder
 from maps import numbers
 from news import MOST_LINES, STEP, Journal, News
 from numbering import Numbers
-from values import aspect_of, metres_of
+from values import aspect_of, metres_of, text_of
 
 # The alternatives that programs keep for themselves: no designs.
 OWN = {".service", places.OWN, descriptions.OWN, numbers.OWN}
@@ -194,7 +195,10 @@ class Designs:
         design = self.design(alt)
         bounds = design.bounds()
         layers = [self._layer(design, table, it) for table, it in sorted(design.layers.items())]
-        told = {"conflicts_in_all": len(design.to_choose), "joined": len(design.conflicts) - len(design.to_choose)}
+        clashes = design.clashes
+        in_conflict = {design.mine.feature_of(it) or it for it in design.conflicts}
+        joined = in_conflict - {design.mine.feature_of(it) or it for it in clashes.features}
+        told = {"conflicts_in_all": len(clashes.features), "joined": len(joined), "mark": clashes.marks[joining.REST]}
         told.update({"records": len(design.mine.rows), "conflicts": self.conflicts(alt, 0)})
         told.update({"name": alt, "parent": self.parents[alt], "batch": self.batch, "stamp": self.stamp(alt), "layers": layers})
         changes = design.mine.listed(design.status)
@@ -209,15 +213,35 @@ class Designs:
     def conflicts(self, alt, first):
         """A page of the conflicts, with their features as base, parent and design have them."""
         design = self.design(alt)
-        keys = sorted(design.to_choose)[first : first + MOST_CONFLICTS]
+        keys = sorted(design.clashes.features)[first : first + MOST_CONFLICTS]
         return [self.conflict(alt, design, key) for key in keys]
 
     def conflict(self, alt, design, key):
+        """A feature in conflict, or a record that is of none, with each clash that takes a choice."""
         feature = design.mine.feature_of(key) or key
         versions = {"base": design.base, "parent": design.parent, "mine": alt}
         sides = {name: design.sides(feature, at) for name, at in versions.items()}
-        its = {"key": f"{key[0]}:{key[1]}", "what": design.mine.what(key), "fields": design.to_choose[key]}
-        return {**design.mine.row(feature), **its, "sides": sides}
+        clashes = design.clashes.features[key]
+        told = [self._clash(design, it) for it in clashes]
+        fields = ["course" if it["is_course"] else it["field"] for it in told]
+        what = ", ".join(fields) if clashes[0].field else self._whole(alt, design, key, clashes[0])
+        return {**design.mine.row(feature), "key": f"{key[0]}:{key[1]}", "what": what, "clashes": told, "sides": sides}
+
+    def _whole(self, alt, design, key, clash):
+        """What a clash is about that is one as a whole."""
+        if key[0] not in design.mine.layers or not design.clashes.is_by_field:
+            return design.mine.what(key)
+        side = alt if clash.mine is None else design.parent if clash.parent is None else None
+        return f"removed in {side}" if side else "added by both" if clash.base is None else design.mine.what(key)
+
+    def _clash(self, design, clash):
+        is_course = isinstance(clash.mine, bytes) or isinstance(clash.parent, bytes)
+        sides = zip(("base", "parent", "mine"), (clash.base, clash.parent, clash.mine))
+        has_texts = clash.field and not is_course
+        texts = {name: None if it is None else text_of(it) for name, it in sides} if has_texts else {}
+        key = str(clash)
+        told = {"key": key, "field": clash.field, "is_course": is_course, "texts": texts}
+        return {**told, "mark": design.clashes.marks[key], "sides": joining.can_be(clash)}
 
     def parent_changes(self, alt):
         """What a merge would bring in: how the parent differs from the design's base."""

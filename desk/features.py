@@ -20,32 +20,35 @@ class Late(Fault):
         self.now = now
 
 
-def changed_features(designs, alt, features):
-    """The update of records that draws, changes and removes features, and what it is in words."""
+def changed_features(designs, alt, features, hand):
+    """The update of records that draws, changes and removes features, and what it is in words. New numbers are taken by
+    `hand`."""
     design, texts = designs.design(alt), []
     numbered = [(int(it["table"]), int(it["number"]) if it.get("number") else None, it) for it in features]
     for table, _, _ in numbered:
         if table not in design.layers:
             raise Fault(f"{alt} has no layer in table {table} any more")
-    refuse_late(design, alt, numbered)
-    update = maps.Update(read_all(designs.store, alt, [(table, number) for table, number, _ in numbered if number is not None]))
+    records = read_all(designs.store, alt, [(table, number) for table, number, _ in numbered if number is not None])
+    refuse_late(design, records, numbered)
+    update = maps.Update(records)
     for table, number, it in numbered:
         name = design.mine.name(table)
         if it.get("remove"):
             texts.append(f"removed {name} {number}")
             continue
         is_new = number is None
-        number = designs.numbers.take(designs.store, table) if is_new else number
+        number = designs.numbers.take(hand, table) if is_new else number
         texts.append(f"{'drew' if is_new else 'changed'} {name} {number}")
         set_feature(update, design.layers[table], (table, number), it)
     return update, ", ".join(texts)
 
 
-def refuse_late(design, alt, numbered):
-    """Refuses an edit of features that are not as they were shown."""
+def refuse_late(design, records, numbered):
+    """Refuses an edit of features that are not as they were shown. The records that it changes are looked at, and no
+    later ones: an edit that changes nothing then, and is not sent, has nothing to be late for."""
     late = {}
     for table, number, it in numbered:
-        now = None if number is None else design.sides((table, number), alt)
+        now = None if number is None else design.side_of(records, (table, number))
         if number is not None and (now is None or any(now[name] != it["before"][name] for name in ("attributes", "course"))):
             late[f"{table}:{number}"] = now
     if late:
@@ -87,17 +90,17 @@ def wkb_of(course, layer):
     return value
 
 
-def split_feature(designs, alt, it):
+def split_feature(designs, alt, it, hand):
     """The update that splits a line at a place near it: its first part keeps the number, and the other one gets a new one."""
     key = table, number = int(it["table"]), int(it["number"])
     design = designs.design(alt)
-    refuse_late(design, alt, [(table, number, it)])
     records = read_all(designs.store, alt, [key])
+    refuse_late(design, records, [(table, number, it)])
     line = geometry_of(maps.value_at(records, table + GEOMETRY, number) or b"")
     if not is_plain(line) or line.GetGeometryName() != "LINESTRING":
         raise Fault("only a plain line can be split")
     first, second = halves(line.GetPoints(), tuple(map(float, it["point"])))
-    new = designs.numbers.take(designs.store, table)
+    new = designs.numbers.take(hand, table)
     update, attributes = maps.Update(dict(records)), maps.value_at(records, *key) or b"{}"
     update.set(table, number, attributes)
     update.set(table, new, attributes)

@@ -1,75 +1,82 @@
-"""Conflicts as people settle them: of a feature that a design and its parent have both changed, only the fields need a choice that
-both have changed differently; the others are joined. maps/merging.py has how."""
-from maps import GEOMETRY, Fault, numbers
-from maps.merging import Choices, Merging, Plan, settlements_of
+"""Conflicts as people settle them. A *clash* is what a design and its parent have both changed differently: a field of
+a feature, its course, or all of it. Each takes a choice of its own; what one side alone has changed is joined.
+maps/merging.py has how."""
+import hashlib
+from typing import Dict, List, NamedTuple, Optional, Tuple
+
+from maps import Fault, numbers
+from maps.merging import SIDES, Choices, Clash, Merging, Plan
+from maps.merging import merge as make_merge
 
 MOST_JOINED = 5000  # conflicts; of more, each record is settled as a whole
+REST = "rest"  # The key of the choice for all clashes that have none of their own.
+Feature = Tuple[int, int]
 
 
-class ByRecord(Choices):
-    """Sides of records: that of a feature's attributes is for its fields, and that of its geometry for its course."""
+class Clashes:
+    """The clashes of a design. `features` has those of each feature, or record that is of none, and `by_key` each by
+    what it is called, `7:1.dn` or `7:1`. The mark of a clash is another one where a value of it is, so a choice is
+    known to be for it. """
 
-    def __init__(self, sides, rest):
-        super().__init__({}, rest)
-        self.sides, self.merging = sides, None
-
-    def side(self, table, number, field=""):
-        attributes, course = (table, number), (table + GEOMETRY, number)
-        if table in self.merging.layers and not field:
-            return self.sides.get(attributes) or self.sides.get(course) or self.rest
-        is_course = table in self.merging.layers and field == self.merging.geometry_name(table)
-        return self.sides.get(course if is_course else attributes) or self.rest
-
-
-def merging_of(store, alt, sides, rest=None):
-    choices = ByRecord(sides, rest)
-    choices.merging = Merging(store, alt, choices, lambda table, count: numbers.take(store, table, count, True))
-    return choices.merging
+    def __init__(self, clashes: List[Clash], is_by_field: bool):
+        self.is_by_field, self.features = is_by_field, {}
+        self.by_key = {str(it): it for it in clashes}
+        for it in sorted(clashes, key=lambda it: it[:2]):
+            self.features.setdefault(it[:2], []).append(it)
+        self.marks = {key: mark_of(repr(it)) for key, it in self.by_key.items()}
+        self.marks[REST] = mark_of(repr(sorted(self.marks.items())))
 
 
-def clashes(store, alt, conflicts):
-    """The conflicts that need a choice, each with the fields that do, or None for all of the record."""
-    if not conflicts or len(conflicts) > MOST_JOINED:
-        return dict.fromkeys(conflicts)
-    try:
-        merging = merging_of(store, alt, {})
-        found = {}
-        for it in merging.make().open:
-            for key in keys_of(merging, it):
-                found.setdefault(key, []).append(it.field)
-    except Fault:
-        return dict.fromkeys(conflicts)
-    return {key: None if "" in fields or key[0] == 0 else fields for key, fields in sorted(found.items()) if key in conflicts}
+class Choice(NamedTuple):
+    side: str
+    mark: str
 
 
-def keys_of(merging, clash):
-    """The records that a clash is about."""
-    attributes, course = (clash.table, clash.number), (clash.table + GEOMETRY, clash.number)
-    if clash.table not in merging.layers:
-        return [attributes]
-    if not clash.field:
-        return [it for it in (attributes, course) if it in merging.conflicts][:1]
-    return [course] if clash.field == merging.geometry_name(clash.table) else [attributes]
+def mark_of(text: str) -> str:
+    return hashlib.sha256(text.encode("utf-8", "backslashreplace")).hexdigest()[:16]
 
 
-def merge(store, alt, conflicts, sides, rest, batch):
-    """Merges by these choices, as one batch."""
+def clashes_of(store, alt: str, conflicts: Dict[Feature, tuple]) -> Clashes:
+    """What needs a choice of these conflicts of records."""
     if len(conflicts) > MOST_JOINED:
-        settled = {key: sides.get(key) or rest for key in conflicts}
-        refuse_open(sum(it is None for it in settled.values()))
+        return by_record(conflicts)
+    try:
+        return Clashes(merging_of(store, alt, {}, None).make().open if conflicts else [], True)
+    except Fault:
+        return by_record(conflicts)
+
+
+def by_record(conflicts) -> Clashes:
+    return Clashes([Clash(*key, "", it.base, it.parent, it.mine) for key, it in conflicts.items()], False)
+
+
+def merging_of(store, alt: str, sides: Dict[Tuple[int, int, str], str], rest: Optional[str]) -> Merging:
+    return Merging(store, alt, Choices(sides, rest), lambda table, count: numbers.take(store, table, count, True))
+
+
+def can_be(clash: Clash) -> List[str]:
+    """The sides that may be chosen for a clash. Of two features that were added under one number both can be kept."""
+    is_number = (
+        not clash.field
+        and clash.base is None
+        and not isinstance(clash.mine, bytes)
+        and None not in (clash.parent, clash.mine)
+    )
+    return [*SIDES, *(["both"] if is_number else [])]
+
+
+def merge(store, alt: str, clashes: Clashes, choices: Dict[str, str], seen: Dict[str, int]) -> Dict[Feature, int]:
+    """Merges by these choices as one batch, which is refused if something seen has changed. Gives the new numbers of
+    own features where both are kept."""
+    rest = choices.get(REST) if choices.get(REST) in SIDES else None
+    sides = {clash[:3]: choices[key] for key, clash in clashes.by_key.items() if choices.get(key) in can_be(clash)}
+    if clashes.is_by_field:
+        plan = merging_of(store, alt, sides, rest).make()
+    else:
         plan = Plan()
-        plan.settlements = settled
-        with batch():
-            store.merge(alt, *settlements_of(plan))
-        return
-    plan = merging_of(store, alt, sides, rest).make()
-    refuse_open(len(plan.open))
-    with batch():
-        store.merge(alt, *settlements_of(plan))
-        store.put_many(alt, ((*key, plan.put[key]) for key in sorted(plan.put)))
-        store.remove_many(alt, plan.remove)
-
-
-def refuse_open(count):
-    if count:
-        raise Fault(f"{count} conflicts have no choice yet")
+        plan.settlements = {it[:2]: sides.get(it[:3], rest) for it in clashes.by_key.values()}
+        plan.open = [it for it in clashes.by_key.values() if plan.settlements[it[:2]] is None]
+    if plan.open:
+        raise Fault(f"{len(plan.open)} conflicts have no choice yet")
+    make_merge(store, alt, plan, True, seen)
+    return plan.renamed

@@ -28,6 +28,7 @@ OWN = ".places"
 PAGES, HEADS = 65000, 65100
 PAGE = numpy.dtype([("number", "<u8"), ("box", "<f4", 4)])
 HEAD = numpy.dtype(("<f4", 4))
+NOTHING = numpy.empty(0, PAGE)
 PER_PAGE, PER_HEAD = maps.LONGEST // PAGE.itemsize, maps.LONGEST // HEAD.itemsize
 MOST_PAGES = 120  # that one window reads
 FARTHEST = 1e12  # No coordinate system counts so far, and from 1e38 on a bound would be infinite.
@@ -133,10 +134,11 @@ class Found:
 
 
 class Index:
-    """The stored index of a table. What a window needs of it is read from the store."""
+    """The stored index of a table. What a window needs of it is read from the store, once for all designs. `courses`
+    has what designs draw of features that lie where the index says."""
 
     def __init__(self, store, table):
-        self._store, self._table = store, PAGES + table
+        self._store, self._table, self._entries, self.courses = store, PAGES + table, {}, {}
         heads = [entries_of(it.value, HEAD) for it in store.list(OWN, HEADS + table)]
         pages = numpy.concatenate([numpy.empty((0, 4), "<f4"), *heads]).astype(float)
         self.pages = numpy.clip(numpy.nan_to_num(pages), -FARTHEST, FARTHEST)
@@ -160,10 +162,14 @@ class Index:
         return entries["number"][inside], boxes[inside], about
 
     def read(self, pages):
-        """The entries of pages: neighbours are read as a range."""
-        runs = numpy.split(pages, numpy.nonzero(numpy.diff(pages) > 1)[0] + 1) if len(pages) else []
-        rows = (it for run in runs for it in self._store.list(OWN, self._table, int(run[0]), int(run[-1])))
-        return numpy.concatenate([numpy.empty(0, PAGE), *(entries_of(it.value, PAGE) for it in rows)])
+        """The entries of pages. Of those that were not read before, neighbours are read as a range."""
+        due = pages[[it not in self._entries for it in pages.tolist()]]
+        runs = numpy.split(due, numpy.nonzero(numpy.diff(due) > 1)[0] + 1) if len(due) else []
+        self._entries.update(dict.fromkeys(due.tolist(), NOTHING))
+        for run in runs:
+            rows = self._store.list(OWN, self._table, int(run[0]), int(run[-1]))
+            self._entries.update({it.number: entries_of(it.value, PAGE) for it in rows})
+        return numpy.concatenate([NOTHING, *(self._entries[it] for it in pages.tolist())])
 
 
 def entries_of(value, kind):

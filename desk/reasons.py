@@ -10,17 +10,24 @@ LONGEST = 200
 
 def tell(program: str, text: object) -> None:
     """Tells a person something, of one line or more, with the program's name before each."""
-    print(*(f"{program}: {it}" for it in str(text).splitlines()), sep="\n", file=sys.stderr, flush=True)
+    print(named(program, text), file=sys.stderr, flush=True)
+
+
+def named(program: str, text: object) -> str:
+    return "\n".join(f"{program}: {it}" for it in str(text).splitlines())
 
 
 def why(fault: BaseException) -> str:
-    """What is behind a fault: the file and the error of the system, what altctl said, or the line that was refused."""
+    """What is behind a fault: the file and the error of the system, what altctl said, or the line that was refused, and
+    which word of it is wrong."""
     if isinstance(fault, OSError) and fault.strerror:
         return fault.strerror if fault.filename is None else f"{os.fsdecode(fault.filename)}: {fault.strerror}"
-    line = getattr(fault, "line", None)
+    line, reason = getattr(fault, "line", None), getattr(fault, "reason", None)
     if line is not None:
-        return f"the line was: {line if len(line) <= LONGEST else line[:LONGEST] + '..'}"
-    return (getattr(fault, "said", "") or str(fault)).strip()
+        text = f"the line was: {line if len(line) <= LONGEST else line[:LONGEST] + '..'}"
+        return f"{text}\n{reason}" if reason else text
+    said = (getattr(fault, "said", "") or str(fault)).strip()
+    return f"{said}: {reason}" if reason else said
 
 
 def owners(file: str) -> Iterator[str]:

@@ -27,9 +27,12 @@ except ImportError as fault:
 if not all(map(shutil.which, ("chromium", "chromedriver"))) or not os.path.exists("/usr/share/javascript/leaflet"):
     print(f"test_altdesk: skipped, for a browser or Leaflet is not there (`apt install {PACKAGES}`)")
     sys.exit(0)
+from desk_tests.test_background import BackgroundPageTests, BackgroundTests
 from desk_tests.test_bad_records import BadRecordTests
+from desk_tests.test_behind import BehindTests, NotBehindTests
+from desk_tests.test_conflicts import ConflictTests
 from desk_tests.test_demo import DemoTests
-from desk_tests.test_designs import DesignsTests
+from desk_tests.test_designs import DesignsTests, IndexedDesignsTests
 from desk_tests.test_door import DoorTests
 from desk_tests.test_drawing import DrawingTests
 from desk_tests.test_journal import JournalTests
@@ -37,6 +40,7 @@ from desk_tests.test_looking import LookingTests
 from desk_tests.test_office import OfficePageTests, OfficeTests
 from desk_tests.test_page import PageTests
 from desk_tests.test_people import TogetherTests, TwoPeopleTests, UnseenTests
+from desk_tests.test_service import ServicePageTests
 from desk_tests.test_window import ManyFeaturesTests, WhatIsNotDrawnTests
 
 if __name__ == "__main__":

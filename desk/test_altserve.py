@@ -10,7 +10,7 @@ sys.dont_write_bytecode = True
 HERE = Path(__file__).resolve().parent
 sys.path[:0] = [str(HERE), str(HERE.parent / "clients" / "python")]
 from service_tests.test_archives import ArchiveTests, RestoreFromArchivesTests
-from service_tests.test_backups import BackupTests
+from service_tests.test_backups import BackupTests, PacingTests
 from service_tests.test_batches import BatchTests
 from service_tests.test_changed import ChangedTests, LastChangesTests
 from service_tests.test_crashes import CrashTests
@@ -23,10 +23,10 @@ from service_tests.test_lines import LineTests
 from service_tests.test_log import IndexTests, LogTests
 from service_tests.test_parts import PartsTests
 from service_tests.test_restore import RestoreTests
-from service_tests.test_rules import RulesTests
+from service_tests.test_rules import ActingTests, RulesTests
 from service_tests.test_signals import ShortageTests, SignalTests
 from service_tests.test_sockets import SocketTests
-from service_tests.test_starts import StartTests
+from service_tests.test_starts import ReasonTests, StartTests
 from service_tests.test_status import RoomTests, StatusTests
 from service_tests.test_stores import StoreTests
 from service_tests.test_turns import PaceTests, TurnsTests

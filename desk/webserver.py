@@ -2,28 +2,29 @@
 another, and a second one reads its journal, which may take long."""
 import asyncio
 import contextlib
-import hmac
-import secrets
 from concurrent.futures import ThreadPoolExecutor
 from pathlib import Path
 
 from aiohttp import web
 
+import background
 import maps
 from altctl import Ended, Refusal, Store
 from designs import Designs
-from edits import CHANGED, Person, carry_out
+from edits import CHANGED, carry_out
 from features import Late
+from figures import figures
 from finding import read_texts
 from maps.history import history
 from news import Journal, told
 from office import Office
+from people import People
 
 HERE = Path(__file__).resolve().parent
 LEAFLET = Path("/usr/share/javascript/leaflet")
-HOST = "127.0.0.1"
 PAGES = {
     "/": (HERE / "page" / "desk.html", "text/html"),
+    "/service": (HERE / "page" / "service.html", "text/html"),
     **{f"/{it.name}": (it, "text/javascript") for it in sorted((HERE / "page").glob("*.js"))},
     **{f"/{it.name}": (it, "text/css") for it in sorted((HERE / "page").glob("*.css"))},
     "/leaflet.js": (LEAFLET / "leaflet.min.js", "text/javascript"),
@@ -32,12 +33,10 @@ PAGES = {
 HEADERS = {
     "Cache-Control": "no-store",
     "Content-Security-Policy": "default-src 'none'; script-src 'self'; style-src 'self'; connect-src 'self'; "
-    "img-src 'self' data:; base-uri 'none'; form-action 'none'; frame-ancestors 'none'",
+    "img-src 'self' data: blob:; base-uri 'none'; form-action 'none'; frame-ancestors 'none'",
     "Referrer-Policy": "no-referrer",
     "X-Content-Type-Options": "nosniff",
 }
-# The page sends the token in this header. A cookie would go to every other port of this machine.
-TOKEN = "X-Desk-Token"
 LOOK_SECONDS = 0.3  # between two looks at the journal
 WAIT_SECONDS = 20  # that a page waits for news
 SHORT_SECONDS = 2  # that an answer waits for the journal to tell of its own batch
@@ -66,7 +65,7 @@ REFUSALS = {
 def state(designs, file, person):
     designs.store.batches()  # It tells if the service is not there any more.
     news = [told(it) for it in designs.news[-5:]]
-    its = {"file": file, "planner": designs.planner, "batch": designs.batch, "epoch": designs.epoch}
+    its = {"file": file, "planner": person.name or designs.planner, "batch": designs.batch, "epoch": designs.epoch}
     return {**its, "tree": designs.tree(), "news": news, "steps": person.told()}
 
 
@@ -101,27 +100,29 @@ OF_TEXTS = {
 
 
 class Desk:
-    def __init__(self, path, port, program):
-        self.path, self.port = path, port
-        self.token = secrets.token_urlsafe(24)
-        self.thread, self.journal_thread, self.texts_thread = (ThreadPoolExecutor(1) for _ in range(3))
-        self.designs, self.journal, self.person = None, None, Person()
-        self.office = Office(path, program, lambda: self.arrived.set())
-
-    def address(self):
-        # What stands behind `#` stays in the browser.
-        return f"http://{HOST}:{self.port}/#token={self.token}"
+    def __init__(self, path, door, program, background=None):
+        self.path, self.door, self.people, self.background = path, door, People(path), background
+        threads = (ThreadPoolExecutor(1) for _ in range(4))
+        self.thread, self.journal_thread, self.texts_thread, self.figures_thread = threads
+        self.pictures_threads = background and ThreadPoolExecutor(background.threads)
+        self.designs, self.journal = None, None
+        # Pull and push would be the desk's own user's, and not that of who asks for it.
+        self.office = None if door.is_behind else Office(path, program, lambda: self.arrived.set())
 
     def application(self):
         made = web.Application(middlewares=[self.guard])
         made.router.add_routes([web.get(path, self.page) for path in PAGES])
         made.router.add_routes([web.get(f"/api/{name}", self.query(work)) for name, work in QUESTIONS.items()])
         made.router.add_routes([web.get(f"/api/{name}", self.text_query(work)) for name, work in OF_TEXTS.items()])
-        made.router.add_get("/api/choices", self.query(self.choices))
+        made.router.add_get("/api/choices", self.choices)
+        if self.background is not None:
+            made.router.add_get("/api/background", self.picture)
         made.router.add_get("/api/state", self.state)
         made.router.add_get("/api/history", self.history)
+        made.router.add_get("/api/status", self.status)
         made.router.add_post("/api/batch", self.sent(self.carried_out))
-        made.router.add_post("/api/office", self.sent(self.carried_between))
+        if self.office is not None:
+            made.router.add_post("/api/office", self.sent(self.carried_between))
         made.cleanup_ctx.append(self.following)
         return made
 
@@ -129,27 +130,29 @@ class Desk:
 
     @web.middleware
     async def guard(self, request, handler):
-        """Lets in who has the token, from the page's own address: a page elsewhere has another Origin, and where a name of its
-        own leads here, another Host. The page itself has no secret, and is given to all."""
-        given = request.headers.get(TOKEN, "").encode("utf-8", "replace")
-        host = request.headers.get("Host", "")
-        if host.split(":")[0] not in (HOST, "localhost") or request.headers.get("Origin") not in (None, f"http://{host}"):
-            answer = web.Response(status=403, text="This is for the desk's own page.")
-        elif request.path not in PAGES and not hmac.compare_digest(given, self.token.encode()):
-            answer = web.Response(status=403, text="Open the address that altdesk has printed: it has the token.")
+        why = self.door.refusal(request, request.path in PAGES)
+        if why is not None:
+            answer = web.Response(status=403, text=why)
         else:
             try:
                 answer = await handler(request)
             except web.HTTPException as fault:
                 answer = web.Response(status=fault.status, text=fault.reason)
         answer.headers.update(HEADERS)
-        if isinstance(answer, web.Response) and answer.body and len(answer.body) > LONG:
+        is_long = isinstance(answer, web.Response) and answer.body and len(answer.body) > LONG
+        if is_long and not answer.content_type.startswith("image/"):
             answer.enable_compression()
         return answer
 
     async def page(self, request):
         file, kind = PAGES[request.path]
-        return web.Response(body=file.read_bytes(), content_type=kind, charset="utf-8")
+        body = file.read_bytes()
+        if self.door.is_behind and request.path == "/":
+            body = body.replace(b"<html ", b'<html class="behind" ', 1)
+        return web.Response(body=body, content_type=kind, charset="utf-8")
+
+    def person(self, request):
+        return self.people.person(self.door.name(request))
 
     # --- questions ------------------------------------------------------------------------------------
 
@@ -159,8 +162,9 @@ class Desk:
 
         return answer
 
-    def choices(self, designs, it):
-        return self.person.chosen(it["at"], designs.design(it["at"]))
+    async def choices(self, request):
+        alt, person = request.query.get("at"), self.person(request)
+        return await self.reply(self.asked(lambda designs: person.chosen(alt, designs.design(alt))))
 
     def text_query(self, work):
         async def found(it):
@@ -197,16 +201,18 @@ class Desk:
 
     async def state(self, request):
         """The state, once a batch came after the one that the page knows, or after a while."""
+        person = self.person(request)
 
         async def found():
             known, office = request.query.get("after"), int(request.query.get("office", 0))
             is_known = known is not None and self.designs is not None and self.designs.batch == int(known)
-            if is_known and self.office.version == office:
+            if is_known and (self.office is None or self.office.version == office):
                 self.arrived.clear()
                 with contextlib.suppress(asyncio.TimeoutError):
                     await asyncio.wait_for(self.arrived.wait(), WAIT_SECONDS)
-            told = await self.asked(lambda designs: state(designs, self.path, self.person))
-            return {**told, "office": self.office.told()}
+            told = await self.asked(lambda designs: state(designs, self.path, person))
+            office = self.office and self.office.told()
+            return {**told, "office": office, "background": self.background and self.background.name}
 
         return await self.reply(found())
 
@@ -216,6 +222,26 @@ class Desk:
             return [it._asdict() for it in events]
 
         return await self.reply(found())
+
+    async def status(self, _):
+        """The figures of the service, for the page that shows them."""
+        return await self.reply(asyncio.get_running_loop().run_in_executor(self.figures_thread, figures, self.path))
+
+    async def picture(self, request):
+        """What lies below a window, as a picture."""
+
+        async def found():
+            it = request.query
+            crs = await self.asked(lambda designs: designs.design(it["at"]).crs)
+
+            def work():
+                if request.transport is None or request.transport.is_closing():
+                    raise maps.Fault("nobody waits for it any more")
+                return background.picture(self.background, crs, it)
+
+            return await asyncio.get_running_loop().run_in_executor(self.pictures_threads, work)
+
+        return await self.reply(found(), lambda it: web.Response(body=it[0], content_type=it[1]))
 
     def sent(self, work):
         """The answer to what changes something."""
@@ -228,31 +254,31 @@ class Desk:
             except ValueError:
                 raise web.HTTPBadRequest
             # What was begun is done, also where the browser has gone.
-            return await self.reply(asyncio.shield(asyncio.ensure_future(work(it))))
+            return await self.reply(asyncio.shield(asyncio.ensure_future(work(it, self.person(request)))))
 
         return answer
 
-    async def carried_out(self, it):
+    async def carried_out(self, it, person):
         for tries in range(1, TRIES + 1):
             try:
-                await self.asked(lambda designs: carry_out(designs, it, self.person))
+                said = await self.asked(lambda designs: carry_out(designs, it, person))
                 break
             except Refusal as refusal:
                 if refusal.number != CHANGED or tries == TRIES or not await self.catch_up():
                     raise
         await self.catch_up()
-        return {"batch": self.designs and self.designs.batch}
+        return {"batch": self.designs and self.designs.batch, "said": said or []}
 
-    async def carried_between(self, it):
+    async def carried_between(self, it, _person):
         """Pull, push, or a look at HEAD."""
         told = await self.office.carry_out(it["do"], it.get("designs", []))
         await self.catch_up()
         return told
 
-    async def reply(self, work):
+    async def reply(self, work, answer=web.json_response):
         """The answer to a question."""
         try:
-            return web.json_response(await work)
+            return answer(await work)
         except Late as late:
             return web.json_response({"fault": str(late), "now": late.now}, status=409)
         except (maps.Fault, Refusal) as fault:
@@ -268,6 +294,7 @@ class Desk:
         return await asyncio.get_running_loop().run_in_executor(self.thread, self.ask, work)
 
     def ask(self, work):
+        self.people.hang_up()
         try:
             if self.designs is None:
                 designs = Designs(Store(f"unix:{self.path}"))
@@ -276,6 +303,7 @@ class Desk:
             return work(self.designs)
         except (OSError, Ended):
             self.designs = None
+            self.people.hang_up(True)
             raise
 
     # --- the journal ------------------------------------------------------------------------------------
@@ -319,8 +347,10 @@ class Desk:
                     self.arrived.set()  # The pages that wait ask themselves, and are told.
                 await asyncio.sleep(LOOK_SECONDS)
 
-        office = self.office.follow(lambda: self.designs and self.designs.batch)
-        tasks = [asyncio.ensure_future(it) for it in (follow(), self.read_ahead(), office)]
+        work = [follow(), self.read_ahead()]
+        if self.office is not None:
+            work.append(self.office.follow(lambda: self.designs and self.designs.batch))
+        tasks = [asyncio.ensure_future(it) for it in work]
         yield
         for task in tasks:
             task.cancel()

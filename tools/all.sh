@@ -82,7 +82,8 @@ else
     if has_rt faults/refuse_allocations.sh; then try 1800 faults/refuse_allocations.sh; fi
     try 600 ../desk/test_altserve.py
     try 1800 ../desk/test_altgis.py
-    try 600 ../desk/test_altdesk.py
+    try 1200 ../desk/test_altdesk.py
+    try 900 ../desk/test_altqgis.py
     try 900 ../desk/test_altcarry.py
     try 1800 release/test_package.py
     try 300 faults/kill_service.py "$tools/../altctl" 20

@@ -17,6 +17,7 @@ import errno
 import os
 import re
 import socket
+import stat
 import subprocess
 import tempfile
 import threading
@@ -42,12 +43,17 @@ Path = Union[str, bytes, "os.PathLike[str]", "os.PathLike[bytes]"]
 
 class Refusal(Exception):
     """A line that was refused: `error NUMBER NAME`, and behind it a count, a block or a key, where it has one. Of several
-    lines that were given at once `at` tells which one it is, 0 for the first. `line` is the line itself, where it is known."""
+    lines that were given at once `at` tells which one it is, 0 for the first. `line` is the line itself, where it is
+    known, and `reason` which word of a bad line is wrong."""
 
     def __init__(self, number: int, name: str, detail: str = "", at: Optional[int] = None, line: Optional[str] = None) -> None:
         place = "" if at is None else f" (line {at} of those given)"
         super().__init__(f"{number} {name} {detail}".rstrip() + place)
         self.number, self.name, self.detail, self.at, self.line = number, name, detail, at, line
+
+    @property
+    def reason(self) -> Optional[str]:
+        return what_is_bad(self.line) if self.number == 22 and self.line is not None else None
 
 
 def refusal_of(words: Sequence[str], at: Optional[int] = None, line: Optional[str] = None) -> Refusal:
@@ -55,11 +61,12 @@ def refusal_of(words: Sequence[str], at: Optional[int] = None, line: Optional[st
 
 
 class Ended(Exception):
-    """The program ended before its input did, or with a status other than 0. What was committed is in the file."""
+    """The program ended before its input did, or with a status other than 0. What was committed is in the file.
+    `reason` is what the system says of a file that could not be opened."""
 
-    def __init__(self, status: int, said: str) -> None:
-        super().__init__(f"altctl ended with status {status}: {said.strip()}")
-        self.status, self.said = status, said
+    def __init__(self, status: int, said: str, reason: Optional[str] = None) -> None:
+        super().__init__(f"altctl ended with status {status}: {said.strip()}" + (f": {reason}" if reason else ""))
+        self.status, self.said, self.reason = status, said, reason
 
 
 CHANGES = {"new", "drop", "put", "remove", "checkpoint", "uncheck", "back", "merge", "post", "reclaim", "grow"}
@@ -176,6 +183,80 @@ def whole(number: int) -> int:
         return index(number)
     except TypeError:
         raise TypeError(f"a table, a number and a count are int, and not {type(number).__name__}") from None
+
+
+# --- why a line is a bad one, and a file is not opened --------------------------------------------------------
+
+# The words of each line behind its first one, as docs/FORMATS.md has them.
+FORMS = {
+    "new": ["NAME PARENT", "NAME PARENT CHECKPOINT"],
+    **dict.fromkeys(["drop", "post", "tally", "checks", "changes", "conflicts"], ["ALT"]),
+    **dict.fromkeys(["commit", "rollback", "reclaim", "alts", "free", "blocks"], [""]),
+    **dict.fromkeys(["checkpoint", "uncheck", "back"], ["ALT NAME"]),
+    "put": ["ALT TABLE NUMBER VALUE"],
+    "remove": ["ALT TABLE NUMBER"],
+    "merge": ["ALT SETTLEMENT .."],
+    "grow": ["BLOCKS"],
+    "get": ["AT TABLE NUMBER"],
+    "list": ["AT", "AT TABLE", "AT TABLE FIRST LAST"],
+    "next": ["AT TABLE NUMBER COUNT"],
+    "diff": ["AT AT", "AT AT TABLE", "AT AT TABLE FIRST LAST"],
+}
+# The highest number that a word may be.
+HIGHEST = {"TABLE": LAST_TABLE, "COUNT": 2**32 - 1, "BLOCKS": 2**32 - 1}
+HIGHEST.update(dict.fromkeys(["NUMBER", "FIRST", "LAST"], LAST_NUMBER))
+# The form of other words, and the same for people.
+NAME, NAMED = "[A-Za-z0-9_.-]{1,32}", "1 to 32 letters, digits, _, - and ."
+WORDS = {
+    **dict.fromkeys(["NAME", "PARENT", "CHECKPOINT", "ALT"], (NAME, NAMED)),
+    "AT": (f"{NAME}(@({NAME})?)?", f"ALT, ALT@ or ALT@CHECKPOINT, each {NAMED}"),
+    "VALUE": ("(%[0-9A-Fa-f]{2}|[^%]){1,4000}", "4,000 bytes at most, with two hexadecimal digits behind each %"),
+    "SETTLEMENT": ("([0-9]+):([0-9]+)=(mine|theirs)", "TABLE:NUMBER=mine or =theirs, or first all=mine or all=theirs"),
+}
+MOST_TOLD = 40
+
+
+def fits(kind: str, word: str) -> bool:
+    """Whether a word of a line is one of a kind, as FORMS names it."""
+    if kind in HIGHEST:
+        return bool(re.fullmatch("[0-9]{1,20}", word)) and int(word) <= HIGHEST[kind]
+    found = re.fullmatch(WORDS[kind][0], word)
+    if found and kind == "SETTLEMENT":
+        return fits("TABLE", found[1]) and fits("NUMBER", found[2])
+    return bool(found)
+
+
+def what_is_bad(line: str) -> Optional[str]:
+    """Which word makes a line a bad one (22 BadLine), and what was expected. None if it is one of the lines."""
+    verb, *words = line.split()
+    if verb not in FORMS:
+        return f"{verb}: there is no such line"
+    kinds = [it.split() for it in FORMS[verb]]
+    if verb == "merge":
+        if words[1:2] in (["all=mine"], ["all=theirs"]):
+            del words[1]
+        kinds = [["ALT", *["SETTLEMENT"] * (len(words) - 1)]]
+    found = next((it for it in kinds if len(it) == len(words)), None)
+    if found is None:
+        return f"{verb} takes {' or '.join(FORMS[verb]) or 'no other word'}"
+    for kind, word in zip(found, words):
+        if not fits(kind, word):
+            due = WORDS[kind][1] if kind in WORDS else f"a number from 0 to {HIGHEST[kind]}"
+            return f"{word if len(word) <= MOST_TOLD else word[:MOST_TOLD] + '..'} is no {kind}: {due}"
+    return None
+
+
+def why_unopened(file: Path, read_only: bool) -> Optional[str]:
+    """Why a store's file cannot be opened, as far as this process meets the same. None if it does not."""
+    try:
+        mode = os.stat(file).st_mode
+        if not (stat.S_ISREG(mode) or stat.S_ISBLK(mode)):
+            return "it is neither a file nor a block device"
+        with open(file, "rb" if read_only else "r+b", buffering=0) as opened:
+            opened.read(1)
+    except OSError as fault:
+        return fault.strerror
+    return None
 
 
 def record_of(words: Sequence[str]) -> Record:
@@ -339,6 +420,8 @@ class Store:
         except Ended as ended:
             if ended.status == 1 and ended.said.endswith(" is in use\n"):
                 raise BlockingIOError(errno.EAGAIN, "another process has locked the file", file) from None
+            if ended.said.startswith("altctl: cannot open "):
+                raise Ended(ended.status, ended.said, why_unopened(file, read_only)) from None
             raise
         except BaseException:
             self.close(quietly=True)
@@ -668,6 +751,10 @@ class Store:
     def whoami(self) -> str:
         """The name of the planner whom a service sees here."""
         return self._ask("whoami")[1]
+
+    def act_for(self, name: str) -> None:
+        """Has a service take what follows as another person's, whom its rules name. It needs the right `act`."""
+        self._ask("for", name)
 
     def log(self, **filters: object) -> Rows[Entry]:
         """Who changed what, and when, as a service's journal tells it: Entry rows, the latest one last. The filters are those of

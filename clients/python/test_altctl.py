@@ -21,11 +21,24 @@ from pathlib import Path
 sys.dont_write_bytecode = True
 HERE = Path(__file__).resolve().parent
 sys.path.insert(0, str(HERE))
+import altctl
 import example
-from altctl import Alternative, Change, Conflict, Copied, Ended, Record, Refusal, Store, Tally, Tunnel, decode, encode
+from altctl import Alternative, Change, Conflict, Copied, Ended, FORMS, Record, Refusal, Store, Tally, Tunnel, decode
+from altctl import encode, what_is_bad
 
 F_SETPIPE_SZ = 1031  # fcntl has the name from Python 3.10 on.
 ALTCTL = os.environ.get("ALTCTL", str(HERE.parent.parent / "altctl"))
+NAMED = "1 to 32 letters, digits, _, - and ."
+# Words of lines, good and bad ones, by what stands for them in FORMS; and the lines with rows of answer.
+NAMES = ["top", "a" * 32, "a" * 33, "a/b", "-", "top@", "top@a", "top@a@", "@", "%41", "~", "1"]
+NUMBERS = ["0", "7", "0" * 20, "0" * 21, "1.5", "-1"]
+NUMBERS += [f"{it}" for bits in (16, 32, 64) for it in (2**bits - 1, 2**bits)]
+WORDS = {
+    **dict.fromkeys(["TABLE", "NUMBER", "FIRST", "LAST", "COUNT", "BLOCKS"], NUMBERS),
+    "VALUE": ["-", "%", "%4", "%4G", "%fF", "a%41", "%41" * 4000, "%41" * 4001, "a" * 4000, "a" * 4001],
+    "SETTLEMENT": ["7:1=mine", "7:1=theirs", "all=mine", "all=theirs", "7:1=all", "65536:1=mine", f"1:{2**64}=mine"],
+}
+OF_ROWS = {"list", "next", "alts", "checks", "changes", "diff", "conflicts"}
 
 
 class StoreTests(unittest.TestCase):
@@ -646,6 +659,72 @@ class StoreTests(unittest.TestCase):
         told = "altctl: the file is of an earlier format: tools/upgrade.py OLD NEW carries it over\n"
         self.assertEqual((1, f"altctl: 19 NotAStore\n{told}"), (came.exception.status, came.exception.said))
 
+    def test_why_a_file_cannot_be_opened(self):
+        reason = "it is neither a file nor a block device"
+        for file in (os.path.dirname(self.file), "/dev/null"):
+            with self.assertRaises(Ended) as came:
+                Store(file, ALTCTL)
+            self.assertEqual((f"altctl: cannot open {file}\n", reason), (came.exception.said, came.exception.reason))
+            self.assertTrue(str(came.exception).endswith(f"cannot open {file}: {reason}"))
+
+    @unittest.skipIf(os.geteuid(), "only root may become another user")
+    def test_why_a_file_of_others_cannot_be_opened(self):
+        os.chmod(self.file, 0o444)
+        os.chmod(os.path.dirname(self.file), 0o755)
+        child = os.fork()
+        if not child:
+            os.seteuid(65534)
+            reason = None
+            with contextlib.suppress(OSError):
+                reason = altctl.why_unopened(self.file, False), altctl.why_unopened(self.file, True)
+            os._exit(0 if reason == ("Permission denied", None) else 1)
+        self.assertEqual(0, os.waitpid(child, 0)[1])
+
+    def test_which_word_of_a_line_is_bad(self):
+        with self.open() as store:
+            for call, words, reason in (
+                (store.put, ("top", 65536, 1, b""), "65536 is no TABLE: a number from 0 to 65535"),
+                (store.new, ("a/b", "top"), f"a/b is no NAME: {NAMED}"),
+                (store.list, ("top@a@",), f"top@a@ is no AT: ALT, ALT@ or ALT@CHECKPOINT, each {NAMED}"),
+            ):
+                with self.assertRaises(Refusal) as came:
+                    call(*words)
+                self.assertEqual((22, reason), (came.exception.number, came.exception.reason))
+            with self.assertRaises(Refusal) as came:
+                store.post("top")
+            self.assertIsNone(came.exception.reason)
+        value = "4,000 bytes at most, with two hexadecimal digits behind each %"
+        settlement = "TABLE:NUMBER=mine or =theirs, or first all=mine or all=theirs"
+        for line, reason in {
+            "touch top": "touch: there is no such line",
+            "put top 7 1": "put takes ALT TABLE NUMBER VALUE",
+            "list top 7 1": "list takes AT or AT TABLE or AT TABLE FIRST LAST",
+            "commit now": "commit takes no other word",
+            "put top 7 1 " + "%zz" * 50: "%zz" * 13 + f"%.. is no VALUE: {value}",
+            "merge top 7:1=ours": f"7:1=ours is no SETTLEMENT: {settlement}",
+        }.items():
+            self.assertEqual(reason, what_is_bad(line))
+
+    def test_the_same_lines_are_bad_for_the_program(self):
+        chance, seen = random.Random(7), set()
+        with self.open(read_only=True) as store:
+            for _ in range(4000):
+                verb = chance.choice([*FORMS, "touch", "PUT"])
+                words = chance.choice(FORMS.get(verb, [""])).replace("..", chance.choice(["", "SETTLEMENT"])).split()
+                words = [chance.choice(WORDS.get(it, NAMES)) for it in words]
+                if chance.random() < 0.1:
+                    words = words[:-1] if chance.random() < 0.5 else [*words, chance.choice(NAMES + NUMBERS)]
+                line = " ".join([verb, *words])
+                store._write([line])
+                answer = store._read()
+                is_bad = answer[:2] == ["error", "22"]
+                while verb in OF_ROWS and answer[0] not in ("end", "error"):
+                    answer = store._read()
+                self.assertEqual(is_bad, what_is_bad(line) is not None, line)
+                seen.add((verb, is_bad))
+        due = {(verb, is_bad) for verb in FORMS for is_bad in (True, False)}
+        self.assertEqual(due | {("touch", True), ("PUT", True)}, seen)
+
     def test_one_process_at_a_time(self):
         with self.open():
             self.assertRaises(BlockingIOError, self.open)
@@ -955,6 +1034,13 @@ class ServiceTests(unittest.TestCase):
             self.assertEqual(found[1:2], list(store.log(alternative="north", last=1)))
             with self.assertRaises(Refusal):
                 store.log(nothing="x")
+            store.act_for("anna")
+            self.assertEqual("anna", store.whoami())
+            with self.assertRaises(Refusal) as caught:  # Without rules whom somebody acts for may change nothing.
+                store.put("top", 7, 3, b"d")
+            self.assertEqual("Denied change ~", str(caught.exception).split(" ", 1)[1])
+            with self.assertRaises(Refusal):
+                store.act_for("@north")
 
     def test_a_service_that_ends_is_an_error(self):
         with self.assertRaises(Ended), self.open() as store:

@@ -121,7 +121,7 @@ class Browser:
 
     def open(self, url):
         self.driver.get(url)
-        self.until(lambda: self.all("#tree button") and self.all("#map path"))
+        self.until(lambda: self.all("#tree button") and self.all("#map path, #map canvas"))
 
     def until(self, is_so):
         late = time.monotonic() + LONGEST_WAIT

@@ -25,7 +25,10 @@ class DemoTests(DeskTest):
         browser.until(lambda: browser.text("#scale"))
         browser.picture("desk-map")
         browser.click("#view-conflicts")
-        browser.click("[id^=look-107]")
+        # One of both has two courses to choose from.
+        legends = browser.all("fieldset legend")
+        course = next(it for it, legend in zip(browser.all("fieldset"), legends) if "course" in legend.text)
+        course.find_element("css selector", "[id^=look-]").click()
         browser.picture("desk-conflict")
         shown = [it.text.split() for it in browser.all("#tree tr")]
         demo.terminate()

@@ -1,6 +1,7 @@
 """Tests of the desk: what is read of designs after a batch."""
 
 import maps
+import places
 from altctl import Store
 from designs import Designs
 from desk_tests.support import DeskTest, attributes, course, duct, layer
@@ -119,3 +120,36 @@ class DesignsTests(DeskTest):
             with self.assertRaises(maps.Fault):
                 typed(text, fields[kind], None)
         self.assertEqual(["7", 7], [typed("7", None, "6"), typed("7", None, 6)])
+
+
+class IndexedDesignsTests(DesignsTests):
+    """The same with an index of places, and what designs share by it."""
+
+    def setUp(self):
+        super().setUp()
+        places.renew(self.other, True)
+        self.designs.refresh()
+
+    def test_courses_that_designs_share_are_not_mixed_up(self):
+        alts = "top", "north", "south"
+        self.same_as_read_anew(*alts)
+        self.noting.asked.clear()
+        window = self.designs.design("south").bounds()
+        self.designs.design("south").window(window)
+        self.assertEqual([], self.noting.asked)  # Another design has drawn all of it.
+        before = dict(zip((2, 3, 4), self.other.get_many("top", [(107, it) for it in (2, 3, 4)])))
+        self.other.put("north", 107, 2, course((2600000, 1200000), (2600009, 1200009)))
+        self.other.put("top", 107, 3, course((2600000, 1200000), (2600005, 1200005)))
+        self.other.remove("top", 107, 4)
+        self.other.put("top", 7, 5, attributes(dn=75))
+        self.same_as_read_anew(*alts)
+        self.other.merge("south")
+        self.same_as_read_anew(*alts)
+        self.other.put("north", 107, 2, before[2])
+        self.other.put("top", 107, 4, before[4])
+        self.same_as_read_anew(*alts)
+        places.renew(self.other, True)
+        self.same_as_read_anew(*alts)
+        design = self.designs.design("south")
+        drawn = {it["properties"]["number"]: it["geometry"] for it in design.window(design.bounds())["features"]}
+        self.assertEqual({"type": "LineString", "coordinates": [[2600000, 1200000], [2600005, 1200005]]}, drawn["3"])

@@ -10,7 +10,8 @@ from selenium.webdriver.common.keys import Keys
 import maps
 from designs import Designs
 from desk_tests.support import PlanningTest, attributes, course
-from edits import carry_out, Person
+from edits import carry_out
+from people import Person
 from features import Late
 
 

@@ -1,4 +1,4 @@
-"""Tests of the desk: layers, finding, comparing, choices, history, printing."""
+"""Tests of the desk: layers, finding, comparing, history, printing."""
 import base64
 import json
 import os
@@ -9,11 +9,8 @@ from pathlib import Path
 from selenium.webdriver.common.action_chains import ActionChains
 from selenium.webdriver.common.keys import Keys
 
-import maps
 from altctl import Store
-from designs import Designs
 from desk_tests.support import ALTCTL, PlanningTest, attributes, course
-from edits import carry_out, Person
 from maps.history import history
 
 
@@ -154,76 +151,6 @@ class LookingTests(PlanningTest):
         browser.driver.get("about:blank")
         browser.driver.get(link)
         browser.until(lambda: browser.text("#view h3") == "ducts 5: as in the base" and browser.text("#chosen").startswith("north"))
-
-    def test_choices_are_kept_until_they_are_sent(self):
-        with Store(self.file, ALTCTL) as store:
-            for alt, dn in (("north", 125), ("top", 160)):
-                store.put_many(alt, ((7, number, attributes(dn=dn, mat="PVC")) for number in (1, 2)))
-            store.commit()
-        browser = self.opened()
-        browser.click("#view-conflicts")
-        # Of a record's fields those that differ come first, and the others are folded.
-        self.assertEqual(["dn"], [it.text for it in browser.all("#conflict-7\\:1 > table th[scope=row]")])
-        self.assertEqual("1 fields need no choice", browser.text("#conflict-7\\:1 summary"))
-        browser.click("[id='theirs-7:1']")
-        time.sleep(0.5)
-        browser.driver.refresh()
-        browser.until(lambda: browser.text("#chosen").startswith("north"))
-        browser.click("#view-conflicts")
-        self.assertEqual(["theirs-7:1"], [it.get_attribute("id") for it in browser.all("fieldset input:checked")])
-        browser.click("#next-conflict")
-        browser.says("ducts 1: attributes")
-        browser.click("#next-conflict")
-        browser.says("ducts 2: attributes")
-        browser.click("[id='mine-7:2']")
-        browser.click("#do-merge")
-        browser.confirm()
-        browser.says("Merged top into north.")
-        found = [json.loads(it)["dn"] for it in self.store().get_many("north", [(7, 1), (7, 2)])]
-        self.assertEqual([160, 125], found)
-
-    def test_of_a_feature_that_both_changed_only_the_same_fields_are_chosen(self):
-        bend = course(self.chamber(5), (2600020, 1200041), self.chamber(6))
-        with Store(self.file, ALTCTL) as store:
-            for alt, values in (("north", dict(dn=125, mat="HDPE")), ("top", dict(dn=110, mat="PE"))):
-                store.put(alt, 7, 5, attributes(**values))
-            store.put("top", 107, 5, bend)
-            # Here each side has changed another field, so there is nothing to choose.
-            store.put("north", 7, 6, attributes(dn=125, mat="PVC"))
-            store.put("top", 7, 6, attributes(dn=110, mat="PE"))
-            store.commit()
-        browser, store = self.opened(), self.store()
-        browser.click("#view-conflicts")
-        self.assertEqual(["ducts 5: attributes"], [it.text for it in browser.all("#view legend")])
-        self.assertEqual(["mat"], [it.text for it in browser.all("#view fieldset > table th[scope=row]")])
-        self.assertEqual("north and top have changed different fields in 1 record, which a merge joins.", browser.text("#joined"))
-        browser.until(lambda: len(browser.all("path.is-conflict")) == 1)
-        browser.click("[id='theirs-7:5']")
-        browser.click("#do-merge")
-        browser.confirm()
-        browser.says("Merged top into north.")
-        names = maps.Fields(maps.layers(store, "north")[7])
-        self.assertEqual({"dn": 125, "mat": "PE"}, names.named(store.get("north", 7, 5)))
-        self.assertEqual({"dn": 125, "mat": "PE"}, names.named(store.get("north", 7, 6)))
-        self.assertEqual(bend, store.get("north", 107, 5))
-
-    def test_a_choice_is_not_kept_for_another_conflict(self):
-        with Store(self.file, ALTCTL) as store:
-            for alt, dn in (("north", 125), ("top", 160)):
-                store.put(alt, 7, 1, attributes(dn=dn, mat="PVC"))
-            store.commit()
-        self.serve()
-        store, other, person = self.store(), self.store(), Person()
-        designs = Designs(store)
-        designs.refresh()
-        seen = {"at": "north", "epoch": designs.epoch, "seen": designs.batch}
-        carry_out(designs, {**seen, "do": "choose", "choices": {"7:1": "theirs"}}, person)
-        self.assertEqual({"7:1": "theirs"}, person.chosen("north", designs.design("north")))
-        other.put("top", 7, 1, attributes(dn=200, mat="PVC"))
-        designs.refresh()
-        self.assertEqual({}, person.chosen("north", designs.design("north")))
-        with self.assertRaises(maps.Fault):
-            carry_out(designs, {**seen, "seen": designs.batch, "do": "merge"}, person)
 
     def test_only_batches_that_changed_a_feature_are_its_history(self):
         self.serve()

@@ -188,8 +188,8 @@ class PageTests(DeskTest):
         go("view-conflicts")
         press(Keys.ENTER)
         browser.one("fieldset")
-        go("mine-7:5")
-        press(Keys.SPACE)
+        go("theirs-7:5.dn")
+        press(Keys.ARROW_RIGHT)
         browser.until(lambda: browser.one("input[value=mine]").is_selected())
         go("do-merge")
         press(Keys.ENTER)
@@ -215,7 +215,7 @@ class PageTests(DeskTest):
             if it.is_displayed():
                 self.assertTrue(it.accessible_name.strip(), it.get_attribute("outerHTML")[:200])
         self.assertEqual("status", browser.one("#said").aria_role)
-        self.assertEqual("mine", browser.one("#view input[value=mine]").accessible_name)
+        self.assertEqual("dn as in north: 125", browser.one("#view input[value=mine]").accessible_name)
         self.assertEqual("en", browser.one("html").get_attribute("lang"))
 
     def test_records_that_are_no_map_are_shown(self):

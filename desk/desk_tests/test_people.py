@@ -10,7 +10,8 @@ import maps
 from altctl import Refusal, Store
 from designs import Designs
 from desk_tests.support import ALTCTL, LONGEST_WAIT, DeskTest, PlanningTest, attributes
-from edits import carry_out, Person
+from edits import carry_out
+from people import Person
 from webserver import REFUSALS
 
 
@@ -122,7 +123,7 @@ class TwoPeopleTests(DeskTest):
 class TogetherTests(PlanningTest):
     """Two planners at the same ducts of one design."""
 
-    ROUNDS = 100
+    ROUNDS = 200
 
     def plan(self, seed, counts, said):
         """One of them: counts ducts up, moves their ends by a metre, draws, and deletes and takes that back."""

@@ -19,7 +19,7 @@ from gis.full import FULL
 from gis.importing import bring, index
 from gis.settling import merge
 from maps import Fault
-from reasons import why
+from reasons import named, why
 
 NO_READER = 141  # The status that a shell gives for a pipe that nobody reads.
 STORE = "STORE", "a store's file, or unix:PATH"
@@ -139,7 +139,7 @@ def main():
         return NO_READER
     except Refusal as refusal:
         more = f": give it more, altctl do {words.store} 'grow BLOCKS' commit" if refusal.number == FULL else ""
-        return f"altgis: refused: {refusal}{more}\naltgis: {why(refusal)}"
+        return named("altgis", f"refused: {refusal}{more}\n{why(refusal)}")
     except OSError as fault:
         return f"altgis: {why(fault)}"
     except Ended as ended:

@@ -292,10 +292,11 @@ class BringingTests(AltgisCase):
                     store.put(alt, 7, number, fields.packed({"dn": dn, "mat": mat}))
             seen = designs.Designs(store)
             seen.refresh()
-            conflicts = seen.design("north").conflicts
+            clashes = seen.design("north").clashes
+            self.assertEqual(["7:2.dn"], list(clashes.by_key))
             with self.assertRaisesRegex(maps.Fault, "1 conflicts have no choice yet"):
-                joining.merge(store, "north", conflicts, {}, None, store.batch)
-            joining.merge(store, "north", conflicts, {(7, 2): "mine"}, None, store.batch)
+                joining.merge(store, "north", clashes, {}, {"north": seen.batch})
+            joining.merge(store, "north", clashes, {"7:2.dn": "mine"}, {"north": seen.batch})
             found = [fields.named(store.get("north", 7, it)) for it in (1, 2)]
         self.assertEqual([{"dn": 5, "mat": "clay"}, {"dn": 6, "mat": "steel"}], found)
 

@@ -332,12 +332,13 @@ def settlements_of(plan: Plan) -> Tuple[Dict[Key, str], Optional[str]]:
     return found, rest
 
 
-def merge(store, alt: str, plan: Plan, is_service: bool) -> None:
-    """Makes a merge by its plan, as one batch or one commit."""
+def merge(store, alt: str, plan: Plan, is_service: bool, seen: Optional[Dict[str, int]] = None) -> None:
+    """Makes a merge by its plan, as one batch or one commit. A batch is refused if an alternative has changed since it
+    was `seen`."""
     if plan.open:
         raise Fault(f"{len(plan.open)} clashes have no choice yet")
     try:
-        with store.batch() if is_service else contextlib.nullcontext():
+        with store.batch(seen) if is_service else contextlib.nullcontext():
             store.merge(alt, *settlements_of(plan))
             store.put_many(alt, ((*key, plan.put[key]) for key in sorted(plan.put)))
             store.remove_many(alt, plan.remove)

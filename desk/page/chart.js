@@ -1,5 +1,6 @@
 // The map: what its window shows, what is marked on it, its scale, and the place of the pointer.
 import { $, make, fill, say, trying } from "./dom.js";
+import { showBackground } from "./background.js";
 import { ask } from "./server.js";
 import { desk } from "./shared.js";
 import { layersOff, pointOf, showLayers, STATES, styleOf } from "./styles.js";
@@ -9,9 +10,10 @@ import { show, showHere } from "./feature.js";
 const PIXEL = 0.0254 / 96; // metres of the screen
 const NEAREST = 200; // the map is never shown nearer than 1 to this
 const MOST_LABELS = 400;
+const MANY = 1000; // features from which on those that are as in the base are drawn on a canvas, which is quicker
 
 export let map;
-let features, density, chosen, request;
+let features, density, chosen, request, canvas;
 
 export function makeMap({ bounds, aspect, metres }) {
   const crs = L.extend({}, L.CRS.Simple, { transformation: new L.Transformation(aspect, 0, -1, 0) });
@@ -19,10 +21,14 @@ export function makeMap({ bounds, aspect, metres }) {
   const maxZoom = Math.log2(metres / (NEAREST * PIXEL));
   const moves = { zoomSnap: 0.25, attributionControl: false, doubleClickZoom: false };
   map = L.map("map", { crs, minZoom: -20, maxZoom, renderer, ...moves });
+  map.createPane("density").style.zIndex = 380;
+  map.createPane("many").style.zIndex = 390;
+  canvas = L.canvas({ pane: "many", padding: 0.3 });
   density = L.layerGroup().addTo(map);
   chosen = L.featureGroup().addTo(map);
   whole(bounds);
   map.on("moveend", () => trying(showWindow));
+  map.on("moveend", () => trying(showBackground));
   map.on("moveend zoomend", showScale);
   map.on("mousemove", ({ latlng }) => showPlace(latlng));
   map.on("click", (event) => trying(() => (tool.isOn() ? tool.click(event.latlng) : clicked(event))));
@@ -37,7 +43,10 @@ export const whole = (bounds) => map.fitBounds(corners(bounds || [0, 0, 1, 1]), 
 export const zoomTo = (bounds) => bounds && map.fitBounds(L.latLngBounds(corners(bounds)).pad(0.4), { animate: false });
 
 export function showMap() {
-  if (!map) makeMap(desk.design);
+  if (!map) {
+    makeMap(desk.design);
+    trying(showBackground);
+  }
   return trying(showWindow);
 }
 
@@ -51,8 +60,10 @@ export async function showWindow() {
   const order = Object.keys(STATES);
   told.features.sort((a, b) => order.indexOf(b.properties.status) - order.indexOf(a.properties.status));
   const hasLabels = told.features.length <= MOST_LABELS;
+  const isMany = told.features.length > MANY;
+  const onCanvas = ({ status }) => (isMany && status === "same" ? { renderer: canvas, pane: "many" } : {});
   const drawn = L.geoJSON(told, {
-    style: (feature) => styleOf(feature.properties),
+    style: ({ properties }) => ({ ...styleOf(properties), ...onCanvas(properties) }),
     pointToLayer: (feature, at) => pointOf(feature.properties, at),
     onEachFeature: ({ properties: { label }, geometry }, layer) => {
       const place = geometry?.type === "Point" ? { direction: "right", offset: [6, 0] } : { direction: "center" };
@@ -82,10 +93,9 @@ function showDensity(cells) {
     for (const [west, south, east, north, count] of its) {
       const fillOpacity = 0.08 + 0.32 * Math.sqrt(count / most);
       const how = { stroke: false, fillColor: "#7A828A", fillOpacity, interactive: false, className: "density" };
-      density.addLayer(L.rectangle([[south, west], [north, east]], how));
+      density.addLayer(L.rectangle([[south, west], [north, east]], { ...how, pane: "density" }));
     }
   }
-  density.eachLayer((it) => it.bringToBack());
 }
 
 // --- scale and place ----------------------------------------------------------------------------
@@ -94,6 +104,7 @@ export const scale = () => desk.design.metres / (2 ** map.getZoom() * PIXEL);
 export const zoomOf = (number) => Math.log2(desk.design.metres / (number * PIXEL));
 
 export function showScale() {
+  if (!desk.design) return; // Another one is read just now.
   const number = scale();
   const metres = [1, 2, 5].flatMap((it) => [...Array(9).keys()].map((n) => it * 10 ** (n - 1))).sort((a, b) => a - b);
   const length = metres.filter((it) => it / (number * PIXEL) <= 140).pop() || metres[0];

@@ -104,11 +104,11 @@ export function rows(list, none, work) {
 
 async function merge() {
   const { name, parent, conflicts_in_all: count } = desk.design;
-  const sides = await settled();
-  if (!sides) return;
+  const choices = await settled();
+  if (!choices) return;
   const how = count ? " Its conflicts are settled as you chose." : "";
   if (!await question(`Merge what ${parent} has changed into ${name}?${how}`, "Merge")) return;
-  const told = await carryOut({ do: "merge", ...sides }, `Merged ${parent} into ${name}.`);
+  const told = await carryOut({ do: "merge", choices }, `Merged ${parent} into ${name}.`);
   if (told) Object.assign(desk, { choices: new Map(), made: [] });
 }
 

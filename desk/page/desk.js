@@ -5,7 +5,7 @@ import { showMap, unmark } from "./chart.js";
 import { fillConflicts, keepChoices, readChoices } from "./conflicts.js";
 import { fillAbout, fillCompared, rows, showActions, showTree } from "./designs.js";
 import * as drawing from "./drawing.js";
-import { fillFeature, fillHere, show } from "./feature.js";
+import { fillFeature, fillHere, show, showAgain } from "./feature.js";
 import * as find from "./find.js";
 import { showOffice } from "./office.js";
 import { fillPrint, listen as listenToPrint } from "./printing.js";
@@ -62,7 +62,7 @@ export async function open(name) {
   find.showFields();
   showMap();
   if (desk.view !== "feature") await showView(true);
-  else if (!desk.edits) await show(desk.feature, false).catch(() => showOther("changes"));
+  else await showAgain();
   showHead();
 }
 
@@ -84,7 +84,7 @@ export async function carryOut(it, done, late) {
   }));
   const state = told && (await trying(() => ask("state", {})));
   if (state) await trying(() => take(state, told.batch));
-  if (told) say(done);
+  if (told) say([done, ...told.said].join(" "));
   desk.isSending = false;
   if (now && late) await late(now);
   return told;
@@ -113,7 +113,8 @@ export function showHead() {
   const press = (view) => () => trying(() => (view === "feature" && desk.feature.number ? show(desk.feature, false) : showOther(view)));
   fill($("views"), ...Object.entries(VIEWS).map(([view, { text }]) => [view, text(desk.design)]).filter(([, text]) => text)
     .map(([view, text]) => button(`view-${view}`, text, press(view), { "aria-pressed": `${desk.view === view}` })));
-  history.replaceState(null, "", `/${link(desk.view === "feature" && desk.feature?.number ? desk.feature : null)}`);
+  const feature = desk.view === "feature" && desk.feature?.number ? desk.feature : null;
+  history.replaceState(null, "", `${location.pathname}${link(feature)}`);
 }
 
 // What stands behind the # for what is shown.

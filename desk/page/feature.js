@@ -13,18 +13,30 @@ const INPUTS = { Integer: { inputmode: "numeric", pattern: "-?[0-9]+" }, Integer
 const name = ({ layer, number }) => (number ? `${layer} ${number}` : `a new feature of ${layer}`);
 const seen = ({ now }) => ({ attributes: now.attributes, course: now.course });
 
-export async function show({ table, number }, isToMove, other) {
-  const words = other ? { other } : {};
-  desk.feature = await ask("feature", { at: desk.at, table, number, ...words });
+const read = ({ table, number }, other) => ask("feature", { at: desk.at, table, number, ...(other ? { other } : {}) });
+
+export async function show(feature, isToMove, other) {
+  desk.feature = await read(feature, other);
+  await showRead(isToMove);
+}
+
+async function showRead(isToMove) {
   Object.assign(desk, { view: "feature", edits: false, late: null });
   markFeature(isToMove);
   await showView();
 }
 
-// Shows the feature once more, after something was undone, or the changes if it is gone.
+// Shows the feature once more, after something was undone or others have changed something, or the changes if it is gone.
+// What a person has asked for meanwhile stays.
 export async function showAgain() {
-  if (desk.view !== "feature" || !desk.feature.number) return;
-  await show(desk.feature, false).catch(() => showOther("changes"));
+  const { feature } = desk;
+  const isShown = () => desk.view === "feature" && desk.feature === feature && !desk.edits;
+  if (!isShown() || !feature.number) return;
+  const now = await read(feature, feature.other).catch(() => null);
+  if (!isShown()) return;
+  if (!now) return showOther("changes");
+  desk.feature = now;
+  return showRead(false);
 }
 
 function markFeature(isToMove) {

@@ -4,14 +4,18 @@ import { desk } from "./shared.js";
 // The address that altdesk prints has the token behind the #. It stays with this tab and with others of this page, for no other page
 // or port to read. The rest behind the # says what to show: a design, and a feature of it.
 const tabs = new BroadcastChannel("desk");
+// Behind a web server nobody needs a token: that knows who somebody is. The header says then that it is this page that
+// asks.
+const isBehind = document.documentElement.classList.contains("behind");
 
 export async function begin() {
   const given = new URLSearchParams(location.hash.slice(1));
+  if (isBehind) return given;
   if (given.get("token")) sessionStorage.setItem("token", given.get("token"));
   if (!sessionStorage.getItem("token")) await askOtherTabs();
   tabs.onmessage = ({ data }) => data === "token?" && tabs.postMessage({ token: sessionStorage.getItem("token") });
   given.delete("token");
-  history.replaceState(null, "", `/${given.size ? `#${given}` : ""}`);
+  history.replaceState(null, "", `${location.pathname}${given.size ? `#${given}` : ""}`);
   return given;
 }
 
@@ -27,14 +31,17 @@ function askOtherTabs() {
   });
 }
 
-export async function ask(path, words, how = {}) {
-  const headers = { ...how.headers, "X-Desk-Token": sessionStorage.getItem("token") || "" };
-  const answer = await fetch(`/api/${path}?${new URLSearchParams(words)}`, { ...how, headers });
+async function answerTo(path, words, how) {
+  const headers = { ...how.headers, "X-Desk-Token": isBehind ? "behind" : sessionStorage.getItem("token") || "" };
+  const answer = await fetch(`api/${path}?${new URLSearchParams(words)}`, { ...how, headers });
   if (answer.status === 403) throw new Error(await answer.text());
+  if (answer.ok) return answer;
   const told = await answer.json();
-  if (!answer.ok) throw Object.assign(new Error(told.fault), { now: told.now });
-  return told;
+  throw Object.assign(new Error(told.fault), { now: told.now });
 }
+
+export const ask = async (path, words, how = {}) => (await answerTo(path, words, how)).json();
+export const askPicture = async (path, words, how) => (await answerTo(path, words, how)).blob();
 
 const post = (path, it) =>
   ask(path, {}, { method: "POST", headers: { "Content-Type": "application/json" }, body: JSON.stringify(it) });

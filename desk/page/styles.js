@@ -1,6 +1,7 @@
 // How features are drawn: by whether they are changed, or else by the style of their layer. The list of layers, and the form of a
 // style.
 import { $, button, fill, make, options, own, sample, svg, trying } from "./dom.js";
+import { backgroundItem } from "./background.js";
 import { carryOut, showOther } from "./desk.js";
 import { ask } from "./server.js";
 import { desk } from "./shared.js";
@@ -86,7 +87,7 @@ export function showLayers(drawn = []) {
     const change = button(`style-${table}`, "Style", () => trying(() => showStyle(layer)), { "aria-label": `Style of ${name}` });
     const count = counts.get(table);
     return make("li", {}, make("label", {}, box, " ", sampleOf(layer), name), change, make("small", {}, about(layer, count)));
-  }));
+  }), backgroundItem());
 }
 
 function about(layer, count) {

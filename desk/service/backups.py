@@ -2,12 +2,15 @@
 import errno
 import os
 import re
+import shutil
 import signal
 import stat
 import subprocess
+import threading
 import time
-from typing import Callable, Iterable, List
+from typing import Callable, Iterable, List, Tuple
 
+from service import pacing
 from service.batch import Batch
 from service.journal import sync_folder
 from service.limits import refusal
@@ -17,14 +20,17 @@ NAME = re.compile(rb"[A-Za-z0-9_][A-Za-z0-9_.-]{0,31}")
 # The name of a copy that is not complete: of which backup, and by which process. `altctl copy` makes it under a name of its own,
 # with `.part` behind that.
 PART = re.compile(r"\.[A-Za-z0-9_][A-Za-z0-9_.-]{0,31}\.[0-9]+\.part(\.part)?")
-
-
 # Once the second program has read this much of the store, it has read the slot.
 READ_BYTES = 64 << 10
 # The status of a program whose device failed.
 STOPPED = 3
 # Blocks that have to be free for a record that is to change.
 MARGIN = 17
+# How a program is started that signals to the service do not reach. What it says is little.
+QUIETLY = {"stdin": subprocess.DEVNULL, "stdout": subprocess.DEVNULL, "stderr": subprocess.PIPE}
+QUIETLY["start_new_session"] = True
+# How often a copy is made beside batches before it is made while they wait.
+TRIES = 2
 
 
 class Backups:
@@ -53,14 +59,16 @@ class Backups:
     def copy_alone(self, part: str) -> None:
         """Copies while nothing else is done: by the program if it can, under the lock that is held here, else the file as it is,
         which holds nothing uncommitted."""
-        file = self.store.file
+        file, said = self.store.file, ""
         if self.has_copy:
-            status = quietly([self.store.altctl, "copy", "--no-lock", "--", file, part])
+            status, said = quietly([self.store.altctl, "copy", "--no-lock", "--", file, part])
             self.has_copy = status != 2
             if status == 0:
                 return
-        if self.has_copy or quietly(["cp", "--reflink=auto", "--", file, part]):
-            raise OSError(errno.EIO, "it could not be copied")
+        if not self.has_copy:
+            status, said = quietly(["cp", "--reflink=auto", "--", file, part])
+        if self.has_copy or status:
+            raise OSError(errno.EIO, said or f"the copy ended with status {status}")
 
 
 class Copy:
@@ -69,19 +77,46 @@ class Copy:
     That is safe as long as no block of that state is written again. A commit writes only free blocks and the slot that is not in
     use, so one commit may come before the second program has read the slot. Blocks become free only when the program marks, and
     that it does for a line `reclaim`, or if fewer than 17 blocks are free for each record that is to change. So the free blocks
-    are watched: if there may have been too few, the copy is made again while nothing else is done."""
+    are watched: if there may have been too few, the copy is made again, at last while nothing else is done."""
 
     def __init__(self, store: Store, part: str, name: str):
-        if not store.is_in_place():
+        self.store, self.part, self.name, self.begun, self.tries = store, part, name, time.monotonic(), 0
+        self.begin()
+
+    def begin(self) -> None:
+        """Starts the second program. `end` can be read once that has ended, and what it has made is durable."""
+        if not self.store.is_in_place():
             raise OSError(errno.ESTALE, "another file has the name of the store")
-        self.store, self.part, self.name, self.begun = store, part, name, time.monotonic()
-        self.free, self.commits, self.is_spoiled, self.starts = free_blocks(store), 0, False, store.starts
+        self.free, self.commits, self.is_spoiled, self.starts = free_blocks(self.store), 0, False, self.store.starts
         # How much the second program had read when it had opened the store, and whether it has read the slot.
         self.before, self.is_open = None, False
-        words = [store.altctl, "copy", "--no-lock", "--", store.file, part]
-        nothing = subprocess.DEVNULL
-        self.process = subprocess.Popen(words, stdin=nothing, stdout=nothing, stderr=nothing, start_new_session=True)
-        self.end = os.pidfd_open(self.process.pid)
+        self.size, self.fault, self.said, self.tries = 0, None, "", self.tries + 1
+        self.end, ended = os.pipe()
+        try:
+            self.process = subprocess.Popen(at_end_killed(self._words()), **QUIETLY)
+            program = os.pidfd_open(self.process.pid)
+        except OSError:
+            os.close(self.end)
+            os.close(ended)
+            raise
+        self.thread = threading.Thread(target=self._follow, args=(program, ended), daemon=True)
+        self.thread.start()
+
+    def _words(self) -> List[str]:
+        return [self.store.altctl, "copy", "--no-lock", "--", self.store.file, self.part]
+
+    def _follow(self, program: int, ended: int) -> None:
+        """Has the second program hold up nobody, and syncs the copy, so that no other work waits for that."""
+        try:
+            pacing.pace(program, names_of(self.part))
+            with self.process.stderr as stream:
+                self.said = text_of(stream.read())
+            self.size = synced(self.part)
+        except OSError as fault:
+            self.fault = fault
+        finally:
+            os.close(program)
+            os.close(ended)
 
     def may_commit(self) -> bool:
         """Whether a group of batches may be carried out now."""
@@ -121,31 +156,67 @@ class Copy:
         self.is_spoiled = self.is_spoiled or self.free - 2 * MARGIN * (changed + 1) < MARGIN
         self.free = free_blocks(self.store)
 
+    def is_to_be_made_again(self) -> bool:
+        """Whether the copy may be none of a state that was committed, and is to be made beside batches once more."""
+        status = self.process.wait()
+        return status != STOPPED and self.tries < TRIES and self._is_worthless(status)
+
+    def _is_worthless(self, status: int) -> bool:
+        # The opening of a program that was started again has marked.
+        return bool(status) or self.is_spoiled or self.store.starts != self.starts
+
+    def begin_again(self) -> "Copy":
+        self._close()
+        remove_copy(self.part)
+        self.begin()
+        return self
+
     def finish(self, copy_alone: Callable[[str], None]) -> bytes:
         """Gives the copy its name once it is whole, and returns the answer to the line that asked for it."""
         try:
-            os.close(self.end)
+            self._close()
             status = self.process.wait()
             if status == STOPPED:
-                raise OSError(errno.EIO, "a device failed, or there is no space")
-            # The opening of a program that was started again has marked.
-            if status or self.is_spoiled or self.store.starts != self.starts:
+                raise OSError(errno.EIO, f"a device failed, or there is no space\n{self.said}".strip())
+            if self._is_worthless(status):
                 remove_copy(self.part)
                 copy_alone(self.part)
-            size = synced(self.part)
-            os.replace(self.part, self.name)
-            sync_folder(self.part)
+                self.size = synced(self.part)
+            elif self.fault is not None:
+                raise self.fault
+            self._name()
         except OSError as fault:
+            self.fault = fault
             remove_copy(self.part)
             return refused(fault)
-        return b"ok %d %.3f" % (size, time.monotonic() - self.begun)
+        self.fault = None
+        return b"ok %d %.3f" % (self.size, time.monotonic() - self.begun)
+
+    def _name(self) -> None:
+        """Gives the copy its name."""
+        earlier = pacing.held(self.name)
+        try:
+            os.replace(self.part, self.name)
+            sync_folder(self.part)
+        finally:
+            pacing.let_go(earlier)
+
+    def _close(self) -> None:
+        self.thread.join()
+        os.close(self.end)
 
     def stop(self) -> None:
         """Gives it up."""
         os.killpg(self.process.pid, signal.SIGKILL)
         self.process.wait()
-        os.close(self.end)
+        self._close()
         remove_copy(self.part)
+
+
+def at_end_killed(words: List[str]) -> List[str]:
+    """The words of a program that ends with the service, however that ends: it may stand still just then."""
+    setpriv = shutil.which("setpriv")
+    return ([setpriv, "--pdeathsig", "KILL", "--"] if setpriv else []) + words
 
 
 def free_blocks(store: Store) -> int:
@@ -163,17 +234,23 @@ def remove_copy(part: str) -> None:
     """Removes a copy, under each name that it may have."""
     for name in names_of(part):
         if os.path.lexists(name):
+            file = pacing.held(name)
             os.unlink(name)
+            pacing.let_go(file)
 
 
 def refused(fault: OSError) -> bytes:
     return refusal(98, errno.errorcode.get(fault.errno, "EIO"))
 
 
-def quietly(words: List[str]) -> int:
-    """Runs a command that signals to the service do not reach, and returns its status."""
-    nothing = subprocess.DEVNULL
-    return subprocess.run(words, stdin=nothing, stdout=nothing, stderr=nothing, start_new_session=True).returncode
+def quietly(words: List[str]) -> Tuple[int, str]:
+    """Runs a command that signals to the service do not reach, and returns its status and what it said."""
+    ran = subprocess.run(words, **QUIETLY)
+    return ran.returncode, text_of(ran.stderr)
+
+
+def text_of(said: bytes) -> str:
+    return said.decode(errors="replace").strip()
 
 
 def synced(path: str) -> int:

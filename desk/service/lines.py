@@ -44,15 +44,18 @@ LINES = {
 SINGLE = {verb for verb, line in LINES.items() if line.kind == "query"}
 ROWS = {verb for verb, line in LINES.items() if line.kind == "rows"}
 RIGHTS = {verb: line.right for verb, line in LINES.items() if line.kind == "change"}
-OF_THE_STORE = {"reclaim", "grow", "backup", "archive"}
+OF_THE_STORE = {"reclaim", "grow", "backup", "archive", "act"}
 
 # Lines that the service itself answers.
-OWN_WORDS = {b"begin", b"commit", b"abort", b"rollback", b"whoami", b"batches", b"backup", b"archive", b"log", b"status"}
+OWN_WORDS = {b"begin", b"commit", b"abort", b"rollback"}
+OWN_WORDS |= {b"for", b"whoami", b"batches", b"backup", b"archive", b"log", b"status"}
 
 NAME = re.compile(rb"[A-Za-z0-9_.-]{1,32}")
 # The alternative of a field office, and its marks: checkpoints of any alternative. docs/FIELD-OFFICES.md has what they are for.
 OFFICE = re.compile(rb"\.office\.([A-Za-z0-9_-]{1,15})")
 MARK = re.compile(OFFICE.pattern + rb"\.[A-Za-z0-9_.-]+")
+# A person for whom another one acts. Digits alone would be the number of a user, and a group has `@` before its name.
+PERSON = re.compile(rb"(?![0-9]+$)[A-Za-z0-9_.-][A-Za-z0-9_.@+-]{0,63}")
 SEEN = re.compile(rb"([A-Za-z0-9_.-]{1,32})=([0-9]{1,19})")
 
 

@@ -8,7 +8,9 @@ from typing import Dict, List, Optional, Union
 from service import limits
 from service.batch import Batch
 from service.limits import BAD_LINE, LONG_LINE, refusal
-from service.lines import OWN_WORDS, RIGHTS, ROWS, SINGLE, alternative_of, line_of, office_of, printable, seen_of, words_of
+from service.lines import OWN_WORDS, PERSON, RIGHTS, ROWS, SINGLE
+from service.lines import alternative_of, line_of, office_of, printable, seen_of, words_of
+from service.rules import acted_for
 from service.unread import Unread
 
 # How many decisions on rights are remembered for a planner.
@@ -27,10 +29,10 @@ class Query:
 
 
 class Word:
-    """A line that the service itself answers."""
+    """A line that the service itself answers, to the person whose line it was."""
 
-    def __init__(self, words: List[bytes]):
-        self.words = words
+    def __init__(self, words: List[bytes], person):
+        self.words, self.person = words, person
 
 
 class Forgotten:
@@ -51,7 +53,8 @@ class Planner:
     """Its lines stay as they came until they are needed: only the lines of a batch that is held are taken at once."""
 
     def __init__(self, server, connection: socket.socket, person):
-        self.server, self.connection, self.person = server, connection, person
+        # Who is at the other end, and for whom.
+        self.server, self.connection, self.user, self.person = server, connection, person, person
         # What has arrived, where the first line in it begins, and how far it was searched for the end of a line.
         self.text, self.at, self.sought = bytearray(), 0, 0
         # The refusal that a line gets whose bytes are not kept.
@@ -168,10 +171,23 @@ class Planner:
         elif words in ([b"commit"], [b"abort"], [b"rollback"]):
             # Each earlier line was a batch of its own, so it is committed, and nothing can be taken back.
             self._add(b"ok\n")
+        elif verb == b"for" and len(words) == 2 and PERSON.fullmatch(words[1]):
+            answer = self._act_for(words[1].decode())
+            self._tell(answer, line)
+            self._add(answer + b"\n")
         elif verb in OWN_WORDS:
-            self._add(Word(words))
+            self._add(Word(words, self.person))
         else:
             self._add(BAD_LINE + b"\n")
+
+    def _act_for(self, name: str) -> bytes:
+        """Takes the lines from now on as another person's, if the user at the other end may act for others. Gives the
+        answer."""
+        denial = self.server.rules.denial(self.user, "act")
+        if denial is not None:
+            return refusal(90, *denial)
+        self.person, self.allowed = acted_for(self.user, name), {}
+        return b"ok"
 
     def _batch(self, lines: List[bytes], is_explicit: bool, seen: Optional[Dict[str, int]] = None) -> Batch:
         return Batch(self.person, lines, is_explicit, self.server.rules, self, seen)

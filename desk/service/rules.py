@@ -2,6 +2,7 @@
 
     grow = ["@operators"]
     backup = ["@operators", "berta"]
+    act = ["altdesk"]
 
     [change]
     "north*" = ["anna", "@north"]
@@ -15,10 +16,11 @@
     [entries]
     anna = 200
 
-A rule lists users, groups (`@NAME`), or `*` for everybody. Rules for `change`, `new`, `post` and `drop` name alternatives, those
-for `office` field offices: an exact name takes precedence over patterns, and otherwise one matching pattern that lists the person is
-enough. What no rule allows is denied. `entries` has how many alternatives and checkpoints users may have made. Without the file only
-the user that the service runs as may change anything."""
+A rule lists users, groups (`@NAME`), or `*` for everybody. Rules for `change`, `new`, `post` and `drop` name
+alternatives, those for `office` field offices: an exact name takes precedence over patterns, and otherwise one matching
+pattern that lists the person is enough. What no rule allows is denied. Who may `act` says for whom: rules are then
+about that person. `entries` has how many alternatives and checkpoints users may have made. Without the file only the
+user that the service runs as may change anything."""
 import fnmatch
 import grp
 import os
@@ -37,11 +39,13 @@ TOP = b"top"
 
 
 class Person(NamedTuple):
-    """Who is at the other end of a socket, according to the kernel."""
+    """Who is at the other end of a socket, according to the kernel, or the one for whom that user acts, who is
+    `through` then."""
 
     uid: int
     name: str
     groups: frozenset
+    through: Optional["Person"] = None
 
 
 def person_of(connection):
@@ -53,6 +57,16 @@ def person_of(connection):
     except KeyError:
         name, gids = str(uid), {gid}
     return Person(uid, name, frozenset(map(group_name, gids)))
+
+
+def acted_for(user: Person, name: str) -> Person:
+    """The person of this name, for whom a user acts: with the groups that the system gives a user of that name, if
+    there is one."""
+    try:
+        gids = os.getgrouplist(name, pwd.getpwnam(name).pw_gid)
+    except KeyError:
+        gids = []
+    return Person(user.uid, name, frozenset(map(group_name, gids)), user)
 
 
 def group_name(gid):
@@ -108,7 +122,7 @@ class Rules:
     def denial(self, person, right, alternative=None):
         """None if the person has the right; else the right, and the rule that denies it."""
         if self.table is None:
-            return None if person.uid == self.owner else (right, "~")
+            return None if person.uid == self.owner and person.through is None else (right, "~")
         if right == "new" and right not in self.table:
             # Anybody may begin a design; below another one only who may change that.
             return None if alternative == TOP else self.denial(person, "change", alternative)
@@ -128,6 +142,9 @@ class Rules:
         right, alternative = RIGHTS[words[0]], alternative_of(words)
         if names_own(words):
             return refusal(90, right, OWN.decode())
+        denial = None if person.through is None else self.denial(person.through, "act")
+        if denial is not None:
+            return refusal(90, *denial)
         office = office_of(words)
         if office is not None and self.table is not None and self.denial(person, "office", office) is None:
             return None

@@ -8,6 +8,7 @@ import time
 from collections import deque
 from typing import Callable, Dict, List, Optional
 
+from reasons import why
 from service import limits
 from service.archives import is_moment
 from service.backups import NAME, Backups, Copy, refused
@@ -16,7 +17,7 @@ from service.batches import Batches
 from service.journal_log import filter_of
 from service.limits import BAD_LINE, refusal
 from service.planner import LOOK_LONG, Forgotten, Planner, Query, Request, Word
-from service.rules import Rules, Unreadable, person_of
+from service.rules import Person, Rules, Unreadable, person_of
 from service.signals import Signals
 from service.status import Value, memory, status_lines
 from service.turns import Pace, Turns, work_of
@@ -180,7 +181,7 @@ class Server:
                 self.batches.look_at_changes(it)
                 planner.settled(it)
             elif isinstance(it, Word):
-                self._answer_word(planner, it.words)
+                self._answer_word(planner, it)
             else:
                 planner.answer(next(answers) + b"\n" if isinstance(it, Query) else it if isinstance(it, bytes) else it.text())
 
@@ -218,11 +219,11 @@ class Server:
                 if not self.batches.ask_rows(request.line, planner.answer):
                     planner.close()
             else:
-                self._answer_word(planner, request.words)
+                self._answer_word(planner, request)
 
-    def _answer_word(self, planner: Planner, words: List[bytes]) -> None:
-        verb, *others = words
-        person = planner.person
+    def _answer_word(self, planner: Planner, request: Word) -> None:
+        verb, *others = request.words
+        person = request.person
         if verb == b"whoami" and not others:
             planner.answer(" ".join(["planner", person.name, str(person.uid), *sorted(person.groups)]).encode() + b"\n")
         elif verb == b"batches" and not others:
@@ -232,20 +233,20 @@ class Server:
         elif verb == b"log":
             self._begin_log(planner, others)
         elif verb == b"backup" and len(others) == 1 and NAME.fullmatch(others[0]):
-            if self._has_right(planner, "backup"):
+            if self._has_right(person, planner, "backup"):
                 planner.job = self.wanted
                 self.wanted.append((planner, others[0].decode()))
                 self._begin_backup()
         elif verb == b"archive" and len(others) == 2 and NAME.fullmatch(others[0]) and is_moment(others[1].decode("latin-1")):
-            if self._has_right(planner, "archive"):
+            if self._has_right(person, planner, "archive"):
                 planner.job = self.batches.archive(*(it.decode() for it in others))
                 self.logs.append(planner)
         else:
             planner.answer(BAD_LINE + b"\n")
 
-    def _has_right(self, planner: Planner, right: str) -> bool:
-        """Whether a planner has a right of the store as a whole; if not, that is the answer."""
-        denial = self.rules.denial(planner.person, right)
+    def _has_right(self, person: Person, planner: Planner, right: str) -> bool:
+        """Whether a person has a right of the store as a whole; if not, that is the answer."""
+        denial = self.rules.denial(person, right)
         if denial is not None:
             planner.answer(refusal(90, *denial) + b"\n")
         return denial is None
@@ -284,21 +285,28 @@ class Server:
     def _begin_backup(self) -> None:
         """Begins the next backup that is wanted, if none is under way."""
         while self.wanted and self.copy is None:
-            planner, name = self.wanted[0]
-            try:
-                self.copy = self.backups.begin(name)
-                self.selector.register(self.copy.end, selectors.EVENT_READ, self._end_backup)
-            except OSError as fault:
-                self._answer_backup(refused(fault))
+            self._go_on(lambda: self.backups.begin(self.wanted[0][1]))
+
+    def _go_on(self, begin: Callable[[], Copy]) -> None:
+        try:
+            self.copy = begin()
+            self.selector.register(self.copy.end, selectors.EVENT_READ, self._end_backup)
+        except OSError as fault:
+            self._answer_backup(refused(fault), fault)
 
     def _end_backup(self, _events: int) -> None:
         copy, self.copy = self.copy, None
         self.selector.unregister(copy.end)
-        self._answer_backup(copy.finish(self.backups.copy_alone))
+        if copy.is_to_be_made_again():
+            self._go_on(copy.begin_again)
+        else:
+            self._answer_backup(copy.finish(self.backups.copy_alone), copy.fault)
         self._begin_backup()
 
-    def _answer_backup(self, answer: bytes) -> None:
-        planner, _ = self.wanted.popleft()
+    def _answer_backup(self, answer: bytes, fault: Optional[OSError] = None) -> None:
+        planner, name = self.wanted.popleft()
+        if fault is not None:
+            self.batches.teller.tell("no backup", f"{name} could not be made\n{why(fault)}")
         planner.job = None
         planner.answer(answer + b"\n")
 

@@ -4,6 +4,7 @@ import os
 import time
 from typing import Callable, Dict, List, Set, Tuple
 
+from altctl import why_unopened
 from service.entries import Entries
 from service.journal import settle
 from service.limits import refusal
@@ -54,7 +55,8 @@ class Store:
                 status = self.program.end()
                 if status >= 0:
                     break
-        raise Fatal(f"altctl ended with status {status} at its start")
+        reason = why_unopened(self.file, False)
+        raise Fatal(f"altctl ended with status {status} at its start" + (f"\n{self.file}: {reason}" if reason else ""))
 
     def _started(self) -> Program:
         for _ in range(WAITS):

@@ -27,7 +27,7 @@ HAS_NC = not subprocess.run(["sh", "-c", "nc -h 2>&1 | grep -q -e -U"]).returnco
 NEEDS_TOML = "neither Python 3.11 nor tomli (python3-tomli) is installed"
 # Starts the service with other limits, or without a module.
 CHANGED = """import runpy, sys
-sys.path[:0] = [{path!r}]
+sys.path[:0] = {path!r}
 {change}
 sys.argv[0] = {file!r}
 runpy.run_path({file!r}, run_name="__main__")
@@ -123,7 +123,8 @@ class ServiceTest(unittest.TestCase):
 
     def launch(self, *options, change="", before=(), **how):
         """Starts the service, after a change of its limits."""
-        text = CHANGED.format(path=str(DESK), file=ALTSERVE, change=change)
+        path = [str(DESK), str(DESK.parent / "clients" / "python")]
+        text = CHANGED.format(path=path, file=ALTSERVE, change=change)
         words = [*before, sys.executable, "-c", text, "--program", ALTCTL, *options, self.file]
         with open(self.said, "wb") as said:
             self.service = subprocess.Popen(words, stderr=said, **how)

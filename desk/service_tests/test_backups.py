@@ -1,26 +1,33 @@
 """Backups that are made while batches go on."""
+import fcntl
 import os
 import subprocess
 import sys
+import tempfile
 import threading
+import time
+import unittest
 from pathlib import Path
 from unittest import mock
 
-from service import backups
+from service import backups, pacing
 from service.backups import Copy
 from service_tests.support import ALTCTL, LONG, ServiceTest
 
-# A program whose copy ends only once there is a file `go`. It notes each copy, and reads the store itself first, as a program would.
+# A program whose copy ends only once there is a file `go`; if that has a number, only that many copies end. It notes
+# each copy, and reads the store itself first, as a program would.
 SLOW = """#!{python}
 import os, subprocess, sys, time
 
 if sys.argv[1] == "copy":
-    with open({log!r}, "a") as log:
-        print("copy", file=log)
+    with open({log!r}, "a+") as log:
+        print("copy", file=log, flush=True)
+        log.seek(0)
+        number = len(log.readlines())
     with open(sys.argv[-2], "rb") as store:
         store.read(300_000)
         ran = subprocess.run([{altctl!r}, *sys.argv[1:]])
-        while not os.path.exists({go!r}):
+        while not os.path.exists({go!r}) or number > int(open({go!r}).read() or 9):
             time.sleep(0.02)
     sys.exit(ran.returncode)
 os.execv({altctl!r}, [{altctl!r}, *sys.argv[1:]])
@@ -79,6 +86,57 @@ class BackupTests(ServiceTest):
                 self.assertEqual("ok", one.read()[0].split()[0])
                 self.assertEqual(2, self.count() - before, lines)
                 self.assertEqual(["value a"], self.in_backup("a", "get top 1 3"))
+
+    def test_blocks_become_free_each_time(self):
+        """The third copy is made while all others wait."""
+        self.start_slow()
+        with self.planner() as one, self.planner() as other:
+            one.send("backup a")
+            for number in (1, 2):
+                self.until(lambda: self.count() == number)
+                other.ask("reclaim", f"put top 1 {number} a")
+                self.go.with_name("next").write_text(str(number))
+                os.replace(self.go.with_name("next"), self.go)
+            self.until(lambda: self.count() == 3)
+            other.send("put top 1 3 a")
+            time.sleep(0.5)
+            self.go.write_text("")
+            self.assertEqual("ok", one.read()[0].split()[0])
+        self.assertEqual(["value a", "none"], self.in_backup("a", "get top 1 2", "get top 1 3"))
+
+    def children(self):
+        return Path(f"/proc/{self.service.pid}/task/{self.service.pid}/children").read_text().split()
+
+    def test_an_earlier_backup_that_somebody_reads(self):
+        self.start()
+        with self.planner() as one:
+            self.assertEqual("ok", one.ask("backup a")[0].split()[0])
+            name, link = f"{self.file}.backups/a", Path(self.folder, "link")
+            due = Path(name).read_bytes()
+            with open(name, "rb") as reader:
+                one.ask("put top 1 1 a", "backup a")
+                time.sleep(0.5)
+                self.assertEqual(due, reader.read())
+            due = Path(name).read_bytes()
+            os.link(name, link)
+            one.ask("put top 1 2 a", "backup a")
+            time.sleep(0.5)
+            self.assertEqual(due, link.read_bytes())
+            # A backup may be a link to elsewhere, and what is there stays.
+            os.unlink(name)
+            os.symlink(link, name)
+            one.ask("put top 1 3 a", "backup a")
+            time.sleep(0.5)
+            self.assertEqual((due, False), (link.read_bytes(), os.path.islink(name)))
+
+    def test_a_service_that_is_killed_meanwhile(self):
+        self.start_slow()
+        with self.planner() as one:
+            one.send("backup a")
+            self.until(self.count)
+            [copy] = [it for it in self.children() if b"\0copy\0" in Path(f"/proc/{it}/cmdline").read_bytes()]
+            self.stop(9)
+            self.until(lambda: not os.path.exists(f"/proc/{copy}") or is_dead(copy))
 
     def test_too_few_blocks_are_free(self):
         os.unlink(self.file)
@@ -141,3 +199,115 @@ class BackupTests(ServiceTest):
                 for it in commits:
                     copy.note([], it)
             self.assertEqual((sum(commits), spoils), (copy.commits, copy.is_spoiled), (commits, is_open))
+
+
+def state_of(process):
+    return Path(f"/proc/{process}/stat").read_text().rsplit(")", 1)[1].split()[0]
+
+
+def is_dead(process):
+    """Whether it waits for nothing but to be asked for its status."""
+    try:
+        return state_of(process) == "Z"
+    except OSError:
+        return True
+
+
+class PacingTests(unittest.TestCase):
+    """A program that writes, and files that go."""
+
+    def setUp(self):
+        folder = tempfile.TemporaryDirectory()
+        self.addCleanup(folder.cleanup)
+        self.path = Path(folder.name, "file")
+
+    def paced(self, write_out, paths=None):
+        """Runs a program that writes for half a second, at its pace."""
+        text = f"import time\nfile = open({str(self.path)!r}, 'wb', buffering=0)\nuntil = time.monotonic() + 0.5\n"
+        text += "while time.monotonic() < until: file.write(bytes(4096))"
+        with subprocess.Popen([sys.executable, "-c", text]) as process:
+            program = os.pidfd_open(process.pid)
+            try:
+                with mock.patch.object(pacing, "write_out", lambda file: write_out(process.pid, file)):
+                    pacing.pace(program, paths or [f"{self.path}.none", str(self.path)])
+            finally:
+                os.close(program)
+        return process.returncode
+
+    def test_a_program_stands_still_while_the_device_is_at_work(self):
+        seen = []
+
+        def write_out(process, file):
+            for _ in range(100):
+                if state_of(process) == "T":
+                    break
+                time.sleep(0.01)
+            before = os.fstat(file).st_size
+            time.sleep(0.01)
+            seen.append((state_of(process), os.fstat(file).st_size - before))
+
+        self.assertEqual(0, self.paced(write_out))
+        self.assertGreater(len(seen), 2)
+        self.assertLessEqual({*seen}, {("T", 0), ("Z", 0)})
+        self.assertGreater(self.path.stat().st_size, 0)
+
+    def test_a_program_goes_on_where_nothing_can_be_written_out(self):
+        write_out = mock.Mock(side_effect=OSError(5, "a fault of the device"))
+        self.assertEqual(0, self.paced(write_out))
+        write_out.assert_called()
+        self.assertEqual(0, self.paced(lambda *_: None, [f"{self.path}.none"]))
+
+    def test_what_is_written_goes_to_the_device(self):
+        with open(self.path, "w+b") as file:
+            file.write(bytes(1 << 20))
+            file.flush()
+            for has_call in (True, False):
+                with mock.patch.object(pacing, "_sync_file_range", pacing._sync_file_range if has_call else None):
+                    pacing.write_out(file.fileno())
+            self.assertEqual(bytes(1 << 20), self.path.read_bytes())
+
+    def test_blocks_of_a_file_that_goes(self):
+        with open(self.path, "wb") as file:
+            file.write(bytes(3 * pacing.STEP + 1))
+        kept, sizes = pacing.held(str(self.path)), []
+        self.path.unlink()
+        with mock.patch.object(os, "ftruncate", lambda _, size: sizes.append(size)):
+            with mock.patch.object(pacing, "has_alone", return_value=True):
+                pacing._let_go(os.dup(kept))
+        self.assertEqual([2 * pacing.STEP + 1, pacing.STEP + 1, 1, 0], sizes)
+        os.close(kept)
+
+    def test_a_file_that_others_have_stays_whole(self):
+        self.path.write_bytes(b"a" * 100)
+        for is_open, is_linked in ((True, False), (False, True)):
+            link = self.path.with_name("link")
+            os.link(self.path, link)
+            kept, reader = pacing.held(str(link)), open(link, "rb") if is_open else None
+            link.unlink()
+            if not is_linked:
+                self.path.unlink()
+            pacing._let_go(kept)
+            if reader is not None:
+                self.assertEqual(b"a" * 100, reader.read())
+                reader.close()
+                self.path.write_bytes(b"a" * 100)
+            else:
+                self.assertEqual(b"a" * 100, self.path.read_bytes())
+
+    def test_who_has_a_file_alone(self):
+        self.path.touch()
+        with open(self.path, "r+b") as one:
+            self.assertEqual(os.major(self.path.stat().st_dev) != 0, pacing.has_alone(one.fileno()))
+            with open(self.path, "rb"):
+                self.assertFalse(pacing.has_alone(one.fileno()))
+
+    def test_only_plain_files_are_held(self):
+        link, pipe = self.path.with_name("link"), self.path.with_name("pipe")
+        self.path.touch()
+        link.symlink_to(self.path)
+        os.mkfifo(pipe)
+        for path in (link, pipe, self.path.parent, self.path.with_name("none")):
+            self.assertIsNone(pacing.held(str(path)), path)
+        file = pacing.held(str(self.path))
+        self.assertTrue(fcntl.fcntl(file, fcntl.F_GETFD) & fcntl.FD_CLOEXEC)
+        os.close(file)

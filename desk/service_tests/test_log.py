@@ -266,6 +266,16 @@ os.write = write"""
             self.assertEqual(["1 put top 1 1 a"], self.log())
         self.assertEqual(b"".join(others), Path(f"{self.journal}.cut").read_bytes())
 
+    def test_nobody_reads_on(self):
+        self.start()
+        with self.planner() as one:
+            self.assertEqual(["ok"] * 50, one.ask(*(f"put top 7 1 {'x' * 3000}{it}" for it in range(50))))
+        how = {"stdout": subprocess.PIPE, "stderr": subprocess.PIPE, "text": True}
+        with subprocess.Popen([sys.executable, ALTSERVE, "log", self.file], **how) as log:
+            self.assertTrue(log.stdout.readline().startswith("entry 1 "))
+            log.stdout.close()
+            self.assertEqual(("", 0), (log.stderr.read(), log.wait()))
+
     def test_a_file_without_a_journal(self):
         ran = subprocess.run([sys.executable, ALTSERVE, "log", self.file], stdout=subprocess.PIPE, stderr=subprocess.PIPE)
         self.assertEqual((1, b"", 2), (ran.returncode, ran.stdout, ran.stderr.count(b"\n")), ran.stderr)

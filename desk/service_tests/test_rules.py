@@ -1,6 +1,7 @@
 """Tests of the service: rules."""
 import grp
 import os
+import pwd
 import signal
 import time
 import unittest
@@ -237,3 +238,72 @@ class RulesTests(ServiceTest):
             due = ["ok", "ok", "ok", "ok", "value a", "error 90 Denied backup", f"planner nobody {NOBODY} nogroup"]
             self.assertEqual(due, ask())
             self.assertEqual(["1 nobody", "2 nobody"], [f"{it['batch']} {it['who']}" for it in kept_batches(self.journal)])
+
+
+class ActingTests(ServiceTest):
+    """One connection for others, as that of a desk behind a web server."""
+
+    @unittest.skipUnless(HAS_TOML, NEEDS_TOML)
+    def test_rules_are_about_the_person_who_is_acted_for(self):
+        me = pwd.getpwuid(os.geteuid()).pw_name
+        change = '[change]\nnorth = ["anna"]\n"south*" = ["berta@office.example"]'
+        self.rules(f'act = ["{me}"]\nbackup = ["berta"]\n{change}')
+        self.start()
+        with self.planner() as one, self.planner() as other:
+            self.assertEqual(["error 90 Denied change north"], one.ask("new north top"))
+            self.assertEqual(["ok", "ok", "ok"], one.ask("for anna", "new north top", "put north 7 1 duct"))
+            due = [f"planner anna {os.geteuid()}", "error 90 Denied change south*"]
+            self.assertEqual(due, one.ask("whoami", "new south top"))
+            # The right to act is that of the user at the other end, so one may go on for the next person.
+            due = ["ok", "ok", "error 90 Denied change north", "error 90 Denied backup"]
+            lines = "for berta@office.example", "new south top", "put north 7 1 pipe", "backup a"
+            self.assertEqual(due, one.ask(*lines))
+            self.assertEqual(["ok", "ok"], [it.split()[0] for it in one.ask("for berta", "backup a")])
+            self.assertEqual([f"planner {me}"], [" ".join(it.split()[:2]) for it in other.ask("whoami")])
+            # What a batch is for is settled when it begins.
+            due = ["ok", "ok", "error 91 NotDone 2", "error 93 NotInBatch", "error 91 NotDone 2"]
+            self.assertEqual(due, one.ask("for anna", "begin", "put north 7 1 hose", "for berta", "commit"))
+            self.assertEqual(["value duct"], one.ask("get north 7 1"))
+        found = [(it["who"], it["uid"], it["alternatives"]) for it in kept_batches(self.journal)]
+        due = [("anna", os.geteuid(), ["north"])] * 2 + [("berta@office.example", os.geteuid(), ["south"])]
+        self.assertEqual(due, found)
+        told = [it.split(" ", 1)[1] for it in self.log("--planner", "anna")]
+        self.assertEqual(["new north top", "put north 7 1 duct"], told)
+
+    @unittest.skipUnless(HAS_TOML, NEEDS_TOML)
+    def test_who_may_not_act_and_what_is_no_person(self):
+        self.rules('act = ["desk"]\n[change]\n"*" = ["anna"]')
+        self.start()
+        with self.planner() as one:
+            self.assertEqual(["error 90 Denied act", "error 90 Denied change *"], one.ask("for anna", "new north top"))
+        self.stop()
+        self.rules('act = ["*"]\n[change]\n"*" = ["@planners", "1000"]')
+        self.start()
+        with self.planner() as one:
+            for name in ("@planners", "1000", "*", "a/b", "x" * 65, "", "anna berta", "%41"):
+                due = ["error 22 BadLine", "error 90 Denied change *"]
+                self.assertEqual(due, one.ask(f"for {name}".rstrip(), "new north top"), name)
+
+    def test_without_rules_nobody_else_may_change_anything(self):
+        self.start()
+        with self.planner() as one:
+            due = ["ok", "error 90 Denied change ~", "error 90 Denied backup ~", "none"]
+            self.assertEqual(due, one.ask("for anna", "new north top", "backup a", "get top 1 1"))
+
+    @unittest.skipUnless(HAS_TOML, NEEDS_TOML)
+    def test_groups_are_those_that_the_system_gives_a_user_of_that_name(self):
+        self.rules('act = ["*"]\n[change]\nnorth = ["@nogroup"]')
+        self.start()
+        with self.planner() as one:
+            due = ["ok", f"planner nobody {os.geteuid()} nogroup", "ok"]
+            self.assertEqual(due, one.ask("for nobody", "whoami", "new north top"))
+            due = ["ok", f"planner nobodyelse {os.geteuid()}", "error 90 Denied change north"]
+            self.assertEqual(due, one.ask("for nobodyelse", "whoami", "new north top"))
+
+    @unittest.skipUnless(HAS_TOML, NEEDS_TOML)
+    def test_what_each_has_made_counts_for_each(self):
+        self.rules('act = ["*"]\n[change]\n"*" = ["*"]\n[entries]\n"*" = 1')
+        self.start()
+        with self.planner() as one:
+            due = ["ok", "ok", "error 102 TooManyEntries 1", "ok", "ok"]
+            self.assertEqual(due, one.ask("for anna", "new a top", "new b top", "for berta", "new b top"))

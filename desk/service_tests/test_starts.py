@@ -6,7 +6,12 @@ import tempfile
 import unittest
 from pathlib import Path
 
+import reasons
+from altctl import Ended, Refusal
 from service_tests.support import ALTCTL, DESK
+
+
+NO_FILE = "it is neither a file nor a block device"
 
 
 def starts(program):
@@ -44,6 +49,8 @@ class StartTests(unittest.TestCase):
             self.assertEqual((due[0], [f"altserve: {it}" for it in due[1:]]), self.said("altserve", *words), words)
         status, lines = self.said("altserve", f"{self.folder}/text")
         self.assertEqual((3, "altctl: 19 NotAStore"), (status, lines[0]))
+        due = [f"{self.folder}: altctl ended with status 1 at its start", f"{self.folder}: {NO_FILE}"]
+        self.assertEqual((3, [f"altserve: {it}" for it in due]), self.said("altserve", self.folder))
 
     def test_the_program_of_a_clone_is_found(self):
         """Without a word, a variable or an `altctl` in PATH it is the one at the top."""
@@ -54,11 +61,12 @@ class StartTests(unittest.TestCase):
         self.assertTrue(os.access(told.strip(), os.X_OK))
 
     def test_of_altcarry(self):
-        missing = "No such file or directory"
+        missing, no_file = "No such file or directory", f"altctl: cannot open /dev/null: {NO_FILE}"
         for words, altctl, due in (
             (("status", self.none), ALTCTL, (1, f"{self.none} cannot be opened", f"{self.none}: {missing}")),
             (("clone", f"{self.folder}/text", "new"), ALTCTL, (1, f"{self.folder}/text cannot be opened", "altctl: 19 NotAStore")),
             (("clone", self.store, "new"), self.none, (1, f"{self.store} cannot be opened", f"{self.none}: {missing}")),
+            (("status", "/dev/null"), ALTCTL, (1, "/dev/null cannot be opened", no_file)),
         ):
             self.assertEqual((due[0], [f"altcarry: {it}" for it in due[1:]]), self.said("altcarry", *words, altctl=altctl), words)
 
@@ -75,3 +83,18 @@ class StartTests(unittest.TestCase):
         self.assertEqual(due, self.said("altdesk", self.none))
         status, lines = self.said("altdesk", f"{self.folder}/text")
         self.assertEqual((1, "altdesk: the service could not be started"), (status, lines[-1]))
+
+
+class ReasonTests(unittest.TestCase):
+    """What people are told of a fault of the Python module."""
+
+    def test_what_is_told(self):
+        line = "put top 65536 1 a"
+        bad = Refusal(22, "BadLine", line=line)
+        self.assertEqual(f"the line was: {line}\n65536 is no TABLE: a number from 0 to 65535", reasons.why(bad))
+        self.assertEqual(f"the line was: {line}", reasons.why(Refusal(13, "Full", line=line)))
+        self.assertEqual("22 BadLine", reasons.why(Refusal(22, "BadLine")))
+        said = "altctl: cannot open a"
+        self.assertEqual(f"{said}: Permission denied", reasons.why(Ended(1, f"{said}\n", "Permission denied")))
+        self.assertEqual("altctl: 19 NotAStore", reasons.why(Ended(1, "altctl: 19 NotAStore\n")))
+        self.assertEqual("altserve: a\naltserve: b", reasons.named("altserve", "a\nb"))

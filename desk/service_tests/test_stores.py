@@ -43,21 +43,27 @@ class StoreTests(ServiceTest):
         with self.planner() as one:
             self.assertEqual(["error 98 NoBackup EEXIST", "ok"], one.ask("backup a", "put top 1 1 a"))
         self.stop()
+        due = ["altserve: no backup: a could not be made", f"altserve: {self.file}.backups: File exists"]
+        self.assertEqual(due, self.said.read_text().splitlines()[1:3])
         os.unlink(f"{self.file}.backups")
         os.makedirs(f"{self.file}.backups/a/b")
         self.start()
         with self.planner() as one:
             self.assertEqual(["error 98 NoBackup EISDIR"], one.ask("backup a"))
+        self.assertIn("altserve: no backup: a could not be made\naltserve: ", self.said.read_text())
         self.assertEqual(["a"], os.listdir(f"{self.file}.backups"))
 
     def test_a_backup_at_which_a_device_fails(self):
         program = Path(self.folder, "failing")
-        program.write_text(f'#!/bin/sh\n[ "$1" != copy ] || exit 3\nexec {ALTCTL} "$@"\n')
+        text = f'#!/bin/sh\nif [ "$1" = copy ]; then echo altctl: stopped >&2; exit 3; fi\nexec {ALTCTL} "$@"\n'
+        program.write_text(text)
         program.chmod(0o755)
         self.start("--program", str(program))
         with self.planner() as one:
             self.assertEqual(["error 98 NoBackup EIO", "ok"], one.ask("backup a", "put top 1 1 a"))
         self.assertEqual([], os.listdir(f"{self.file}.backups"))
+        due = ["no backup: a could not be made", "a device failed, or there is no space", "altctl: stopped"]
+        self.assertEqual([f"altserve: {it}" for it in due], self.said.read_text().splitlines()[1:4])
 
     def test_what_an_interrupted_backup_leaves_is_removed(self):
         folder = Path(f"{self.file}.backups")

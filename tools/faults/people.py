@@ -45,11 +45,11 @@ class History:
         for it in self.seen(key, kept):
             self.changes[key][it] |= self.seen(key, lost) - {it}
 
-    def superseded(self, key, changes):
-        """What these changes supersede, at once or by others."""
+    def superseded(self, key, changes, but=frozenset()):
+        """What these changes supersede, at once or by others that are none of `but`."""
         found, waiting = set(), list(changes)
         while waiting:
-            new = self.changes[key][waiting.pop()] - found
+            new = self.changes[key][waiting.pop()] - found - but
             found |= new
             waiting += new
         return found
@@ -58,8 +58,9 @@ class History:
         """What is wrong with the records that `top` shows in the end, or None. Each value that was put is there, or
         what is there supersedes it, or a removal does. No removal supersedes what is there, unless that supersedes it, too:
         two people who settle the same at the same time may each keep what the other gives up, and then either may be
-        there. Two removals are one change, and to put and to remove again is none, so a removal need not be superseded.
-        """
+        there. So it says nothing either that a removal supersedes something which supersedes what is there, if what is
+        there supersedes that. Two removals are one change, and to put and to remove again is none, so a removal need not
+        be superseded."""
         for key, known in self.changes.items():
             shown, removals = self.seen(key, top.get(key)), self.seen(key, None)
             if not shown or not shown <= known.keys():
@@ -67,8 +68,9 @@ class History:
             lost = known.keys() - self.superseded(key, shown | removals) - shown - removals
             if lost:
                 return f"{key} is {top.get(key)}, and nothing there supersedes {lost}: {known}"
-            later = removals - shown - self.superseded(key, shown)
-            if shown & self.superseded(key, later):
+            before = self.superseded(key, shown) - shown
+            later = removals - shown - before
+            if shown & self.superseded(key, later, before):
                 return f"{key} is {top.get(key)}, which was removed by {later}: {known}"
         for key in top.keys() - self.changes.keys():
             return f"{key} was put by nobody"

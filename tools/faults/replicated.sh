@@ -1,8 +1,10 @@
 #!/bin/sh
 # Runs the program over a file that GlusterFS keeps three times, and takes copies away while it writes:
 # `tools/faults/replicated.sh [ALTCTL]`. Each commit that was acknowledged has to be there afterwards, with one of three
-# bricks killed; with two gone no commit may be answered `ok`; after healing all three hold the same bytes. The same
-# over a loop device on the volume. If something is not installed or not allowed, it says so and ends with status 0.
+# bricks killed; with two gone no commit may be answered `ok`; after healing all three hold the same bytes. A file that
+# was opened while a brick was away, as docs/TWO-MACHINES.md has the volume, is opened again once that is healed: then
+# another brick may go. The same over a loop device on the volume. If something is not installed or not allowed, it says
+# so and ends with status 0.
 #
 # It makes namespaces of its own for network, mounts and processes: nothing of it is left when it ends.
 set -eu
@@ -54,9 +56,11 @@ run_gluster() {
 
 start_cluster() {
     ip link set lo up && ip address add "$address/32" dev lo || skip 'the network of a namespace cannot be set up'
+    [ ! -d /var/lib/glusterd/groups ] || cp -r /var/lib/glusterd/groups "$folder/groups"
     for it in /var/lib/glusterd /var/run/gluster /var/log/glusterfs; do
         mkdir -p "$it" && mount -t tmpfs tmpfs "$it" || skip 'a mount is not allowed here'
     done
+    [ ! -d "$folder/groups" ] || cp -r "$folder/groups" /var/lib/glusterd/
     mkdir "$folder/1" "$folder/2" "$folder/3" "$mount" "$mount-2"
     glusterd || skip 'glusterd does not start here'
     for _ in 1 2 3 4 5 6 7 8 9 10; do
@@ -168,6 +172,23 @@ try_bricks() {
     [ "$(after_kill)" = 30 ] || fail "the load did not go on with two bricks"
 }
 
+# A session that stays open, and its answer to a line.
+open_session() {
+    rm -f "$folder/lines" "$folder/answers" && mkfifo "$folder/lines" "$folder/answers"
+    "$altctl" run "$file" <"$folder/lines" >"$folder/answers" &
+    exec 3>"$folder/lines" 4<"$folder/answers"
+}
+
+ask() {
+    echo "$1" >&3
+    read -r answer <&4 && echo "$answer"
+}
+
+close_session() {
+    exec 3>&- 4<&-
+    wait $! || :
+}
+
 export CLIENT="$top/clients/python"
 start_cluster
 echo "replicated: $(gluster --version | head -n 1), $("$altctl" --version | head -n 1)"
@@ -192,6 +213,26 @@ umount "$mount" && mount_volume "$mount"
 look "$file" 'after two bricks were gone'
 load "$file" 10
 look "$file" 'after the load went on'
+
+echo '  a file is opened while a brick is away'
+run_gluster volume set kept client.strict-locks on
+run_gluster volume set kept group db-workload
+umount "$mount" && mount_volume "$mount"
+kill -9 "$(brick 1)"
+open_session
+[ "$(ask 'put top 2 1 a') $(ask commit)" = 'ok ok' ] || fail 'no commit with two bricks'
+heal
+close_session
+open_session
+[ "$(ask 'put top 2 2 a') $(ask commit)" = 'ok ok' ] || fail 'no commit once it was opened again'
+kill -9 "$(brick 2)"
+[ "$(ask 'put top 2 3 a') $(ask commit)" = 'ok ok' ] || fail 'the brick that was away is not written to'
+close_session
+seen=$("$altctl" do "$file" 'get top 2 1' 'get top 2 2' 'get top 2 3' | sort -u)
+[ "$seen" = 'value a' ] || fail 'a commit is not there'
+heal
+run_gluster volume reset kept client.strict-locks
+umount "$mount" && mount_volume "$mount"
 
 truncate -s 16M "$mount/disk"
 attach || { echo 'replicated: all that was acknowledged was there; skipped: no loop device can be had here'; exit 0; }

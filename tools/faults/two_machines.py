@@ -222,6 +222,9 @@ def take_over(net, machines, number, acknowledged, planners):
     for it in planners.values():
         it.rests = True
     until(lambda: is_whole(machines), "all machines are there again")
+    # The service has the store open at two copies alone until then.
+    machines["three"].said("crm", "resource", "restart", "service")
+    until(lambda: active(machines) is not None, "the service starts again")
     for it in planners.values():
         it.rests = False
     say(f"{number}: {old.name} {'cut off' if is_cut else 'killed'}, {new.name} answered after {seconds:.1f} s; {len(acknowledged) - before} batches")

@@ -19,8 +19,9 @@ look() {
 
 look pyflakes3 clients/python/*.py tools/*.py tools/*/*.py
 # Left out are files whose imports are there for others, or show whether a module is installed.
-look pyflakes3 desk/altcarry desk/altdesk desk/altserve desk/demo desk/[!t]*.py desk/carry/*.py desk/gis/*.py \
-    desk/desk_tests/*.py desk/maps/[!_]*.py desk/service/*.py desk/service_tests/*.py desk/test_altcarry.py
+look pyflakes3 desk/altcarry desk/altdesk desk/altserve desk/demo desk/[!t]*.py desk/altqgis/*.py desk/carry/*.py \
+    desk/gis/*.py desk/qgis_tests/within.py desk/test_altqgis.py desk/desk_tests/*.py desk/maps/[!_]*.py \
+    desk/service/*.py desk/service_tests/*.py desk/test_altcarry.py
 look mypy --python-version 3.9 --cache-dir /dev/null --no-error-summary clients/python/altctl.py clients/python/altstore.py
 look mypy --python-version 3.9 --cache-dir /dev/null --no-error-summary tools/gate/lines.py tools/gate/refusals.py \
     tools/gate/words.py

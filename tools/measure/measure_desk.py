@@ -1,7 +1,9 @@
 #!/usr/bin/env python3
-"""Measures the desk over a made-up network: how long it takes to show the first map, a design, a window of about 300 features, and
-what is found, each asked for as the page does. `tools/measure/measure_desk.py [--chambers N] [--store FILE]`: N chambers (30,000), 2 ducts
-and 3 cables for each, and service points, 7.3 features a chamber in all. It needs what `desk/altdesk` does."""
+"""Measures the desk over a made-up network: how long it takes to show the first map, a design, a window of about 300
+features, and what is found, each asked for as the page does. `tools/measure/measure_desk.py [--chambers N] [--store
+FILE] [--browser]`: N chambers (30,000), 2 ducts and 3 cables for each, and service points, 7.3 features a chamber in
+all. With `--browser` it measures them in Chromium, from the click until the page shows it. It needs what `desk/altdesk`
+does, and Chromium what its tests need."""
 import argparse
 import json
 import os
@@ -115,10 +117,56 @@ def measured(asking: Asking) -> None:
         say(f"find {text}", [it for it, _ in found], f"{len(found[0][1]['found'])} found")
 
 
+def seen(url: str) -> None:
+    """Measures in a browser, from the click until it is drawn."""
+    sys.argv[1:] = []  # What its tests would take for theirs.
+    from desk_tests.support import Browser
+
+    def seconds(begin: str, is_done: str) -> float:
+        again = "done((performance.now() - begun) / 1000) : requestAnimationFrame(look)"
+        script = f"const done = arguments[0], begun = performance.now(); {begin}; "
+        return browser.driver.execute_async_script(f"{script} const look = () => ({is_done}) ? {again}; look();")
+
+    def say(what: str, time_taken: float) -> None:
+        print(f"in a browser: {what:<30} {time_taken:8.3f} s {browser.text('#note')}", flush=True)
+
+    def click(name: str, **texts: str) -> str:
+        return "; ".join([*(set_text(*it) for it in texts.items()), f"document.querySelector('{name}').click()"])
+
+    def set_text(name: str, text: str) -> str:
+        return f"document.getElementById('find-{name}').value = '{text}'"
+
+    def has(node: str, pattern: str) -> str:
+        return f"/{pattern}/.test(document.querySelector('{node}')?.textContent)"
+
+    browser = Browser()
+    try:
+        browser.size(1120, 680)
+        browser.driver.set_script_timeout(120)
+        begun = time.monotonic()
+        browser.open(url)
+        say("first map", time.monotonic() - begun)
+        is_changed = "document.querySelector('#map path.is-changed')"
+        for what in ("a design, never seen", "a design, seen before"):
+            say(what, seconds(click("#design-north"), f"{has('#chosen', '^north, ')} && {is_changed}"))
+            seconds(click("#design-top"), f"{has('#chosen', '^top, ')} && !{is_changed}")
+        found = click("#search button", text="RB-0047"), has("#view", "RB-0047")
+        say("found, with reading the texts", seconds(*found))
+        seconds(click("#view-changes"), f"!{found[1]}")
+        say("found", seconds(*found))
+        near = f"{has('#view h3', ' 4711:')} && {has('#layers small', '^all')}"
+        say("a feature and its window", seconds(click("#find button", number="4711"), near))
+        say("the whole map again", seconds(click("#whole"), has("#note", "features are drawn")))
+        print(*(f"in a browser: {it.text}" for it in browser.all("#layers small")), sep="\n")
+    finally:
+        browser.quit()
+
+
 def main() -> None:
     parser = argparse.ArgumentParser(description=__doc__.split(":")[0])
     parser.add_argument("--chambers", type=int, default=30_000)
     parser.add_argument("--store", help="where the store is kept, for another time")
+    parser.add_argument("--browser", action="store_true", help="measure in a browser")
     words = parser.parse_args()
     with tempfile.TemporaryDirectory() as folder:
         file = words.store or f"{folder}/network.alt"
@@ -127,7 +175,10 @@ def main() -> None:
         desk = subprocess.Popen([sys.executable, str(TOP / "desk" / "altdesk"), "--program", ALTCTL, file], stdout=subprocess.PIPE, text=True)
         try:
             url = next(it for it in map(lambda it: re.search(r"http://\S+", it), desk.stdout) if it)[0]
-            measured(Asking(url))
+            if words.browser:
+                seen(url)
+            else:
+                measured(Asking(url))
         finally:
             desk.terminate()
             desk.wait()

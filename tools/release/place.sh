@@ -41,7 +41,8 @@ END
         echo "755 desk/$it share/zonegrater/desk/$it"
         echo "link ../share/zonegrater/desk/$it bin/$it"
     done
-    for it in desk/[!t]*.py desk/carry/*.py desk/gis/*.py desk/maps/*.py desk/service/*.py desk/page/*; do
+    for it in desk/[!t]*.py desk/altqgis/*.py desk/altqgis/metadata.txt desk/carry/*.py desk/gis/*.py desk/maps/*.py \
+        desk/service/*.py desk/page/*; do
         echo "644 $it share/zonegrater/$it"
     done
     for it in docs/*.md docs/pictures/*; do

@@ -13,6 +13,7 @@ What is not installed is skipped, with a line that says so; all of it is if the 
 import os
 import re
 import shutil
+import signal
 import subprocess
 import sys
 import tarfile
@@ -325,8 +326,14 @@ class RootTests(unittest.TestCase):
 
     @classmethod
     def halt(cls):
-        cls.machine.kill()
-        cls.machine.wait()
+        """All of its processes end with the first one, so that nothing writes there any more."""
+        for it in Path(f"/proc/{cls.machine.pid}/task/{cls.machine.pid}/children").read_text().split():
+            os.kill(int(it), signal.SIGKILL)
+        try:
+            cls.machine.wait(60)
+        except subprocess.TimeoutExpired:
+            cls.machine.kill()
+            cls.machine.wait()
 
     def said(self, *words, input=None, status=0):
         ran = subprocess.run([*self.enter, *words], input=input, stdout=subprocess.PIPE, stderr=subprocess.STDOUT, text=True, timeout=300)

@@ -21,9 +21,6 @@ pub length-bound : (b : Bound) → length (bound_bytes b) ≡ 12
 unfolding bound_bytes
 length-bound b = refl
 
-pub length-bound_fits : (b : Bound) → BoundFits b → length (bound_bytes b) ≡ 12
-length-bound_fits b fits = length-bound b
-
 -- what is written is read
 pub bound_read : (b : Bound) (rest : List ℕ) → BoundFits b → bound_of (bound_bytes b ++ rest) ≡ b
 unfolding bound_bytes

@@ -90,10 +90,6 @@ values_joined front middle back xs ys zs fx fy fz =
 pub count_joined : (front middle back : Part) (xs ys zs : List Record) → IsPart front xs → IsPart middle ys → IsPart back zs → length (xs ++ (ys ++ zs)) ≡ front.count + middle.count + back.count
 count_joined front middle back xs ys zs fx fy fz = omega (arith, length-append xs (ys ++ zs), length-append ys zs, fx.many, fy.many, fz.many)
 
-pub size_joined : (front middle back : Part) (xs ys zs : List Record) → IsPart front xs → IsPart middle ys → IsPart back zs → size_of (xs ++ (ys ++ zs)) ≡ part_size front + part_size middle + part_size back
-size_joined front middle back xs ys zs fx fy fz =
-    omega (arith, count_joined front middle back xs ys zs fx fy fz, ap length (sym (values_joined front middle back xs ys zs fx fy fz)), length-append (front.values.now ++ middle.values.now) back.values.now, length-append front.values.now middle.values.now)
-
 -- a head, two pieces behind it, and zero bytes behind them
 pub three_written : (head body more old m1 w1 w2 w3 : List ℕ) (h n m : ℕ) → length old ≡ 4096 → length head ≡ h → length body ≡ n → length more ≡ m → h + n + m ≤ 4096
     → m1 ≡ head ++ drop h old

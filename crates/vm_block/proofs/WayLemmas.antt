@@ -178,17 +178,6 @@ module _ (rs : List Record) (r : Record) (i : ℕ) (rises : RisesFrom 0 (places 
   chosen_before high =
       with_into rs r i (omega (arith, chosen.within, count_places)) (λ k lt. absurd (omega (arith, high, chosen.reached (omega arith)))) (λ lt. high)
 
-  -- either makes one record more
-  pub chosen_more : (slice_index (places rs) i ≡ place r.0 → ⊥) → length (with_record r rs) ≡ length rs + 1
-  chosen_more apart =
-      let count = λ (j : ℕ) (le : j ≤ length rs) (is : with_record r rs ≡ take j rs ++ r ∷ drop j rs). let all : length (with_record r rs) ≡ length rs + 1 = omega (arith, ap length is, length-append (take j rs) (r ∷ drop j rs), length-take-le j rs le, length-drop j rs) in all in
-      ⊎_elim
-      (λ (same : slice_index (places rs) i ≡ place r.0). absurd (apart same))
-      (⊎_elim
-      (λ (low : slice_index (places rs) i < place r.0). count (i + 1) (omega (arith, chosen.within, count_places)) (chosen_behind low))
-      (λ (high : place r.0 < slice_index (places rs) i). count i (omega (arith, chosen.within, count_places)) (chosen_before high)))
-      (cases_order (slice_index (places rs) i) (place r.0))
-
 without_here : (low : ℕ) (ws : List Record) (p i : ℕ) → RisesFrom low (places ws) → i < length ws → slice_index (places ws) i ≡ p → without_place p ws ≡ take i ws ++ drop (suc i) ws
 without_here low [] p i rises lt e = absurd (omega arith)
 without_here low (w ∷ ws) p zero rises lt e = ap (λ t. cond t ws (w ∷ without_place p ws)) (eq-eqb (place w.0) p e)
