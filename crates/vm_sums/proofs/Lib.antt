@@ -1,0 +1,3 @@
+mod ExchangeLemmas
+mod HashLemmas
+mod ShownLemmas
