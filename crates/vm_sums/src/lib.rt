@@ -12,6 +12,8 @@
 
 mod sum;
 mod summed;
+#[cfg(test)]
+mod tests;
 mod xxh64;
 
 pub use sum::exchange_sum;
