@@ -157,7 +157,8 @@ def seen(url: str) -> None:
         near = f"{has('#view h3', ' 4711:')} && {has('#layers small', '^all')}"
         say("a feature and its window", seconds(click("#find button", number="4711"), near))
         say("the whole map again", seconds(click("#whole"), has("#note", "features are drawn")))
-        print(*(f"in a browser: {it.text}" for it in browser.all("#layers small")), sep="\n")
+        texts = browser.run("return [...document.querySelectorAll('#layers small')].map((it) => it.textContent)")
+        print(*(f"in a browser: {it}" for it in texts), sep="\n")
     finally:
         browser.quit()
 
