@@ -1256,6 +1256,13 @@ static void what_cannot_be_opened_is_told(void)
     SAME(ALT_NOT_A_STORE, alt_open(&store, file, &options));
     SAME_TEXT("NotAStore", alt_detail(store)->name);
     SAME(ALT_NOT_A_STORE, alt_close(store));
+    /* The header of an earlier format, of which the program says more on a second line. */
+    FILE *earlier = fopen(file, "r+b");
+    SAME(16, fwrite("ALTSTORE\1\0\0\0\0\20\0\0", 1, 16, earlier));
+    fclose(earlier);
+    SAME(ALT_NOT_A_STORE, alt_open(&store, file, &options));
+    SAME_TEXT("NotAStore", alt_detail(store)->name);
+    SAME(ALT_NOT_A_STORE, alt_close(store));
     SAME(0, unlink(file));
     SAME(ALT_BAD_SIZE, alt_create(file, 63, &options));
     SAME(-1, access(file, F_OK));

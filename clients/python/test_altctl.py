@@ -102,7 +102,7 @@ class StoreTests(unittest.TestCase):
         course, other = b"2600010.5,1200020 " * 100, b"2600010.5,1200021 " * 100
         with self.open() as store:
             store.put("top", 7, 1, course)
-            self.assertEqual(28, store.free())
+            self.assertEqual(29, store.free())
             store.new("a", "top")
             store.put("a", 7, 1, other)
             store.put("top", 7, 1, b"duct")
@@ -113,7 +113,7 @@ class StoreTests(unittest.TestCase):
             store.commit()
         with self.open() as store:
             self.assertEqual([Record(7, 1, other)], list(store.list("top")))
-            self.assertEqual(28, store.free())
+            self.assertEqual(29, store.free())
 
     def test_words_of_values(self):
         words = {b"": "-", b"-": "%2D", b"~": "%7E", b"a}": "a}", b"%": "%25", b"a A": "a%20A", b"\xff\n": "%FF%0A"}
@@ -424,8 +424,8 @@ class StoreTests(unittest.TestCase):
             store.grow(200)
             after = self.copy_of(store)
             self.assertEqual(b"new", store.get("top", 7, 3))
-        # The leaf of top, and for north its own, its long value, the leaf of the checkpoint and that of the base.
-        self.assertEqual([Copied(128, 39)] * 2, [before[0], after[0]])
+        # The leaf of top, and for north its own, the one of the checkpoint and that of the base.
+        self.assertEqual([Copied(128, 38)] * 2, [before[0], after[0]])
         self.assertEqual(Path(before[1]).read_bytes(), Path(after[1]).read_bytes())
         with Store(after[1], ALTCTL) as copy:
             self.assertEqual([Record(7, 1, b"hose")], list(copy.list("top")))
@@ -436,13 +436,13 @@ class StoreTests(unittest.TestCase):
             self.assertEqual([Alternative("top", None), Alternative("north", "top")], list(copy.alternatives()))
 
     def test_a_store_that_is_copied_gets_smaller_but_not_too_small(self):
-        # Each value takes a block, and 40 records three leaves or more and a root.
+        # Each record takes a leaf, and 40 leaves a root.
         with self.open(grow=True) as store:
             store.put_many("top", ((7, number, bytes(4000)) for number in range(40)))
             store.commit()
             copied, to = self.copy_of(store)
             self.assertEqual(store.blocks(), copied.blocks)
-            self.assertGreaterEqual(copied.used, 34 + 40 + 3 + 1)
+            self.assertEqual(34 + 40 + 1, copied.used)
             small, smaller = self.copy_of(store, copied.used)
             self.assertEqual((copied.used, copied.used), small)
             gone = f"{self.file}.gone"
@@ -650,6 +650,14 @@ class StoreTests(unittest.TestCase):
             self.open()
         self.assertEqual((1, "altctl: 19 NotAStore\n"), (came.exception.status, came.exception.said))
         self.assertRaises(FileNotFoundError, Store, self.file + ".none", ALTCTL)
+
+    def test_a_file_of_an_earlier_format_is_an_error(self):
+        with open(self.file, "wb") as it:
+            it.write(b"ALTSTORE\1\0\0\0\0\x10\0\0" + bytes(64 * 4096 - 16))
+        with self.assertRaises(Ended) as came:
+            self.open()
+        told = "altctl: the file is of an earlier format: tools/upgrade.py OLD NEW carries it over\n"
+        self.assertEqual((1, f"altctl: 19 NotAStore\n{told}"), (came.exception.status, came.exception.said))
 
     def test_why_a_file_cannot_be_opened(self):
         reason = "it is neither a file nor a block device"

@@ -2,6 +2,9 @@
 from altctl import MOST_BLOCKS, Refusal
 
 FULL = 13
+# A leaf has room for so many bytes of records, of which about two thirds are in use. A record takes twelve besides its
+# value, and two of more than HALF do not fit in one leaf.
+LEAF_ROOM, RECORD, HALF = 4080, 12, 2028
 
 
 def grow(store):
@@ -14,9 +17,8 @@ def grow(store):
 
 
 def blocks_of(value):
-    """About how many blocks a new record takes: half of a leaf's 16 rows are in use, and a longer value has a block of
-    its own."""
-    return 1 / 8 + (len(value) > 240)
+    """About how many blocks a new record takes."""
+    return 1 if len(value) > HALF else (RECORD + len(value)) / LEAF_ROOM * 3 / 2
 
 
 def room(store, words, changes, jobs):

@@ -99,7 +99,7 @@ class BatchesTests(AltgisCase):
 
     def test_what_is_refused_leaves_all_as_it_was(self):
         """A store that is full, a right that is missing, and another import that has come in between."""
-        self.create(128)
+        self.create(64)
         Path(f"{self.store}.rules").write_text('grow = ["*"]\n[change]\ntop = ["*"]\n')
         self.address = self.service()
         store = self.planner()

@@ -259,7 +259,7 @@ class BringingTests(AltgisCase):
 
     def test_through_a_service(self):
         """An import that is full and grows, numbers, and a merge by field."""
-        self.create(128)
+        self.create(80)
         write(self.file("a.gpkg"), "ducts", DUCTS, points(3000))
         service = self.service()
         words = ("import", service, self.file("a.gpkg"), "--alt", "top", "--table", 7)

@@ -1,13 +1,12 @@
 #!/usr/bin/env python3
 """Runs random sessions of `altctl` over real files beside a model of its own, and compares all answers, and the file
-after each session: `tools/faults/compare.py [-n FILES] [-s SEED] [--short] [ALTCTL]`.
+after each session: `tools/faults/compare.py [-n FILES] [-s SEED] [--plain] [ALTCTL]`.
 
 Of the file every byte is compared where no written block waits (half of the files), and else those of header, slots and
-each block that a committed version reaches, since blocks that nobody needs are not written then. Between sessions some
-slots are made such of format 1. Now and then the file is copied to another size, after a session or between two of its
-lines, and each byte of the copy is compared. At the end it spoils bytes of the file, and compares what opening it is
-answered. The model goes by docs/MODEL.md and docs/FORMATS.md, and shares nothing with the store. It stands beside the
-gate."""
+each block that a committed version reaches, since blocks that nobody needs are not written then. Now and then the file
+is copied to another size, after a session or between two of its lines, and each byte of the copy is compared. At the end
+it spoils bytes of the file, and compares what opening it is answered. The model goes by docs/MODEL.md and
+docs/FORMATS.md, and shares nothing with the store. It stands beside the gate."""
 import argparse
 import os
 import random
@@ -16,12 +15,13 @@ import subprocess
 import sys
 import tempfile
 import time
-from typing import NamedTuple
+from itertools import accumulate
 
 BLOCK, FIRST = 4096, 34
 LEAST, MOST = 64, 1 << 20
-# A leaf has rows of 252 bytes. A value of more than 240 bytes stands in a block of its own, and has 4,000 at most.
-ROW, SHORT, LONGEST = 252, 240, 4000
+# A leaf has an entry of 12 bytes for each record and the values behind them, so many bytes in all at most.
+ENTRY, LEAF_ROOM, LONGEST = 12, 4080, 4000
+CHILD, FAN = 14, 256
 # So many blocks have to be spare for each record that is changed.
 MARGIN = 17
 LETTERS = {*b"ABCDEFGHIJKLMNOPQRSTUVWXYZabcdefghijklmnopqrstuvwxyz0123456789_-."}
@@ -35,26 +35,48 @@ class Refused(Exception):
         self.text = f"error {code} {NAMES[code]}{detail}"
 
 
-class Link(NamedTuple):
-    """What a leaf has of a long value: its length, and the block that has it."""
-
-    size: int
-    block: int
-
-
-def stored_in(field, size):
-    """What the 240 bytes behind the length in a row stand for: a value, or a link to one."""
-    return Link(size, *struct.unpack_from("<I", field)) if size > SHORT else field[:size]
+def leaf_of(records):
+    """The bytes of a leaf."""
+    entries, values = b"", b""
+    for key, value in records:
+        values += value
+        entries += struct.pack("<HQH", *key, len(values))
+    return (b"LEF3" + struct.pack("<III", 0, len(records), 0) + entries + values).ljust(BLOCK, b"\0")
 
 
-def row_of(key, stored):
-    """The bytes of a row."""
-    size, field = (stored.size, struct.pack("<I", stored.block)) if isinstance(stored, Link) else (len(stored), stored)
-    return struct.pack("<HQH", *key, size) + field.ljust(SHORT, b"\0")
+def node_of(level, children):
+    """The bytes of an inner block."""
+    head = b"NODE" + struct.pack("<III", level, len(children), 0)
+    return (head + b"".join(struct.pack("<HQI", *key, child) for key, child in children)).ljust(BLOCK, b"\0")
 
 
-def has_links(items):
-    return any(isinstance(stored, Link) for _, stored in items)
+def records_in(text, count):
+    """So many records of a leaf, whether or not the bytes are one."""
+    records, begin, values = [], 0, text[16 + ENTRY * count :]
+    for table, number, end in struct.iter_unpack("<HQH", text[16 : 16 + ENTRY * count]):
+        records.append(((table, number), values[begin:end]))
+        begin = end
+    return records
+
+
+def children_in(text, count):
+    """So many children of an inner block."""
+    return [((table, number), child) for table, number, child in struct.iter_unpack("<HQI", text[16 : 16 + CHILD * count])]
+
+
+def leaves_of(records, key, is_new):
+    """The records of a leaf, of which the one with this key came last, in one leaf or as many as they need: two, of which
+    the larger one is as small as it can be, or three. A new record behind all others gets a leaf of its own."""
+    *sums, total = accumulate(ENTRY + len(value) for _, value in records)
+    if total <= LEAF_ROOM:
+        return [records]
+    at = [it for it, _ in records].index(key)
+    larger, cut = min((max(size, total - size), cut) for cut, size in enumerate(sums, 1))
+    if is_new and key == records[-1][0]:
+        cut = at
+    elif larger > LEAF_ROOM:
+        return [records[:at], [records[at]], records[at + 1 :]]
+    return [records[:cut], records[cut:]]
 
 
 class Alternative:
@@ -72,6 +94,10 @@ class Alternative:
         return (text + struct.pack("<II", self.current, self.base)).ljust(128, b"\0")
 
 
+def header(version):
+    return (b"ALTSTORE" + struct.pack("<II", version, BLOCK)).ljust(BLOCK, b"\0")
+
+
 class Store:
     """A file: blocks are bytes, and trees are decoded from them anew for each use. The file may have more blocks than the store,
     which has as many as the last commit said, and in a session those of its growths."""
@@ -79,12 +105,12 @@ class Store:
     def __init__(self, blocks):
         self.disk, self.kept, self.blocks = [bytes(BLOCK)] * blocks, blocks, blocks
         self.disk[2] = self.slot_blocks([Alternative(b"A", "top", "", 0, 0)])[0]
-        self.disk[0] = (b"ALTSTORE" + struct.pack("<II", 1, BLOCK)).ljust(BLOCK, b"\0")
+        self.disk[0] = header(3)
 
     # --- the slots
 
     def slot_blocks(self, entries):
-        head = b"SLOT" + struct.pack("<III", 2, self.blocks, len(entries))
+        head = b"SLOT" + struct.pack("<III", 3, self.blocks, len(entries))
         text = head.ljust(128, b"\0") + b"".join(it.encoded() for it in entries)
         text = text.ljust((len(entries) + 32) // 32 * BLOCK, b"\0")
         return [text[at : at + BLOCK] for at in range(0, len(text), BLOCK)]
@@ -118,22 +144,11 @@ class Store:
     # --- trees
 
     def decoded(self, block):
-        """The level of a block, and its children or, of a leaf, its rows: keys with a value, or a link to one."""
+        """The level of a block, and its records or its children: keys with values, or with blocks."""
         text = self.disk[block]
         level, count = struct.unpack_from("<II", text, 4)
-        if text[:4] in (b"LEAF", b"LEF2"):
-            found = []
-            for at in range(16, 16 + ROW * count, ROW):
-                table, number, size = struct.unpack_from("<HQH", text, at)
-                found.append(((table, number), stored_in(text[at + 12 : at + ROW], size)))
-            assert has_links(found) == (text[:4] == b"LEF2")
-            return 0, found
-        assert text[:4] == b"NODE" and level > 0
-        words = [struct.unpack_from("<HQI", text, at) for at in range(16, 16 + 14 * count, 14)]
-        return level, [((table, number), child) for table, number, child in words]
-
-    def value_of(self, stored):
-        return self.disk[stored.block][26 : 26 + stored.size] if isinstance(stored, Link) else stored
+        assert text[:4] == (b"NODE" if level else b"LEF3")
+        return level, (children_in if level else records_in)(text, count)
 
     def take(self):
         """The lowest block that isn't held, which is held from then on."""
@@ -141,41 +156,24 @@ class Store:
         self.held.add(block)
         return block
 
-    def stored(self, key, value):
-        """What a leaf is to have of a value. A long one is written into a block of its own."""
-        if len(value) <= SHORT:
-            return value
-        block = self.take()
-        head = b"LONG" + struct.pack("<IIIHQ", 0, len(value), 0, *key)
-        self.disk[block] = (head + value).ljust(BLOCK, b"\0")
-        return Link(len(value), block)
-
     def write(self, level, items):
         """Writes items into the lowest block that isn't held, and gives their first key, and the block."""
         block = self.take()
-        if level == 0:
-            letters, body = b"LEF2" if has_links(items) else b"LEAF", b"".join(row_of(*it) for it in items)
-        else:
-            letters, body = b"NODE", b"".join(struct.pack("<HQI", *key, child) for key, child in items)
-        head = letters + struct.pack("<III", level, len(items), 0)
-        self.disk[block] = (head + body).ljust(BLOCK, b"\0")
+        self.disk[block] = node_of(level, items) if level else leaf_of(items)
         return items[0][0], block
 
-    def write_split(self, level, items):
-        if len(items) <= (256 if level else 16):
-            return [self.write(level, items)]
-        half = (len(items) + 1) // 2
-        return [self.write(level, items[:half]), self.write(level, items[half:])]
+    def write_divided(self, level, children):
+        if len(children) <= FAN:
+            return [self.write(level, children)]
+        half = (len(children) + 1) // 2
+        return [self.write(level, children[:half]), self.write(level, children[half:])]
 
     def blocks_under(self, root, found):
         if root and root not in found:
             found.add(root)
             level, items = self.decoded(root)
-            for _, it in items:
-                if level:
-                    self.blocks_under(it, found)
-                elif isinstance(it, Link):
-                    found.add(it.block)
+            for _, it in items if level else []:
+                self.blocks_under(it, found)
         return found
 
     def reached(self, entries):
@@ -190,7 +188,7 @@ class Store:
             return {}
         level, items = self.decoded(root)
         if level == 0:
-            return {key: self.value_of(stored) for key, stored in items}
+            return dict(items)
         found = {}
         for _, child in items:
             found.update(self.records(child))
@@ -200,19 +198,19 @@ class Store:
     def chosen(items, key):
         return max((at for at, it in enumerate(items) if it[0] <= key), default=0)
 
-    def put_below(self, block, key, stored):
+    def put_below(self, block, key, value):
         level, items = self.decoded(block)
         if level == 0:
-            return 0, self.write_split(0, sorted({**dict(items), key: stored}.items()))
+            records = {**dict(items), key: value}
+            return 0, [self.write(0, it) for it in leaves_of(sorted(records.items()), key, key not in dict(items))]
         at = self.chosen(items, key)
-        _, now = self.put_below(items[at][1], key, stored)
-        return level, self.write_split(level, [*items[:at], *now, *items[at + 1 :]])
+        _, now = self.put_below(items[at][1], key, value)
+        return level, self.write_divided(level, [*items[:at], *now, *items[at + 1 :]])
 
     def put(self, root, key, value):
-        stored = self.stored(key, value)
         if not root:
-            return self.write(0, [(key, stored)])[1]
-        level, now = self.put_below(root, key, stored)
+            return self.write(0, [(key, value)])[1]
+        level, now = self.put_below(root, key, value)
         return now[0][1] if len(now) == 1 else self.write(level + 1, now)[1]
 
     def remove_below(self, block, key):
@@ -264,18 +262,8 @@ class Store:
             level, items = self.decoded(root)
             if level:
                 items = [(key, self.copy_under(child, copy, numbers)) for key, child in items]
-            else:
-                items = [(key, self.copy_value(key, stored, copy, numbers)) for key, stored in items]
             numbers[root] = copy.write(level, items)[1]
         return numbers[root] if root else 0
-
-    def copy_value(self, key, stored, copy, numbers):
-        """What a leaf of the copy has of a value."""
-        if not isinstance(stored, Link):
-            return stored
-        if stored.block not in numbers:
-            numbers[stored.block] = copy.stored(key, self.value_of(stored)).block
-        return Link(stored.size, numbers[stored.block])
 
     # --- space
 
@@ -505,10 +493,10 @@ def name_in(text, size, least):
 
 
 def slot_in(disk, slot):
-    """The format, the number of blocks and the entries of a slot, where it is one."""
+    """The number of blocks and the entries of a slot, where it is one."""
     head = disk[slot][:128]
     form, blocks, count = struct.unpack_from("<III", head, 4)
-    if head[:4] != b"SLOT" or form not in (1, 2) or any(head[16:]):
+    if head[:4] != b"SLOT" or form != 3 or any(head[16:]):
         raise Damaged(slot)
     if not 64 <= blocks <= 1 << 20 or not 1 <= count <= 511:
         raise Damaged(slot)
@@ -524,64 +512,40 @@ def slot_in(disk, slot):
         if is_top and (it[:1], name, owner) != (b"A", "top", "") or base and (is_top or it[:1] == b"C" and owner == "top"):
             raise Damaged(slot)
         entries.append(Alternative(it[:1], name, owner, current, base))
-    return form, blocks, entries
+    return blocks, entries
 
 
-def row_in(text):
-    """What a row of a leaf has of its value, where it is a row."""
-    size = struct.unpack_from("<H", text, 10)[0]
-    if size > LONGEST or any(text[12 + (4 if size > SHORT else size) :]):
-        return None
-    return stored_in(text[12:], size)
+def is_leaf(text, count):
+    """Whether a block that begins like a leaf of so many records is one."""
+    if not 1 <= count <= LEAF_ROOM // ENTRY:
+        return False
+    ends = [end for _, _, end in struct.iter_unpack("<HQH", text[16 : 16 + ENTRY * count])]
+    sizes = [end - begin for begin, end in zip([0, *ends], ends)]
+    return all(0 <= it <= LONGEST for it in sizes) and ENTRY * count + ends[-1] <= LEAF_ROOM and not any(text[16 + ENTRY * count + ends[-1] :])
 
 
-def long_in(text):
-    """The key and the length of the value in a block of a long value, where it is one."""
-    zero, size, other, *key = struct.unpack_from("<IIIHQ", text, 4)
-    if text[:4] != b"LONG" or zero or other or not SHORT < size <= LONGEST or any(text[26 + size :]):
-        return None
-    return tuple(key), size
+def is_node(text, level, count):
+    """The same of an inner block."""
+    return 1 <= level <= 7 and 1 <= count <= FAN and not any(text[16 + CHILD * count :])
 
 
 class Walk:
     """A walk through the trees under roots, each block once. Of each block that was met it keeps the level, and the lowest
-    and the highest key under it, or what `long_in` tells of it."""
+    and the highest key under it."""
 
-    LONG = "long"
-
-    def __init__(self, disk, form, blocks):
-        self.disk, self.form, self.blocks, self.met = disk, form, blocks, {}
+    def __init__(self, disk, blocks):
+        self.disk, self.blocks, self.met = disk, blocks, {}
 
     def items(self, block):
-        """The level and the items of a block: what a leaf has of its values, or children."""
+        """The level and the items of a block: records or children."""
         text = self.disk[block]
         level, count, zero = struct.unpack_from("<III", text, 4)
-        letters = [b"LEAF", b"LEF2"] if self.form == 2 else [b"LEAF"]
-        is_leaf = text[:4] in letters and level == 0 and 1 <= count <= 16
-        is_node = text[:4] == b"NODE" and 1 <= level <= 7 and 1 <= count <= 256
-        size = ROW if is_leaf else 14
-        if not is_leaf and not is_node or zero or any(text[16 + size * count :]):
+        if zero or not (text[:4] == b"LEF3" and level == 0 and is_leaf(text, count) or text[:4] == b"NODE" and is_node(text, level, count)):
             raise Damaged(block)
-        items = []
-        for at in range(16, 16 + size * count, size):
-            table, number, child = struct.unpack_from("<HQI", text, at)
-            it = row_in(text[at : at + ROW]) if is_leaf else child
-            if it is None or items and items[-1][0] >= (table, number):
-                raise Damaged(block)
-            items.append(((table, number), it))
-        if is_leaf and has_links(items) != (text[:4] == b"LEF2"):
+        items = (children_in if level else records_in)(text, count)
+        if any(one >= other for (one, _), (other, _) in zip(items, items[1:])):
             raise Damaged(block)
         return level, items
-
-    def visit_long(self, key, link):
-        """A block to which a leaf links. One that was met before has to be one of this key and length, too."""
-        block = link.block
-        if not FIRST <= block < self.blocks:
-            raise Damaged(block)
-        if block not in self.met:
-            self.met[block] = self.LONG, long_in(self.disk[block])
-        if self.met[block] != (self.LONG, (key, link.size)):
-            raise Damaged(block)
 
     def visit(self, block, expected):
         """The lowest and the highest key under a block."""
@@ -593,29 +557,27 @@ class Walk:
                 raise Damaged(block)
             self.met[block] = level, None
             low, high = items[0][0], items[-1][0]
-            for key, stored in items:
-                if isinstance(stored, Link):
-                    self.visit_long(key, stored)
             for at, (key, child) in enumerate(items if level else []):
                 least, high = self.visit(child, level - 1)
                 if least != key or at + 1 < len(items) and high >= items[at + 1][0]:
                     raise Damaged(child)
             self.met[block] = level, (low, high)
         level, keys = self.met[block]
-        if level == self.LONG or expected not in (None, level):
+        if expected not in (None, level):
             raise Damaged(block)
         return keys
 
 
 def refusal(disk):
     """What opening a file of these blocks is answered, if it is refused."""
-    if len(disk) < 64 or disk[0] != Store(64).disk[0]:
-        return "19 NotAStore"
+    if len(disk) < 64 or disk[0] != header(3):
+        is_earlier = disk[0] in (header(1), header(2))
+        return "19 NotAStore" + "\naltctl: the file is of an earlier format: tools/upgrade.py OLD NEW carries it over" * is_earlier
     try:
-        form, blocks, entries = slot_in(disk, 18 if disk[1][0] & 1 else 2)
+        blocks, entries = slot_in(disk, 18 if disk[1][0] & 1 else 2)
         if blocks > len(disk):
             return "21 BadSize"
-        walk = Walk(disk, form, blocks)
+        walk = Walk(disk, blocks)
         for it in entries:
             for root in (it.current, it.base):
                 if root:
@@ -626,8 +588,18 @@ def refusal(disk):
 
 
 def count_in(text, most):
-    """The count in the head of a block, or a length, where it is no more than it may be."""
+    """The count in the head of a block, where it is no more than it may be."""
     return max(1, min(most, struct.unpack_from("<I", text, 8)[0]))
+
+
+def spoiled_place(rng, text):
+    """A place in a leaf: in an entry, mostly in its end, or about the end of the entries or of the values."""
+    count = count_in(text, LEAF_ROOM // ENTRY)
+    entries = 16 + ENTRY * count
+    values = entries + struct.unpack_from("<H", text, entries - 2)[0]
+    entry = 16 + ENTRY * rng.choice([0, count - 1, rng.randrange(count)])
+    place = rng.choice([3, 8, 9, entry + rng.choice([2, 9, 10, 10, 11, 11]), entries - 1, entries, values - 1, values, values + 1])
+    return min(place, BLOCK - 1)
 
 
 def spoiled(rng, disk):
@@ -642,18 +614,16 @@ def spoiled(rng, disk):
         at = rng.choice([rng.randrange(16), rng.randrange(128, 256), rng.randrange(300), rng.randrange(BLOCK)])
         if block >= FIRST and rng.random() < 0.3:
             text = bytearray(disk[rng.choice(used)])
+        elif block == 0 and rng.random() < 0.3:
+            text = bytearray(header(rng.choice([1, 1, 2, 4])))
         elif text[:4] == b"NODE" and rng.random() < 0.6:
             at = 16 + 14 * rng.randrange(count_in(text, 256)) + rng.choice([2, 10, 10, 11])
             text[at] = rng.choice([0, 1, 33, 34, 35, rng.randrange(256)])
-        elif text[:4] == b"LEF2" and rng.random() < 0.6:
-            at = 16 + ROW * rng.randrange(count_in(text, 16)) + rng.choice([2, 10, 11, 12, 12, 12, 13, 16, 251])
-            text[at] = rng.choice([0, 1, 33, 34, 35, rng.choice(used) & 255, rng.randrange(256)])
-        elif text[:4] == b"LONG" and rng.random() < 0.6:
-            size = count_in(text, LONGEST)
-            at = rng.choice([3, 4, 8, 9, 12, 16, 17, 18, 25, 26, 25 + size, min(26 + size, BLOCK - 1), BLOCK - 1])
-            text[at] = rng.choice([0, 1, 14, 15, 16, 255, text[at] ^ 1, rng.randrange(256)])
+        elif text[:4] == b"LEF3" and rng.random() < 0.7:
+            at = spoiled_place(rng, text)
+            text[at] = rng.choice([0, 1, 15, 16, 255, text[at] ^ 1, (text[at] + 1) % 256, text[at] - 1 & 255, rng.randrange(256)])
         elif block in (2, 18) and rng.random() < 0.2:
-            text[4] = rng.choice([0, 1, 1, 1, 3, 255])
+            text[4] = rng.choice([0, 1, 2, 4, 255])
         elif block in (2, 18) and rng.random() < 0.4:
             at = 128 * rng.randrange(1, 6) + rng.choice([0, 1, 2, 34, 35, 67, 67, 71, 71])
             text[at] = rng.choice([0, 1, 0x41, 0x43, 34, 35, rng.randrange(256)])
@@ -694,13 +664,17 @@ def checked(altctl, file, store):
     return None if came == (0, wanted, "") else f"a check says {came}, and not {wanted!r}"
 
 
+# Sizes of values: of all kinds; two and three of which just fill a leaf, or just do not; which a leaf has beside a largest one.
+SIZES = [[60, 300, 1000, 4000], [1348, 1349, 2027, 2028, 2029, 3000], [0, 44, 55, 56, 57, 68, 3999, 4000], range(LONGEST + 1)]
+
+
 class Editor:
     """Makes random lines, each with its meaning: None for no answer, a text for an answer that never changes, or words for the store."""
 
-    def __init__(self, rng, most=LONGEST):
-        self.rng = rng
-        self.is_plain = most == SHORT
-        self.long = 0 if self.is_plain else rng.choice([0, 0.02, 0.1, 0.4])
+    def __init__(self, rng, is_plain=False):
+        self.rng, self.is_plain = rng, is_plain
+        # How often a value is one of those sizes that fill a leaf with a few others, so that it has to become two or three.
+        self.large, self.sizes = rng.choice([0, 0.02, 0.1, 0.4, 0.9]), rng.choice(SIZES)
         self.names = ["top", "top", "a", "b", "c", "d-1", "e.f_G"]
         self.marks = ["k", "l", "m" * 32]
         self.width = rng.choice([3, 20, 60, 400, 3000])
@@ -746,9 +720,8 @@ class Editor:
         return self.rng.choice([1, 1, 1, 7]), self.rng.randrange(self.width)
 
     def value(self):
-        """A value, of which some are long. Of those of many bytes half are such as may come again."""
-        is_long = self.rng.random() < self.long
-        size = self.rng.choice([241, 300, 1000, 4000] if is_long else [0, 1, 1, 1, 2, 4, 4, 10, 240])
+        """A value, of which some are large. Of those of many bytes half are such as may come again."""
+        size = self.rng.choice(self.sizes if self.rng.random() < self.large else [0, 1, 1, 1, 2, 4, 4, 10, 240])
         if size > 10 and self.rng.random() < 0.5:
             return bytes([self.rng.choice([0, 97])]) * size
         return bytes(self.rng.choice([45, 97, 98, self.rng.randrange(256)]) for _ in range(size))
@@ -845,17 +818,6 @@ class Editor:
         words = [f"all={side}"] if side else []
         words += [f"{key[0]}:{key[1]}={side_of_key}" for key, side_of_key in settled]
         return self.spaced(["merge", name, *words]), ["merge", name, settled, side]
-
-
-def lower(rng, file, store):
-    """Has the slot in use say format 1 now and then, as that of an older store does, where no leaf has a link."""
-    reached = store.reached(store.committed)
-    if rng.random() < 0.3 and not any(store.disk[it][:4] == b"LEF2" for it in reached):
-        slot = 18 if store.disk[1][0] & 1 else 2
-        store.disk[slot] = store.disk[slot][:4] + b"\1" + store.disk[slot][5:]
-        with open(file, "r+b") as it:
-            it.seek(slot * BLOCK)
-            it.write(store.disk[slot])
 
 
 def started(altctl, *words):
@@ -984,25 +946,25 @@ def bytes_differ(file, store, waits):
     return None
 
 
-def compared(altctl, rng, folder, waits, most):
+def compared(altctl, rng, folder, waits, is_plain):
     """Makes a file, runs some sessions over it, and says what differs from the model."""
     options = [] if waits else ["--buffer", "0"]
     file, blocks = os.path.join(folder, "map.alt"), rng.choice([64, 64, 66, 100, 200, 1000])
     made = started(altctl, "create", file, str(blocks))
     if made[:2] != (0, f"created {blocks}\n"):
         return f"create said {made}"
-    store, editor = Store(blocks), Editor(rng, most)
+    store, editor = Store(blocks), Editor(rng, is_plain)
     count = 0
     for _ in range(rng.randrange(1, 5)):
         store.open()
-        lower(rng, file, store)
         more, lines, why = session(altctl, rng, options, file, store, editor)
         count += more
         why = why or checked(altctl, file, store) or bytes_differ(file, store, waits)
         if not why and not editor.is_plain and rng.random() < 0.3:
             why = copies(altctl, rng, file, store, [])
         if why:
-            return f"{why}, after these lines:\n{lines}"
+            shown = "\n".join(it if len(it) <= 120 else f"{it[:110]}.. ({len(it)} bytes)" for it in lines.split("\n"))
+            return f"{why}, after these lines:\n{shown}"
     why = opened(altctl, rng, file, store.disk)
     if why:
         os.replace(file, "spoiled.alt")
@@ -1022,13 +984,13 @@ def main():
     words = argparse.ArgumentParser(description=__doc__)
     words.add_argument("-n", type=int, default=200, help="so many files")
     words.add_argument("-s", type=int, default=1, help="the first seed")
-    words.add_argument("--short", action="store_true", help="only what plain.c knows: values of up to 240 bytes, and neither versions nor parts")
+    words.add_argument("--plain", action="store_true", help="only what plain.c knows: neither versions nor parts, nor copies")
     words.add_argument("altctl", nargs="?", default=os.path.join(os.path.dirname(os.path.abspath(__file__)), "..", "..", "altctl"))
     said = words.parse_args()
     lines = 0
     with tempfile.TemporaryDirectory() as folder:
         for seed in range(said.s, said.s + said.n):
-            found = compared(said.altctl, random.Random(seed), folder, seed % 2 == 1, SHORT if said.short else LONGEST)
+            found = compared(said.altctl, random.Random(seed), folder, seed % 2 == 1, said.plain)
             if isinstance(found, str):
                 print(f"compare: seed {seed}: {found}", file=sys.stderr)
                 return 1

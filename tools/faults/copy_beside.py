@@ -5,7 +5,7 @@ so and ends with status 1.
 A session puts 50,000 records that no commit follows, first so that they wait in memory, then so that they are in the
 file. A copy beside it, between two lines, must be what was committed before, byte for byte, and after a commit what was
 committed then. Without `--no-lock` the copy is refused; beside sessions that only read it is made, and with `--wait` it
-waits. Then a store of 511 alternatives and checkpoints that share long values is copied to several sizes. The model of
+waits. Then a store of 511 alternatives and checkpoints that share blocks is copied to several sizes. The model of
 `tools/faults/compare.py` says what a copy must be. It stands beside the gate.
 """
 import os
@@ -124,13 +124,13 @@ def try_readers(altctl, folder):
 
 
 def try_entries(altctl, folder):
-    """Copies a store with as many alternatives and checkpoints as there may be, and long values."""
+    """Copies a store with as many alternatives and checkpoints as there may be, and values of all lengths."""
     file, to = os.path.join(folder, "entries"), os.path.join(folder, "copy")
     started(altctl, "create", file, "8192")
     rng, lines = random.Random(2), []
     for number in range(1, ENTRIES):
         kind = f"new a{number} top" if number % 3 else f"checkpoint top c{number}"
-        lines += [f"put top {rng.randrange(3)} {rng.randrange(40)} {chr(97 + number % 26) * rng.choice([1, 240, 241, 4000])}", kind]
+        lines += [f"put top {rng.randrange(3)} {rng.randrange(40)} {chr(97 + number % 26) * rng.choice([1, 240, 2100, 4000])}", kind]
         if number % 3 and rng.random() < 0.3:
             lines.append(f"put a{number} 7 1 {'%00' * rng.choice([1, 300, 4000])}")
     session, size = Session(altctl, [], file), 3 * len(lines) + 3

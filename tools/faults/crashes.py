@@ -297,7 +297,7 @@ class Crashes:
 def make_store(chance, file):
     """Makes a store, some with a tree of two levels, and some with a slot of two blocks."""
     subprocess.run([PROGRAM, "create", file, str(chance.choice([64, 100, 200]))], stdout=subprocess.DEVNULL, check=True)
-    lines = [f"put top 1 {number} v" for number in range(chance.choice([0, 17]))]
+    lines = [f"put top 1 {number} {'v' * 300}" for number in range(chance.choice([0, 17]))]
     lines += [f"checkpoint top c{number}" for number in range(chance.choice([0, 40]))]
     text = "".join(line + "\n" for line in [*lines, "commit"])
     ran = subprocess.run([PROGRAM, "run", file], input=text, capture_output=True, text=True, timeout=60)

@@ -23,8 +23,8 @@ from compare import FIRST, Store, read
 from fixed_run import BLOCK, BLOCKS, Failure, create, expect, run_and_finish, start
 from preloaded import ALTCTL, PROGRAM, build_program, compiled, preloaded
 
-# As many records as need a root over two leaves.
-RECORDS = 17
+# As many records as need a root over two leaves: with values of 300 bytes one leaf has 13 of them.
+RECORDS, LEFT, VALUE = 17, 13, "v" * 300
 
 
 def try_calls(folder, library, fails_on, torn, options):
@@ -55,11 +55,11 @@ def try_blocks(folder, library):
     """Has each block fail from its second read on. Gives how many blocks were asked for again."""
     file, failed = os.path.join(folder, "store"), os.path.join(folder, "failed")
     create(ALTCTL, file)
-    puts = [f"put top 1 {number} v" for number in range(1, RECORDS + 1)]
+    puts = [f"put top 1 {number} {VALUE}" for number in range(1, RECORDS + 1)]
     expect("puts", (0, ["ok"] * (RECORDS + 1), ""), start(ALTCTL, ["run", file], [*puts, "commit"]))
     with open(file, "rb") as it:
         before = it.read()
-    values, listed = ["value v"] * RECORDS, [f"record 1 {number} v" for number in range(1, RECORDS + 1)]
+    values, listed = [f"value {VALUE}"] * RECORDS, [f"record 1 {number} {VALUE}" for number in range(1, RECORDS + 1)]
     expect("queries", (0, [*values, *listed, f"end {RECORDS}", "free 27"], ""), read_queries(ALTCTL, file))
     lost = {}
     for block in range(BLOCKS):
@@ -70,10 +70,10 @@ def try_blocks(folder, library):
             continue
         os.remove(failed)
         expect(f"block {block} fails: the list", ["error 15 Device"], answers[RECORDS:-1])
-        expect(f"block {block} fails: the records", set(), {*answers[:RECORDS]} - {"value v", "error 15 Device"})
-        lost[block] = sum(answer != "value v" for answer in answers[:RECORDS])
+        expect(f"block {block} fails: the records", set(), {*answers[:RECORDS]} - {f"value {VALUE}", "error 15 Device"})
+        lost[block] = sum(answer != f"value {VALUE}" for answer in answers[:RECORDS])
     # The root has all records, and each leaf those of its own.
-    expect("records that a block takes with it", [8, 9, RECORDS], sorted(lost.values()))
+    expect("records that a block takes with it", [RECORDS - LEFT, LEFT, RECORDS], sorted(lost.values()))
     with open(file, "rb") as it:
         expect("the file is as it was", True, it.read() == before)
     os.remove(file)
@@ -135,10 +135,10 @@ def try_locks(folder, library):
 
 
 def make_copied(file):
-    """Makes a store with a tree of two levels and a long value. Gives its bytes, the blocks that its trees have, and the bytes of a
-    copy, by the model."""
+    """Makes a store with a tree of two levels. Gives its bytes, the blocks that its trees have, and the bytes of a copy, by the
+    model."""
     create(ALTCTL, file)
-    lines = [f"put top 1 {number} {'v' * (300 if number == 5 else 1)}" for number in range(1, RECORDS + 1)]
+    lines = [f"put top 1 {number} {VALUE}" for number in range(1, RECORDS + 1)]
     expect("puts", (0, ["ok"] * (RECORDS + 2), ""), start(ALTCTL, ["run", file], [*lines, "new x top", "commit"]))
     text, store = read(file), Store(BLOCKS)
     store.disk = [text[at : at + BLOCK] for at in range(0, len(text), BLOCK)]

@@ -6,12 +6,12 @@ import subprocess
 
 # A store has so many blocks at first, and is grown to so many.
 BLOCK, BLOCKS, MORE = 4096, 64, 90
-# A value that has a block of its own.
-LONG = "d" * 300
+# A value that fills a leaf with a few short ones, and one for which such a leaf has no room.
+LARGEST, BESIDE = "d" * 4000, "e" * 100
 LINES = [
     *("put top 1 1 a", "new x top", "put x 1 1 b", "checkpoint x c", "commit"),
-    *(f"put top 1 2 {LONG}", "merge x", "post x", "uncheck x c", "commit"),
-    *("put top 1 3 e", f"grow {MORE}", "remove top 1 1", "commit"),
+    *(f"put top 1 2 {LARGEST}", "merge x", "post x", "uncheck x c", "commit"),
+    *(f"put top 1 3 {BESIDE}", f"grow {MORE}", "remove top 1 1", "commit"),
 ]
 QUERIES = ["alts", "list top", "list x", "changes x", "checks x", "free"]
 NONE = ["error 1 NoSuchAlternative"] * 3
@@ -20,10 +20,11 @@ BOTH = ["alternative top ~", "alternative x top", "end 2"]
 SHOWN = {
     0: ["alternative top ~", "end 1", "end 0", *NONE, "free 30"],
     5: [*BOTH, "record 1 1 a", "end 1", "record 1 1 b", "end 1", "change 1 1 a b", "end 1", "checkpoint c", "end 1", "free 28"],
-    10: [*BOTH, *["record 1 1 b", f"record 1 2 {LONG}", "end 2"] * 2, "end 0", "end 0", "free 28"],
+    10: [*BOTH, *["record 1 1 b", f"record 1 2 {LARGEST}", "end 2"] * 2, "end 0", "end 0", "free 29"],
+    # A root over two leaves, and the leaf of x.
     14: [
-        *(*BOTH, f"record 1 2 {LONG}", "record 1 3 e", "end 2", "record 1 1 b", f"record 1 2 {LONG}", "end 2"),
-        *("end 0", "end 0", "free 53"),
+        *(*BOTH, f"record 1 2 {LARGEST}", f"record 1 3 {BESIDE}", "end 2"),
+        *("record 1 1 b", f"record 1 2 {LARGEST}", "end 2", "end 0", "end 0", "free 52"),
     ],
 }
 

@@ -20,8 +20,10 @@ sys.dont_write_bytecode = True
 from fixed_run import Failure, expect
 from preloaded import PROGRAM, build_program, compiled, preloaded
 
-# As many blocks as take two seconds to write, sixteen at a time, and as many leaves as take three to read.
+# As many blocks as take two seconds to write, sixteen at a time, and as many leaves as take three to read: one has nine
+# records, of values of 441 bytes.
 BLOCKS, RECORDS, SLOW = 6144, 5400, 6000
+VALUE = "v" * 441
 # Those of a copy: the store is opened in less than a second, the copy takes three.
 COPIED, FEW = 4096, 900
 LINE = re.compile(rb"\raltctl: (\d+)(?: of (\d+))? blocks")
@@ -112,7 +114,7 @@ def main():
         try:
             remove = lambda: os.path.exists(file) and os.remove(file)
             try_job("create", ["create", file, str(BLOCKS)], [], slow, 1, prepare=remove)
-            puts = [f"put top 1 {number} v" for number in range(RECORDS)]
+            puts = [f"put top 1 {number} {VALUE}" for number in range(RECORDS)]
             status, _, faults = run(["run", file], [*puts, "commit"], {}, True)
             expect("puts on a terminal", (0, b""), (status, faults))
             try_job("open and list", ["run", "--cache", "0", file], ["list top"], slow, 2)

@@ -25,7 +25,7 @@ trap 'rm -rf "$room"' EXIT
 trap '' PIPE
 
 # Each line of the first session, and the last line of its answer.
-long=$(printf '%0300d' 7)
+long=$(printf '%02500d' 7)
 cat >"$room/session.a" <<END
 new a top => ok
 put top 1 1 x => ok
@@ -73,7 +73,7 @@ list a => end 2
 checks a => end 1
 alts => end 2
 reclaim => ok
-free => free 960
+free => free 961
 END
 
 # The list of commands as lines, and each listing.

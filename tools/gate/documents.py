@@ -58,7 +58,7 @@ class Run:
     def __init__(self, altctl, folder, path=None):
         self.folder, self.status, self.differences = folder, 0, 0
         os.symlink(altctl, f"{folder}/altctl")
-        for it in ("clients", "desk"):
+        for it in ("clients", "desk", "tools"):
             os.symlink(TOP / it, f"{folder}/{it}")
         python = {"PYTHONPATH": str(TOP / "clients" / "python"), "PYTHONDONTWRITEBYTECODE": "1"}
         self.environment = {**os.environ, **python, "LC_ALL": "C.UTF-8"}

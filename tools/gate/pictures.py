@@ -150,16 +150,16 @@ def put():
     for at in old.values():
         it.box(*at, width, height, ["NODE"], BLUE_PALE, BLUE, mono=True)
     for name, at in leaves.items():
-        it.box(*at, width, height, ["LEAF", name], BLUE_PALE, BLUE, 12, mono=True)
+        it.box(*at, width, height, ["LEF3", name], BLUE_PALE, BLUE, 12, mono=True)
     it.box(*new["root"], width, height, ["NODE"], ORANGE_PALE, ORANGE, mono=True)
     it.box(*new["right"], width, height, ["NODE"], ORANGE_PALE, ORANGE, mono=True)
-    it.box(*new["leaf"], width, height, ["LEAF", "7:41 to 55"], ORANGE_PALE, ORANGE, 12, mono=True)
+    it.box(*new["leaf"], width, height, ["LEF3", "7:41 to 55"], ORANGE_PALE, ORANGE, 12, mono=True)
     it.text(318, 118, "top", 15, BLUE, at="end", mono=True, bold=True)
     it.text(764, 118, "north", 15, ORANGE, mono=True, bold=True)
     tells = [
         "Orange: the three blocks that the put writes, into free blocks, from the leaf up. Dashed: what both share.",
         "No block of the old version is written, so top shows what it showed, also after a crash in the middle of it.",
-        "Drawn small: a leaf has up to 16 records, an inner block up to 256 children, a tree up to 8 levels.",
+        "Drawn small: a leaf has up to 340 records, an inner block up to 256 children, a tree up to 8 levels.",
     ]
     it.texts(24, 366, tells, 12, 17, colour=GREY)
     return it
@@ -275,7 +275,7 @@ def strip():
         (116, 92, "1", "selector", "bit 0: A or B", 1, ORANGE_PALE, ORANGE),
         (208, 168, "2 to 17", "slot A", "SLOT, entries", 2, BLUE_PALE, BLUE),
         (376, 168, "18 to 33", "slot B", "SLOT, entries", 18, GREEN_PALE, GREEN),
-        (544, 392, "34 and up", "data", "LEAF and NODE, or free", 34, GROUND, INK),
+        (544, 392, "34 and up", "data", "LEF3 and NODE, or free", 34, GROUND, INK),
     ]
     for x, width, numbers, name, holds, first, fill, line in parts:
         it.text(x + width / 2, 76, numbers, 14, at="middle", bold=True)
@@ -292,13 +292,13 @@ def strip():
         it.box(x, 248, width, 34, [tells], BLUE_PALE, BLUE, 12)
         x += width
     it.text(24, 300, "A: an alternative. C: a checkpoint. A root is the number of a data block, or 0.", 12, GREY)
-    it.text(544, 236, "A leaf: up to 16 records of 252 bytes", 14, bold=True)
+    it.text(544, 236, "A leaf: for each record 12 bytes, then the values", 14, bold=True)
     x = 544
-    for tells, width in [("LEAF", 64), ("table", 64), ("number", 76), ("length", 70), ("value,|to 240 bytes", 118)]:
+    for tells, width in [("LEF3", 64), ("table", 64), ("number", 76), ("end", 58), ("values,|one after another", 130)]:
         fill, line = (GREEN_PALE, GREEN) if x > 544 else (PALE, GREY)
         it.box(x, 248, width, 34, tells.split("|"), fill, line, 11 if "|" in tells else 12)
         x += width
-    it.text(544, 300, "A longer value has a data block of its own.", 12, GREY)
+    it.text(544, 300, "end: where the record's value ends among the values", 12, GREY)
     it.text(24, 340, "Where a tree begins", 14, bold=True)
     lines = [
         "Only the slot that the selector names counts. Its entries name",

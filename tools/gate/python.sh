@@ -17,7 +17,7 @@ look() {
     fi
 }
 
-look pyflakes3 clients/python/*.py tools/*/*.py
+look pyflakes3 clients/python/*.py tools/*.py tools/*/*.py
 # Left out are files whose imports are there for others, or show whether a module is installed.
 look pyflakes3 desk/altcarry desk/altdesk desk/altserve desk/demo desk/[!t]*.py desk/altqgis/*.py desk/carry/*.py \
     desk/gis/*.py desk/qgis_tests/within.py desk/test_altqgis.py desk/desk_tests/*.py desk/maps/[!_]*.py \

@@ -421,7 +421,7 @@ ok
 > get top 7 1
 value $long
 > free
-free 60
+free 61
 > list top
 record 7 1 $long
 end 1
@@ -568,7 +568,7 @@ program 'no words' 2
 
 {
     echo 'altctl 0.1.0'
-    echo 'file format 2'
+    echo 'file format 3'
     sed -n 's/^Proved with: `\(.*\)`\.$/proved with \1/p' "$tools/../README.md"
 } >output
 : >faults
@@ -618,6 +618,19 @@ END
 head -c 4096 /dev/zero >tail
 tail -c +262145 tailed >tail.came
 compare '100 bytes behind 64 blocks, which a growth takes: the bytes' tail tail.came
+
+# A store of an earlier format.
+gzip -dc "$tools/old-stores/format-1.alt.gz" >earlier
+cp earlier earlier.before
+: >lines
+: >output
+for words in 'run earlier' 'run --read-only earlier' 'do earlier free' 'check earlier' 'tree earlier' 'copy earlier made'; do
+    echo 'altctl: 19 NotAStore' >faults
+    echo 'altctl: the file is of an earlier format: tools/upgrade.py OLD NEW carries it over' >>faults
+    program "$words, of an earlier format" 1 $words
+    compare "$words, of an earlier format: the file" earlier.before earlier
+done
+absent 'a copy of an earlier format' made
 
 # A store that was cut.
 for length in 0 1 86016 258048 262143; do
@@ -921,7 +934,7 @@ free 93
 END
 copied longer of_longer 64 35 --no-lock
 
-# 40 long values under four leaves and a root, as their keys rise; a base keeps the leaf and the root that top has replaced.
+# 40 of the longest values, in a leaf each, under a root; a base keeps the leaf and the root that top has replaced.
 create stuffed 200
 {
     for n in $(seq 40); do echo "put top 7 $n $most"; done
@@ -933,9 +946,9 @@ program 'long values to copy' 0 run stuffed
 checked 'check of long values to copy' stuffed <<'END'
 alternatives 2
 checkpoints 0
-free 119
+free 123
 END
-copied stuffed whole 81 81 81
+copied stuffed whole 77 77 77
 session 'a copy without a free block' whole <<END
 > free
 free 0
@@ -949,14 +962,14 @@ end 0
 tally 0 1 0 no
 > put top 7 41 duct
 error 13 Full
-> grow 98
+> grow 94
 ok
 > put top 7 41 duct
 ok
 END
 : >lines
 : >output
-for size in 64 80; do
+for size in 64 76; do
     echo 'altctl: 13 Full' >faults
     program "copy to $size blocks" 1 copy stuffed made "$size"
     absent "copy to $size blocks" made

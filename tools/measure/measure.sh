@@ -6,11 +6,11 @@
 # With -c it is the least one, and only that in which the process had a processor, which other work on the machine
 # disturbs less; a DIVISOR of 1 to 16 makes all of it that many times smaller. With --peers loads and gets are measured over LMDB
 # and SQLite, too (`peers.c`), where Debian's packages liblmdb-dev and libsqlite3-dev are installed. With --long values
-# of 2,000 bytes are measured instead, in one record each and split over several, by the program alone: plain.c has
-# none; that needs about 3 GB for temporary files. With --pages parts of versions are measured instead: pages, ranges and
-# differences, by the program alone, with --peers pages of LMDB and SQLite, too. With --copies copies are measured
-# instead, beside `cp` and, with --peers, `mdb_copy -c` and `VACUUM INTO`, and openings of a store from a cold disk before
-# and after it was copied; that needs about 4 GB. It stands beside the gate: times are looked at, never tested.
+# of 2,000 bytes are measured instead; that needs about 2 GB for temporary files. With --pages parts of versions are
+# measured instead: pages, ranges and differences, by the program alone, with --peers pages of LMDB and SQLite, too. With
+# --copies copies are measured instead, beside `cp` and, with --peers, `mdb_copy -c` and `VACUUM INTO`, and openings of a
+# store from a cold disk before and after it was copied; that needs about 4 GB. How much a record takes is measured by
+# `measure_sizes.py`. It stands beside the gate: times are looked at, never tested.
 set -eu
 
 usage() {
@@ -59,7 +59,7 @@ large_records=$((1000000 / divisor))
 large_gets=$((100000 / divisor))
 markings=1000
 puts=$((20000 / divisor))
-long_blocks=$((196608 / divisor))
+long_blocks=$((131072 / divisor))
 long_records=$((100000 / divisor))
 long_markings=100
 many_pages=1000
@@ -209,18 +209,6 @@ print_rows() {
                 printf "| %s | %s | %s | %s | %.2f | %s | %s |\n", it, short(kind[it], took[it]), each,
                     short(kind[it], beside[it]), took[it] / beside[it], blocks["altctl", it], blocks["plain", it]
             }
-        }'
-}
-
-# The rows of one program.
-print_alone() {
-    echo
-    echo "| $1 | altctl | Each | Blocks read | Written |"
-    echo '|---|---|---|---|---|'
-    chosen | awk -F '|' "$functions"'
-        {
-            each = $4 > 1 ? short($3, $5 / $4) : ""
-            printf "| %s | %s | %s | %s | %s |\n", $1, short($3, $5), each, grouped($6), grouped($7)
         }'
 }
 
@@ -386,21 +374,13 @@ prepare_large() {
     echo "grow $((2 * blocks))" | all_ok growth
 }
 
-# The lines on values of 2,000 bytes: in a record each, and in nine records of 223 bytes at most, which have ten times
-# the number and a place.
+# The lines on values of 2,000 bytes.
 prepare_long() {
-    numbers "$long_records" random >"$work/whole"
-    sort -n "$work/whole" >"$work/whole_rising"
-    awk '{ for (i = 0; i < 9; i++) printf "%d\n", 10 * $1 + i }' "$work/whole" >"$work/split"
-    sort -n "$work/split" >"$work/split_rising"
-    for it in 'whole 2000' 'split 223'; do
-        set -- $it
-        { put_lines top "$2" 0 <"$work/$1" && echo commit; } | all_ok "long_load_$1"
-        prepare_gets "long_gets_$1" "$1" "$2"
-        awk -v size="$2" '{ printf "record 1 %d %0*d\n", $1, size, $1 } END { print "end " NR }' "$work/$1_rising" \
-            >"$work/long_list_$1.answers"
-        echo list top >"$work/long_list_$1.lines"
-    done
+    numbers "$long_records" random >"$work/long"
+    { put_lines top 2000 0 <"$work/long" && echo commit; } | all_ok long_load
+    prepare_gets long_gets long 2000
+    sort -n "$work/long" | awk '{ printf "record 1 %d %02000d\n", $1, $1 } END { print "end " NR }' >"$work/long_list.answers"
+    echo list top >"$work/long_list.lines"
     yes reclaim | head -n $long_markings | all_ok long_markings
 }
 
@@ -560,20 +540,18 @@ measure_large() {
     rm -f "$work/store"
 }
 
-# Values of 2,000 bytes in a store, in the records of a name: a load, gets, a list, markings, and an opening. The blocks
-# that they take are told, too.
+# Values of 2,000 bytes in a store: a load, gets, a list, markings, and an opening.
 measure_long() {
-    of=$(grouped "$(wc -l <"$work/$1")")
+    of=$(grouped "$long_records")
     begin "$long_blocks"
-    measure "long_load_$1" "$2: $of puts in random order, one commit" "$long_records"
-    echo "$2: $(grouped $((long_blocks - 34 - $(spare)))) blocks" >"$work/long_blocks_$1"
-    measure "long_gets_$1" "$2: $of gets" "$long_records"
-    measure "long_list_$1" "$2: a list" 1
-    measure long_markings "$2: $(grouped $long_markings) markings" "$long_markings"
-    end
+    measure_load long_load "$of puts in random order, one commit" "$long_records" "$long_blocks"
+    measure long_gets "$of gets" "$long_records"
+    measure long_list 'a list' 1
+    measure long_markings "$(grouped $long_markings) markings" "$long_markings"
+    stop
     times=$("$work/timed" run "$program" run "$work/store")
-    add "$2: open" time 1 "$(echo "$times" | cut -d ' ' -f $clock)" "$((long_blocks - 34 - $(free_of_store) + 3))" 0
-    add "$2: the greatest memory of that" memory 1 "$(echo "$times" | cut -d ' ' -f 3)" 0 0
+    add 'open' time 1 "$(echo "$times" | cut -d ' ' -f $clock)" "$((long_blocks - 34 - $(free_of_store) + 3))" 0
+    add 'the greatest memory of that' memory 1 "$(echo "$times" | cut -d ' ' -f 3)" 0 0
 }
 
 # Pages, ranges and the list of a map of n records. None of them profits from what a load leaves in memory.
@@ -766,19 +744,15 @@ both() {
 mkfifo "$work/input"
 echo checks top >"$work/ready.lines"
 echo end 0 >"$work/ready.answers"
-"$tools/faults/compare.py" --short -n 20 "$work/plain" >"$work/compared" ||
+"$tools/faults/compare.py" --plain -n 20 "$work/plain" >"$work/compared" ||
     fail 'plain.c answers otherwise than compare.py expects'
 
 if [ -n "$long" ]; then
-    table=long name=altctl program=$altctl
+    table=long
     prepare_long
-    for round in $(seq $rounds); do
-        measure_long whole 'one record each'
-        measure_long split 'nine records each'
-    done
-    print_alone "$(grouped "$long_records") values of 2,000 bytes"
-    echo
-    cat "$work/long_blocks_whole" "$work/long_blocks_split"
+    both measure_long $rounds
+    print_rows "$(grouped "$long_records") values of 2,000 bytes"
+    print_loads
     exit 0
 fi
 if [ -n "$pages" ]; then

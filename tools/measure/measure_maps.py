@@ -155,8 +155,7 @@ def tell_kinds(altgis, source, store):
             sizes = {it: [len(row.value) for row in opened.scan("top", it)] for it in (1, 101)}
         count = len(sizes[1])
         attributes, courses = (sum(it) / count for it in sizes.values())
-        longer = sum(size > 240 for it in sizes.values() for size in it) / count
-        told = f"attributes {attributes:.0f} bytes, geometry {courses:.0f}, {longer:.0%} of the values over 240"
+        told = f"attributes {attributes:.0f} bytes, geometry {courses:.0f}"
         print(f"{name}: {told}: {used_bytes(store) / count:.0f} bytes a feature in the store")
     Path(store).unlink()
 

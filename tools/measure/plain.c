@@ -2,9 +2,8 @@
    compiles and calls it. It is what one writes straightforwardly: each block that a change makes is written at once,
    by one call; 256 blocks are kept in memory, those that were used last; blocks are read where they lie, and of a path
    only heads are tested. Files, lines, answers and statuses are those of docs/FORMATS.md, so each program opens the
-   files of the other, and `compare.py --short` tries this one, too. It has values of up to 240 bytes alone, as
-   the lines have that both are measured by: a longer one is a bad line here, and a file with one is damaged. It is
-   trusted with nothing: memory that is refused and a file that fails end it.
+   files of the other, and `compare.py --plain` tries this one, too. It has the lines alone that both are measured by.
+   It is trusted with nothing: memory that is refused and a file that fails end it.
 
    plain create FILE BLOCKS
    plain run [--buffer 0] FILE     no written block waits, with the words `--buffer 0` and without
@@ -22,9 +21,9 @@
 #include <sys/stat.h>
 #include <unistd.h>
 
-enum { BLOCK = 4096, FIRST = 34, LEAST_BLOCKS = 64, MOST_BLOCKS = 1 << 20, AT_ONCE = 16 };
+enum { FORMAT = 3, BLOCK = 4096, FIRST = 34, LEAST_BLOCKS = 64, MOST_BLOCKS = 1 << 20, AT_ONCE = 16 };
 enum { SLOT_A = 2, SLOT_B = 18, SLOT_BLOCKS = 16, CELL = 128, ENTRIES = 511, NAME = 33 };
-enum { HEAD = 16, LEAF = 16, FAN = 256, LEVELS = 8, RECORD = 252, CHILD = 14, VALUE = 240 };
+enum { HEAD = 16, LEAF_ROOM = BLOCK - HEAD, ENTRY = 12, FAN = 256, LEVELS = 8, CHILD = 14, VALUE = 4000 };
 enum { BLOCKS_A_CHANGE = 17, KEPT = 256, BUCKETS = 512, LINE = 1 << 20, CHUNK = 1 << 16 };
 
 typedef unsigned char byte;
@@ -34,10 +33,10 @@ struct key {
     uint64_t number;
 };
 
-/* The bytes of a value; none where its length is -1. */
+/* Where the bytes of a value lie; there is none where its length is -1. */
 struct value {
     int length;
-    byte bytes[VALUE];
+    const byte *bytes;
 };
 
 /* --- refusals ------------------------------------------------------------------------------------ */
@@ -270,14 +269,10 @@ static int compare(struct key one, struct key other)
     return one.number < other.number ? -1 : one.number > other.number;
 }
 
+/* The size of an entry of a leaf, or of a child. Both begin with a key. */
 static int row_size(int level)
 {
-    return level == 0 ? RECORD : CHILD;
-}
-
-static int most_rows(int level)
-{
-    return level == 0 ? LEAF : FAN;
+    return level == 0 ? ENTRY : CHILD;
 }
 
 static int count_of(const byte *block)
@@ -300,13 +295,16 @@ static uint32_t child_of(const byte *row)
     return load32(row + 10);
 }
 
-static void make_record(byte *row, struct key key, const struct value *value)
+/* Where the value before an entry of a leaf ends among the values. */
+static int end_before(const byte *leaf, int index)
 {
-    store16(row, key.table);
-    store64(row + 2, key.number);
-    store16(row + 10, (uint16_t)value->length);
-    memcpy(row + 12, value->bytes, (size_t)value->length);
-    memset(row + 12 + value->length, 0, (size_t)(VALUE - value->length));
+    return index == 0 ? 0 : load16(row_at(leaf, 0, index) - 2);
+}
+
+static struct value value_at(const byte *leaf, int index)
+{
+    int begin = end_before(leaf, index);
+    return (struct value){end_before(leaf, index + 1) - begin, row_at(leaf, 0, count_of(leaf)) + begin};
 }
 
 static void make_child(byte *row, struct root child)
@@ -316,20 +314,14 @@ static void make_child(byte *row, struct root child)
     store32(row + 10, child.block);
 }
 
-static void take_value(const byte *record, struct value *value)
-{
-    value->length = load16(record + 10);
-    memcpy(value->bytes, record + 12, (size_t)value->length);
-}
-
 /* The level that the head of a block tells, or -1. */
 static int level_of(const byte *block)
 {
     uint32_t level = load32(block + 4), count = load32(block + 8);
     if (load32(block + 12) != 0 || count == 0)
         return -1;
-    if (memcmp(block, "LEAF", 4) == 0)
-        return level == 0 && count <= LEAF ? 0 : -1;
+    if (memcmp(block, "LEF3", 4) == 0)
+        return level == 0 && count <= LEAF_ROOM / ENTRY ? 0 : -1;
     return memcmp(block, "NODE", 4) == 0 && level > 0 && level < LEVELS && count <= FAN ? (int)level : -1;
 }
 
@@ -354,14 +346,17 @@ static int chosen(const byte *block, int level, struct key key)
     return count > 0 ? count - 1 : 0;
 }
 
-/* The record of a key in a leaf, or NULL. */
-static const byte *record_in(const byte *leaf, struct key key)
+/* Whether a leaf has a key, as the last one of so many. */
+static bool has_last(const byte *leaf, int count, struct key key)
 {
-    int count = rows_up_to(leaf, 0, key);
-    if (count == 0)
-        return NULL;
-    const byte *row = row_at(leaf, 0, count - 1);
-    return compare(key_of(row), key) == 0 ? row : NULL;
+    return count > 0 && compare(key_of(row_at(leaf, 0, count - 1)), key) == 0;
+}
+
+static bool are_same(const struct value *one, const struct value *other)
+{
+    if (one->length != other->length)
+        return false;
+    return one->length < 0 || memcmp(one->bytes, other->bytes, (size_t)one->length) == 0;
 }
 
 /* --- which blocks are held ----------------------------------------------------------------------- */
@@ -410,10 +405,10 @@ static uint32_t take(void)
 
 /* --- trees --------------------------------------------------------------------------------------- */
 
-/* What stands in the place of a block once it was changed: no block, one or two. */
+/* What stands in the place of a block once it was changed: one block, two, or, of a leaf, three. */
 struct parts {
     int count;
-    struct root at[2];
+    struct root at[3];
 };
 
 /* The bytes of a block of a tree, whose head is tested. */
@@ -427,54 +422,82 @@ static const byte *tree_block(uint32_t block, int level)
     return bytes;
 }
 
-/* Writes a block of these rows: those of three lists, one after another. */
-static struct root write_rows(int level, const byte *const rows[3], const int counts[3])
+/* Records one after another: their entries, how many bytes of values stand before theirs, and the values. */
+struct piece {
+    const byte *entries, *values;
+    int count, before, size;
+};
+
+static const struct piece nothing;
+
+/* The records of a leaf from one to before another. */
+static struct piece piece_of(const byte *leaf, int from, int to)
 {
-    uint32_t block = take(), size = (uint32_t)row_size(level);
-    byte *bytes = make_block(block), *to = bytes + HEAD;
-    memcpy(bytes, level == 0 ? "LEAF" : "NODE", 4);
-    store32(bytes + 4, (uint32_t)level);
-    store32(bytes + 8, (uint32_t)(counts[0] + counts[1] + counts[2]));
+    int before = end_before(leaf, from), size = end_before(leaf, to) - before;
+    return (struct piece){row_at(leaf, 0, from), row_at(leaf, 0, count_of(leaf)) + before, to - from, before, size};
+}
+
+/* Writes a leaf of three pieces, one after another. */
+static struct root write_leaf(struct piece front, struct piece middle, struct piece back)
+{
+    struct piece pieces[] = {front, middle, back};
+    uint32_t block = take();
+    byte *bytes = make_block(block), *entry = bytes + HEAD;
+    byte *values = entry + ENTRY * (front.count + middle.count + back.count), *to = values;
+    memcpy(bytes, "LEF3", 4);
+    store32(bytes + 4, 0);
+    store32(bytes + 8, (uint32_t)(front.count + middle.count + back.count));
     store32(bytes + 12, 0);
     for (int i = 0; i < 3; i++) {
-        memcpy(to, rows[i], (size_t)counts[i] * size);
-        to += (size_t)counts[i] * size;
+        const struct piece *it = &pieces[i];
+        if (it->count == 0)
+            continue;
+        memcpy(entry, it->entries, (size_t)it->count * ENTRY);
+        for (int n = it->count; n > 0; n--, entry += ENTRY)
+            store16(entry + 10, (uint16_t)(load16(entry + 10) - it->before + (to - values)));
+        memcpy(to, it->values, (size_t)it->size);
+        to += it->size;
     }
     memset(to, 0, (size_t)(bytes + BLOCK - to));
+    write_file(block, bytes, 1);
+    return (struct root){block, 0, key_of(bytes + HEAD)};
+}
+
+/* Writes an inner block of children that lie one after another. */
+static struct root write_node(int level, const byte *children, int count)
+{
+    uint32_t block = take();
+    byte *bytes = make_block(block);
+    size_t size = (size_t)count * CHILD;
+    memcpy(bytes, "NODE", 4);
+    store32(bytes + 4, (uint32_t)level);
+    store32(bytes + 8, (uint32_t)count);
+    store32(bytes + 12, 0);
+    memcpy(bytes + HEAD, children, size);
+    memset(bytes + HEAD + size, 0, BLOCK - HEAD - size);
     write_file(block, bytes, 1);
     return (struct root){block, level, key_of(bytes + HEAD)};
 }
 
-/* Writes a block anew, with other rows in the place of some: as two, where they are too many for one. */
-static struct parts write_changed(const byte *old, int level, int at, int less, const byte *rows, int more)
+/* Writes an inner block anew, with these parts in the place of a child: as two, where they are too many for one. */
+static struct parts write_parts(const byte *old, int level, int at, struct parts parts)
 {
-    int size = row_size(level), behind = count_of(old) - at - less, count = at + more + behind;
-    const byte *lists[] = {row_at(old, level, 0), rows, row_at(old, level, at + less)};
-    if (count <= most_rows(level))
-        return (struct parts){1, {write_rows(level, lists, (const int[]){at, more, behind})}};
-    byte all[(LEAF + 1) * RECORD];
-    memcpy(all, lists[0], (size_t)(at * size));
-    memcpy(all + at * size, rows, (size_t)(more * size));
-    memcpy(all + (at + more) * size, lists[2], (size_t)(behind * size));
-    int left = (count + 1) / 2;
-    const byte *halves[] = {all, all + left * size};
-    struct parts parts = {2, {{0}}};
-    parts.at[0] = write_rows(level, (const byte *[]){halves[0], all, all}, (const int[]){left, 0, 0});
-    parts.at[1] = write_rows(level, (const byte *[]){halves[1], all, all}, (const int[]){count - left, 0, 0});
+    byte all[(FAN + 2) * CHILD], *behind = all + (at + parts.count) * CHILD;
+    int count = count_of(old) - 1 + parts.count, left = (count + 1) / 2;
+    memcpy(all, row_at(old, level, 0), (size_t)(at * CHILD));
+    for (int i = 0; i < parts.count; i++)
+        make_child(all + (at + i) * CHILD, parts.at[i]);
+    memcpy(behind, row_at(old, level, at + 1), (size_t)((count - at - parts.count) * CHILD));
+    if (count <= FAN)
+        return (struct parts){1, {write_node(level, all, count)}};
+    parts.count = 2;
+    parts.at[0] = write_node(level, all, left);
+    parts.at[1] = write_node(level, all + left * CHILD, count - left);
     return parts;
 }
 
-/* Writes an inner block anew, with these parts in the place of a child. */
-static struct parts write_parts(const byte *old, int level, int at, struct parts parts)
-{
-    byte rows[2 * CHILD];
-    for (int i = 0; i < parts.count; i++)
-        make_child(rows + i * CHILD, parts.at[i]);
-    return write_changed(old, level, at, 1, rows, parts.count);
-}
-
-/* The record of a key, or NULL. */
-static const byte *find_record(struct root root, struct key key)
+/* The leaf to which a key belongs, or NULL. */
+static const byte *find_leaf(struct root root, struct key key)
 {
     if (root.block == 0)
         return NULL;
@@ -483,17 +506,97 @@ static const byte *find_record(struct root root, struct key key)
         const byte *bytes = tree_block(block, level);
         block = child_of(row_at(bytes, level, chosen(bytes, level, key)));
     }
-    return record_in(tree_block(block, 0), key);
+    return tree_block(block, 0);
+}
+
+/* The value of a key. */
+static struct value find_value(struct root root, struct key key)
+{
+    const byte *leaf = find_leaf(root, key);
+    int count = leaf ? rows_up_to(leaf, 0, key) : 0;
+    return has_last(leaf, count, key) ? value_at(leaf, count - 1) : (struct value){-1, NULL};
+}
+
+/* An entry of a value that stands alone. */
+static void make_entry(byte *entry, struct key key, int length)
+{
+    store16(entry, key.table);
+    store64(entry + 2, key.number);
+    store16(entry + 10, (uint16_t)length);
+}
+
+/* A leaf in which a record is to stand in the place of those from `at` to before `next`. */
+struct coming {
+    const byte *leaf;
+    int at, next, length;
+};
+
+/* How many bytes the first ones of the records take then. */
+static int size_of(const struct coming *it, int count)
+{
+    if (count <= it->at)
+        return ENTRY * count + end_before(it->leaf, count);
+    int end = it->next + count - it->at - 1;
+    return ENTRY * count + end_before(it->leaf, it->at) + it->length + end_before(it->leaf, end) - end_before(it->leaf, it->next);
+}
+
+/* How many of the records stand in the left of two leaves, of which the larger one is as small as it can be, and how
+   many bytes that one takes. */
+static int best_cut(const struct coming *it, int count, int *size)
+{
+    int best = 0, total = size_of(it, count);
+    *size = total;
+    for (int cut = 1; cut < count; cut++) {
+        int left = size_of(it, cut), larger = left > total - left ? left : total - left;
+        if (larger < *size) {
+            best = cut;
+            *size = larger;
+        }
+    }
+    return best;
+}
+
+/* Writes a leaf anew, with a record: as two or three, where it is too large for one. A record behind all others stands
+   alone then. */
+static struct parts write_with(const struct coming *it, struct piece record)
+{
+    const byte *leaf = it->leaf;
+    int count = count_of(leaf), all = it->at + 1 + count - it->next, larger;
+    struct piece front = piece_of(leaf, 0, it->at), back = piece_of(leaf, it->next, count);
+    struct parts parts = {1, {{0}}};
+    if (size_of(it, all) <= LEAF_ROOM) {
+        parts.at[0] = write_leaf(front, record, back);
+        return parts;
+    }
+    parts.count = 2;
+    int left = best_cut(it, all, &larger), more = left - it->at - 1;
+    if (it->at == count) {
+        parts.at[0] = write_leaf(front, nothing, nothing);
+        parts.at[1] = write_leaf(record, nothing, nothing);
+    } else if (larger > LEAF_ROOM) {
+        parts.count = 3;
+        parts.at[0] = write_leaf(front, nothing, nothing);
+        parts.at[1] = write_leaf(record, nothing, nothing);
+        parts.at[2] = write_leaf(back, nothing, nothing);
+    } else if (more < 0) {
+        parts.at[0] = write_leaf(piece_of(leaf, 0, left), nothing, nothing);
+        parts.at[1] = write_leaf(piece_of(leaf, left, it->at), record, back);
+    } else {
+        parts.at[0] = write_leaf(front, record, piece_of(leaf, it->next, it->next + more));
+        parts.at[1] = write_leaf(piece_of(leaf, it->next + more, count), nothing, nothing);
+    }
+    return parts;
 }
 
 static struct parts put_below(uint32_t block, int level, struct key key, const struct value *value)
 {
     const byte *bytes = tree_block(block, level);
     if (level == 0) {
-        byte record[RECORD];
-        int at = rows_up_to(bytes, 0, key), less = record_in(bytes, key) ? 1 : 0;
-        make_record(record, key, value);
-        return write_changed(bytes, 0, at - less, less, record, 1);
+        byte entry[ENTRY];
+        int next = rows_up_to(bytes, 0, key);
+        make_entry(entry, key, value->length);
+        struct coming coming = {bytes, next - has_last(bytes, next, key), next, value->length};
+        return write_with(&coming, (struct piece){entry, value->bytes, 1, 0, value->length});
     }
     int at = chosen(bytes, level, key);
     struct parts below = put_below(child_of(row_at(bytes, level, at)), level - 1, key, value);
@@ -503,20 +606,19 @@ static struct parts put_below(uint32_t block, int level, struct key key, const s
 /* The tree with a value for a key. */
 static struct root put(struct root root, struct key key, const struct value *value)
 {
+    byte rows[3 * CHILD];
     if (root.block == 0) {
-        byte record[RECORD];
-        make_record(record, key, value);
-        return write_rows(0, (const byte *[]){record, record, record}, (const int[]){1, 0, 0});
+        make_entry(rows, key, value->length);
+        return write_leaf((struct piece){rows, value->bytes, 1, 0, value->length}, nothing, nothing);
     }
     struct parts parts = put_below(root.block, root.level, key, value);
     if (parts.count == 1)
         return parts.at[0];
     if (root.level == LEVELS - 1)
         refuse(DEEP);
-    byte rows[2 * CHILD];
-    make_child(rows, parts.at[0]);
-    make_child(rows + CHILD, parts.at[1]);
-    return write_rows(root.level + 1, (const byte *[]){rows, rows, rows}, (const int[]){2, 0, 0});
+    for (int i = 0; i < parts.count; i++)
+        make_child(rows + i * CHILD, parts.at[i]);
+    return write_node(root.level + 1, rows, parts.count);
 }
 
 /* The first block from this one down that is a leaf, or has more children than one. */
@@ -538,7 +640,8 @@ static struct root remove_below(uint32_t block, int level, bool is_root, struct 
     if (level == 0) {
         if (count == 1)
             return (struct root){0};
-        return write_changed(bytes, 0, rows_up_to(bytes, 0, key) - 1, 1, bytes, 0).at[0];
+        int next = rows_up_to(bytes, 0, key);
+        return write_leaf(piece_of(bytes, 0, next - 1), nothing, piece_of(bytes, next, count));
     }
     int at = chosen(bytes, level, key);
     bool is_alone = is_root && count == 1;
@@ -550,7 +653,7 @@ static struct root remove_below(uint32_t block, int level, bool is_root, struct 
         return write_parts(bytes, level, at, (struct parts){1, {left}}).at[0];
     if (is_root && count == 2)
         return narrowed(child_of(row_at(bytes, level, 1 - at)), level - 1);
-    return write_changed(bytes, level, at, 1, bytes, 0).at[0];
+    return write_parts(bytes, level, at, (struct parts){0}).at[0];
 }
 
 /* --- differences of two trees -------------------------------------------------------------------- */
@@ -574,17 +677,18 @@ static void begin_walk(struct walk *walk, struct root root)
     walk->key = root.low;
 }
 
-static const byte *row_next(const struct walk *walk)
+static struct value value_next(const struct walk *walk)
 {
-    int top = walk->depth - 1, level = walk->path[top].level;
-    return row_at(read_block(walk->path[top].block), level, walk->path[top].at);
+    int top = walk->depth - 1;
+    return value_at(read_block(walk->path[top].block), walk->path[top].at);
 }
 
 static void look(struct walk *walk)
 {
-    const byte *row = row_next(walk);
+    int top = walk->depth - 1;
+    const byte *row = row_at(read_block(walk->path[top].block), walk->path[top].level, walk->path[top].at);
     walk->key = key_of(row);
-    walk->height = walk->path[walk->depth - 1].level;
+    walk->height = walk->path[top].level;
     if (walk->height > 0)
         walk->block = child_of(row);
 }
@@ -622,10 +726,36 @@ struct change {
 struct changes {
     struct change *at;
     size_t count, room;
+    /* The bytes of their values: chunks, the number of the one in use, and how much of it is. */
+    byte **chunks;
+    size_t chunk_count, chunk, used;
 };
 
-/* Adds a change, with the values of two records of which one may be NULL. */
-static void add_change(struct changes *changes, struct key key, const byte *before, const byte *after)
+static void begin_changes(struct changes *changes)
+{
+    changes->count = changes->chunk = changes->used = 0;
+}
+
+/* A value that stays where it is until the changes begin anew. */
+static struct value kept_value(struct changes *changes, struct value value)
+{
+    if (value.length <= 0)
+        return value;
+    if (changes->chunk < changes->chunk_count && CHUNK - changes->used < (size_t)value.length) {
+        changes->chunk++;
+        changes->used = 0;
+    }
+    if (changes->chunk == changes->chunk_count) {
+        changes->chunks = enlarged(changes->chunks, changes->chunk_count + 1, sizeof *changes->chunks);
+        changes->chunks[changes->chunk_count++] = enlarged(NULL, CHUNK, 1);
+    }
+    byte *to = changes->chunks[changes->chunk] + changes->used;
+    memcpy(to, value.bytes, (size_t)value.length);
+    changes->used += (size_t)value.length;
+    return (struct value){value.length, to};
+}
+
+static void add_change(struct changes *changes, struct key key, struct value before, struct value after)
 {
     if (changes->count == changes->room) {
         changes->room = 2 * changes->room + 64;
@@ -633,11 +763,8 @@ static void add_change(struct changes *changes, struct key key, const byte *befo
     }
     struct change *it = &changes->at[changes->count++];
     it->key = key;
-    it->before.length = it->after.length = -1;
-    if (before)
-        take_value(before, &it->before);
-    if (after)
-        take_value(after, &it->after);
+    it->before = kept_value(changes, before);
+    it->after = kept_value(changes, after);
 }
 
 /* Goes one step on in two walks where what comes next is not the same block in both. The way that is behind goes on;
@@ -656,12 +783,16 @@ static void step(struct walk *before, struct walk *after, struct changes *change
             enter(after);
         return;
     }
-    const byte *one = order <= 0 ? row_next(before) : NULL, *other = order >= 0 ? row_next(after) : NULL;
-    if (!one || !other || memcmp(one, other, RECORD) != 0)
-        add_change(changes, key_of(one ? one : other), one, other);
-    if (one)
+    struct value one = {-1, NULL}, other = {-1, NULL};
+    if (order <= 0)
+        one = value_next(before);
+    if (order >= 0)
+        other = value_next(after);
+    if (!are_same(&one, &other))
+        add_change(changes, order <= 0 ? before->key : after->key, one, other);
+    if (order <= 0)
         pass(before);
-    if (other)
+    if (order >= 0)
         pass(after);
 }
 
@@ -671,7 +802,7 @@ static void differences(struct root one, struct root other, struct changes *chan
     struct walk before, after;
     begin_walk(&before, one);
     begin_walk(&after, other);
-    changes->count = 0;
+    begin_changes(changes);
     while (changes->count < most && !(before.ended && after.ended)) {
         if (!before.ended && !after.ended && before.height > 0 && before.height == after.height
             && before.block == after.block) {
@@ -770,7 +901,7 @@ static void publish(void)
     uint32_t used = slot_blocks(working.count);
     memset(slot, 0, used * BLOCK);
     memcpy(slot, "SLOT", 4);
-    store32(slot + 4, 2);
+    store32(slot + 4, FORMAT);
     store32(slot + 8, blocks);
     store32(slot + 12, (uint32_t)working.count);
     for (int i = 0; i < working.count; i++)
@@ -796,30 +927,35 @@ struct span {
 };
 
 static struct span *spans;
+/* Whether the file begins as those of formats 1 and 2 do. */
+static bool is_earlier;
 
-static void make_header(byte *block)
+static void make_header(byte *block, uint32_t version)
 {
     memset(block, 0, BLOCK);
     memcpy(block, "ALTSTORE", 8);
-    store32(block + 8, 1);
+    store32(block + 8, version);
     store32(block + 12, BLOCK);
 }
 
-/* Whether the rows of a block have the form of those of its level, and nothing stands behind them. */
+/* Whether the values of a leaf follow one another, and nothing stands behind them. */
+static bool has_values(const byte *leaf)
+{
+    int count = count_of(leaf), from = 0;
+    for (int i = 0; i < count; from = end_before(leaf, ++i))
+        if (end_before(leaf, i + 1) < from || end_before(leaf, i + 1) > from + VALUE)
+            return false;
+    return ENTRY * count + from <= LEAF_ROOM && is_zero(row_at(leaf, 0, count) + from, (size_t)(LEAF_ROOM - ENTRY * count - from));
+}
+
+/* Whether the keys of a block rise, and nothing stands behind its rows or values. */
 static bool has_form(const byte *block, int level)
 {
-    int count = count_of(block);
-    const byte *end = row_at(block, level, count);
-    for (int i = 0; i < count; i++) {
-        const byte *row = row_at(block, level, i);
-        if (i > 0 && compare(key_of(row - row_size(level)), key_of(row)) >= 0)
+    const byte *end = row_at(block, level, count_of(block));
+    for (const byte *row = block + HEAD + row_size(level); row < end; row += row_size(level))
+        if (compare(key_of(row - row_size(level)), key_of(row)) >= 0)
             return false;
-        if (level == 0 && load16(row + 10) > VALUE)
-            return false;
-        if (level == 0 && !is_zero(row + 12 + load16(row + 10), (size_t)(VALUE - load16(row + 10))))
-            return false;
-    }
-    return is_zero(end, (size_t)(block + BLOCK - end));
+    return level == 0 ? has_values(block) : is_zero(end, (size_t)(block + BLOCK - end));
 }
 
 static struct span visit(uint32_t block, int least, int most);
@@ -878,7 +1014,7 @@ static void read_slot(uint32_t first)
     read_file(first, slot);
     uint32_t format = load32(slot + 4), count = load32(slot + 12);
     blocks = load32(slot + 8);
-    if (memcmp(slot, "SLOT", 4) != 0 || format < 1 || format > 2 || blocks < LEAST_BLOCKS || blocks > MOST_BLOCKS
+    if (memcmp(slot, "SLOT", 4) != 0 || format != FORMAT || blocks < LEAST_BLOCKS || blocks > MOST_BLOCKS
         || count < 1 || count > ENTRIES || !is_zero(slot + 16, CELL - 16))
         damaged(first);
     for (uint32_t i = 1; i < slot_blocks((int)count); i++)
@@ -899,7 +1035,11 @@ static void open_store(void)
     if (file_blocks < LEAST_BLOCKS)
         refuse(NOT_A_STORE);
     read_file(0, block);
-    make_header(header);
+    for (uint32_t version = 1; version < FORMAT; version++) {
+        make_header(header, version);
+        is_earlier |= memcmp(block, header, BLOCK) == 0;
+    }
+    make_header(header, FORMAT);
     if (memcmp(block, header, BLOCK) != 0)
         refuse(NOT_A_STORE);
     read_file(1, block);
@@ -1022,8 +1162,10 @@ static bool is_plain(byte it)
 }
 
 /* Writes a value after a space. */
-static void say_value(const byte *bytes, int length)
+static void say_value(struct value value)
 {
+    const byte *bytes = value.bytes;
+    int length = value.length;
     char *to = answer_room(2 + 3 * VALUE), *begun = to;
     bool all_plain = true;
     for (int i = 0; i < length; i++)
@@ -1077,13 +1219,6 @@ struct settlement {
 static struct changes theirs, mine;
 static struct settlement *settlements;
 static size_t settlement_count, settlement_room;
-
-static bool are_same(const struct value *one, const struct value *other)
-{
-    if (one->length != other->length)
-        return false;
-    return one->length < 0 || memcmp(one->bytes, other->bytes, (size_t)one->length) == 0;
-}
 
 /* Finds what changed in the parent and in the alternative since the base, and which of it is in conflict. */
 static size_t compare_sides(const struct entry *own, const struct entry *parent)
@@ -1200,6 +1335,7 @@ struct words {
     int names_count;
     struct key key;
     struct value value;
+    byte value_bytes[VALUE];
     uint64_t number;
 };
 
@@ -1255,7 +1391,7 @@ static void do_put(const struct words *words)
 static void do_remove(const struct words *words)
 {
     struct entry *it = alternative(words->names[0]);
-    if (!find_record(it->current, words->key))
+    if (find_value(it->current, words->key).length < 0)
         refuse(NO_SUCH_RECORD);
     demand(1);
     it->current = remove_below(it->current.block, it->current.level, true, words->key);
@@ -1263,13 +1399,13 @@ static void do_remove(const struct words *words)
 
 static void do_get(const struct words *words)
 {
-    const byte *record = find_record(alternative(words->names[0])->current, words->key);
-    if (!record) {
+    struct value found = find_value(alternative(words->names[0])->current, words->key);
+    if (found.length < 0) {
         say("none\n");
         return;
     }
     say("value");
-    say_value(record + 12, load16(record + 10));
+    say_value(found);
     say("\n");
 }
 
@@ -1281,10 +1417,9 @@ static uint64_t list_below(uint32_t block, int level)
     for (int i = 0; level > 0 && i < count; i++)
         records += list_below(child_of(row_at(read_block(block), level, i)), level - 1);
     for (int i = 0; level == 0 && i < count; i++) {
-        const byte *record = row_at(bytes, 0, i);
         say("record ");
-        say_key(key_of(record));
-        say_value(record + 12, load16(record + 10));
+        say_key(key_of(row_at(bytes, 0, i)));
+        say_value(value_at(bytes, i));
         say("\n");
     }
     return level == 0 ? (uint64_t)count : records;
@@ -1303,8 +1438,8 @@ static void do_changes(const struct words *words)
     for (size_t i = 0; i < mine.count; i++) {
         say("change ");
         say_key(mine.at[i].key);
-        say_value(mine.at[i].before.bytes, mine.at[i].before.length);
-        say_value(mine.at[i].after.bytes, mine.at[i].after.length);
+        say_value(mine.at[i].before);
+        say_value(mine.at[i].after);
         say("\n");
     }
     say_end(mine.count);
@@ -1320,9 +1455,9 @@ static void do_conflicts(const struct words *words)
             continue;
         say("conflict ");
         say_key(it->key);
-        say_value(it->before.bytes, it->before.length);
-        say_value(it->after.bytes, it->after.length);
-        say_value(it->mine->after.bytes, it->mine->after.length);
+        say_value(it->before);
+        say_value(it->after);
+        say_value(it->mine->after);
         say("\n");
     }
     say_end(conflicts);
@@ -1558,18 +1693,16 @@ static int digit(char it)
     return letter >= 'a' && letter <= 'f' ? letter - 'a' + 10 : -1;
 }
 
-static bool read_value(struct word word, struct value *value)
+/* Reads a value. One without % is taken where it stands in the line, others are written to `bytes`. */
+static bool read_value(struct word word, struct value *value, byte *bytes)
 {
     bool is_empty = is(word, "-");
-    value->length = 0;
+    *value = (struct value){0, bytes};
     if (word.length == 0 || is_empty)
         return is_empty;
     if (!memchr(word.bytes, '%', word.length)) {
-        if (word.length > VALUE)
-            return false;
-        value->length = (int)word.length;
-        memcpy(value->bytes, word.bytes, word.length);
-        return true;
+        *value = (struct value){(int)word.length, (const byte *)word.bytes};
+        return word.length <= VALUE;
     }
     for (size_t i = 0; i < word.length; i++) {
         int it = (byte)word.bytes[i];
@@ -1581,7 +1714,7 @@ static bool read_value(struct word word, struct value *value)
         }
         if (value->length == VALUE)
             return false;
-        value->bytes[value->length++] = (byte)it;
+        bytes[value->length++] = (byte)it;
     }
     return true;
 }
@@ -1618,7 +1751,7 @@ static bool read_words(struct line *line, const char *kinds, struct words *words
         else if (*kinds == 'k')
             is_right = read_key(word, next_word(line), &words->key);
         else if (*kinds == 'v')
-            is_right = read_value(word, &words->value);
+            is_right = read_value(word, &words->value, words->value_bytes);
         else if (*kinds == 'b')
             is_right = read_number(word, UINT32_MAX, &words->number);
         else if (*kinds == 's')
@@ -1716,7 +1849,7 @@ static void create(const char *name, uint32_t count)
     in_slot_b = true;
     add_entry('A', (const byte[NAME]){"\3top"}, (const byte[NAME]){""}, (struct root){0}, (struct root){0});
     publish();
-    make_header(block);
+    make_header(block, FORMAT);
     write_file(0, block, 1);
     sync_file();
     printf("created %u\n", count);
@@ -1732,6 +1865,8 @@ static void open_file(const char *name, int how)
     begin_kept();
     if (setjmp(refused) != 0) {
         fprintf(stderr, "altctl: %s\n", refusal_text);
+        if (is_earlier)
+            fputs("altctl: the file is of an earlier format: tools/upgrade.py OLD NEW carries it over\n", stderr);
         exit(1);
     }
     open_store();

@@ -4,7 +4,7 @@ use Rattle.std.proofs.lemmas.List.{get_or-replicate}
 use Rattle.vm_types.specs.declared.refusal.Refusal.{Refusal}
 use Rattle.vm_types.specs.declared.refusal.Refusal.TheVariants.{AlreadyAStore, BadSize}
 use Rattle.vm_types.specs.declared.sizes.TheConstants.{BLOCK_SIZE, MAX_BLOCKS, MIN_BLOCKS}
-use Rattle.vm_block.specs.Header.{IsHeader, header_bytes}
+use Rattle.vm_block.specs.Header.{IsHeader, header_bytes_of}
 use Rattle.vm_disk.specs.Disk.{Contents, block}
 use Rattle.vm_store.specs.NewStore.{IsBadSize, IsOfFormat}
 use Rattle.vm_store.specs.Shown.{Shows, new_store}
@@ -19,7 +19,7 @@ good_size blocks least most (inr (inr self)) = (omega arith)
 
 -- zero bytes are no header
 no_header : IsHeader (replicate BLOCK_SIZE 0) → ⊥
-unfolding header_bytes
+unfolding header_bytes_of
 no_header is = true≢false (ap (λ (bytes : List ℕ). nat_eq (slice_index_or bytes 0 1) 0) is)
 
 -- nor is a block of a disk of them

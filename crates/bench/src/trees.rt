@@ -5,7 +5,7 @@ use std::alloc::{AllocError, Global};
 use std::io;
 use std::time::{Clock, Instant};
 use vm_alloc::{Held, Marks};
-use vm_check::{NotedDisk, mark};
+use vm_check::mark;
 use vm_disk::{Disk, MemDisk};
 use vm_tree::{Root, get, put};
 use vm_types::{Block, Key, Refusal, Value};
@@ -50,7 +50,7 @@ fn mixed(n: u64) -> u64 {
 /// A tree on a disk in memory.
 #[derive(Drop)]
 struct Plot {
-    disk: NotedDisk<MemDisk>,
+    disk: MemDisk,
     held: Held,
     marks: Marks,
     root: Root,
@@ -62,10 +62,8 @@ impl Plot {
         requires enough { 64 ≤ blocks }
         requires few { blocks ≤ 1048576 }
     {
-        let mut disk = NotedDisk::new(MemDisk::new(alloc, blocks)?);
-        disk.reserve(alloc, blocks)?;
         Ok(Plot {
-            disk,
+            disk: MemDisk::new(alloc, blocks)?,
             held: Held::new(alloc, blocks)?,
             marks: Marks::new(alloc, blocks)?,
             root: Root::default(),
@@ -93,13 +91,13 @@ impl Plot {
         if self.held.free_count() < 16 || self.held.blocks() > self.disk.blocks() {
             return Err(Refusal::Memory);
         }
-        self.root = put::<NotedDisk<MemDisk>, 16, 256, 8>(
+        self.root = put::<MemDisk, 256, 8>(
             &mut self.disk,
             &mut self.held,
             self.root,
             key,
             value.as_bytes(),
-            &mut [0; 9],
+            &mut [0; 8],
         )?;
         Ok(())
     }

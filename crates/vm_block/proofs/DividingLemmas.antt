@@ -71,6 +71,26 @@ set_fit cs i c fit fits =
     let cut = λ (n : ℕ). subst (AllByRecursion ChildFits) (sym (take-append-drop n cs)) fit in
     each_join ChildFits (take i cs) (c ∷ drop (i + 1) cs) (each_front ChildFits (take i cs) (drop i cs) (cut i)) (fits, each_back ChildFits (take (i + 1) cs) (drop (i + 1) cs) (cut (i + 1)))
 
+-- children with two in the place of the one at i
+pub pair_length : (cs : List Child) (i : ℕ) (c d : Child) → i < length cs → length (take i cs ++ c ∷ d ∷ drop (i + 1) cs) ≡ length cs + 1
+pair_length cs i c d lt = omega (arith, length-append (take i cs) (c ∷ d ∷ drop (i + 1) cs), length-take-le i cs (omega (arith, lt)), length-drop (i + 1) cs)
+
+pub pair_fit : (cs : List Child) (i : ℕ) (c d : Child) → AllByRecursion ChildFits cs → ChildFits c → ChildFits d → AllByRecursion ChildFits (take i cs ++ c ∷ d ∷ drop (i + 1) cs)
+pair_fit cs i c d fit fits fits_too =
+    let cut = λ (n : ℕ). subst (AllByRecursion ChildFits) (sym (take-append-drop n cs)) fit in
+    each_join ChildFits (take i cs) (c ∷ d ∷ drop (i + 1) cs) (each_front ChildFits (take i cs) (drop i cs) (cut i)) (fits, (fits_too, each_back ChildFits (take (i + 1) cs) (drop (i + 1) cs) (cut (i + 1))))
+
+-- a third one behind these two
+pub three_in_place : (cs : List Child) (i : ℕ) (left middle right : Child) → i < length cs
+    → take (i + 2) (take i cs ++ left ∷ middle ∷ drop (i + 1) cs) ++ right ∷ drop (i + 2) (take i cs ++ left ∷ middle ∷ drop (i + 1) cs) ≡ take i cs ++ left ∷ middle ∷ right ∷ drop (i + 1) cs
+three_in_place cs i left middle right lt =
+    let front = take i cs ++ left ∷ middle ∷ [] in
+    let back = drop (i + 1) cs in
+    let split : take i cs ++ left ∷ middle ∷ back ≡ front ++ back = sym (append_assoc (take i cs) (left ∷ middle ∷ []) back) in
+    let long : length front ≡ i + 2 = omega (arith, length-append (take i cs) (left ∷ middle ∷ []), length-take-le i cs (omega (arith, lt))) in
+    ap₂ (λ x y. x ++ right ∷ y) (ap (take (i + 2)) split ∙ take_at front back (i + 2) long) (ap (drop (i + 2)) split ∙ drop_at front back (i + 2) long)
+    ∙ append_assoc (take i cs) (left ∷ middle ∷ []) (right ∷ back)
+
 -- two children in the place of one
 pub two_in_place : (cs : List Child) (i : ℕ) (left right : Child) → i < length cs
     → take (i + 1) (take i cs ++ left ∷ drop (i + 1) cs) ++ right ∷ drop (i + 1) (take i cs ++ left ∷ drop (i + 1) cs) ≡ take i cs ++ left ∷ right ∷ drop (i + 1) cs

@@ -1,15 +1,11 @@
 -- The head of a block of a tree, and the numbers in it.
-use Rattle.std.proofs.Common.{◌≡◌, ℕ, ◌^◌, ◌<◌, ◌≤◌, Bool, true, false, List, [], ◌++◌, Option, None, Some, length, take, drop, get_or, refl, sym, ap, ◌∙◌, arith}
+use Rattle.std.proofs.Common.{◌≡◌, ℕ, ◌^◌, ◌<◌, ◌≤◌, List, [], ◌++◌, Option, None, Some, length, take, drop, get_or, refl, sym, ap, ◌∙◌, arith}
 use Rattle.std.proofs.Math.Seq.{take-add}
-use Rattle.std.specs.Prelude.{nat_eq}
-use Rattle.std.proofs.lemmas.List.{drop-drop, take-take}
+use Rattle.std.proofs.lemmas.List.{drop-drop}
 use Rattle.byteorder.specs.Endian.{little_bytes, little_number}
-use Rattle.std.specs.List.{list_any}
-use Rattle.vm_block.specs.Leaf.{HasRows, Row, is_long, leaf_head}
 use Rattle.vm_block.specs.Node.{IsNode, node_head}
-use Rattle.vm_block.specs.Head.{IsRowsHead, IsNodeHead}
+use Rattle.vm_block.specs.Head.{IsNodeHead}
 use Rattle.vm_block.specs.declared.node.Child.{Child}
-use Rattle.vm_block.proofs.LeafLemmas.{leaf_parts}
 use Rattle.vm_block.proofs.NodeLemmas.{node_parts}
 use Rattle.vm_block.proofs.Pieces.{number_one, spelled_at, spelled_number}
 
@@ -52,62 +48,15 @@ words_one a b c d e f g h ha hb hc hd he hf hg hh is =
       number_one 4 d h [] [] hd hh four,
     )
 
--- the letters LEAF and LEF2 as numbers
-abbrev pub leaf_number : Bool → ℕ
-leaf_number false = 1178682700
-leaf_number true = 843466060
-
-pub leaf_words : (long : Bool) (n : ℕ) → words (leaf_number long) 0 n 0 ≡ leaf_head long n
-unfolding leaf_head
-leaf_words false n = refl
-leaf_words true n = refl
-
-leaf_number_small : (long : Bool) → leaf_number long < 2 ^ 32
-leaf_number_small false = omega arith
-leaf_number_small true = omega arith
-
 -- the letters NODE as a number
 pub node_words : (level n : ℕ) → words 1162104654 level n 0 ≡ node_head level n
 unfolding node_head
 node_words level n = refl
 
--- a leaf begins with the head of its count
-pub rows_headed : (bytes : List ℕ) (ws : List Row) (most : ℕ) → HasRows bytes ws → length ws ≤ most → IsRowsHead bytes most (list_any is_long ws) (length ws)
-rows_headed bytes ws most leaf few = record { begins = (leaf_parts bytes ws leaf).front; some = leaf.some; few = few }
-
 -- an inner block begins with the head of its level and count
 pub node_headed : (bytes : List ℕ) (level : ℕ) (cs : List Child) → IsNode bytes level cs → IsNodeHead bytes level (length cs)
 node_headed bytes level cs node =
     record { begins = (node_parts bytes level cs node).front; above = node.above; low = node.low; some = node.some; few = node.few }
-
--- the head of a leaf that was read
-pub leaf_head_found : (bytes : List ℕ) (most : ℕ) (long : Bool) (a b c d : ℕ) → take 16 bytes ≡ words a b c d → (a ≡ leaf_number long) × (b ≡ 0) × (0 < c) × (c ≤ most) × (d ≡ 0) → IsRowsHead bytes most long c
-leaf_head_found bytes most long a b c d is fits = record {
-  begins = is ∙ ap (λ z. words z b c d) fits.0 ∙ ap (λ z. words (leaf_number long) z c d) fits.1 ∙ ap (λ z. words (leaf_number long) 0 c z) fits.4 ∙ leaf_words long c;
-  some = fits.2;
-  few = fits.3;
-}
-
--- and no other is read
-pub leaf_head_only : (bytes : List ℕ) (most : ℕ) (long : Bool) (a b c d n : ℕ) → a < 2 ^ 32 → b < 2 ^ 32 → c < 2 ^ 32 → d < 2 ^ 32 → most ≤ 16 → take 16 bytes ≡ words a b c d → IsRowsHead bytes most long n
-    → ((a ≡ leaf_number long) × (b ≡ 0) × (0 < c) × (c ≤ most) × (d ≡ 0)) × (c ≡ n)
-leaf_head_only bytes most long a b c d n ha hb hc hd room is head =
-    let one = words_one a b c d (leaf_number long) 0 n 0 ha hb hc hd (leaf_number_small long) (omega arith) (omega (arith, head.few)) (omega arith) (sym is ∙ head.begins ∙ sym (leaf_words long n)) in
-    ((one.0, one.1, omega (arith, head.some, one.2), omega (arith, head.few, one.2), one.3), one.2)
-
--- the first letters of a leaf, as a number, tell whether it has a long row
-pub letters_tell : (bytes : List ℕ) (ws : List Row) (a : ℕ) → ((j : ℕ) → get_or bytes j 0 < 256) → 4 ≤ length bytes → a < 2 ^ 32 → a ≡ little_number 4 bytes → HasRows bytes ws → nat_eq a 843466060 ≡ list_any is_long ws
-letters_tell bytes ws a small room ha is leaf =
-    let long = list_any is_long ws in
-    let spelled : take 4 bytes ≡ little_bytes 4 a = spelled_number 4 bytes small room ∙ ap (little_bytes 4) (sym is) in
-    let head : take 4 bytes ≡ little_bytes 4 (leaf_number long) =
-    sym (take-take 4 16 bytes (omega arith)) ∙ ap (take 4) ((rows_headed bytes ws 16 leaf leaf.few).begins ∙ sym (leaf_words long (length ws))) in
-    let same = number_one 4 a (leaf_number long) [] [] ha (leaf_number_small long) (ap (λ x. x ++ []) (sym spelled ∙ head)) in
-    ap (λ n. nat_eq n 843466060) same ∙ by_letters long
-  where
-    by_letters : (long : Bool) → nat_eq (leaf_number long) 843466060 ≡ long
-    by_letters false = refl
-    by_letters true = refl
 
 -- the head of an inner block that was read
 pub node_head_found : (bytes : List ℕ) (a b c d : ℕ) → take 16 bytes ≡ words a b c d → (a ≡ 1162104654) × (0 < b) × (b ≤ 7) × (0 < c) × (c ≤ 256) × (d ≡ 0) → IsNodeHead bytes b c
@@ -141,16 +90,5 @@ node_same level n l m a b is_a is_b e =
     (ap (λ (x : ℕ × ℕ). x.0) both, ap (λ (x : ℕ × ℕ). x.1) both)
   where
     held : Option (ℕ × ℕ) → ℕ × ℕ
-    held None = a
-    held (Some k) = k
-
--- what is told of a head is what is told
-pub rows_same_head : (long told : Bool) (n m : ℕ) (a b : Bool × ℕ) → a ≡ (told, m) → b ≡ (long, n) → Some a ≡ Some b → (told ≡ long) × (m ≡ n)
-rows_same_head long told n m a b is_a is_b e =
-    let same : a ≡ b = ap held e in
-    let both = sym is_a ∙ same ∙ is_b in
-    (ap (λ (x : Bool × ℕ). x.0) both, ap (λ (x : Bool × ℕ). x.1) both)
-  where
-    held : Option (Bool × ℕ) → Bool × ℕ
     held None = a
     held (Some k) = k

@@ -32,10 +32,6 @@ pub drop-zeros : (k n : ℕ) → drop k (replicate n 0) ≡ zeros (n - k)
 unfolding zeros
 drop-zeros k n = drop-replicate k n 0
 
-pub zeros_join : (n m : ℕ) → zeros n ++ zeros m ≡ zeros (n + m)
-unfolding zeros
-zeros_join n m = replicate-append-replicate n m 0
-
 pub zeros_more : (n : ℕ) → zeros n ++ 0 ∷ [] ≡ zeros (n + 1)
 unfolding zeros
 zeros_more n = replicate_more n 0
@@ -106,13 +102,6 @@ then_inside xs ys old mid new n k t e len wrote far =
     ∙ ap (λ x. xs ++ (x ++ drop k (drop n mid))) wrote
     ∙ ap (λ x. xs ++ (ys ++ x)) behind
     ∙ sym (append_assoc xs ys (drop t old))
-
--- the same of zero bytes
-pub zeros_inside : (xs old mid new : List ℕ) (n k t : ℕ) → mid ≡ xs ++ drop n old → length xs ≡ n → t ≡ n + k → t ≤ length old → new ≡ zeros (length (mid_of n k mid)) → put_mid n k mid new ≡ (xs ++ zeros k) ++ drop t old
-zeros_inside xs old mid new n k t e len far room cleared =
-    let long : length mid ≡ n + (length old - n) = ap length e ∙ length-append xs (drop n old) ∙ ap (λ a. a + length (drop n old)) len ∙ ap (λ b. n + b) (length-drop n old) in
-    let many : length (mid_of n k mid) ≡ k = length-take-le k (drop n mid) (omega (arith, length-drop n mid, long)) in
-    then_inside xs (zeros k) old mid new n k t e len (cleared ∙ ap zeros many) far
 
 -- zero bytes behind what was written
 pub then_zeros : (xs old mid new : List ℕ) (n k total : ℕ) → mid ≡ xs ++ drop n old → length xs ≡ n → length old ≡ total → n ≤ total → k ≡ length mid - n → new ≡ zeros (length (mid_of n k mid)) → put_mid n k mid new ≡ padded total xs

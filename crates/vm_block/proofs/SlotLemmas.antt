@@ -11,58 +11,37 @@ use Rattle.vm_block.specs.declared.slot.Kind.{Kind}
 use Rattle.vm_block.specs.declared.slot.Kind.TheVariants.{Alternative, Checkpoint}
 use Rattle.vm_block.proofs.Rows.{length-rows, rows_one}
 use Rattle.vm_block.specs.declared.slot.Entry.{Entry}
-use Rattle.vm_block.specs.declared.slot.SlotFormat.{SlotFormat}
-use Rattle.vm_block.specs.declared.slot.SlotFormat.TheVariants.{One, Two}
-use Rattle.vm_block.specs.Slot.{tag_of, name_bytes, owner_bytes, entry_bytes, EntryFits, IsEntry, format_number, head_bytes, HeadFits, IsHead, IsSlot}
+use Rattle.vm_block.specs.declared.header.TheConstants.{FORMAT}
+use Rattle.vm_block.specs.Slot.{tag_of, name_bytes, owner_bytes, entry_bytes, EntryFits, IsEntry, head_bytes, HeadFits, IsHead, IsSlot}
 use Rattle.vm_block.proofs.Pieces.{then_writes, what_follows, Written, length-zeros, length-padded, zeros_are}
 use borrow.Rule.Slice.PartMut.{put_mid, mid_of}
 
 -- # The head
 
-pub length-head : (format : SlotFormat) (limit n : ℕ) → length (head_bytes format limit n) ≡ 128
+pub length-head : (limit n : ℕ) → length (head_bytes limit n) ≡ 128
 unfolding head_bytes zeros
-length-head format limit n = refl
-
--- the number of a format has its place in four bytes
-number_fits : (format : SlotFormat) → format_number format ≤ 2
-number_fits One = omega arith
-number_fits Two = omega arith
-
--- formats of one number are one
-format_one : (format other : SlotFormat) → format_number format ≡ format_number other → format ≡ other
-format_one One One e = refl
-format_one One Two e = absurd (omega (arith, e))
-format_one Two One e = absurd (omega (arith, e))
-format_one Two Two e = refl
+length-head limit n = refl
 
 -- the numbers of a head
-pub head_numbers : (bytes : List ℕ) (format : SlotFormat) (limit n i k j : ℕ) → IsHead bytes format limit n → 128 ≤ 4 + i → 128 ≤ 8 + k → 128 ≤ 12 + j → (little_number 4 (take i (drop 4 bytes)) ≡ format_number format) × (little_number 4 (take k (drop 8 bytes)) ≡ limit) × (little_number 4 (take j (drop 12 bytes)) ≡ n)
+pub head_numbers : (bytes : List ℕ) (limit n k j : ℕ) → IsHead bytes limit n → 128 ≤ 8 + k → 128 ≤ 12 + j → (little_number 4 (take k (drop 8 bytes)) ≡ limit) × (little_number 4 (take j (drop 12 bytes)) ≡ n)
 unfolding head_bytes
-head_numbers bytes format limit n i k j head enough enough2 enough3 =
-    let whole = length-head format limit n in
-    let number = little_bytes 4 (format_number format) in
+head_numbers bytes limit n k j head enough enough2 =
+    let whole = length-head limit n in
+    let front = codes "SLOT" ++ little_bytes 4 FORMAT in
     let blocks = little_bytes 4 limit in
     let entries = little_bytes 4 n in
     let size : length bytes ≡ 128 = ap length head.spelled ∙ whole in
-    let first = what_follows bytes (codes "SLOT") (number ++ (blocks ++ (entries ++ zeros 112))) 4 i head.spelled refl (omega (arith, size)) in
-    let second = what_follows bytes (codes "SLOT" ++ number) (blocks ++ (entries ++ zeros 112)) 8 k head.spelled refl (omega (arith, size)) in
-    let third = what_follows bytes (codes "SLOT" ++ number ++ blocks) (entries ++ zeros 112) 12 j head.spelled refl (omega (arith, size)) in (
-      ap (little_number 4) first ∙ little_number-reads_back 4 (format_number format) (blocks ++ (entries ++ zeros 112)) (omega (arith, number_fits format)),
+    let second = what_follows bytes front (blocks ++ (entries ++ zeros 112)) 8 k head.spelled refl (omega (arith, size)) in
+    let third = what_follows bytes (front ++ blocks) (entries ++ zeros 112) 12 j head.spelled refl (omega (arith, size)) in (
       ap (little_number 4) second ∙ little_number-reads_back 4 limit (entries ++ zeros 112) (omega (arith, head.fits.most)),
       ap (little_number 4) third ∙ little_number-reads_back 4 n (zeros 112) (omega (arith, head.fits.few)),
     )
 
--- what is read where the numbers of a head stand
-pub format_read : (bytes : List ℕ) (format : SlotFormat) (limit n number i : ℕ) → IsHead bytes format limit n → number ≡ little_number 4 (take i (drop 4 bytes)) → i ≡ length bytes - 4 → number ≡ format_number format
-format_read bytes format limit n number i head is far =
-    let whole : length bytes ≡ 128 = ap length head.spelled ∙ length-head format limit n in
-    is ∙ (head_numbers bytes format limit n i 120 116 head (omega arith) (omega arith) (omega arith)).0
-
-pub head_read : (bytes : List ℕ) (format : SlotFormat) (limit n a b k j : ℕ) → IsHead bytes format limit n → a ≡ little_number 4 (take k (drop 8 bytes)) → b ≡ little_number 4 (take j (drop 12 bytes)) → k ≡ length bytes - 8 → j ≡ length bytes - 12 → (a ≡ limit) × (b ≡ n)
-head_read bytes format limit n a b k j head is_a is_b far_a far_b =
-    let whole : length bytes ≡ 128 = ap length head.spelled ∙ length-head format limit n in
-    let numbers = head_numbers bytes format limit n 124 k j head (omega arith) (omega arith) (omega arith) in
-    (is_a ∙ numbers.1, is_b ∙ numbers.2)
+pub head_read : (bytes : List ℕ) (limit n a b k j : ℕ) → IsHead bytes limit n → a ≡ little_number 4 (take k (drop 8 bytes)) → b ≡ little_number 4 (take j (drop 12 bytes)) → k ≡ length bytes - 8 → j ≡ length bytes - 12 → (a ≡ limit) × (b ≡ n)
+head_read bytes limit n a b k j head is_a is_b far_a far_b =
+    let whole : length bytes ≡ 128 = ap length head.spelled ∙ length-head limit n in
+    let numbers = head_numbers bytes limit n k j head (omega arith) (omega arith) in
+    (is_a ∙ numbers.0, is_b ∙ numbers.1)
 
 pub head_fits : (limit n a b : ℕ) → HeadFits limit n → (a ≡ limit) × (b ≡ n) → HeadFits a b
 head_fits limit n a b fits same = record {
@@ -73,9 +52,9 @@ head_fits limit n a b fits same = record {
 }
 
 -- a head that is written again is the same
-pub head_again : (bytes again : List ℕ) (format other : SlotFormat) (limit n a b : ℕ) → IsHead bytes format limit n → other ≡ format → (a ≡ limit) × (b ≡ n) → again ≡ head_bytes other a b ++ [] → bytes ≡ again
-head_again bytes again format other limit n a b head same_format same is =
-    head.spelled ∙ ap (λ f. head_bytes f limit n) (sym same_format) ∙ ap (λ x. head_bytes other x n) (sym same.0) ∙ ap (λ x. head_bytes other a x) (sym same.1) ∙ sym (append-nil (head_bytes other a b)) ∙ sym is
+pub head_again : (bytes again : List ℕ) (limit n a b : ℕ) → IsHead bytes limit n → (a ≡ limit) × (b ≡ n) → again ≡ head_bytes a b ++ [] → bytes ≡ again
+head_again bytes again limit n a b head same is =
+    head.spelled ∙ ap (λ x. head_bytes x n) (sym same.0) ∙ ap (λ x. head_bytes a x) (sym same.1) ∙ sym (append-nil (head_bytes a b)) ∙ sym is
 
 -- # Names
 
@@ -171,12 +150,12 @@ entry_is e f k n o c b = λ i. record { kind = k i; name = n i; owner = o i; cur
 
 -- # One spelling, one meaning
 
--- the same bytes are one head, of one format
-pub head_one : (bytes : List ℕ) (format other : SlotFormat) (limit n most m : ℕ) → IsHead bytes format limit n → IsHead bytes other most m → (format ≡ other) × (limit ≡ most) × (n ≡ m)
-head_one bytes format other limit n most m a b =
-    let first = head_numbers bytes format limit n 124 120 116 a (omega arith) (omega arith) (omega arith) in
-    let second = head_numbers bytes other most m 124 120 116 b (omega arith) (omega arith) (omega arith) in
-    (format_one format other (sym first.0 ∙ second.0), sym first.1 ∙ second.1, sym first.2 ∙ second.2)
+-- the same bytes are one head
+pub head_one : (bytes : List ℕ) (limit n most m : ℕ) → IsHead bytes limit n → IsHead bytes most m → (limit ≡ most) × (n ≡ m)
+head_one bytes limit n most m a b =
+    let first = head_numbers bytes limit n 120 116 a (omega arith) (omega arith) in
+    let second = head_numbers bytes most m 120 116 b (omega arith) (omega arith) in
+    (sym first.0 ∙ second.0, sym first.1 ∙ second.1)
 
 tag_one : (k l : Kind) → tag_of k ≡ tag_of l → k ≡ l
 tag_one Alternative Alternative e = refl
@@ -223,20 +202,20 @@ entry_spelled_one e f p q same =
     entry_one (entry_bytes e) e f (record { spelled = refl; fits = p }) (record { spelled = same; fits = q })
 
 -- the same blocks are one slot's entries
-pub slot_one : (blocks : List (List ℕ)) (format other : SlotFormat) (limit most : ℕ) (es fs : List Entry) → IsSlot blocks format limit es → IsSlot blocks other most fs → (format ≡ other) × (limit ≡ most) × (es ≡ fs)
-slot_one blocks format other limit most es fs a b =
+pub slot_one : (blocks : List (List ℕ)) (limit most : ℕ) (es fs : List Entry) → IsSlot blocks limit es → IsSlot blocks most fs → (limit ≡ most) × (es ≡ fs)
+slot_one blocks limit most es fs a b =
     let n = length es in
     let m = length fs in
     let rows = flat_map entry_bytes es in
     let others = flat_map entry_bytes fs in
-    let same : head_bytes format limit n ++ (rows ++ a.rest) ≡ head_bytes other most m ++ (others ++ b.rest) =
-    sym (append_assoc (head_bytes format limit n) rows a.rest) ∙ sym a.spelled ∙ b.spelled ∙ append_assoc (head_bytes other most m) others b.rest in
-    let heads : head_bytes format limit n ≡ head_bytes other most m =
-    sym (take_at (head_bytes format limit n) (rows ++ a.rest) 128 (length-head format limit n)) ∙ ap (take 128) same ∙ take_at (head_bytes other most m) (others ++ b.rest) 128 (length-head other most m) in
+    let same : head_bytes limit n ++ (rows ++ a.rest) ≡ head_bytes most m ++ (others ++ b.rest) =
+    sym (append_assoc (head_bytes limit n) rows a.rest) ∙ sym a.spelled ∙ b.spelled ∙ append_assoc (head_bytes most m) others b.rest in
+    let heads : head_bytes limit n ≡ head_bytes most m =
+    sym (take_at (head_bytes limit n) (rows ++ a.rest) 128 (length-head limit n)) ∙ ap (take 128) same ∙ take_at (head_bytes most m) (others ++ b.rest) 128 (length-head most m) in
     let behind : rows ++ a.rest ≡ others ++ b.rest =
-    sym (drop_at (head_bytes format limit n) (rows ++ a.rest) 128 (length-head format limit n)) ∙ ap (drop 128) same ∙ drop_at (head_bytes other most m) (others ++ b.rest) 128 (length-head other most m) in
-    let numbers = head_one (head_bytes format limit n) format other limit n most m (record { spelled = refl; fits = a.fits.head }) (record { spelled = heads; fits = b.fits.head }) in
+    sym (drop_at (head_bytes limit n) (rows ++ a.rest) 128 (length-head limit n)) ∙ ap (drop 128) same ∙ drop_at (head_bytes most m) (others ++ b.rest) 128 (length-head most m) in
+    let numbers = head_one (head_bytes limit n) limit n most m (record { spelled = refl; fits = a.fits.head }) (record { spelled = heads; fits = b.fits.head }) in
     let long : length rows ≡ 128 * n = length-rows entry_bytes EntryFits 128 length-entry es a.fits.each in
-    let long_others : length others ≡ 128 * n = length-rows entry_bytes EntryFits 128 length-entry fs b.fits.each ∙ ap (λ k. 128 * k) (sym numbers.2) in
+    let long_others : length others ≡ 128 * n = length-rows entry_bytes EntryFits 128 length-entry fs b.fits.each ∙ ap (λ k. 128 * k) (sym numbers.1) in
     let one : rows ≡ others = sym (take_at rows a.rest (128 * n) long) ∙ ap (take (128 * n)) behind ∙ take_at others b.rest (128 * n) long_others in
-    (numbers.0, numbers.1, rows_one entry_bytes EntryFits 128 length-entry entry_spelled_one es fs a.fits.each b.fits.each numbers.2 one)
+    (numbers.0, rows_one entry_bytes EntryFits 128 length-entry entry_spelled_one es fs a.fits.each b.fits.each numbers.1 one)

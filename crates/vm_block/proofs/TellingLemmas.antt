@@ -2,16 +2,13 @@
 use Rattle.std.proofs.Common.{◌≡◌, ℕ, ◌+◌, ◌-◌, ◌*◌, ◌<◌, ◌≤◌, List, [], ◌∷◌, ◌++◌, length, take, drop, get_or, map, refl, sym, ap, ◌∙◌, subst, arith, length-drop}
 use Rattle.std.specs.List.{AllByRecursion, flat_map}
 use Rattle.std.proofs.lemmas.List.{length_push, map-append, drop_more, append-nil, take_all}
-use Rattle.vm_types.specs.declared.key.Key.{Key}
-use Rattle.vm_types.specs.Places.{KeyFits, RisesFrom}
+use Rattle.vm_types.specs.Places.{RisesFrom}
 use Rattle.vm_block.specs.declared.node.Child.{Child}
 use Rattle.vm_block.specs.Head.{IsNodeHead}
 use Rattle.vm_block.specs.Padding.{zeros}
-use Rattle.vm_block.specs.Leaf.{Row, RowFits, key_bytes, record_bytes}
 use Rattle.vm_block.specs.Node.{ChildFits, IsNode, lows, node_head, child_bytes}
 use Rattle.vm_block.proofs.NodeLemmas.{length-node, length-node_head, node_found, node_framed, node_parts}
 use Rattle.vm_block.proofs.Pieces.{zero_behind}
-use Rattle.vm_block.proofs.RecordLemmas.{key_one, record_key}
 use Rattle.vm_block.proofs.Rows.{all_push, rows_read, piece_at}
 
 -- # Numbers that rise
@@ -79,10 +76,6 @@ module _ {X : Type 0} (spelled : X → List ℕ) (P : X → Type 0) (at : X → 
         subst (λ n. RisesFrom n (map at (drop (i + 1) xs))) (is (get_or xs i d) piece.1 piece.0) (follows_split count i low d xs rest lt follows all many e rises).1
 
 -- # Rows of leaves and inner blocks
-
--- the key with which a row begins
-pub key_here : (r : Row) (bytes : List ℕ) (key : Key) → RowFits r → KeyFits key → bytes ≡ record_bytes r → take 10 bytes ≡ key_bytes key → r.0 ≡ key
-key_here r bytes key fits small is begins = key_one r.0 key [] [] fits.0 small (ap (λ x. x ++ []) (sym (record_key r) ∙ ap (take 10) (sym is) ∙ begins))
 
 -- the rows between a head and zero bytes are an inner block
 pub node_told : (bytes : List ℕ) (level : ℕ) (cs : List Child) (n k : ℕ) → length bytes ≡ 4096 → IsNodeHead bytes level n → length cs ≡ n → drop (16 + 14 * n) bytes ≡ zeros (length bytes - (16 + 14 * n)) → 4080 ≤ k

@@ -1,28 +1,25 @@
 -- The way down to a key: the rows of a block, found by the keys with which they begin.
 use Rattle.std.proofs.Common.{◌≡◌, ℕ, zero, suc, ◌+◌, ◌-◌, ◌*◌, ◌<◌, ◌≤◌, ◌==◌, cond, List, [], ◌∷◌, ◌++◌, length, take, drop, get_or, None, Some, refl, sym, ap, ap₂, ◌∙◌, subst, arith, ⊎_elim, length-append, length-drop, length-take-le, take-append-drop, append_assoc}
 use Rattle.std.specs.Prelude.{slice_index}
-use Rattle.std.specs.List.{AllByRecursion, flat_map, list_any}
+use Rattle.std.specs.List.{AllByRecursion, flat_map}
 use Rattle.std.proofs.lemmas.Bool.{cases_order, eq-eqb, ne_eqb, lt-ltb, le-ltb}
-use Rattle.std.proofs.lemmas.List.{drop_at, drop-drop, take-take, length-map, get_or-map}
-use Rattle.std.proofs.Math.Seq.{paste}
+use Rattle.std.proofs.lemmas.List.{drop-drop, take-take, length-map, get_or-map}
 use Rattle.vm_types.specs.declared.key.Key.{Key}
 use Rattle.vm_types.specs.Places.{KeyFits, RisesFrom, place, places, value_at, with_record}
 use Rattle.vm_block.specs.declared.node.Child.{Child}
 use Rattle.vm_block.specs.Padding.{zeros, padded}
-use Rattle.vm_block.specs.Changed.{HasBody, without_place}
-use Rattle.vm_block.specs.Leaf.{Record, Row, BeginsWith, RowFits, HasRows, is_long, key_bytes, record_bytes, leaf_head}
+use Rattle.vm_block.specs.Changed.{without_place}
+use Rattle.vm_block.specs.Leaf.{Record, key_bytes}
 use Rattle.vm_block.specs.Node.{ChildFits, IsNode, lows, child_bytes, node_head, node_bytes}
 use Rattle.vm_block.specs.Way.{IsChosen, KeysStand, Lowest}
 use Rattle.vm_block.proofs.EachLemmas.{each_front, each_back, each_join}
-use Rattle.vm_block.proofs.LeafLemmas.{length-leaf, length-leaf_head, leaf_parts, leaf_whole}
 use Rattle.vm_block.proofs.NodeLemmas.{length-child, length-children, length-node, length-node_head, child_one, node_parts, node_whole}
-use Rattle.vm_block.proofs.Pieces.{length-zeros, zeros_are, zeros_join, drop-zeros}
-use Rattle.vm_block.proofs.RecordLemmas.{key_one, length-row, record_key}
-use Rattle.vm_block.proofs.Rows.{piece_at, row_set, row_insert, row_remove}
+use Rattle.vm_block.proofs.RecordLemmas.{key_one}
+use Rattle.vm_block.proofs.Rows.{piece_at, row_set}
 use borrow.Rule.Slice.PartMut.{put_mid, mid_of}
 
 -- keys of one spelling are one
-same_key : (a b : Key) → KeyFits a → KeyFits b → key_bytes a ≡ key_bytes b → a ≡ b
+pub same_key : (a b : Key) → KeyFits a → KeyFits b → key_bytes a ≡ key_bytes b → a ≡ b
 same_key a b ha hb e = key_one a b [] [] ha hb (ap (λ x. x ++ []) e)
 
 -- # Children
@@ -78,113 +75,6 @@ child_set old new level cs i c k node lt fits far wrote =
     ∙ ap (λ n. padded 4096 (node_head level n ++ body)) (sym many)
 
 -- # Rows of leaves
-
--- the bytes of the row at i
-pub leaf_piece : (bytes : List ℕ) (rs : List Record) (i : ℕ) (d : Record) → HasRows bytes rs → i < length rs → (take 252 (drop (16 + 252 * i) bytes) ≡ record_bytes (get_or rs i d)) × RowFits (get_or rs i d)
-leaf_piece bytes rs i d leaf lt =
-    let piece = piece_at record_bytes RowFits 252 length-row rs i d (drop 16 bytes) (zeros (4096 - (16 + 252 * length rs))) leaf.fit lt (leaf_parts bytes rs leaf).behind in
-    (ap (take 252) (sym (drop-drop (252 * i) 16 bytes)) ∙ piece.0, piece.1)
-
-pub leaf_keys : (bytes : List ℕ) (rs : List Record) → HasRows bytes rs → KeysStand bytes 252 (places rs)
-leaf_keys bytes rs leaf i key lt fits is =
-    let d : Record = (record { table = 0; number = 0 }, []) in
-    let within : i < length rs = omega (arith, lt, length-map rs (λ (r : Record). place r.0)) in
-    let piece = leaf_piece bytes rs i d leaf within in
-    let r = get_or rs i d in
-    let same : key ≡ r.0 = same_key key r.0 fits piece.1.0 (sym is ∙ sym (take-take 10 252 (drop (16 + 252 * i) bytes) (omega arith)) ∙ ap (take 10) piece.0 ∙ record_key r) in
-    get_or-map (λ (e : Record). place e.0) rs i d 0 within ∙ ap place (sym same)
-
--- the record of a leaf that was chosen by its bytes, and the key that was read there
-pub leaf_choice : (bytes : List ℕ) (rs : List Record) (n i k p q : ℕ) (key : Key) → HasRows bytes rs → n ≡ length rs → p ≡ q → ((ps : List ℕ) → length ps ≡ n → KeysStand bytes 252 ps → IsChosen ps p i)
-    → KeyFits key → 10 ≤ k → take 10 (take k (drop (16 + 252 * i) bytes)) ≡ key_bytes key → IsChosen (places rs) q i × (slice_index (places rs) i ≡ place key)
-leaf_choice bytes rs n i k p q key leaf count same choose fits enough is =
-    let keys = leaf_keys bytes rs leaf in
-    let chosen = subst (λ z. IsChosen (places rs) z i) same (choose (places rs) (length-map rs (λ (r : Record). place r.0) ∙ sym count) keys) in
-    (chosen, keys i key chosen.within fits (sym (take-take 10 k (drop (16 + 252 * i) bytes) enough) ∙ is))
-
--- the lowest key of a leaf stands behind its head
-pub begin_read : (bytes : List ℕ) (rs : List Record) (key : Key) (k : ℕ) → HasRows bytes rs → KeyFits key → 10 ≤ k → take 10 (take k (drop 16 bytes)) ≡ key_bytes key → BeginsWith key rs
-begin_read bytes [] key k leaf fits enough is = absurd (omega (arith, leaf.some))
-begin_read bytes (r ∷ rs) key k leaf fits enough is =
-    let piece = leaf_piece bytes (r ∷ rs) 0 r leaf (omega arith) in
-    same_key r.0 key piece.1.0 fits (sym (record_key r) ∙ ap (take 10) (sym piece.0) ∙ take-take 10 252 (drop 16 bytes) (omega arith) ∙ sym (take-take 10 k (drop 16 bytes) enough) ∙ is)
-
--- one row written over the one at i
-pub row_over : (old new : List ℕ) (ws : List Row) (i : ℕ) (w : Row) (k : ℕ) → HasRows old ws → i < length ws → RowFits w → k ≡ 4096 - (16 + 252 * i) → new ≡ record_bytes w ++ drop 252 (mid_of (16 + 252 * i) k old)
-    → HasBody (put_mid (16 + 252 * i) k old new) (take i ws ++ w ∷ drop (i + 1) ws)
-row_over old new ws i w k leaf lt fits far wrote =
-    let now = take i ws ++ w ∷ drop (i + 1) ws in
-    let head = leaf_head (list_any is_long ws) (length ws) in
-    let rest = zeros (4096 - (16 + 252 * length ws)) in
-    let lh = length-leaf_head (list_any is_long ws) (length ws) in
-    let many : length now ≡ length ws = omega (arith, length-append (take i ws) (w ∷ drop (i + 1) ws), length-take-le i ws (omega arith), length-drop (i + 1) ws) in
-    ap (drop 16) (row_set record_bytes RowFits 252 length-row ws i 16 w old head rest new k leaf.fit lt lh (leaf_whole old ws leaf) (omega (arith, far, length-leaf old ws leaf)) wrote)
-    ∙ drop_at head (flat_map record_bytes now ++ rest) 16 lh
-    ∙ ap (λ n. flat_map record_bytes now ++ zeros (4096 - (16 + 252 * n))) (sym many)
-
--- the rows are within their limits then
-pub over_fit : (ws : List Row) (i : ℕ) (w : Row) → AllByRecursion RowFits ws → RowFits w → AllByRecursion RowFits (take i ws ++ w ∷ drop (i + 1) ws)
-over_fit ws i w all fits =
-    let cut = λ (n : ℕ). subst (AllByRecursion RowFits) (sym (take-append-drop n ws)) all in
-    each_join RowFits (take i ws) (w ∷ drop (i + 1) ws) (each_front RowFits (take i ws) (drop i ws) (cut i)) (fits, each_back RowFits (take (i + 1) ws) (drop (i + 1) ws) (cut (i + 1)))
-
-pub before_fit : (ws : List Row) (i : ℕ) (w : Row) → AllByRecursion RowFits ws → RowFits w → AllByRecursion RowFits (take i ws ++ w ∷ drop i ws)
-before_fit ws i w all fits =
-    let cut = subst (AllByRecursion RowFits) (sym (take-append-drop i ws)) all in
-    each_join RowFits (take i ws) (w ∷ drop i ws) (each_front RowFits (take i ws) (drop i ws) cut) (fits, each_back RowFits (take i ws) (drop i ws) cut)
-
-pub over_length : (ws : List Row) (i : ℕ) (w : Row) → i < length ws → length (take i ws ++ w ∷ drop (i + 1) ws) ≡ length ws
-over_length ws i w lt = omega (arith, length-append (take i ws) (w ∷ drop (i + 1) ws), length-take-le i ws (omega arith), length-drop (i + 1) ws)
-
-pub before_length : (ws : List Row) (i : ℕ) (w : Row) → i ≤ length ws → length (take i ws ++ w ∷ drop i ws) ≡ length ws + 1
-before_length ws i w le = omega (arith, length-append (take i ws) (w ∷ drop i ws), length-take-le i ws le, length-drop i ws)
-
--- one row put before those from i on
-pub row_before : (old moved new : List ℕ) (ws : List Row) (i : ℕ) (w : Row) (k m : ℕ) → HasRows old ws → i ≤ length ws → length ws < 16 → RowFits w
-    → moved ≡ paste old (16 + 252 * (i + 1)) (drop (16 + 252 * i) old) m → m ≡ 252 * (length ws - i) → k ≡ 4096 - (16 + 252 * i) → new ≡ record_bytes w ++ drop 252 (mid_of (16 + 252 * i) k moved)
-    → HasBody (put_mid (16 + 252 * i) k moved new) (take i ws ++ w ∷ drop i ws)
-row_before old moved new ws i w k m leaf le few fits moving reach far wrote =
-    let now = take i ws ++ w ∷ drop i ws in
-    let head = leaf_head (list_any is_long ws) (length ws) in
-    let lh = length-leaf_head (list_any is_long ws) (length ws) in
-    let z = 4096 - (16 + 252 * length ws) in
-    let gap = take 252 (zeros z) in
-    let rest = drop 252 (zeros z) in
-    let wide : length gap ≡ 252 = length-take-le 252 (zeros z) (omega (arith, few, length-zeros z)) in
-    let whole : old ≡ head ++ (flat_map record_bytes ws ++ (gap ++ rest)) = leaf_whole old ws leaf ∙ ap (λ x. head ++ (flat_map record_bytes ws ++ x)) (sym (take-append-drop 252 (zeros z))) in
-    let wrote_there : new ≡ record_bytes w ++ drop 252 (mid_of (16 + 252 * i) k (paste old (16 + 252 * (i + 1)) (drop (16 + 252 * i) old) m)) = wrote ∙ ap (λ x. record_bytes w ++ drop 252 (mid_of (16 + 252 * i) k x)) moving in
-    let rows = row_insert record_bytes RowFits 252 length-row ws i 16 w old head gap rest new k m leaf.fit le lh wide whole (omega (arith, reach, length-drop i ws)) (omega (arith, far, length-leaf old ws leaf)) wrote_there in
-    let cleared : rest ≡ zeros (4096 - (16 + 252 * length now)) = ap (drop 252) (sym (zeros_are z)) ∙ drop-zeros 252 z ∙ ap zeros (omega (arith, before_length ws i w le)) in
-    ap (λ x. drop 16 (put_mid (16 + 252 * i) k x new)) moving
-    ∙ ap (drop 16) rows
-    ∙ drop_at head (flat_map record_bytes now ++ rest) 16 lh
-    ∙ ap (λ x. flat_map record_bytes now ++ x) cleared
-
--- one row taken out, and zero bytes written where the last one stood
-pub row_out : (old moved new : List ℕ) (ws : List Row) (i m e k : ℕ) → HasRows old ws → i < length ws → moved ≡ paste old (16 + 252 * i) (drop (16 + 252 * (i + 1)) old) m → m ≡ 252 * (length ws - (i + 1)) → length moved ≡ 4096 → e ≡ 16 + 252 * (length ws - 1) → k ≡ 252
-    → new ≡ zeros (length (mid_of e k moved)) → HasBody (put_mid e k moved new) (take i ws ++ drop (i + 1) ws)
-row_out old moved new ws i m e k leaf lt moving reach long end size cleared =
-    let now = take i ws ++ drop (i + 1) ws in
-    let head = leaf_head (list_any is_long ws) (length ws) in
-    let lh = length-leaf_head (list_any is_long ws) (length ws) in
-    let z = 4096 - (16 + 252 * length ws) in
-    let many : length now ≡ length ws - 1 = omega (arith, lt, length-append (take i ws) (drop (i + 1) ws), length-take-le i ws (omega (arith, lt)), length-drop (i + 1) ws) in
-    let count : m ≡ 252 * length (drop (i + 1) ws) = omega (arith, reach, length-drop (i + 1) ws) in
-    let wide : length (mid_of e k moved) ≡ 252 = ap (λ n. length (mid_of e n moved)) size ∙ length-take-le 252 (drop e moved) (omega (arith, length-drop e moved, long, end, leaf.few, lt)) in
-    let both : new ++ zeros z ≡ zeros (4096 - (16 + 252 * length now)) = ap (λ x. x ++ zeros z) (cleared ∙ ap zeros wide) ∙ zeros_join 252 z ∙ ap zeros (omega (arith, many, lt, leaf.few)) in
-    ap (λ n. drop 16 (put_mid e n moved new)) size
-    ∙ ap (λ x. drop 16 (put_mid e 252 x new)) moving
-    ∙ ap (drop 16) (row_remove record_bytes RowFits 252 length-row ws i 16 old head (zeros z) new m e leaf.fit lt lh (leaf_whole old ws leaf) count (omega (arith, end, reach, lt)))
-    ∙ drop_at head (flat_map record_bytes now ++ (new ++ zeros z)) 16 lh
-    ∙ ap (λ x. flat_map record_bytes now ++ x) both
-
-pub out_fit : (ws : List Row) (i : ℕ) → AllByRecursion RowFits ws → AllByRecursion RowFits (take i ws ++ drop (i + 1) ws)
-out_fit ws i all =
-    let cut = λ (n : ℕ). subst (AllByRecursion RowFits) (sym (take-append-drop n ws)) all in
-    each_join RowFits (take i ws) (drop (i + 1) ws) (each_front RowFits (take i ws) (drop i ws) (cut i)) (each_back RowFits (take (i + 1) ws) (drop (i + 1) ws) (cut (i + 1)))
-
-pub out_length : (ws : List Row) (i : ℕ) → i < length ws → length ws ≡ length (take i ws ++ drop (i + 1) ws) + 1
-out_length ws i lt = omega (arith, lt, length-append (take i ws) (drop (i + 1) ws), length-take-le i ws (omega (arith, lt)), length-drop (i + 1) ws)
 
 -- # What a descent finds in a leaf
 
@@ -288,27 +178,16 @@ module _ (rs : List Record) (r : Record) (i : ℕ) (rises : RisesFrom 0 (places 
   chosen_before high =
       with_into rs r i (omega (arith, chosen.within, count_places)) (λ k lt. absurd (omega (arith, high, chosen.reached (omega arith)))) (λ lt. high)
 
-  -- either makes one record more
-  pub chosen_more : (slice_index (places rs) i ≡ place r.0 → ⊥) → length (with_record r rs) ≡ length rs + 1
-  chosen_more apart =
-      let count = λ (j : ℕ) (le : j ≤ length rs) (is : with_record r rs ≡ take j rs ++ r ∷ drop j rs). let all : length (with_record r rs) ≡ length rs + 1 = omega (arith, ap length is, length-append (take j rs) (r ∷ drop j rs), length-take-le j rs le, length-drop j rs) in all in
-      ⊎_elim
-      (λ (same : slice_index (places rs) i ≡ place r.0). absurd (apart same))
-      (⊎_elim
-      (λ (low : slice_index (places rs) i < place r.0). count (i + 1) (omega (arith, chosen.within, count_places)) (chosen_behind low))
-      (λ (high : place r.0 < slice_index (places rs) i). count i (omega (arith, chosen.within, count_places)) (chosen_before high)))
-      (cases_order (slice_index (places rs) i) (place r.0))
-
-without_here : (low : ℕ) (ws : List Row) (p i : ℕ) → RisesFrom low (places ws) → i < length ws → slice_index (places ws) i ≡ p → without_place p ws ≡ take i ws ++ drop (suc i) ws
+without_here : (low : ℕ) (ws : List Record) (p i : ℕ) → RisesFrom low (places ws) → i < length ws → slice_index (places ws) i ≡ p → without_place p ws ≡ take i ws ++ drop (suc i) ws
 without_here low [] p i rises lt e = absurd (omega arith)
 without_here low (w ∷ ws) p zero rises lt e = ap (λ t. cond t ws (w ∷ without_place p ws)) (eq-eqb (place w.0) p e)
 without_here low (w ∷ ws) p (suc i) rises lt e =
-    let above = least (place w.0 + 1) (places ws) i (omega (arith, lt, length-map ws (λ (q : Row). place q.0))) rises.1 in
+    let above = least (place w.0 + 1) (places ws) i (omega (arith, lt, length-map ws (λ (q : Record). place q.0))) rises.1 in
     ap (λ t. cond t ws (w ∷ without_place p ws)) (ne_eqb (place w.0) p (λ same. omega (arith, above, same, e)))
-    ∙ ap (λ (qs : List Row). w ∷ qs) (without_here (place w.0 + 1) ws p i rises.1 (omega arith) e)
+    ∙ ap (λ (qs : List Record). w ∷ qs) (without_here (place w.0 + 1) ws p i rises.1 (omega arith) e)
 
 -- the row that is chosen is the one that is left out
-pub chosen_without : (ws : List Row) (p i : ℕ) → RisesFrom 0 (places ws) → IsChosen (places ws) p i → slice_index (places ws) i ≡ p → without_place p ws ≡ take i ws ++ drop (i + 1) ws
+pub chosen_without : (ws : List Record) (p i : ℕ) → RisesFrom 0 (places ws) → IsChosen (places ws) p i → slice_index (places ws) i ≡ p → without_place p ws ≡ take i ws ++ drop (i + 1) ws
 chosen_without ws p i rises chosen e =
     let one : suc i ≡ i + 1 = omega arith in
-    without_here 0 ws p i rises (omega (arith, chosen.within, length-map ws (λ (w : Row). place w.0))) e ∙ ap (λ n. take i ws ++ drop n ws) one
+    without_here 0 ws p i rises (omega (arith, chosen.within, length-map ws (λ (w : Record). place w.0))) e ∙ ap (λ n. take i ws ++ drop n ws) one

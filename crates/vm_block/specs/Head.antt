@@ -1,9 +1,7 @@
 -- The head of a block of a tree: its first sixteen bytes.
-use Rattle.std.specs.Prelude.{◌≡◌, ℕ, ◌<◌, ◌≤◌, Bool, List, ◌++◌, take, codes}
+use Rattle.std.specs.Prelude.{◌≡◌, ℕ, ◌<◌, ◌≤◌, List, ◌++◌, take}
 use Rattle.byteorder.specs.Endian.{little_bytes}
-use Rattle.vm_types.specs.Bytes.{longest}
-use Rattle.vm_block.specs.declared.sizes.TheConstants.{MAX_CHILDREN, MAX_SHORT}
-use Rattle.vm_block.specs.Leaf.{leaf_head}
+use Rattle.vm_block.specs.declared.sizes.TheConstants.{MAX_CHILDREN}
 use Rattle.vm_block.specs.Node.{node_head}
 use Rattle.vm_block.specs.declared.head.Head.{Head}
 
@@ -11,19 +9,9 @@ use Rattle.vm_block.specs.declared.head.Head.{Head}
 abbrev pub head_numbers : Head → List ℕ
 head_numbers head = little_bytes 4 head.letters ++ (little_bytes 4 head.level ++ (little_bytes 4 head.count ++ little_bytes 4 head.zero))
 
--- it has the letters of a leaf, and is the head of one of so many records at most
-abbrev pub IsHeadOfLeaf : ℕ → ℕ → Head → Type 0
-IsHeadOfLeaf letters most head = (head.letters ≡ letters) × (head.level ≡ 0) × (0 < head.count) × (head.count ≤ most) × (head.zero ≡ 0)
-
 -- it has the letters of an inner block, and is the head of one
 abbrev pub IsHeadOfNode : ℕ → Head → Type 0
 IsHeadOfNode letters head = (head.letters ≡ letters) × (0 < head.level) × (head.level ≤ 7) × (0 < head.count) × (head.count ≤ MAX_CHILDREN) × (head.zero ≡ 0)
-
--- the bytes begin with the head of a leaf of so many rows, from one to the greatest count, whose letters say whether one is long
-pub record IsRowsHead (bytes : List ℕ) (most : ℕ) (long : Bool) (n : ℕ) : Type 0 where
-  pub begins : take 16 bytes ≡ leaf_head long n
-  pub some : 0 < n
-  pub few : n ≤ most
 
 -- the bytes begin with the head of an inner block of this level, from one to seven, with so many children, from one to 256
 pub record IsNodeHead (bytes : List ℕ) (level n : ℕ) : Type 0 where
@@ -32,9 +20,3 @@ pub record IsNodeHead (bytes : List ℕ) (level n : ℕ) : Type 0 where
   pub low : level ≤ 7
   pub some : 0 < n
   pub few : n ≤ MAX_CHILDREN
-
--- the bytes begin with the head of a block of a long value of so many bytes, from 241 to 4,000
-pub record IsLongHead (bytes : List ℕ) (n : ℕ) : Type 0 where
-  pub begins : take 16 bytes ≡ codes "LONG" ++ (little_bytes 4 0 ++ (little_bytes 4 n ++ little_bytes 4 0))
-  pub above : MAX_SHORT < n
-  pub most : n ≤ longest

@@ -7,11 +7,10 @@ use Rattle.byteorder.specs.Endian.{little_bytes}
 use Rattle.vm_types.specs.declared.sizes.TheConstants.{BLOCK_SIZE, MIN_BLOCKS, MAX_BLOCKS, MAX_VERSIONS}
 use Rattle.vm_types.specs.Name.{IsName}
 use Rattle.vm_block.specs.Padding.{padded}
+use Rattle.vm_block.specs.declared.header.TheConstants.{FORMAT}
 use Rattle.vm_block.specs.declared.slot.Kind.{Kind}
 use Rattle.vm_block.specs.declared.slot.Kind.TheVariants.{Alternative, Checkpoint}
 use Rattle.vm_block.specs.declared.slot.Entry.{Entry}
-use Rattle.vm_block.specs.declared.slot.SlotFormat.{SlotFormat}
-use Rattle.vm_block.specs.declared.slot.SlotFormat.TheVariants.{One, Two}
 
 -- the letter by which an entry begins
 abbrev pub tag_of : Kind → ℕ
@@ -44,20 +43,10 @@ pub record IsEntry (bytes : List ℕ) (e : Entry) : Type 0 where
   pub spelled : bytes ≡ entry_bytes e
   pub fits : EntryFits e
 
--- the number by which the head of a slot says its format
-abbrev pub format_number : SlotFormat → ℕ
-format_number One = 1
-format_number Two = 2
-
--- whether the trees of a store of this format may have long values
-abbrev pub has_long : SlotFormat → Bool
-has_long One = false
-has_long Two = true
-
--- the head of a slot in its 128 bytes: the letters SLOT, the format, the store's blocks, and how many entries
-unfoldable pub head_bytes : SlotFormat → ℕ → ℕ → List ℕ
-head_bytes format limit n =
-    padded 128 (codes "SLOT" ++ (little_bytes 4 (format_number format) ++ (little_bytes 4 limit ++ little_bytes 4 n)))
+-- the head of a slot in its 128 bytes: the letters SLOT, the number of the format, the store's blocks, and how many entries
+unfoldable pub head_bytes : ℕ → ℕ → List ℕ
+head_bytes limit n =
+    padded 128 (codes "SLOT" ++ (little_bytes 4 FORMAT ++ (little_bytes 4 limit ++ little_bytes 4 n)))
 
 -- counts that a slot may have: of the store's blocks, and of entries
 pub record HeadFits (limit n : ℕ) : Type 0 where
@@ -67,8 +56,8 @@ pub record HeadFits (limit n : ℕ) : Type 0 where
   pub few : n ≤ MAX_VERSIONS
 
 -- these bytes are the head of a slot
-pub record IsHead (bytes : List ℕ) (format : SlotFormat) (limit n : ℕ) : Type 0 where
-  pub spelled : bytes ≡ head_bytes format limit n
+pub record IsHead (bytes : List ℕ) (limit n : ℕ) : Type 0 where
+  pub spelled : bytes ≡ head_bytes limit n
   pub fits : HeadFits limit n
 
 abbrev pub is_alternative : Kind → Bool
@@ -124,12 +113,12 @@ abbrev pub used_blocks : ℕ → ℕ
 used_blocks n = (n + 32) / 32
 
 -- the entries behind their head
-abbrev pub slot_bytes : SlotFormat → ℕ → List Entry → List ℕ
-slot_bytes format limit es = head_bytes format limit (length es) ++ flat_map entry_bytes es
+abbrev pub slot_bytes : ℕ → List Entry → List ℕ
+slot_bytes limit es = head_bytes limit (length es) ++ flat_map entry_bytes es
 
 -- these blocks hold these entries; what follows the last entry is ignored
-pub record IsSlot (blocks : List (List ℕ)) (format : SlotFormat) (limit : ℕ) (es : List Entry) : Type 0 where
+pub record IsSlot (blocks : List (List ℕ)) (limit : ℕ) (es : List Entry) : Type 0 where
   pub fits : SlotFits limit es
   pub whole : AllByRecursion (λ block. length block ≡ BLOCK_SIZE) blocks
   pub rest : List ℕ
-  pub spelled : flat_map (λ block. block) blocks ≡ slot_bytes format limit es ++ rest
+  pub spelled : flat_map (λ block. block) blocks ≡ slot_bytes limit es ++ rest

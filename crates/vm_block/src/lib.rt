@@ -13,42 +13,35 @@
 //! for it. No call takes memory.
 #![tactic(auto)]
 
-mod block_kind;
+mod bounds;
 mod bytes;
+mod changes;
 mod edits;
 mod head;
 mod header;
 mod keys;
 mod laws;
 mod leaf;
-mod leaf_rows;
-mod leaf_split;
-mod long;
+mod look;
 mod node;
-mod row;
-mod row_removal;
+mod node_form;
+mod parts;
 mod selector;
 mod sizes;
 mod slot;
-mod stored;
+mod split;
 mod way;
 
-pub use block_kind::{node_size, record_key, rows_size};
-pub use edits::{Placed, divide_child, put_row, set_child, set_link};
-pub use head::is_long_leaf;
-pub use header::{is_header, write_header};
+pub use changes::{Placed, Taken, first_record, put_into, put_record, remove_record};
+pub use edits::{divide_child, divide_in_three, set_child};
+pub use header::{FORMAT, is_earlier_header, is_header, write_header};
 pub use laws::{one_form, written_is_a_form};
-pub use leaf::{read_leaf, write_leaf};
-pub use leaf_rows::stored_at;
-pub use leaf_split::split_rows;
-pub use long::{long_value, read_long, write_long};
+pub use leaf::is_leaf;
+pub use look::{Look, find_record, record_key, record_value, records_len};
 pub use node::{Child, Node, read_node, spelled_children, write_node};
-pub use row::{child_row, record_link, record_row, record_value};
-pub use row_removal::{Taken, remove_row};
+pub use node_form::node_size;
 pub use selector::{SlotName, read_selector, write_selector};
-pub use sizes::{MAX_CHILDREN, MAX_LEVEL, MAX_ROWS, MAX_SHORT};
-pub use slot::{
-    Entry, Kind, SlotFormat, SlotHead, read_entry, read_slot_head, write_entry, write_slot_head,
-};
-pub use stored::{Link, Stored};
-pub use way::{Way, child_at, find_child, find_row, lowest_key};
+pub use sizes::{LEAF_ROOM, MAX_CHILDREN, MAX_LEVEL, MAX_RECORDS};
+pub use slot::{Entry, Kind, SlotHead, read_entry, read_slot_head, write_entry, write_slot_head};
+pub use split::{Split, split_record};
+pub use way::{Way, child_at, child_row, find_child, lowest_key};

@@ -3,10 +3,10 @@ ghost use Rattle.std.specs.Prelude.{◌≡◌, ℕ, ◌≤◌, ◌++◌, ◌∷�
 ghost use Rattle.vm_types.specs.Name.{IsName};
 ghost use Rattle.vm_block.specs.declared.slot.Entry.{Entry};
 ghost use Rattle.vm_block.specs.declared.slot.Kind.{Kind};
-ghost use Rattle.vm_block.specs.declared.slot.SlotFormat.{SlotFormat};
-ghost use Rattle.vm_block.specs.Slot.{tag_of, name_bytes, owner_bytes, entry_bytes, EntryFits, IsEntry, format_number, has_long, head_bytes, HeadFits, IsHead};
+ghost use Rattle.vm_block.specs.Slot.{tag_of, name_bytes, owner_bytes, entry_bytes, EntryFits, IsEntry, head_bytes, HeadFits, IsHead};
 
 use crate::bytes::put;
+use crate::header::FORMAT;
 use byteorder::{ByteOrder, LittleEndian};
 use vm_types::{MAX_BLOCKS, MAX_VERSIONS, MIN_BLOCKS, Name};
 
@@ -28,53 +28,9 @@ pub struct Entry {
     pub base: u32,
 }
 
-/// The format of a slot. The slot's head gives it as a number.
-#[derive(Clone, Copy, Debug, PartialEq, Eq)]
-pub enum SlotFormat {
-    /// Written by programs that knew no long values: no block of its trees is a leaf with a long
-    /// value.
-    One,
-    /// The format that is written today.
-    Two,
-}
-
-impl SlotFormat {
-    /// Whether the trees of a store of this format may have long values.
-    pub fn has_long(self) -> bool
-        ensures { result ≡ has_long self }
-    {
-        match self {
-            SlotFormat::One => false,
-            SlotFormat::Two => true,
-        }
-    }
-
-    /// The number that the head of a slot has for it.
-    fn number(self) -> u32
-        ensures { result ≡ format_number self }
-    {
-        match self {
-            SlotFormat::One => 1,
-            SlotFormat::Two => 2,
-        }
-    }
-
-    /// The format with this number, if there is one.
-    fn of_number(number: u32) -> Option<SlotFormat>
-        ensures { (format : SlotFormat) → number ≡ format_number format → result ≡ Some format }
-    {
-        match number {
-            1 => Some(SlotFormat::One),
-            2 => Some(SlotFormat::Two),
-            _ => None,
-        }
-    }
-}
-
 /// The head of a slot.
 #[derive(Clone, Copy, Debug, PartialEq, Eq)]
 pub struct SlotHead {
-    pub format: SlotFormat,
     /// How many blocks the store has.
     pub blocks: u32,
     /// How many entries follow the head.
@@ -94,10 +50,10 @@ impl SlotHead {
 /// Writes the head of a slot into the first 128 bytes.
 pub fn write_slot_head(head: SlotHead, out: &mut [u8])
     requires { 128 ≤ length out.old }
-    ensures { out.new ≡ head_bytes head.format head.blocks head.entries ++ drop 128 out.old }
+    ensures { out.new ≡ head_bytes head.blocks head.entries ++ drop 128 out.old }
 {
     put(b"SLOT", out);
-    LittleEndian::write_u32(&mut out[4..], head.format.number());
+    LittleEndian::write_u32(&mut out[4..], FORMAT);
     LittleEndian::write_u32(&mut out[8..], head.blocks);
     LittleEndian::write_u32(&mut out[12..], head.entries);
     put(&[0; 112], &mut out[16..]);
@@ -106,15 +62,11 @@ pub fn write_slot_head(head: SlotHead, out: &mut [u8])
 /// The head of a slot, if the bytes are one.
 pub fn read_slot_head(bytes: &[u8]) -> Option<SlotHead>
     requires { length bytes.now ≡ 128 }
-    ensures found { IfSome result (λ head. IsHead bytes.now head.format head.blocks head.entries) }
-    ensures only { (format : SlotFormat) (limit n : ℕ) → IsHead bytes.now format limit n
-        → IsSomeAnd result (λ head. (head.format ≡ format) × (head.blocks ≡ limit) × (head.entries ≡ n)) }
+    ensures found { IfSome result (λ head. IsHead bytes.now head.blocks head.entries) }
+    ensures only { (limit n : ℕ) → IsHead bytes.now limit n
+        → IsSomeAnd result (λ head. (head.blocks ≡ limit) × (head.entries ≡ n)) }
 {
-    let Some(format) = SlotFormat::of_number(LittleEndian::read_u32(&bytes[4..])) else {
-        return None;
-    };
     let head = SlotHead {
-        format,
         blocks: LittleEndian::read_u32(&bytes[8..]),
         entries: LittleEndian::read_u32(&bytes[12..]),
     };

@@ -1,18 +1,18 @@
 //! The descent to a key in the bytes of blocks, which are not read whole for it.
-ghost use Rattle.std.specs.Prelude.{◌≡◌, ℕ, Bool, ◌+◌, ◌*◌, ◌<◌, ◌≤◌, None, length, take, drop, IfSome, IsSomeAnd, slice_index_or};
-ghost use Rattle.vm_types.specs.Places.{KeyFits, place, value_at};
-ghost use Rattle.vm_block.specs.Head.{IsNodeHead, IsRowsHead};
+ghost use Rattle.std.specs.Prelude.{◌≡◌, ◌+◌, ◌*◌, ◌<◌, ◌≤◌, length, take, drop, IfSome, IsSomeAnd, slice_index_or};
+ghost use Rattle.vm_types.specs.Places.{KeyFits, place};
+ghost use Rattle.vm_block.specs.Head.{IsNodeHead};
 ghost use Rattle.vm_block.specs.Leaf.{BeginsWith, key_bytes};
 ghost use Rattle.vm_block.specs.Node.{ChildFits, child_bytes};
 ghost use Rattle.vm_block.specs.Row.{node_row};
-ghost use Rattle.vm_block.specs.Told.{IfHasRows, IfNode, LacksRow, StandsAmong, found_bytes};
+ghost use Rattle.vm_block.specs.Look.{IfRecords};
+ghost use Rattle.vm_block.specs.Told.{IfNode};
 ghost use Rattle.vm_block.specs.Way.{ChoosesAmong, IsWay, IsWayTo, Lowest, TellsHead};
 
-use crate::head::{node_numbers, rows_head};
+use crate::head::node_numbers;
 use crate::keys::read_key;
 use crate::node::{Child, read_child};
-use crate::sizes::{MAX_CHILDREN, MAX_ROWS};
-use crate::stored::{Stored, read_stored};
+use crate::sizes::MAX_CHILDREN;
 use vm_types::{BLOCK_SIZE, Block, Key};
 
 /// Where a descent to a key goes in an inner block.
@@ -96,33 +96,16 @@ pub fn lowest_key(bytes: &Block) -> Key
     ensures fits { KeyFits result }
     ensures spelled { take 10 (drop 16 bytes.now) ≡ key_bytes result }
     ensures node { IfNode bytes.now (λ level cs. Lowest result cs) }
-    ensures rows { IfHasRows bytes.now (BeginsWith result) }
+    ensures leaf { IfRecords bytes.now (BeginsWith result) }
 {
     read_key(&bytes[16..])
 }
 
-/// What a leaf has of the key's value. None if the bytes do not begin with the head of a leaf;
-/// otherwise None only if one of its rows is malformed.
-pub fn find_row(bytes: &Block, key: Key) -> Option<Option<Stored<'_>>>
-    // On any bytes: None if they do not begin with the head of a leaf, and otherwise only if one of
-    // its rows is malformed.
-    ensures head { IfSome result (λ found. (long : Bool) × (n : ℕ) × IsRowsHead bytes.now MAX_ROWS long n) }
-    ensures headed { (long : Bool) (n : ℕ) → IsRowsHead bytes.now MAX_ROWS long n → result ≡ None → LacksRow bytes.now n }
-    ensures stands { IfSome result (λ found. IfSome found (StandsAmong bytes.now)) }
-
-    ensures only { IfHasRows bytes.now
-        (λ ws. IsSomeAnd result (λ found. found_bytes found ≡ value_at (place key) ws)) }
+/// The bytes of child `i`, if the bytes are an inner block that has it.
+pub fn child_row(bytes: &Block, i: usize) -> &[u8]
+    requires { i < MAX_CHILDREN }
+    ensures whole { length result.now ≡ 14 }
+    ensures row { result.now ≡ node_row bytes.now i }
 {
-    let Some((_, count)) = rows_head(bytes, MAX_ROWS) else {
-        return None;
-    };
-    let place = key.place();
-    let at = 16 + 252 * choose(bytes, 252, count, place);
-    if read_key(&bytes[at..]).place() != place {
-        return Some(None);
-    }
-    match read_stored(&bytes[at..at + 252]) {
-        Some(stored) => Some(Some(stored)),
-        None => None,
-    }
+    &bytes[16 + 14 * i..30 + 14 * i]
 }

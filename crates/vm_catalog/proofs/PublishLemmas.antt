@@ -10,7 +10,6 @@ use Rattle.vm_block.specs.Header.{IsHeader}
 use Rattle.vm_block.specs.Selector.{named_slot, other_slot, selector_bytes}
 use Rattle.vm_block.specs.Slot.{IsSlot, SlotFits, used_blocks}
 use Rattle.vm_block.specs.declared.slot.Entry.{Entry}
-use Rattle.vm_block.specs.declared.slot.SlotFormat.{SlotFormat}
 use Rattle.vm_block.specs.declared.selector.SlotName.{SlotName}
 use Rattle.vm_block.specs.declared.selector.SlotName.TheVariants.{A, B}
 use Rattle.vm_catalog.specs.Place.{blocks_from, region, slot_at, selected, is_turned, is_used}
@@ -27,32 +26,32 @@ written_selector A = refl
 written_selector B = refl
 
 -- contents with the same used blocks of a slot hold the same entries there
-pub slot_in : (x y : Contents) (slot_name : SlotName) (format : SlotFormat) (limit : ℕ) (es : List Entry) → ((n : ℕ) → slot_at slot_name ≤ n → n < slot_at slot_name + used_blocks (length es) → block y n ≡ block x n) → SlotAt x slot_name format limit es → SlotAt y slot_name format limit es
-slot_in x y slot_name format limit es same held =
-    let P : List (List ℕ) → Type 0 = λ blocks. IsSlot blocks format limit es in
+pub slot_in : (x y : Contents) (slot_name : SlotName) (limit : ℕ) (es : List Entry) → ((n : ℕ) → slot_at slot_name ≤ n → n < slot_at slot_name + used_blocks (length es) → block y n ≡ block x n) → SlotAt x slot_name limit es → SlotAt y slot_name limit es
+slot_in x y slot_name limit es same held =
+    let P : List (List ℕ) → Type 0 = λ blocks. IsSlot blocks limit es in
     subst P (sym (blocks_same x y (slot_at slot_name) (used_blocks (length es)) same)) held
 
 -- contents with the same used blocks name the same entries
-pub names_in : (x y : Contents) (slot_name : SlotName) (format : SlotFormat) (limit : ℕ) (es : List Entry) → ((n : ℕ) → is_used slot_name (length es) n ≡ true → block y n ≡ block x n) → selected x ≡ slot_name → Names x format limit es → Names y format limit es
-names_in x y slot_name format limit es same in_use names =
+pub names_in : (x y : Contents) (slot_name : SlotName) (limit : ℕ) (es : List Entry) → ((n : ℕ) → is_used slot_name (length es) n ≡ true → block y n ≡ block x n) → selected x ≡ slot_name → Names x limit es → Names y limit es
+names_in x y slot_name limit es same in_use names =
     let chosen : selected y ≡ selected x = ap named_slot (same 1 (used_front slot_name (length es) 1 (omega arith))) in
-    let P : SlotName → Type 0 = λ b. SlotAt y b format limit es in
-    let Q : SlotName → Type 0 = λ b. SlotAt x b format limit es in
+    let P : SlotName → Type 0 = λ b. SlotAt y b limit es in
+    let Q : SlotName → Type 0 = λ b. SlotAt x b limit es in
     record {
       header = same 0 (used_front slot_name (length es) 0 (omega arith)) ∙ names.header;
-      slot = subst P (sym (chosen ∙ in_use)) (slot_in x y slot_name format limit es (λ n low high. same n (used_slot slot_name (length es) n low high)) (subst Q in_use names.slot));
+      slot = subst P (sym (chosen ∙ in_use)) (slot_in x y slot_name limit es (λ n low high. same n (used_slot slot_name (length es) n low high)) (subst Q in_use names.slot));
     }
 
 -- a slot whose selector names it
-pub names_slot : (x : Contents) (slot_name : SlotName) (format : SlotFormat) (limit : ℕ) (es : List Entry) → IsHeader (block x 0) → selected x ≡ slot_name → SlotAt x slot_name format limit es → Names x format limit es
-names_slot x slot_name format limit es header in_use slot =
-    let P : SlotName → Type 0 = λ b. SlotAt x b format limit es in
+pub names_slot : (x : Contents) (slot_name : SlotName) (limit : ℕ) (es : List Entry) → IsHeader (block x 0) → selected x ≡ slot_name → SlotAt x slot_name limit es → Names x limit es
+names_slot x slot_name limit es header in_use slot =
+    let P : SlotName → Type 0 = λ b. SlotAt x b limit es in
     record { header = header; slot = subst P (sym in_use) slot }
 
 -- the slot that the selector names
-pub slot_of : (x : Contents) (slot_name : SlotName) (format : SlotFormat) (limit : ℕ) (es : List Entry) → selected x ≡ slot_name → Names x format limit es → SlotAt x slot_name format limit es
-slot_of x slot_name format limit es in_use names =
-    let P : SlotName → Type 0 = λ b. SlotAt x b format limit es in subst P in_use names.slot
+pub slot_of : (x : Contents) (slot_name : SlotName) (limit : ℕ) (es : List Entry) → selected x ≡ slot_name → Names x limit es → SlotAt x slot_name limit es
+slot_of x slot_name limit es in_use names =
+    let P : SlotName → Type 0 = λ b. SlotAt x b limit es in subst P in_use names.slot
 
 -- what a call did to the blocks of a slot, under another of its names
 pub touches_other : (old new : DiskState) (n : ℕ) {one other : SlotName} → one ≡ other → Throughout old new (TouchesOnly (region (slot_at one) n) old.now)
@@ -78,15 +77,15 @@ pub sync_on : {T : Type 0} (result : Result T DeviceFault) (touched : ℕ → Bo
 sync_on result touched old mid new so_far sync = goes_on _ _ _ _ so_far sync.time (sync_touches _ _ _ _ _ sync (at_end _ _ _ so_far))
 
 -- a slot was written, then the selector, and both have stayed so
-pub stays_written : {T : Type 0} (result : Result T DeviceFault) (written turned last : Contents) (slot_name : SlotName) (format : SlotFormat) (limit : ℕ) (es : List Entry) → blocks_from written (slot_at slot_name) (used_blocks (length es)) ≡ slot_blocks format limit es → ((n : ℕ) → n ≢ 1 → block turned n ≡ block written n) → block turned 1 ≡ selector_bytes slot_name → last ≡ turned → OnOk result (IsAsWritten last slot_name format limit es)
-stays_written (Ok x) written turned last slot_name format limit es slot others chosen same = record {
+pub stays_written : {T : Type 0} (result : Result T DeviceFault) (written turned last : Contents) (slot_name : SlotName) (limit : ℕ) (es : List Entry) → blocks_from written (slot_at slot_name) (used_blocks (length es)) ≡ slot_blocks limit es → ((n : ℕ) → n ≢ 1 → block turned n ≡ block written n) → block turned 1 ≡ selector_bytes slot_name → last ≡ turned → OnOk result (IsAsWritten last slot_name limit es)
+stays_written (Ok x) written turned last slot_name limit es slot others chosen same = record {
   slot = ap (λ (y : Contents). blocks_from y (slot_at slot_name) (used_blocks (length es))) same ∙ blocks_same written turned (slot_at slot_name) (used_blocks (length es)) (λ n low high. others n (slot_high slot_name n low)) ∙ slot;
   selector = ap (λ (y : Contents). block y 1) same ∙ chosen;
 }
-stays_written (Err e) written turned last slot_name format limit es slot others chosen same = tt
+stays_written (Err e) written turned last slot_name limit es slot others chosen same = tt
 
 -- from the entries in use, and others that a slot may have
-module _ (slot_name : SlotName) (old : Medium) (format : SlotFormat) (limit : ℕ) (es : List Entry) (new_format : SlotFormat) (new_limit : ℕ) (new : List Entry) (rest : AtRest slot_name old format limit es) (fits : SlotFits new_limit new) where
+module _ (slot_name : SlotName) (old : Medium) (limit : ℕ) (es : List Entry) (new_limit : ℕ) (new : List Entry) (rest : AtRest slot_name old limit es) (fits : SlotFits new_limit new) where
   few : length es ≤ 511
   few = rest.names.slot.fits.head.few
 
@@ -100,16 +99,16 @@ module _ (slot_name : SlotName) (old : Medium) (format : SlotFormat) (limit : �
       (spares.same n out, spares.clean n out (rest.clean n used))
 
   -- the old entries are named still
-  still_named : (m : Medium) → TouchesOnly (region (slot_at (other_slot slot_name)) (used_blocks (length new))) old m → AtRest slot_name m format limit es
+  still_named : (m : Medium) → TouchesOnly (region (slot_at (other_slot slot_name)) (used_blocks (length new))) old m → AtRest slot_name m limit es
   still_named m spares =
       record {
-        names = names_in old.contents m.contents slot_name format limit es (λ n used. (kept m spares n used).0) rest.in_use rest.names;
+        names = names_in old.contents m.contents slot_name limit es (λ n used. (kept m spares n used).0) rest.in_use rest.names;
         in_use = ap named_slot (kept m spares 1 (used_front slot_name (length es) 1 (omega arith))).0 ∙ rest.in_use;
         clean = λ n used. (kept m spares n used).1;
       }
 
   -- while the other slot is written
-  pub before_selector : (m : Medium) → TouchesOnly (region (slot_at (other_slot slot_name)) (used_blocks (length new))) old m → IsSafelyPublishing slot_name old format limit es new_format new_limit new m
+  pub before_selector : (m : Medium) → TouchesOnly (region (slot_at (other_slot slot_name)) (used_blocks (length new))) old m → IsSafelyPublishing slot_name old limit es new_limit new m
   before_selector m spares =
       let named = still_named m spares in
       record {
@@ -126,10 +125,10 @@ module _ (slot_name : SlotName) (old : Medium) (format : SlotFormat) (limit : �
   pub record IsReady (m : Medium) : Type 0 where
     pub spares : TouchesOnly (region (slot_at (other_slot slot_name)) (used_blocks (length new))) old m
     pub clean : IsClean m
-    pub slot : SlotAt m.contents (other_slot slot_name) new_format new_limit new
+    pub slot : SlotAt m.contents (other_slot slot_name) new_limit new
 
   -- while the selector is dirty
-  pub at_selector : (ready m : Medium) → IsReady ready → m.dirty 1 ≡ true → length m.contents ≡ length ready.contents → m.sure ≡ ready.sure → ((n : ℕ) → n ≢ 1 → block m.contents n ≡ block ready.contents n) → ((n : ℕ) → n ≢ 1 → m.dirty n ≡ ready.dirty n) → IsSafelyPublishing slot_name old format limit es new_format new_limit new m
+  pub at_selector : (ready m : Medium) → IsReady ready → m.dirty 1 ≡ true → length m.contents ≡ length ready.contents → m.sure ≡ ready.sure → ((n : ℕ) → n ≢ 1 → block m.contents n ≡ block ready.contents n) → ((n : ℕ) → n ≢ 1 → m.dirty n ≡ ready.dirty n) → IsSafelyPublishing slot_name old limit es new_limit new m
   at_selector ready m is dirty count sure others others_dirty =
       let named = still_named ready is.spares in
       let clean : (n : ℕ) → n ≢ 1 → m.dirty n ≡ false = λ n other. others_dirty n other ∙ is.clean n in
@@ -142,15 +141,15 @@ module _ (slot_name : SlotName) (old : Medium) (format : SlotFormat) (limit : �
         settled = λ not_dirty. absurd (false≢true (sym not_dirty ∙ dirty));
         turning = λ _. record {
           header = others 0 (omega arith) ∙ named.names.header;
-          old = slot_in ready.contents m.contents slot_name format limit es (λ n low high. others n (slot_high slot_name n low)) (slot_of ready.contents slot_name format limit es named.in_use named.names);
-          new_slot = slot_in ready.contents m.contents (other_slot slot_name) new_format new_limit new (λ n low high. others n (slot_high (other_slot slot_name) n low)) is.slot;
+          old = slot_in ready.contents m.contents slot_name limit es (λ n low high. others n (slot_high slot_name n low)) (slot_of ready.contents slot_name limit es named.in_use named.names);
+          new_slot = slot_in ready.contents m.contents (other_slot slot_name) new_limit new (λ n low high. others n (slot_high (other_slot slot_name) n low)) is.slot;
           clean = clean;
           sure = sure ∙ clean_sure ready is.clean ∙ sym count;
         };
       }
 
   -- after the last sync
-  pub after_selector : (ready turned m : Medium) → IsReady ready → ((n : ℕ) → n ≢ 1 → block turned.contents n ≡ block ready.contents n) → length turned.contents ≡ length ready.contents → block turned.contents 1 ≡ selector_bytes (other_slot slot_name) → m.contents ≡ turned.contents → IsClean m → IsPublished (other_slot slot_name) old m new_format new_limit new
+  pub after_selector : (ready turned m : Medium) → IsReady ready → ((n : ℕ) → n ≢ 1 → block turned.contents n ≡ block ready.contents n) → length turned.contents ≡ length ready.contents → block turned.contents 1 ≡ selector_bytes (other_slot slot_name) → m.contents ≡ turned.contents → IsClean m → IsPublished (other_slot slot_name) old m new_limit new
   after_selector ready turned m is others count chosen same clean =
       let one : (n : ℕ) → block m.contents n ≡ block turned.contents n = λ n. ap (λ (x : Contents). block x n) same in
       let now : (n : ℕ) → n ≢ 1 → block m.contents n ≡ block ready.contents n = λ n other. one n ∙ others n other in
@@ -158,7 +157,7 @@ module _ (slot_name : SlotName) (old : Medium) (format : SlotFormat) (limit : �
       let named = still_named ready is.spares in
       record {
         rest = record {
-          names = names_slot m.contents (other_slot slot_name) new_format new_limit new (now 0 (omega arith) ∙ named.names.header) in_use (slot_in ready.contents m.contents (other_slot slot_name) new_format new_limit new (λ n low high. now n (slot_high (other_slot slot_name) n low)) is.slot);
+          names = names_slot m.contents (other_slot slot_name) new_limit new (now 0 (omega arith) ∙ named.names.header) in_use (slot_in ready.contents m.contents (other_slot slot_name) new_limit new (λ n low high. now n (slot_high (other_slot slot_name) n low)) is.slot);
           in_use = in_use;
           clean = λ n used. clean n;
         };
@@ -168,7 +167,7 @@ module _ (slot_name : SlotName) (old : Medium) (format : SlotFormat) (limit : �
       }
 
   -- at the end
-  pub when_published : (ready m : Medium) → IsReady ready → ((n : ℕ) → n ≢ 1 → block m.contents n ≡ block ready.contents n) → IsPublished (other_slot slot_name) old m new_format new_limit new → IsSafelyPublishing slot_name old format limit es new_format new_limit new m
+  pub when_published : (ready m : Medium) → IsReady ready → ((n : ℕ) → n ≢ 1 → block m.contents n ≡ block ready.contents n) → IsPublished (other_slot slot_name) old m new_limit new → IsSafelyPublishing slot_name old limit es new_limit new m
   when_published ready m is now published =
       record {
         count = published.count;
@@ -181,11 +180,11 @@ module _ (slot_name : SlotName) (old : Medium) (format : SlotFormat) (limit : �
       }
 
   -- the slot that is not in use is written, and synced
-  pub ready_by : (written : Contents) (ready : Medium) → TouchesOnly (region (slot_at (other_slot slot_name)) (used_blocks (length new))) old ready → IsClean ready → ready.contents ≡ written → blocks_from written (slot_at (other_slot slot_name)) (used_blocks (length new)) ≡ slot_blocks new_format new_limit new → IsReady ready
+  pub ready_by : (written : Contents) (ready : Medium) → TouchesOnly (region (slot_at (other_slot slot_name)) (used_blocks (length new))) old ready → IsClean ready → ready.contents ≡ written → blocks_from written (slot_at (other_slot slot_name)) (used_blocks (length new)) ≡ slot_blocks new_limit new → IsReady ready
   ready_by written ready spares clean same blocks =
-      let P : List (List ℕ) → Type 0 = λ bs. IsSlot bs new_format new_limit new in
-      let there : blocks_from ready.contents (slot_at (other_slot slot_name)) (used_blocks (length new)) ≡ slot_blocks new_format new_limit new = ap (λ (x : Contents). blocks_from x (slot_at (other_slot slot_name)) (used_blocks (length new))) same ∙ blocks in
-      record { spares = spares; clean = clean; slot = subst P (sym there) (written_slot new_format new_limit new fits) }
+      let P : List (List ℕ) → Type 0 = λ bs. IsSlot bs new_limit new in
+      let there : blocks_from ready.contents (slot_at (other_slot slot_name)) (used_blocks (length new)) ≡ slot_blocks new_limit new = ap (λ (x : Contents). blocks_from x (slot_at (other_slot slot_name)) (used_blocks (length new))) same ∙ blocks in
+      record { spares = spares; clean = clean; slot = subst P (sym there) (written_slot new_limit new fits) }
 
   -- the selector is written, and names the other slot
   pub record IsTurned (ready turned : Medium) : Type 0 where
@@ -195,30 +194,30 @@ module _ (slot_name : SlotName) (old : Medium) (format : SlotFormat) (limit : �
     pub others : (n : ℕ) → n ≢ 1 → block turned.contents n ≡ block ready.contents n
 
   -- the last sync is done
-  pub ends_published : {T : Type 0} (result : Result T DeviceFault) (ready : Medium) (turned last : DiskState) → IsTurned ready turned.now → Syncs result turned last → OnOk result (IsPublished (other_slot slot_name) old last.now new_format new_limit new)
+  pub ends_published : {T : Type 0} (result : Result T DeviceFault) (ready : Medium) (turned last : DiskState) → IsTurned ready turned.now → Syncs result turned last → OnOk result (IsPublished (other_slot slot_name) old last.now new_limit new)
   ends_published (Ok x) ready turned last is sync =
       after_selector ready turned.now last.now is.is_ready is.others is.count is.chosen sync.same sync.synced
   ends_published (Err e) ready turned last is sync = tt
 
-  pub ends_safely : {T : Type 0} (result : Result T DeviceFault) (ready : Medium) (turned last : DiskState) → IsTurned ready turned.now → IsSafelyPublishing slot_name old format limit es new_format new_limit new turned.now → Syncs result turned last → IsSafelyPublishing slot_name old format limit es new_format new_limit new last.now
+  pub ends_safely : {T : Type 0} (result : Result T DeviceFault) (ready : Medium) (turned last : DiskState) → IsTurned ready turned.now → IsSafelyPublishing slot_name old limit es new_limit new turned.now → Syncs result turned last → IsSafelyPublishing slot_name old limit es new_limit new last.now
   ends_safely (Ok x) ready turned last is safe sync =
       when_published ready last.now is.is_ready (λ n other. ap (λ (x : Contents). block x n) sync.same ∙ is.others n other) (ends_published (Ok x) ready turned last is sync)
   ends_safely (Err e) ready turned last is safe sync =
-      let P : Medium → Type 0 = λ m. IsSafelyPublishing slot_name old format limit es new_format new_limit new m in subst P (sym sync.failed) safe
+      let P : Medium → Type 0 = λ m. IsSafelyPublishing slot_name old limit es new_limit new m in subst P (sym sync.failed) safe
 
 -- what a crash leaves at a moment of a publish
-module _ (slot_name : SlotName) (old : Medium) (format : SlotFormat) (limit : ℕ) (es : List Entry) (new_format : SlotFormat) (new_limit : ℕ) (new : List Entry) (m : Medium) (safe : IsSafelyPublishing slot_name old format limit es new_format new_limit new m) (left : Contents) (may : MayLeave m left) where
+module _ (slot_name : SlotName) (old : Medium) (limit : ℕ) (es : List Entry) (new_limit : ℕ) (new : List Entry) (m : Medium) (safe : IsSafelyPublishing slot_name old limit es new_limit new m) (left : Contents) (may : MayLeave m left) where
   whole : m.sure ≡ length m.contents → length left ≡ length old.contents
   whole sure = omega (arith, may.least, may.most, sure, safe.count)
 
-  still : (b : SlotName) → selected left ≡ b → IsTurning slot_name m format limit es new_format new_limit new → (b ≡ slot_name) ⊎ (b ≡ other_slot slot_name) → (Names left format limit es × ((n : ℕ) → 34 ≤ n → old.dirty n ≡ false → block left n ≡ block old.contents n)) ⊎ (Names left new_format new_limit new × (length left ≡ length old.contents) × ((n : ℕ) → 34 ≤ n → block left n ≡ block old.contents n))
+  still : (b : SlotName) → selected left ≡ b → IsTurning slot_name m limit es new_limit new → (b ≡ slot_name) ⊎ (b ≡ other_slot slot_name) → (Names left limit es × ((n : ℕ) → 34 ≤ n → old.dirty n ≡ false → block left n ≡ block old.contents n)) ⊎ (Names left new_limit new × (length left ≡ length old.contents) × ((n : ℕ) → 34 ≤ n → block left n ≡ block old.contents n))
   still b chosen both (inl was) =
-      inl (names_slot left slot_name format limit es (may.clean 0 (both.clean 0 (omega arith)) ∙ both.header) (chosen ∙ was) (slot_in m.contents left slot_name format limit es (λ n low high. may.clean n (both.clean n (slot_high slot_name n low))) both.old), λ n far clean. may.clean n (both.clean n (omega arith)) ∙ safe.same n far)
+      inl (names_slot left slot_name limit es (may.clean 0 (both.clean 0 (omega arith)) ∙ both.header) (chosen ∙ was) (slot_in m.contents left slot_name limit es (λ n low high. may.clean n (both.clean n (slot_high slot_name n low))) both.old), λ n far clean. may.clean n (both.clean n (omega arith)) ∙ safe.same n far)
   still b chosen both (inr is) =
-      inr (names_slot left (other_slot slot_name) new_format new_limit new (may.clean 0 (both.clean 0 (omega arith)) ∙ both.header) (chosen ∙ is) (slot_in m.contents left (other_slot slot_name) new_format new_limit new (λ n low high. may.clean n (both.clean n (slot_high (other_slot slot_name) n low))) both.new_slot), whole both.sure, λ n far. may.clean n (both.clean n (omega arith)) ∙ safe.same n far)
+      inr (names_slot left (other_slot slot_name) new_limit new (may.clean 0 (both.clean 0 (omega arith)) ∙ both.header) (chosen ∙ is) (slot_in m.contents left (other_slot slot_name) new_limit new (λ n low high. may.clean n (both.clean n (slot_high (other_slot slot_name) n low))) both.new_slot), whole both.sure, λ n far. may.clean n (both.clean n (omega arith)) ∙ safe.same n far)
 
-  named_left : AtRest slot_name m format limit es → Names left format limit es
-  named_left rest = names_in m.contents left slot_name format limit es (λ n used. may.clean n (rest.clean n used)) rest.in_use rest.names
+  named_left : AtRest slot_name m limit es → Names left limit es
+  named_left rest = names_in m.contents left slot_name limit es (λ n used. may.clean n (rest.clean n used)) rest.in_use rest.names
 
   one_of : (b c : SlotName) → (b ≡ c) ⊎ (b ≡ other_slot c)
   one_of A A = inl refl
@@ -226,13 +225,13 @@ module _ (slot_name : SlotName) (old : Medium) (format : SlotFormat) (limit : �
   one_of B A = inr refl
   one_of B B = inl refl
 
-  by_selector : (d : Bool) → m.dirty 1 ≡ d → (Names left format limit es × ((n : ℕ) → 34 ≤ n → old.dirty n ≡ false → block left n ≡ block old.contents n)) ⊎ (Names left new_format new_limit new × (length left ≡ length old.contents) × ((n : ℕ) → 34 ≤ n → block left n ≡ block old.contents n))
+  by_selector : (d : Bool) → m.dirty 1 ≡ d → (Names left limit es × ((n : ℕ) → 34 ≤ n → old.dirty n ≡ false → block left n ≡ block old.contents n)) ⊎ (Names left new_limit new × (length left ≡ length old.contents) × ((n : ℕ) → 34 ≤ n → block left n ≡ block old.contents n))
   by_selector true dirty = still (selected left) refl (safe.turning dirty) (one_of (selected left) slot_name)
   by_selector false clean =
       ⊎_elim
-      (λ (rest : AtRest slot_name m format limit es). inl (named_left rest, λ n far was. may.clean n (safe.still_clean n far was) ∙ safe.same n far))
-      (λ (done : AtRest (other_slot slot_name) m new_format new_limit new × IsClean m). inr (names_in m.contents left (other_slot slot_name) new_format new_limit new (λ n used. may.clean n (done.1 n)) done.0.in_use done.0.names, whole (clean_sure m done.1), λ n far. may.clean n (done.1 n) ∙ safe.same n far))
+      (λ (rest : AtRest slot_name m limit es). inl (named_left rest, λ n far was. may.clean n (safe.still_clean n far was) ∙ safe.same n far))
+      (λ (done : AtRest (other_slot slot_name) m new_limit new × IsClean m). inr (names_in m.contents left (other_slot slot_name) new_limit new (λ n used. may.clean n (done.1 n)) done.0.in_use done.0.names, whole (clean_sure m done.1), λ n far. may.clean n (done.1 n) ∙ safe.same n far))
       (safe.settled clean)
 
-  pub left_by_publish : PublishLeaves old format limit es new_format new_limit new left
+  pub left_by_publish : PublishLeaves old limit es new_limit new left
   left_by_publish = (omega (arith, may.least, safe.sure), omega (arith, may.most, safe.count), by_selector (m.dirty 1) refl)

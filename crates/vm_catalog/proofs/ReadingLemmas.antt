@@ -5,7 +5,6 @@ use Rattle.std.proofs.lemmas.Grind.{flat_map-append}
 use Rattle.std.proofs.lemmas.List.{append-nil, drop-drop, length_push, nil_from_length, take-append-drop}
 use Rattle.vm_block.specs.Slot.{head_bytes, entry_bytes, used_blocks, EntryFits, IsEntry, HeadFits, IsHead, IsSlot, IsLedger}
 use Rattle.vm_block.specs.declared.slot.Entry.{Entry}
-use Rattle.vm_block.specs.declared.slot.SlotFormat.{SlotFormat}
 use Rattle.vm_block.specs.declared.selector.SlotName.{SlotName}
 use Rattle.vm_block.proofs.EachLemmas.{each_join}
 use Rattle.vm_block.proofs.Rows.{all_push, rows_read, length-rows}
@@ -43,8 +42,8 @@ taken_more bytes first i old mid new e so_far is pushed =
 -- # The first block
 
 -- it begins with the head, and these entries
-pub first_begins : (x : Contents) (at : ℕ) (format : SlotFormat) (limit n count : ℕ) (bytes b : List ℕ) (old new : List Entry) → b ≡ block x at → length b ≡ 4096 → bytes ≡ take 128 b → IsHead bytes format limit n → HasTaken b 1 count old new → old ≡ [] → BeginsSlot (blocks_from x at 1) format limit n new
-first_begins x at format limit n count bytes b old new is size front head taken none =
+pub first_begins : (x : Contents) (at : ℕ) (limit n count : ℕ) (bytes b : List ℕ) (old new : List Entry) → b ≡ block x at → length b ≡ 4096 → bytes ≡ take 128 b → IsHead bytes limit n → HasTaken b 1 count old new → old ≡ [] → BeginsSlot (blocks_from x at 1) limit n new
+first_begins x at limit n count bytes b old new is size front head taken none =
     let all : new ≡ taken.more = taken.items ∙ ap (λ (es : List Entry). es ++ taken.more) none in
     let P : List ℕ → Type 0 = λ c. length c ≡ 4096 in
     let rest = drop (128 * count) (drop 128 b) in
@@ -52,7 +51,7 @@ first_begins x at format limit n count bytes b old new is size front head taken 
     record {
       whole = (subst P is size, tt);
       rest = rest;
-      spelled = append-nil (block x at) ∙ sym is ∙ sym (take-append-drop 128 b) ∙ ap (λ (c : List ℕ). c ++ drop 128 b) (sym front ∙ head.spelled) ∙ ap (λ (c : List ℕ). head_bytes format limit n ++ c) behind ∙ sym (append_assoc (head_bytes format limit n) (flat_map entry_bytes new) rest);
+      spelled = append-nil (block x at) ∙ sym is ∙ sym (take-append-drop 128 b) ∙ ap (λ (c : List ℕ). c ++ drop 128 b) (sym front ∙ head.spelled) ∙ ap (λ (c : List ℕ). head_bytes limit n ++ c) behind ∙ sym (append_assoc (head_bytes limit n) (flat_map entry_bytes new) rest);
     }
 
 -- # The other blocks
@@ -67,13 +66,13 @@ other_fits b limit n k count mid new so_far inside taken many =
       many = omega (arith, ap length taken.items, length-append mid taken.more, taken.many, so_far.many);
     }
 
-pub other_begins : (x : Contents) (at : ℕ) (format : SlotFormat) (limit n k count : ℕ) (b : List ℕ) (mid new : List Entry) → FitsSoFar limit n k mid → k < used_blocks n → BeginsSlot (blocks_from x at k) format limit n mid → b ≡ block x (at + k) → length b ≡ 4096 → HasTaken b 0 count mid new → BeginsSlot (blocks_from x at (k + 1)) format limit n new
-other_begins x at format limit n k count b mid new so_far inside begins is size taken =
+pub other_begins : (x : Contents) (at : ℕ) (limit n k count : ℕ) (b : List ℕ) (mid new : List Entry) → FitsSoFar limit n k mid → k < used_blocks n → BeginsSlot (blocks_from x at k) limit n mid → b ≡ block x (at + k) → length b ≡ 4096 → HasTaken b 0 count mid new → BeginsSlot (blocks_from x at (k + 1)) limit n new
+other_begins x at limit n k count b mid new so_far inside begins is size taken =
     let front = blocks_from x at k in
-    let head = head_bytes format limit n in
+    let head = head_bytes limit n in
     let P : List ℕ → Type 0 = λ c. length c ≡ 4096 in
     let full : length begins.rest ≡ 0 =
-    omega (arith, ap length begins.spelled, length-append (head ++ flat_map entry_bytes mid) begins.rest, length-append head (flat_map entry_bytes mid), length-head format limit n, length-rows entry_bytes EntryFits 128 length-entry mid so_far.each, length-joined_blocks front begins.whole, length-blocks x at k, so_far.many) in
+    omega (arith, ap length begins.spelled, length-append (head ++ flat_map entry_bytes mid) begins.rest, length-append head (flat_map entry_bytes mid), length-head limit n, length-rows entry_bytes EntryFits 128 length-entry mid so_far.each, length-joined_blocks front begins.whole, length-blocks x at k, so_far.many) in
     let before : joined front ≡ head ++ flat_map entry_bytes mid =
     begins.spelled ∙ ap (λ (c : List ℕ). (head ++ flat_map entry_bytes mid) ++ c) (nil_from_length begins.rest full) ∙ append-nil (head ++ flat_map entry_bytes mid) in
     let rest = drop (128 * count) b in
@@ -95,33 +94,33 @@ other_begins x at format limit n k count b mid new so_far inside begins is size 
 -- # What a slot has where it is read
 
 -- the first block
-pub record IsFront (bytes : List ℕ) (format : SlotFormat) (limit n : ℕ) : Type 0 where
-  pub head : IsHead (take 128 bytes) format limit n
+pub record IsFront (bytes : List ℕ) (limit n : ℕ) : Type 0 where
+  pub head : IsHead (take 128 bytes) limit n
   pub each : (i : ℕ) → i < min n 31 → HasEntry bytes (1 + i)
 
-pub front_is : (x : Contents) (slot_name : SlotName) (format : SlotFormat) (limit : ℕ) (es : List Entry) (bytes : List ℕ) → SlotAt x slot_name format limit es → bytes ≡ block x (slot_at slot_name) → IsFront bytes format limit (length es)
-front_is x slot_name format limit es bytes slot is =
+pub front_is : (x : Contents) (slot_name : SlotName) (limit : ℕ) (es : List Entry) (bytes : List ℕ) → SlotAt x slot_name limit es → bytes ≡ block x (slot_at slot_name) → IsFront bytes limit (length es)
+front_is x slot_name limit es bytes slot is =
     let at = slot_at slot_name in
     let used : 0 < used_blocks (length es) = omega (arith, slot.fits.head.some) in
-    let P : List ℕ → Type 0 = λ b. IsHead (take 128 b) format limit (length es) in
+    let P : List ℕ → Type 0 = λ b. IsHead (take 128 b) limit (length es) in
     let first : block x (at + 0) ≡ block x at = ap (block x) (omega arith) in
     record {
-      head = subst P (sym is) (head_is x at (used_blocks (length es)) format limit es slot used);
+      head = subst P (sym is) (head_is x at (used_blocks (length es)) limit es slot used);
       each = λ i lt.
           let Q : List ℕ → Type 0 = λ b. HasEntry b (1 + i) in
-          subst Q (first ∙ sym is) (entry_is x at (used_blocks (length es)) format limit es slot 0 (1 + i) i used (omega arith) (omega arith) (omega arith));
+          subst Q (first ∙ sym is) (entry_is x at (used_blocks (length es)) limit es slot 0 (1 + i) i used (omega arith) (omega arith) (omega arith));
     }
 
 -- another block
-pub other_is : (x : Contents) (slot_name : SlotName) (format : SlotFormat) (limit : ℕ) (es : List Entry) (other_format : SlotFormat) (l n k count : ℕ) (bytes : List ℕ) (mid : List Entry) → SlotAt x slot_name format limit es → FitsSoFar l n k mid → BeginsSlot (blocks_from x (slot_at slot_name) k) other_format l n mid → 1 ≤ k → k < used_blocks n → count ≡ min (n - length mid) 32 → bytes ≡ block x (slot_at slot_name + k) → (i : ℕ) → i < count → HasEntry bytes (0 + i)
-other_is x slot_name format limit es other_format l n k count bytes mid slot so_far begins some inside many is i lt =
+pub other_is : (x : Contents) (slot_name : SlotName) (limit : ℕ) (es : List Entry) (l n k count : ℕ) (bytes : List ℕ) (mid : List Entry) → SlotAt x slot_name limit es → FitsSoFar l n k mid → BeginsSlot (blocks_from x (slot_at slot_name) k) l n mid → 1 ≤ k → k < used_blocks n → count ≡ min (n - length mid) 32 → bytes ≡ block x (slot_at slot_name + k) → (i : ℕ) → i < count → HasEntry bytes (0 + i)
+other_is x slot_name limit es l n k count bytes mid slot so_far begins some inside many is i lt =
     let at = slot_at slot_name in
     let used = used_blocks (length es) in
-    let head = begins_head x at k other_format l n mid begins (omega arith) in
-    let other = head_is x at used format limit es slot (omega (arith, slot.fits.head.some)) in
-    let same = (head_one (take 128 (block x at)) other_format format l n limit (length es) (record { spelled = head; fits = so_far.head }) other).2 in
+    let head = begins_head x at k l n mid begins (omega arith) in
+    let other = head_is x at used limit es slot (omega (arith, slot.fits.head.some)) in
+    let same = (head_one (take 128 (block x at)) l n limit (length es) (record { spelled = head; fits = so_far.head }) other).1 in
     let place : 32 * k + i ≡ (32 * k + i - 1) + 1 = omega arith in
-    let there = entry_is x at used format limit es slot k i (32 * k + i - 1) (omega (arith, same)) (omega (arith, many)) place (omega (arith, same, many, so_far.many)) in
+    let there = entry_is x at used limit es slot k i (32 * k + i - 1) (omega (arith, same)) (omega (arith, many)) place (omega (arith, same, many, so_far.many)) in
     let P : List ℕ → Type 0 = λ b. HasEntry b (0 + i) in
     let Q : ℕ → Type 0 = λ j. HasEntry (block x (at + k)) j in
     subst P (sym is) (subst Q (omega arith) there)
@@ -133,25 +132,25 @@ pub all_read : (limit n : ℕ) (es : List Entry) → FitsSoFar limit n (used_blo
 all_read limit n es fits = omega (arith, fits.many)
 
 -- they are those of the slot
-pub loaded : (x : Contents) (slot_name : SlotName) (format : SlotFormat) (limit n : ℕ) (es : List Entry) → FitsSoFar limit n (used_blocks n) es → BeginsSlot (blocks_from x (slot_at slot_name) (used_blocks n)) format limit n es → IsLedger es → SlotAt x slot_name format limit es
-loaded x slot_name format limit n es fits begins ledger =
+pub loaded : (x : Contents) (slot_name : SlotName) (limit n : ℕ) (es : List Entry) → FitsSoFar limit n (used_blocks n) es → BeginsSlot (blocks_from x (slot_at slot_name) (used_blocks n)) limit n es → IsLedger es → SlotAt x slot_name limit es
+loaded x slot_name limit n es fits begins ledger =
     let all = all_read limit n es fits in
-    let P : ℕ → Type 0 = λ k. IsSlot (blocks_from x (slot_at slot_name) (used_blocks k)) format limit es in
+    let P : ℕ → Type 0 = λ k. IsSlot (blocks_from x (slot_at slot_name) (used_blocks k)) limit es in
     let H : ℕ → Type 0 = λ k. HeadFits limit k in
     subst P (sym all) (record {
       fits = record { head = subst H (sym all) fits.head; each = fits.each; ledger = ledger };
       whole = begins.whole;
       rest = begins.rest;
-      spelled = begins.spelled ∙ ap (λ (k : ℕ). (head_bytes format limit k ++ flat_map entry_bytes es) ++ begins.rest) (sym all);
+      spelled = begins.spelled ∙ ap (λ (k : ℕ). (head_bytes limit k ++ flat_map entry_bytes es) ++ begins.rest) (sym all);
     })
 
 -- and no others
-pub loaded_one : (x : Contents) (slot_name : SlotName) (format : SlotFormat) (limit n : ℕ) (es : List Entry) (format' : SlotFormat) (limit' : ℕ) (es' : List Entry) → FitsSoFar limit n (used_blocks n) es → BeginsSlot (blocks_from x (slot_at slot_name) (used_blocks n)) format limit n es → SlotAt x slot_name format' limit' es' → (format ≡ format') × (limit ≡ limit') × (es ≡ es')
-loaded_one x slot_name format limit n es format' limit' es' fits begins slot =
-    read_one x slot_name format limit n es format' limit' es' fits.head fits.each (all_read limit n es fits) begins slot
+pub loaded_one : (x : Contents) (slot_name : SlotName) (limit n : ℕ) (es : List Entry) (limit' : ℕ) (es' : List Entry) → FitsSoFar limit n (used_blocks n) es → BeginsSlot (blocks_from x (slot_at slot_name) (used_blocks n)) limit n es → SlotAt x slot_name limit' es' → (limit ≡ limit') × (es ≡ es')
+loaded_one x slot_name limit n es limit' es' fits begins slot =
+    read_one x slot_name limit n es limit' es' fits.head fits.each (all_read limit n es fits) begins slot
 
 -- a fault other than a damage says nothing
-pub loads_fault : {T : Type 0} (fault : LoadFault) (format : SlotFormat) (limit : ℕ) (es : List Entry) → (let r : Result T LoadFault = Err fault in r ≢ Err Damaged) → Loads (Err fault) format limit es
-loads_fault Device format limit es other = tt
-loads_fault Memory format limit es other = tt
-loads_fault Damaged format limit es other = absurd (other refl)
+pub loads_fault : {T : Type 0} (fault : LoadFault) (limit : ℕ) (es : List Entry) → (let r : Result T LoadFault = Err fault in r ≢ Err Damaged) → Loads (Err fault) limit es
+loads_fault Device limit es other = tt
+loads_fault Memory limit es other = tt
+loads_fault Damaged limit es other = absurd (other refl)

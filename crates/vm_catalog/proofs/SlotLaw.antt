@@ -8,7 +8,6 @@ use Rattle.std.proofs.lemmas.List.Folds.{flat_map-map}
 use Rattle.vm_block.specs.Padding.{zeros, padded}
 use Rattle.vm_block.specs.Slot.{head_bytes, entry_bytes, slot_bytes, used_blocks, EntryFits, SlotFits, IsSlot}
 use Rattle.vm_block.specs.declared.slot.Entry.{Entry}
-use Rattle.vm_block.specs.declared.slot.SlotFormat.{SlotFormat}
 use Rattle.vm_block.proofs.Pieces.{length-padded}
 use Rattle.vm_block.proofs.SlotLemmas.{length-head, length-entry}
 use Rattle.vm_catalog.specs.Written.{joined, cells, in_blocks, slot_blocks}
@@ -24,8 +23,8 @@ cells_of : (es : List Entry) → AllByRecursion EntryFits es → AreCells (map e
 cells_of [] fit = tt
 cells_of (e ∷ es) fit = (length-entry e fit.0, cells_of es fit.1)
 
-are_cells : (format : SlotFormat) (limit : ℕ) (es : List Entry) → AllByRecursion EntryFits es → AreCells (cells format limit es)
-are_cells format limit es fit = (length-head format limit (length es), cells_of es fit)
+are_cells : (limit : ℕ) (es : List Entry) → AllByRecursion EntryFits es → AreCells (cells limit es)
+are_cells limit es fit = (length-head limit (length es), cells_of es fit)
 
 cells_before : (n : ℕ) (pieces : List (List ℕ)) → AreCells pieces → AreCells (take n pieces)
 cells_before zero pieces h = tt
@@ -93,15 +92,15 @@ ends (suc k) pieces h room =
     (cases_lt (length pieces) 32)
 
 -- what is written is the slot of its entries
-pub written_slot : (format : SlotFormat) (limit : ℕ) (es : List Entry) → SlotFits limit es → IsSlot (slot_blocks format limit es) format limit es
+pub written_slot : (limit : ℕ) (es : List Entry) → SlotFits limit es → IsSlot (slot_blocks limit es) limit es
 unfolding slot_blocks
-written_slot format limit es fits =
-    let h = are_cells format limit es fits.each in
-    let e = ends (used_blocks (length es)) (cells format limit es) h (omega (arith, length-cells format limit es)) in
-    let same : joined (cells format limit es) ≡ slot_bytes format limit es = ap (λ (b : List ℕ). head_bytes format limit (length es) ++ b) (flat_map-map (λ (piece : List ℕ). piece) entry_bytes es) in
+written_slot limit es fits =
+    let h = are_cells limit es fits.each in
+    let e = ends (used_blocks (length es)) (cells limit es) h (omega (arith, length-cells limit es)) in
+    let same : joined (cells limit es) ≡ slot_bytes limit es = ap (λ (b : List ℕ). head_bytes limit (length es) ++ b) (flat_map-map (λ (piece : List ℕ). piece) entry_bytes es) in
     record {
       fits = fits;
-      whole = whole_blocks (used_blocks (length es)) (cells format limit es) h;
+      whole = whole_blocks (used_blocks (length es)) (cells limit es) h;
       rest = e.rest;
       spelled = e.spelled ∙ ap (λ (b : List ℕ). b ++ e.rest) same;
     }

@@ -6,7 +6,6 @@ use Rattle.vm_disk.specs.Disk.{Contents, block}
 use Rattle.vm_block.specs.Padding.{zeros, padded}
 use Rattle.vm_block.specs.Slot.{entry_bytes, used_blocks}
 use Rattle.vm_block.specs.declared.slot.Entry.{Entry}
-use Rattle.vm_block.specs.declared.slot.SlotFormat.{SlotFormat}
 use Rattle.vm_block.proofs.Pieces.{then_writes, then_zeros}
 use Rattle.vm_catalog.specs.Place.{blocks_from}
 use Rattle.vm_catalog.specs.Written.{joined, cells, in_blocks, slot_blocks}
@@ -26,8 +25,8 @@ length_written xs old new m e same room =
     omega (arith, ap length e, length-append xs (drop m old), length-drop m old)
 
 -- the head and the entries
-pub length-cells : (format : SlotFormat) (limit : ℕ) (es : List Entry) → length (cells format limit es) ≡ length es + 1
-length-cells format limit es = omega (arith, length-map es entry_bytes)
+pub length-cells : (limit : ℕ) (es : List Entry) → length (cells limit es) ≡ length es + 1
+length-cells limit es = omega (arith, length-map es entry_bytes)
 
 -- a row of pieces, and how much stands before it
 pub record IsRow (pieces : List (List ℕ)) (i : ℕ) (out old : List ℕ) : Type 0 where
@@ -61,22 +60,22 @@ block_at (suc k) (suc i) pieces inside =
     block_at k i (drop 32 pieces) (omega arith)
     ∙ ap (λ (ps : List (List ℕ)). padded 4096 (joined (take 32 ps))) (drop-drop (32 * i) 32 pieces ∙ ap (λ (n : ℕ). drop n pieces) (omega arith))
 
-pub slot_block_at : (format : SlotFormat) (limit : ℕ) (es : List Entry) (i count : ℕ) (wrote : List ℕ) → i < used_blocks (length es) → count ≡ min (length es + 1 - 32 * i) 32 → wrote ≡ padded 4096 (joined (take count (drop (32 * i) (cells format limit es)))) → wrote ≡ get_or (slot_blocks format limit es) i []
+pub slot_block_at : (limit : ℕ) (es : List Entry) (i count : ℕ) (wrote : List ℕ) → i < used_blocks (length es) → count ≡ min (length es + 1 - 32 * i) 32 → wrote ≡ padded 4096 (joined (take count (drop (32 * i) (cells limit es)))) → wrote ≡ get_or (slot_blocks limit es) i []
 unfolding slot_blocks
-slot_block_at format limit es i count wrote inside many e =
-    let here = drop (32 * i) (cells format limit es) in
-    let size : length here ≡ length es + 1 - 32 * i = length-drop (32 * i) (cells format limit es) ∙ ap (λ (n : ℕ). n - 32 * i) (length-cells format limit es) in
+slot_block_at limit es i count wrote inside many e =
+    let here = drop (32 * i) (cells limit es) in
+    let size : length here ≡ length es + 1 - 32 * i = length-drop (32 * i) (cells limit es) ∙ ap (λ (n : ℕ). n - 32 * i) (length-cells limit es) in
     let same : count ≡ min 32 (length here) = omega (arith, size) in
-    e ∙ ap (λ (n : ℕ). padded 4096 (joined (take n here))) same ∙ ap (λ (ps : List (List ℕ)). padded 4096 (joined ps)) (take_min 32 here) ∙ sym (block_at (used_blocks (length es)) i (cells format limit es) inside)
+    e ∙ ap (λ (n : ℕ). padded 4096 (joined (take n here))) same ∙ ap (λ (ps : List (List ℕ)). padded 4096 (joined ps)) (take_min 32 here) ∙ sym (block_at (used_blocks (length es)) i (cells limit es) inside)
 
 count_blocks : (count : ℕ) (pieces : List (List ℕ)) → length (in_blocks count pieces) ≡ count
 count_blocks zero pieces = refl
 count_blocks (suc k) pieces = ap suc (count_blocks k (drop 32 pieces))
 
 -- as many blocks as are used
-pub length-slot_blocks : (format : SlotFormat) (limit : ℕ) (es : List Entry) → length (slot_blocks format limit es) ≡ used_blocks (length es)
+pub length-slot_blocks : (limit : ℕ) (es : List Entry) → length (slot_blocks limit es) ≡ used_blocks (length es)
 unfolding slot_blocks
-length-slot_blocks format limit es = count_blocks (used_blocks (length es)) (cells format limit es)
+length-slot_blocks limit es = count_blocks (used_blocks (length es)) (cells limit es)
 
 -- one block more is written
 pub written_more : (x y : Contents) (at i n : ℕ) (blocks : List (List ℕ)) (bytes : List ℕ) → i < length blocks → n ≡ at + i → blocks_from x at i ≡ take i blocks → ((k : ℕ) → k ≢ n → block y k ≡ block x k) → block y n ≡ bytes → bytes ≡ get_or blocks i [] → blocks_from y at (i + 1) ≡ take (i + 1) blocks

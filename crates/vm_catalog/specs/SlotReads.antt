@@ -4,18 +4,17 @@ use Rattle.std.specs.List.{AllByRecursion, flat_map}
 use Rattle.vm_types.specs.declared.sizes.TheConstants.{BLOCK_SIZE}
 use Rattle.vm_block.specs.Slot.{head_bytes, entry_bytes, EntryFits, HeadFits, IsEntry}
 use Rattle.vm_block.specs.declared.slot.Entry.{Entry}
-use Rattle.vm_block.specs.declared.slot.SlotFormat.{SlotFormat}
 use Rattle.vm_catalog.specs.Written.{joined}
 use Rattle.vm_catalog.specs.declared.reader.Slot.{Slot}
 use Rattle.vm_catalog.specs.declared.reader.LoadFault.{LoadFault}
 use Rattle.vm_catalog.specs.declared.reader.LoadFault.TheVariants.{Device, Memory, Damaged}
 
--- these entries of a slot of this format, of a store of so many blocks, were loaded, or the device or memory failed
-abbrev pub Loads : Result Slot LoadFault → SlotFormat → ℕ → List Entry → Type 0
-Loads (Ok slot) format limit es = (slot.format ≡ format) × (slot.blocks ≡ limit) × (slot.entries.items ≡ es)
-Loads (Err Device) format limit es = Unit {0}
-Loads (Err Memory) format limit es = Unit {0}
-Loads (Err Damaged) format limit es = ⊥
+-- these entries of a slot, of a store of so many blocks, were loaded, or the device or memory failed
+abbrev pub Loads : Result Slot LoadFault → ℕ → List Entry → Type 0
+Loads (Ok slot) limit es = (slot.blocks ≡ limit) × (slot.entries.items ≡ es)
+Loads (Err Device) limit es = Unit {0}
+Loads (Err Memory) limit es = Unit {0}
+Loads (Err Damaged) limit es = ⊥
 
 -- cell i of a block: 128 bytes
 abbrev pub cell_of : List ℕ → ℕ → List ℕ
@@ -41,7 +40,7 @@ pub record FitsSoFar (limit n count : ℕ) (es : List Entry) : Type 0 where
   pub many : length es + 1 ≡ min (n + 1) (32 * count)
 
 -- the blocks begin with this head and these entries
-pub record BeginsSlot (blocks : List (List ℕ)) (format : SlotFormat) (limit n : ℕ) (es : List Entry) : Type 0 where
+pub record BeginsSlot (blocks : List (List ℕ)) (limit n : ℕ) (es : List Entry) : Type 0 where
   pub whole : AllByRecursion (λ block. length block ≡ BLOCK_SIZE) blocks
   pub rest : List ℕ
-  pub spelled : joined blocks ≡ (head_bytes format limit n ++ flat_map entry_bytes es) ++ rest
+  pub spelled : joined blocks ≡ (head_bytes limit n ++ flat_map entry_bytes es) ++ rest

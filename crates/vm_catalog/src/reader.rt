@@ -10,7 +10,7 @@ ghost use Rattle.vm_catalog.specs.SlotReads.{cell_of, HasEntry, HasTaken, FitsSo
 use crate::ledger::is_ledger;
 use crate::place::{first_block, used_blocks};
 use std::alloc::{Allocator, Global};
-use vm_block::{Entry, SlotFormat, SlotHead, SlotName, read_entry, read_slot_head};
+use vm_block::{Entry, SlotHead, SlotName, read_entry, read_slot_head};
 use vm_disk::Disk;
 use vm_types::{BLOCK_SIZE, FIRST_DATA, MAX_VERSIONS};
 
@@ -28,7 +28,6 @@ pub enum LoadFault {
 /// What a slot holds.
 #[derive(Drop)]
 pub struct Slot {
-    pub format: SlotFormat,
     /// How many blocks the store has.
     pub blocks: u32,
     /// The alternatives and checkpoints, in order of creation.
@@ -73,7 +72,7 @@ fn read_front(block: &[u8], entries: &mut Vec<Entry>) -> Option<SlotHead>
     requires none { entries.old.items ≡ [] }
     requires room { MAX_VERSIONS ≤ vec_capacity entries.old }
     ensures room { vec_capacity entries.new ≡ vec_capacity entries.old }
-    ensures head { IfSome result (λ head. IsHead (take 128 block.now) head.format head.blocks head.entries) }
+    ensures head { IfSome result (λ head. IsHead (take 128 block.now) head.blocks head.entries) }
     ensures found { IfSome result (λ head. HasTaken block.now 1 (min head.entries 31) [] entries.new.items) }
     ensures only { FindsFront result block.now }
 {
@@ -174,7 +173,6 @@ pub fn load<D: Disk>(alloc: Global, disk: &mut D, slot_name: SlotName) -> Result
     read_others(disk, slot_name, head, &mut entries)?;
     if is_ledger(&entries) {
         Ok(Slot {
-            format: head.format,
             blocks: head.blocks,
             entries,
         })

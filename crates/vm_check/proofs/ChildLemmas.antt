@@ -8,21 +8,17 @@ use Rattle.vm_types.specs.Places.{RisesFrom, place, places}
 use Rattle.vm_disk.specs.Disk.{Contents, block}
 use Rattle.vm_alloc.specs.Marks.{IsMarked}
 use Rattle.vm_alloc.proofs.HeldLemmas.{holds_more_then}
-use Rattle.std.specs.List.{AllByRecursion}
-use Rattle.vm_block.specs.Leaf.{Record, Row, BeginsWith, HasRows}
+use Rattle.vm_block.specs.Leaf.{BeginsWith, HasRecords, Record}
 use Rattle.vm_block.specs.Node.{IsNode, lows}
 use Rattle.vm_block.specs.declared.node.Child.{Child}
-use Rattle.vm_block.proofs.EachLemmas.{each_so, each_front, each_back, each_join}
-use Rattle.vm_block.proofs.FormLemmas.{rows_or_node}
-use Rattle.vm_block.proofs.LeafLemmas.{leaf_rows_one}
+use Rattle.vm_block.proofs.EachLemmas.{each_so, each_join}
+use Rattle.vm_block.proofs.FormLemmas.{leaf_or_node}
 use Rattle.vm_block.proofs.NodeLemmas.{node_one}
-use Rattle.vm_tree.specs.Tree.{Sizes, IsData, Children, StandForAll, Subtree}
-use Rattle.vm_types.specs.Bytes.{longest}
+use Rattle.vm_tree.specs.Tree.{Sizes, Children, Subtree}
 use Rattle.vm_tree.proofs.TreeLemmas.{subtree_one}
-use Rattle.vm_tree.proofs.HoldingLemmas.{all_many, holds_or_node}
 use Rattle.vm_tree.proofs.Rising.{rises_front, rises_back}
 use Rattle.vm_tree.proofs.Splitting.{split_at, children_join, child_alone}
-use Rattle.vm_tree.specs.BlockReads.{IsNodeAt}
+use Rattle.vm_tree.specs.BlockReads.{IsLeafAt, IsNodeAt}
 use Rattle.vm_check.specs.Visits.{IsHighest, Adds, Visited, VisitedAll}
 use Rattle.vm_check.specs.declared.verification.Span.{Span}
 use Rattle.vm_check.specs.declared.verification.Met.{Met}
@@ -30,14 +26,14 @@ use Rattle.vm_check.proofs.SpanLemmas.{begins_one, highest_join, lowest_highest,
 use Rattle.vm_check.proofs.KnownLemmas.{children_begin}
 
 -- what is new after two steps
-pub adds_then : (below : ℕ) (bs cs : List ℕ) (a b c : List Bool) (s t u : List Met) → Adds below bs a s b t → Adds below cs b t c u → Adds below (bs ++ cs) a s c u
-adds_then below bs cs a b c s t u first then = record {
+pub adds_then : (most : ℕ) (bs cs : List ℕ) (a b c : List Bool) (s t u : List Met) → Adds most bs a s b t → Adds most cs b t c u → Adds most (bs ++ cs) a s c u
+adds_then most bs cs a b c s t u first then = record {
   grows = holds_more_then a b c first.grows then.grows;
   kept = λ n is. then.kept n (first.grows.still n is) ∙ first.kept n is;
   fresh = λ n is. elim (then.fresh n is) [
     | inl was ↦ elim (first.fresh n was) [
       | inl old ↦ inl old
-      | inr new ↦ inr (Contains-append_left bs cs n new.0, subst (λ (s : Span). s.level ≤ 7 → s.level < below) (sym (then.kept n was)) new.1)
+      | inr new ↦ inr (Contains-append_left bs cs n new.0, subst (λ (s : Span). s.level ≤ most) (sym (then.kept n was)) new.1)
     ]
     | inr new ↦ inr (Contains-append_right bs cs n new.0, new.1)
   ];
@@ -58,10 +54,10 @@ module _ (T : ℕ → List Record → List ℕ → Type 0) where
 
 module _ (sizes : Sizes) (x : Contents) (limit level : ℕ) where
   -- one child more
-  pub child_more : {long : Bool} (i : ℕ) (cs : List Child) (d : Child) (high : Key) (span : Span) (a b c : List Bool) (s t u : List Met) → i < length cs
+  pub child_more : (i : ℕ) (cs : List Child) (d : Child) (high : Key) (span : Span) (a b c : List Bool) (s t u : List Met) → i < length cs
       → span.low ≡ (get_or cs i d).low → (0 < i → i < length cs → place high < slice_index_or (lows cs) i 0)
-      → VisitedAll long sizes x limit level (take i cs) high a s b t → Visited long sizes x limit level level (get_or cs i d).block span b t c u
-      → VisitedAll long sizes x limit level (take (i + 1) cs) span.high a s c u
+      → VisitedAll sizes x limit level (take i cs) high a s b t → Visited sizes x limit level level (get_or cs i d).block span b t c u
+      → VisitedAll sizes x limit level (take (i + 1) cs) span.high a s c u
   child_more i cs d high span a b c s t u lt low below all v =
       let T = Subtree sizes x limit level in
       let same : span.level ≡ level = omega (arith, v.at_least, v.at_most) in
@@ -77,25 +73,22 @@ module _ (sizes : Sizes) (x : Contents) (limit level : ℕ) where
         rising = rises_more T i cs all.records v.whole.records all.blocks high child.low lt all.under all.rising all.highest under begins v.whole.rising;
         highest = λ some. highest_more T i cs all.records v.whole.records all.blocks high child.low span.high lt all.under all.highest under begins v.whole.highest;
         each = each_join (IsMarked c) all.blocks v.whole.blocks (each_so (IsMarked b) (IsMarked c) v.adds.grows.still all.blocks all.each) v.whole.each;
-        adds = adds_then (level + 1) all.blocks v.whole.blocks a b c s t u all.adds v.adds;
+        adds = adds_then level all.blocks v.whole.blocks a b c s t u all.adds v.adds;
         known = v.known;
       }
 
   -- # Where there is a tree
 
   -- one of the children of an inner block of a tree
-  pub record ChildOf (cs : List Child) (i : ℕ) (d : Child) (bs : List ℕ) : Type 0 where
+  pub record ChildOf (cs : List Child) (i : ℕ) (d : Child) : Type 0 where
     pub records : List Record
     pub blocks : List ℕ
     pub subtree : Subtree sizes x limit level (get_or cs i d).block records blocks
     pub rising : RisesFrom 0 (places records)
     pub lowest : BeginsWith (get_or cs i d).low records
-    pub left : List ℕ
-    pub right : List ℕ
-    pub among : bs ≡ left ++ (blocks ++ right)
     pub below : (high : Key) → IsHighest high records → i + 1 < length cs → place high < slice_index_or (lows cs) (i + 1) 0
 
-  pub child_of : (cs : List Child) (i : ℕ) (d : Child) (rs : List Record) (bs : List ℕ) → i < length cs → Children (Subtree sizes x limit level) cs rs bs → RisesFrom 0 (places rs) → ChildOf cs i d bs
+  pub child_of : (cs : List Child) (i : ℕ) (d : Child) (rs : List Record) (bs : List ℕ) → i < length cs → Children (Subtree sizes x limit level) cs rs bs → RisesFrom 0 (places rs) → ChildOf cs i d
   child_of cs i d rs bs lt t rises =
       let T = Subtree sizes x limit level in
       let s = split_at T cs i d rs bs lt t in
@@ -107,9 +100,6 @@ module _ (sizes : Sizes) (x : Contents) (limit level : ℕ) where
         subtree = s.child;
         rising = rises_front 0 s.sub s.after back;
         lowest = s.begins;
-        left = s.left;
-        right = s.right;
-        among = s.blocks;
         below = λ high highest more.
             let begins = children_begin T (drop (suc i) cs) d s.after s.right (omega (arith, length-drop (suc i) cs)) s.back in
             let under = highest_below high (get_or (drop (suc i) cs) 0 d).low 0 s.sub s.after highest begins back in
@@ -118,17 +108,13 @@ module _ (sizes : Sizes) (x : Contents) (limit level : ℕ) where
             omega (arith, under, same, get_or-map (λ (c : Child). place c.low) cs (i + 1) d 0 more);
       }
 
-  -- what holds of each block of the children holds of those of this one
-  pub child_part : (P : ℕ → Type 0) (cs : List Child) (i : ℕ) (d : Child) (bs : List ℕ) (at : ChildOf cs i d bs) → AllByRecursion P bs → AllByRecursion P at.blocks
-  child_part P cs i d bs at all = each_front P at.blocks at.right (each_back P at.left (at.blocks ++ at.right) (subst (AllByRecursion P) at.among all))
-
   -- what is found at a child of a tree is as the entry says, and stands below the next child
   pub record Agrees (cs : List Child) (i : ℕ) (d : Child) (span : Span) : Type 0 where
     pub low : span.low ≡ (get_or cs i d).low
     pub below : i + 1 < length cs → place span.high < slice_index_or (lows cs) (i + 1) 0
 
-  pub child_agrees : {long : Bool} (cs : List Child) (i : ℕ) (d : Child) (span : Span) (a b : List Bool) (s t : List Met) (bs : List ℕ) → ChildOf cs i d bs → Visited long sizes x limit level level (get_or cs i d).block span a s b t → Agrees cs i d span
-  child_agrees cs i d span a b s t bs at v =
+  pub child_agrees : (cs : List Child) (i : ℕ) (d : Child) (span : Span) (a b : List Bool) (s t : List Met) → ChildOf cs i d → Visited sizes x limit level level (get_or cs i d).block span a s b t → Agrees cs i d span
+  child_agrees cs i d span a b s t at v =
       let one = subtree_one sizes x limit span.level level (get_or cs i d).block v.whole.records at.records v.whole.blocks at.blocks v.whole.subtree at.subtree in
       record {
         low = begins_one span.low (get_or cs i d).low at.records (subst (BeginsWith span.low) one.0 v.whole.lowest) at.lowest;
@@ -137,35 +123,21 @@ module _ (sizes : Sizes) (x : Contents) (limit level : ℕ) where
 
 -- what the block on top of a subtree is
 module _ (sizes : Sizes) (x : Contents) (limit : ℕ) where
-  pub record LeafTop (l : ℕ) (ws : List Row) (rs : List Record) : Type 0 where
-    pub level : l ≡ 0
-    pub few : length ws ≤ sizes.leaf
-    pub under : List ℕ
-    pub stand : StandForAll x limit ws rs under
-
-  pub leaf_top : (l b : ℕ) (ws : List Row) (rs : List Record) (bs : List ℕ) → HasRows (block x b) ws → Subtree sizes x limit l b rs bs → LeafTop l ws rs
+  -- a leaf has no level
+  pub leaf_top : (l b : ℕ) (qs rs : List Record) (bs : List ℕ) → HasRecords (block x b) qs → Subtree sizes x limit l b rs bs → l ≡ 0
   unfolding Subtree
-  leaf_top zero b ws rs bs leaf t =
-      let holds = t.2 in
-      let stand = subst (λ (vs : List Row). StandForAll x limit vs rs t.1) (leaf_rows_one (block x b) holds.rows ws holds.leaf leaf) holds.stand in
-      record {
-        level = refl;
-        few = omega (arith, t.3, all_many x limit ws rs t.1 stand);
-        under = t.1;
-        stand = stand;
-      }
-  leaf_top (suc l) b ws rs bs leaf t = absurd (rows_or_node (block x b) ws (suc l) t.1 leaf t.3)
+  leaf_top zero b qs rs bs leaf t = refl
+  leaf_top (suc l) b qs rs bs leaf t = absurd (leaf_or_node (block x b) qs (suc l) t.1 leaf t.3)
 
-  pub record NodeTop (l level b : ℕ) (cs : List Child) (rs : List Record) (bs : List ℕ) : Type 0 where
+  pub record NodeTop (l level : ℕ) (cs : List Child) (rs : List Record) : Type 0 where
     pub same_level : l ≡ level
     pub few : length cs ≤ sizes.fan
     pub blocks : List ℕ
     pub under : Children (Subtree sizes x limit (level - 1)) cs rs blocks
-    pub all : bs ≡ b ∷ blocks
 
-  pub node_top : (l level b : ℕ) (cs : List Child) (rs : List Record) (bs : List ℕ) → IsNode (block x b) level cs → Subtree sizes x limit l b rs bs → NodeTop l level b cs rs bs
+  pub node_top : (l level b : ℕ) (cs : List Child) (rs : List Record) (bs : List ℕ) → IsNode (block x b) level cs → Subtree sizes x limit l b rs bs → NodeTop l level cs rs
   unfolding Subtree
-  node_top zero level b cs rs bs node t = absurd (holds_or_node x limit longest (block x b) rs t.1 level cs t.2 node)
+  node_top zero level b cs rs bs node t = absurd (leaf_or_node (block x b) rs level cs t.1 node)
   node_top (suc l) level b cs rs bs node t =
       let one = node_one (block x b) (suc l) level t.1 cs t.3 node in
       let down : l ≡ level - 1 = omega (arith, one.0) in
@@ -174,17 +146,10 @@ module _ (sizes : Sizes) (x : Contents) (limit : ℕ) where
         few = subst (λ (ds : List Child). length ds ≤ sizes.fan) one.1 t.4;
         blocks = t.2;
         under = subst (λ n. Children (Subtree sizes x limit n) cs rs t.2) down (subst (λ (ds : List Child). Children (Subtree sizes x limit l) ds rs t.2) one.1 t.5);
-        all = t.6;
       }
 
-  -- what holds of each block of a subtree holds of the one on top
-  pub top_part : (P : ℕ → Type 0) (l b : ℕ) (rs : List Record) (bs : List ℕ) → Subtree sizes x limit l b rs bs → AllByRecursion P bs → P b
-  unfolding Subtree
-  top_part P zero b rs bs t all = let whole = subst (AllByRecursion P) t.4 all in whole.0
-  top_part P (suc l) b rs bs t all = let whole = subst (AllByRecursion P) t.6 all in whole.0
-
   -- what follows from either form of the block on top
-  pub top_form : (l b : ℕ) (rs : List Record) (bs : List ℕ) (F : Type 0) → Subtree sizes x limit l b rs bs → ((ws : List Row) → IsData limit b → HasRows (block x b) ws → F) → ((level : ℕ) (cs : List Child) → IsNodeAt x limit level b cs → F) → F
+  pub top_form : (l b : ℕ) (rs : List Record) (bs : List ℕ) (F : Type 0) → Subtree sizes x limit l b rs bs → ((qs : List Record) → IsLeafAt x limit b qs → F) → ((level : ℕ) (cs : List Child) → IsNodeAt x limit level b cs → F) → F
   unfolding Subtree
-  top_form zero b rs bs F t leaf node = leaf t.2.rows t.0 t.2.leaf
+  top_form zero b rs bs F t leaf node = leaf rs (record { inside = t.0; leaf = t.1 })
   top_form (suc l) b rs bs F t leaf node = node (suc l) t.1 (record { inside = t.0; node = t.3 })

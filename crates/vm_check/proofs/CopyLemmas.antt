@@ -1,32 +1,25 @@
 -- Copies of blocks, and what lies under the copy of a block.
-use Rattle.std.proofs.Common.{◌≡◌, ◌≢◌, ◌⊎◌, inl, inr, ℕ, zero, suc, ◌+◌, ◌<◌, ◌≤◌, ◌^◌, Ok, Err, List, [], ◌∷◌, ◌++◌, length, take, drop, get_or, Result, map, refl, sym, ap, ◌∙◌, subst, arith, take-append-drop}
+use Rattle.std.proofs.Common.{◌≡◌, ◌≢◌, ◌⊎◌, inl, inr, ℕ, zero, suc, ◌+◌, ◌<◌, ◌≤◌, ◌^◌, Ok, Err, List, [], ◌∷◌, ◌++◌, length, take, drop, get_or, Result, map, refl, sym, ap, ◌∙◌, subst, arith}
 use Rattle.std.specs.Prelude.{IfOk, OnOk}
-use Rattle.std.proofs.Math.Seq.{drop-cons}
 use Rattle.std.proofs.lemmas.Bool.{cases_eq}
 use Rattle.std.proofs.lemmas.List.{map-append}
-use Rattle.vm_types.specs.Bytes.{longest}
 use Rattle.vm_types.specs.declared.key.Key.{Key}
 use Rattle.vm_disk.specs.Disk.{Contents, DiskState, Medium, block}
-use Rattle.vm_block.specs.Leaf.{BeginsWith, HasRows, IsShort, LinkFits, Record, Row, link_bytes}
-use Rattle.vm_block.specs.Long.{IsLong}
+use Rattle.vm_block.specs.Leaf.{BeginsWith, HasRecords, Record}
 use Rattle.vm_block.specs.Changed.{with_at}
 use Rattle.vm_block.specs.Node.{ChildFits, IsNode, lows, node_bytes}
 use Rattle.vm_types.specs.Places.{KeyFits, RisesFrom, place}
 use Rattle.vm_block.proofs.DividingLemmas.{set_fit, set_length}
 use Rattle.vm_block.proofs.EachLemmas.{each_at}
 use Rattle.vm_block.specs.declared.node.Child.{Child}
-use Rattle.vm_block.specs.declared.stored.Link.{Link}
-use Rattle.vm_block.proofs.FormLemmas.{node_or_long, rows_or_long, rows_or_node}
-use Rattle.vm_block.proofs.LeafLemmas.{leaf_rows_one}
+use Rattle.vm_block.proofs.FormLemmas.{leaf_or_node}
 use Rattle.vm_block.proofs.NodeLemmas.{node_one}
-use Rattle.vm_block.proofs.RecordLemmas.{length-link, link_one}
 use Rattle.vm_types.specs.Map.{Map}
 use Rattle.vm_tree.proofs.Descent.{subtree_top}
 use Rattle.vm_tree.specs.Root.{IsRooted, IsTop}
 use Rattle.vm_tree.specs.declared.root.Root.{Root}
-use Rattle.vm_tree.specs.BlockReads.{IsLongAt}
-use Rattle.vm_tree.specs.Tree.{Children, IsData, LeafHolds, Sizes, StandForAll, StandsFor, Subtree}
-use Rattle.vm_check.specs.TreeCopy.{AreCopied, ChildCopied, CopiesOnly, IsCopyOf, IsNumberOf, IsPut, IsSomeLong, IsUpTo, Paired, PutsTo, Relinks, RootCopied, RowCopied, renumbered_link}
+use Rattle.vm_tree.specs.Tree.{Children, IsData, Sizes, Subtree}
+use Rattle.vm_check.specs.TreeCopy.{AreCopied, ChildCopied, CopiesOnly, IsCopyOf, IsNumberOf, IsPut, IsUpTo, Paired, PutsTo, RootCopied}
 use Rattle.vm_check.specs.Renumbering.{GoesOn, IsCopied, count_of, next_of, number_at}
 use Rattle.vm_check.specs.declared.tree_copy.CopyFault.{CopyFault}
 use Rattle.vm_check.specs.declared.renumbering.Renumbering.{Renumbering}
@@ -54,26 +47,7 @@ paired_join R (x ∷ xs) [] us vs a b = absurd a
 
 -- # More numbers
 
--- a link to this block, to a value of so many bytes
-abbrev to : ℕ → ℕ → Link
-to len b = record { len = len; block = b }
-
 module _ {old new : Renumbering} (on : GoesOn old new) where
-  relinked_on : (w v : Row) → Relinks old w v → Relinks new w v
-  relinked_on w v r = record {
-    link = r.link;
-    fits = r.fits;
-    was = r.was;
-    copied = still_copied on r.link.block r.copied;
-    key = r.key;
-    is = r.is ∙ ap (λ b. link_bytes (to r.link.len b)) (sym (on.kept r.link.block r.copied));
-    fits_still = subst (λ b. LinkFits (to r.link.len b)) (sym (on.kept r.link.block r.copied)) r.fits_still;
-  }
-
-  pub row_on : (w v : Row) → RowCopied old w v → RowCopied new w v
-  row_on w v (inl short) = inl short
-  row_on w v (inr linked) = inr (relinked_on w v linked)
-
   pub child_on : (c d : Child) → ChildCopied old c d → ChildCopied new c d
   child_on c d is =
       let C : ℕ → Child = λ b. record { low = c.low; block = b } in
@@ -86,10 +60,9 @@ module _ {old new : Renumbering} (on : GoesOn old new) where
       inr (some.0, still_copied on root.block some.1, some.2 ∙ ap R (sym (on.kept root.block some.1)))
 
   pub copy_on : (bytes copy : List ℕ) → IsCopyOf old bytes copy → IsCopyOf new bytes copy
-  copy_on bytes copy (inl leaf) = inl record { rows = leaf.rows; copies = leaf.copies; was = leaf.was; is = leaf.is; each = paired_so (RowCopied old) (RowCopied new) row_on leaf.rows leaf.copies leaf.each }
-  copy_on bytes copy (inr (inl node)) =
-      inr (inl record { level = node.level; children = node.children; copies = node.copies; was = node.was; is = node.is; each = paired_so (ChildCopied old) (ChildCopied new) child_on node.children node.copies node.each })
-  copy_on bytes copy (inr (inr long)) = inr (inr long)
+  copy_on bytes copy (inl leaf) = inl leaf
+  copy_on bytes copy (inr node) =
+      inr record { level = node.level; children = node.children; copies = node.copies; was = node.was; is = node.is; each = paired_so (ChildCopied old) (ChildCopied new) child_on node.children node.copies node.each }
 
 -- one copy more
 pub copied_put : (x y z : Contents) (limit n : ℕ) (bytes : List ℕ) (old new : Renumbering) (number : ℕ) → n < count_of old → AreCopied x y limit old
@@ -128,68 +101,24 @@ module _ (x y : Contents) (limit most : ℕ) (numbers : Renumbering) (all : AreC
   copy_data : (n : ℕ) → IsCopied numbers n → IsData most (number_at numbers n)
   copy_data n is = (all.given.low n is, omega (arith, all.given.high n is, all.within))
 
-  long_copied : (n : ℕ) (key : Key) (value : List ℕ) → IsCopied numbers n → IsLong (block x n) key value → IsLong (block y (number_at numbers n)) key value
-  long_copied n key value is long = by_form (all.each n is)
+  leaf_holds : (b : ℕ) (rs : List Record) → IsCopied numbers b → HasRecords (block x b) rs → HasRecords (block y (number_at numbers b)) rs
+  leaf_holds b rs is here = by_form (all.each b is)
     where
-      by_form : IsCopyOf numbers (block x n) (block y (number_at numbers n)) → IsLong (block y (number_at numbers n)) key value
-      by_form (inl leaf) = absurd (rows_or_long (block x n) leaf.rows key value leaf.was long)
-      by_form (inr (inl node)) = absurd (node_or_long (block x n) node.level node.children key value node.was long)
-      by_form (inr (inr same)) = subst (λ (bytes : List ℕ). IsLong bytes key value) (sym same.is) long
-
-  row_stands : (w v : Row) (r : Record) (bs : List ℕ) → RowCopied numbers w v → StandsFor x limit w r bs → StandsFor y most v r (map (number_at numbers) bs)
-  row_stands w v r bs (inl short) (inl itself) = inl record {
-    short = subst IsShort (sym short.1) itself.short;
-    same = itself.same ∙ sym short.1;
-    none = ap (map (number_at numbers)) itself.none;
-  }
-  row_stands w v r bs (inl short) (inr linked) = absurd (omega (arith, short.0, ap length linked.spelled, length-link linked.link linked.fits, linked.fits.long))
-  row_stands w v r bs (inr again) (inl itself) = absurd (omega (arith, itself.short, ap length again.was, length-link again.link again.fits, again.fits.long))
-  row_stands w v r bs (inr again) (inr linked) =
-      let same : again.link.block ≡ linked.link.block = link_one again.link linked.link again.fits linked.fits (sym again.was ∙ linked.spelled) in
-      let here : IsLong (block x again.link.block) w.0 r.1 = subst (λ (b : ℕ). IsLong (block x b) w.0 r.1) (sym same) linked.value in
-      inr record {
-        link = renumbered_link numbers again.link;
-        spelled = again.is;
-        fits = again.fits_still;
-        key = linked.key ∙ sym again.key;
-        many = omega (arith, linked.many, ap length again.was, ap length linked.spelled, length-link again.link again.fits, length-link linked.link linked.fits);
-        place = copy_data again.link.block again.copied;
-        value = subst (λ (key : Key). IsLong (block y (number_at numbers again.link.block)) key r.1) (sym again.key) (long_copied again.link.block w.0 r.1 again.copied here);
-        only = ap (map (number_at numbers)) linked.only ∙ ap (λ (b : ℕ). number_at numbers b ∷ []) (sym same);
-      }
-
-  rows_stand : (ws vs : List Row) (rs : List Record) (bs : List ℕ) → Paired (RowCopied numbers) ws vs → StandForAll x limit ws rs bs → StandForAll y most vs rs (map (number_at numbers) bs)
-  rows_stand [] [] rs bs pairs t = (t.0, ap (map (number_at numbers)) t.1)
-  rows_stand (w ∷ ws) (v ∷ vs) rs bs pairs t =
-      (t.0, t.1, map (number_at numbers) t.2, map (number_at numbers) t.3, row_stands w v t.0 t.2 pairs.0 t.4, rows_stand ws vs t.1 t.3 pairs.1 t.5, t.6, ap (map (number_at numbers)) t.7 ∙ map-append (number_at numbers) t.2 t.3)
-  rows_stand [] (v ∷ vs) rs bs pairs t = absurd pairs
-  rows_stand (w ∷ ws) [] rs bs pairs t = absurd pairs
-
-  leaf_holds : (b : ℕ) (rs : List Record) (under : List ℕ) → IsCopied numbers b → LeafHolds x limit longest (block x b) rs under → LeafHolds y most longest (block y (number_at numbers b)) rs (map (number_at numbers) under)
-  leaf_holds b rs under is holds = by_form (all.each b is)
-    where
-      by_form : IsCopyOf numbers (block x b) (block y (number_at numbers b)) → LeafHolds y most longest (block y (number_at numbers b)) rs (map (number_at numbers) under)
-      by_form (inl leaf) = record {
-        rows = leaf.copies;
-        leaf = leaf.is;
-        stand = rows_stand leaf.rows leaf.copies rs under leaf.each (subst (λ (ws : List Row). StandForAll x limit ws rs under) (leaf_rows_one (block x b) holds.rows leaf.rows holds.leaf leaf.was) holds.stand);
-        within = holds.within;
-      }
-      by_form (inr (inl node)) = absurd (rows_or_node (block x b) holds.rows node.level node.children holds.leaf node.was)
-      by_form (inr (inr long)) = absurd (rows_or_long (block x b) holds.rows long.key long.value holds.leaf long.was)
+      by_form : IsCopyOf numbers (block x b) (block y (number_at numbers b)) → HasRecords (block y (number_at numbers b)) rs
+      by_form (inl leaf) = subst (λ (bytes : List ℕ). HasRecords bytes rs) (sym leaf.is) here
+      by_form (inr node) = absurd (leaf_or_node (block x b) rs node.level node.children here node.was)
 
   node_stands : (b level : ℕ) (cs : List Child) → IsCopied numbers b → IsNode (block x b) level cs → (ds : List Child) × IsNode (block y (number_at numbers b)) level ds × Paired (ChildCopied numbers) cs ds
   node_stands b level cs is here = by_form (all.each b is)
     where
       by_form : IsCopyOf numbers (block x b) (block y (number_at numbers b)) → (ds : List Child) × IsNode (block y (number_at numbers b)) level ds × Paired (ChildCopied numbers) cs ds
-      by_form (inl leaf) = absurd (rows_or_node (block x b) leaf.rows level cs leaf.was here)
-      by_form (inr (inl node)) =
+      by_form (inl leaf) = absurd (leaf_or_node (block x b) leaf.records level cs leaf.was here)
+      by_form (inr node) =
           let one = node_one (block x b) node.level level node.children cs node.was here in (
             node.copies,
             subst (λ (l : ℕ). IsNode (block y (number_at numbers b)) l node.copies) one.0 node.is,
             subst (λ (es : List Child). Paired (ChildCopied numbers) es node.copies) one.1 node.each,
           )
-      by_form (inr (inr long)) = absurd (node_or_long (block x b) level cs long.key long.value here long.was)
 
   children_stand : (T U : ℕ → List Record → List ℕ → Type 0) → ((b : ℕ) (rs : List Record) (bs : List ℕ) → IsCopied numbers b → T b rs bs → U (number_at numbers b) rs (map (number_at numbers) bs))
       → (cs ds : List Child) (rs : List Record) (bs : List ℕ) → Paired (ChildCopied numbers) cs ds → Children T cs rs bs → Children U ds rs (map (number_at numbers) bs)
@@ -205,7 +134,7 @@ module _ (x y : Contents) (limit most : ℕ) (numbers : Renumbering) (all : AreC
   pub subtree_copied : (sizes : Sizes) (l b : ℕ) (rs : List Record) (bs : List ℕ) → IsCopied numbers b → Subtree sizes x limit l b rs bs → Subtree sizes y most l (number_at numbers b) rs (map (number_at numbers) bs)
   unfolding Subtree
   subtree_copied sizes zero b rs bs is t =
-      (copy_data b is, map (number_at numbers) t.1, leaf_holds b rs t.1 is t.2, t.3, ap (map (number_at numbers)) t.4)
+      (copy_data b is, leaf_holds b rs is t.1, ap (map (number_at numbers)) t.2)
   subtree_copied sizes (suc l) b rs bs is t =
       let at = node_stands b (suc l) t.1 is t.3 in
       let count = paired_length (ChildCopied numbers) t.1 at.0 at.2 in (
@@ -259,34 +188,11 @@ pub only_after : (P : ℕ → Type 0) (a b c : Renumbering) (result : Result ℕ
 only_after P a b c (Ok number) first more = only_then P a b c first more
 only_after P a b c (Err fault) first more = tt
 
--- # Rows
-
--- a list with what stands at i put there is as it was
-pub with_same : {X : Type 0} (xs : List X) (i : ℕ) (d : X) → i < length xs → take i xs ++ get_or xs i d ∷ drop (i + 1) xs ≡ xs
-with_same xs i d lt = ap (λ ys. take i xs ++ ys) (sym (rest xs i d lt)) ∙ take-append-drop i xs
-  where
-    rest : {X : Type 0} (xs : List X) (i : ℕ) (d : X) → i < length xs → drop i xs ≡ get_or xs i d ∷ drop (i + 1) xs
-    rest xs i d lt = let one : suc i ≡ i + 1 = omega arith in drop-cons xs i d lt ∙ ap (λ n. get_or xs i d ∷ drop n xs) one
-
--- a row with this link stands for a record beside the block to which it links
-pub long_linked : (x : Contents) (limit : ℕ) (w : Row) (r : Record) (bs : List ℕ) (link : Link) → LinkFits link → w.1 ≡ link_bytes link → StandsFor x limit w r bs → IsLongAt x limit link.block w.0 r.1
-long_linked x limit w r bs link fits is (inl itself) = absurd (omega (arith, itself.short, ap length is, length-link link fits, fits.long))
-long_linked x limit w r bs link fits is (inr linked) =
-    let same : linked.link.block ≡ link.block = link_one linked.link link linked.fits fits (sym linked.spelled ∙ is) in
-    subst (λ (b : ℕ). IsLongAt x limit b w.0 r.1) same record { inside = linked.place; long = linked.value }
-
--- the row at i of those that stand for records stands for one
-pub stands_at : (x : Contents) (limit : ℕ) (ws : List Row) (rs : List Record) (bs : List ℕ) (i : ℕ) (d : Row) → i < length ws → StandForAll x limit ws rs bs → (r : Record) × (own : List ℕ) × StandsFor x limit (get_or ws i d) r own
-stands_at x limit [] rs bs i d lt all = absurd (omega arith)
-stands_at x limit (w ∷ ws) rs bs zero d lt all = (all.0, all.2, all.4)
-stands_at x limit (w ∷ ws) rs bs (suc i) d lt all = stands_at x limit ws all.1 all.3 i d (omega arith) all.5
-
 -- # On a disk that was only read
 
 up_more : (bytes : List ℕ) (low level : ℕ) → low ≤ level → IsUpTo low bytes → IsUpTo level bytes
-up_more bytes low level le (inl long) = inl long
-up_more bytes low level le (inr (inl leaf)) = inr (inl leaf)
-up_more bytes low level le (inr (inr node)) = inr (inr (node.0, node.1, omega (arith, node.2, le), node.3))
+up_more bytes low level le (inl leaf) = inl leaf
+up_more bytes low level le (inr node) = inr (node.0, node.1, omega (arith, node.2, le), node.3)
 
 module _ {m n : Medium} (same : m ≡ n) where
   pub copied_in : (y : Contents) (limit : ℕ) (numbers : Renumbering) → AreCopied n.contents y limit numbers → AreCopied m.contents y limit numbers
@@ -295,19 +201,6 @@ module _ {m n : Medium} (same : m ≡ n) where
   pub copied_back : (y : Contents) (limit : ℕ) (numbers : Renumbering) → AreCopied m.contents y limit numbers → AreCopied n.contents y limit numbers
   copied_back y limit numbers copied = subst (λ (k : Medium). AreCopied k.contents y limit numbers) same copied
 
-  pub stands_here : (limit : ℕ) (w v : Row) (r : Record) (bs : List ℕ) → v ≡ w → StandsFor n.contents limit w r bs → StandsFor m.contents limit v r bs
-  stands_here limit w v r bs is stands = subst (λ (k : Medium). StandsFor k.contents limit v r bs) (sym same) (subst (λ (u : Row). StandsFor n.contents limit u r bs) (sym is) stands)
-
-  pub longs_then : (a b c : Renumbering) → CopiesOnly (λ k. IsSomeLong (block n.contents k)) a b → CopiesOnly (λ k. IsSomeLong (block m.contents k)) b c → CopiesOnly (λ k. IsSomeLong (block n.contents k)) a c
-  longs_then a b c first more = only_then (λ k. IsSomeLong (block n.contents k)) a b c first (subst (λ (o : Medium). CopiesOnly (λ k. IsSomeLong (block o.contents k)) b c) same more)
-
-  pub all_stand_here : (limit : ℕ) (ws : List Row) (rs : List Record) (bs : List ℕ) → StandForAll n.contents limit ws rs bs → StandForAll m.contents limit ws rs bs
-  all_stand_here limit ws rs bs stand = subst (λ (k : Medium). StandForAll k.contents limit ws rs bs) (sym same) stand
-
-  pub longs_up : (level : ℕ) (a b : Renumbering) → CopiesOnly (λ k. IsSomeLong (block m.contents k)) a b → CopiesOnly (λ k. IsUpTo level (block n.contents k)) a b
-  longs_up level a b only =
-      only_so (λ k. IsSomeLong (block n.contents k)) (λ k. IsUpTo level (block n.contents k)) a b (λ k long. inl long) (subst (λ (o : Medium). CopiesOnly (λ k. IsSomeLong (block o.contents k)) a b) same only)
-
   pub ups_up : (low level : ℕ) (a b : Renumbering) → low ≤ level → CopiesOnly (λ k. IsUpTo low (block m.contents k)) a b → CopiesOnly (λ k. IsUpTo level (block n.contents k)) a b
   ups_up low level a b le only =
       only_so (λ k. IsUpTo low (block n.contents k)) (λ k. IsUpTo level (block n.contents k)) a b (λ k at. up_more (block n.contents k) low level le at) (subst (λ (o : Medium). CopiesOnly (λ k. IsUpTo low (block o.contents k)) a b) same only)
@@ -315,18 +208,13 @@ module _ {m n : Medium} (same : m ≡ n) where
   pub ups_then : (level : ℕ) (a b c : Renumbering) → CopiesOnly (λ k. IsUpTo level (block n.contents k)) a b → CopiesOnly (λ k. IsUpTo level (block m.contents k)) b c → CopiesOnly (λ k. IsUpTo level (block n.contents k)) a c
   ups_then level a b c first more = only_then (λ k. IsUpTo level (block n.contents k)) a b c first (subst (λ (o : Medium). CopiesOnly (λ k. IsUpTo level (block o.contents k)) b c) same more)
 
-  -- a leaf is no block of a long value
-  pub rows_here : (b : ℕ) (ws : List Row) → HasRows (block n.contents b) ws → IsSomeLong (block m.contents b) → ⊥
-  rows_here b ws leaf long = rows_or_long (block m.contents b) ws long.0 long.1 (subst (λ (k : Medium). HasRows (block k.contents b) ws) (sym same) leaf) long.2
-
-  -- and an inner block none of a lower level
+  -- an inner block is none of a lower level, and no leaf
   pub node_here : (b low level : ℕ) (cs : List Child) → low < level → IsNode (block n.contents b) level cs → IsUpTo low (block m.contents b) → ⊥
   node_here b low level cs less node up = by_form (subst (λ (k : Medium). IsUpTo low (block k.contents b)) same up)
     where
       by_form : IsUpTo low (block n.contents b) → ⊥
-      by_form (inl long) = node_or_long (block n.contents b) level cs long.0 long.1 node long.2
-      by_form (inr (inl leaf)) = rows_or_node (block n.contents b) leaf.0 level cs leaf.1 node
-      by_form (inr (inr other)) = omega (arith, (node_one (block n.contents b) level other.0 cs other.1 node other.3).0, other.2, less)
+      by_form (inl leaf) = leaf_or_node (block n.contents b) leaf.0 level cs leaf.1 node
+      by_form (inr other) = omega (arith, (node_one (block n.contents b) level other.0 cs other.1 node other.3).0, other.2, less)
 
   pub child_here : (sizes : Sizes) (limit level : ℕ) (c d : Child) (rs : List Record) (bs : List ℕ) → d ≡ c → Subtree sizes n.contents limit level c.block rs bs → Subtree sizes m.contents limit level d.block rs bs
   child_here sizes limit level c d rs bs is tree =

@@ -118,6 +118,19 @@ module _ {source target none_left done : Type 0} {limit : ℕ} where
     paid = λ is. absurd (fails is);
   }
 
+  -- a block was read, and then copied
+  pub step_leaf : {reads puts none put : Type 0} {damaged : ℕ → Type 0} {n : ℕ} {s t s1 t1 : DiskState} {old new : Renumbering} → Looks reads s s1 → s1.reads ≡ s.reads + 1 → Puts puts none put damaged limit n t old t1 new
+      → (source → ⊥) → (target → puts) → (none_left → none) → (done → put) → Steps source target none_left done limit s t old s1 t1 new
+  step_leaf {reads} {puts} look once last source_so target_so none_so done_so = record {
+    looks = looks_so look (λ is. absurd (source_so is));
+    goes = goes_at puts target _ _ last.goes target_so;
+    touches = last.touches;
+    unsynced = last.unsynced;
+    numbers = last.numbers;
+    full = λ is. last.full (none_so is);
+    paid = λ is. omega (arith, once, (last.assigned (done_so is)).next);
+  }
+
   -- a block was read, what lies under it was copied, and then the block
   pub step_put : {reads a b c d puts none put : Type 0} {damaged : ℕ → Type 0} {n : ℕ} {s t s1 s2 t2 t3 : DiskState} {old mid new : Renumbering} → Looks reads s s1 → s1.reads ≡ s.reads + 1
       → Steps a b c d limit s1 t old s2 t2 mid → d → Puts puts none put damaged limit n t2 mid t3 new

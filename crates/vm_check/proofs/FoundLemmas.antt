@@ -13,7 +13,6 @@ use Rattle.vm_block.proofs.EachLemmas.{each_so, each_join}
 use Rattle.vm_tree.specs.Tree.{Sizes, IsTree}
 use Rattle.vm_tree.specs.Root.{IsRooted}
 use Rattle.vm_tree.specs.declared.root.Root.{Root}
-use Rattle.vm_check.specs.Suits.{SuitsAt}
 use Rattle.vm_check.specs.Verification.{AreRoots, Found, HaveTrees}
 use Rattle.vm_check.specs.Visits.{Known, RootVisited, Visited}
 use Rattle.vm_check.specs.declared.verification.Span.{Span}
@@ -36,7 +35,7 @@ module _ (sizes : Sizes) (x : Contents) (limit : ℕ) where
       (are.0, are.1, are.2 ++ own, are.3, are.4, roots_more ns roots are.2 n root m own are.5 named rooted, ap (λ z. z ++ own) are.6 ∙ append_assoc are.1 are.2 own)
 
   -- under the number of a bare root lies nothing
-  pub bare_visited : {long : Bool} (root : Root) (n : ℕ) (marks : List Bool) (spans : List Met) → root.block ≡ n → n ≡ 0 → Known long sizes x limit (sizes.levels - 1) marks spans → RootVisited long sizes x limit n root marks spans marks spans
+  pub bare_visited : (root : Root) (n : ℕ) (marks : List Bool) (spans : List Met) → root.block ≡ n → n ≡ 0 → Known sizes x limit (sizes.levels - 1) marks spans → RootVisited sizes x limit n root marks spans marks spans
   bare_visited root n marks spans named none known = record {
     records = [];
     blocks = [];
@@ -48,8 +47,8 @@ module _ (sizes : Sizes) (x : Contents) (limit : ℕ) where
   }
 
   -- under the number of another root lies what was found at its block
-  pub top_visited : {long : Bool} (n : ℕ) (span : Span) (marks : List Bool) (spans : List Met) (later : List Bool) (now : List Met) → 1 ≤ sizes.levels → Visited long sizes x limit 0 (sizes.levels - 1) n span marks spans later now
-      → RootVisited long sizes x limit n (record { block = n; level = span.level; low = span.low }) marks spans later now
+  pub top_visited : (n : ℕ) (span : Span) (marks : List Bool) (spans : List Met) (later : List Bool) (now : List Met) → 1 ≤ sizes.levels → Visited sizes x limit 0 (sizes.levels - 1) n span marks spans later now
+      → RootVisited sizes x limit n (record { block = n; level = span.level; low = span.low }) marks spans later now
   top_visited n span marks spans later now some v = record {
     records = v.whole.records;
     blocks = v.whole.blocks;
@@ -61,15 +60,15 @@ module _ (sizes : Sizes) (x : Contents) (limit : ℕ) where
   }
 
   -- what was found under the first numbers, and is known then
-  pub record FoundSoFar (long : Bool) (ns : List ℕ) (roots : List Root) (marks : List Bool) (spans : List Met) : Type 0 where
+  pub record FoundSoFar (ns : List ℕ) (roots : List Root) (marks : List Bool) (spans : List Met) : Type 0 where
     pub blocks : List ℕ
     pub are : AreRoots sizes x limit ns roots blocks
     pub each : AllByRecursion (IsMarked marks) blocks
     pub only : (n : ℕ) → IsMarked marks n → Contains blocks n
-    pub known : Known long sizes x limit (sizes.levels - 1) marks spans
+    pub known : Known sizes x limit (sizes.levels - 1) marks spans
 
   -- before the first number, with no mark
-  none_found : {long : Bool} (spans : List Met) → FoundSoFar long [] [] (replicate limit false) spans
+  none_found : (spans : List Met) → FoundSoFar [] [] (replicate limit false) spans
   none_found spans = record {
     blocks = [];
     are = refl;
@@ -81,12 +80,12 @@ module _ (sizes : Sizes) (x : Contents) (limit : ℕ) where
     };
   }
 
-  pub first_found : {long : Bool} (roots : List Root) (marks : List Bool) (spans : List Met) → roots ≡ [] → marks ≡ replicate limit false → FoundSoFar long [] roots marks spans
-  first_found {long} roots marks spans none clear =
-      subst (λ (rs : List Root). FoundSoFar long [] rs marks spans) (sym none) (subst (λ (z : List Bool). FoundSoFar long [] [] z spans) (sym clear) (none_found spans))
+  pub first_found : (roots : List Root) (marks : List Bool) (spans : List Met) → roots ≡ [] → marks ≡ replicate limit false → FoundSoFar [] roots marks spans
+  first_found roots marks spans none clear =
+      subst (λ (rs : List Root). FoundSoFar [] rs marks spans) (sym none) (subst (λ (z : List Bool). FoundSoFar [] [] z spans) (sym clear) (none_found spans))
 
-  one_found : {long : Bool} (ns : List ℕ) (roots : List Root) (n : ℕ) (root : Root) (marks later : List Bool) (spans now : List Met) → FoundSoFar long ns roots marks spans → RootVisited long sizes x limit n root marks spans later now
-      → FoundSoFar long (ns ++ n ∷ []) (roots ++ root ∷ []) later now
+  one_found : (ns : List ℕ) (roots : List Root) (n : ℕ) (root : Root) (marks later : List Bool) (spans now : List Met) → FoundSoFar ns roots marks spans → RootVisited sizes x limit n root marks spans later now
+      → FoundSoFar (ns ++ n ∷ []) (roots ++ root ∷ []) later now
   one_found ns roots n root marks later spans now found v = record {
     blocks = found.blocks ++ v.blocks;
     are = roots_more ns roots found.blocks n root v.records v.blocks found.are v.named v.rooted;
@@ -99,37 +98,35 @@ module _ (sizes : Sizes) (x : Contents) (limit : ℕ) where
   }
 
   -- all numbers
-  pub numbers_found : {long : Bool} (ns : List ℕ) (i : ℕ) (roots : List Root) (marks : List Bool) (spans : List Met) → length ns ≤ i → length marks ≡ limit → FoundSoFar long (take i ns) roots marks spans → Found long sizes x limit ns roots marks
-  numbers_found {long} ns i roots marks spans all many found = record {
+  pub numbers_found : (ns : List ℕ) (i : ℕ) (roots : List Root) (marks : List Bool) (spans : List Met) → length ns ≤ i → length marks ≡ limit → FoundSoFar (take i ns) roots marks spans → Found sizes x limit ns roots marks
+  numbers_found ns i roots marks spans all many found = record {
     blocks = found.blocks;
     are = subst (λ (ks : List ℕ). AreRoots sizes x limit ks roots found.blocks) (take_all i ns all) found.are;
     count = many;
     each = found.each;
     only = found.only;
-    suits = each_so (IsMarked marks) (SuitsAt long x) (λ n is. (found.known.formed n is).1) found.blocks found.each;
   }
 
 module _ (sizes : Sizes) (limit : ℕ) where
   -- one number more
-  pub number_more : {long : Bool} (old mid : Medium) (ns : List ℕ) (i : ℕ) (roots pushed : List Root) (root : Root) (marks later : List Bool) (spans now : List Met) → mid ≡ old → i < length ns → pushed ≡ roots ++ root ∷ []
-      → FoundSoFar sizes old.contents limit long (take i ns) roots marks spans
-      → (Known long sizes mid.contents limit (sizes.levels - 1) marks spans → RootVisited long sizes mid.contents limit (get_or ns i 0) root marks spans later now)
-      → FoundSoFar sizes old.contents limit long (take (i + 1) ns) pushed later now
-  number_more {long} old mid ns i roots pushed root marks later spans now same lt push found visit =
-      let here = subst (λ (m : Medium). Known long sizes m.contents limit (sizes.levels - 1) marks spans → RootVisited long sizes m.contents limit (get_or ns i 0) root marks spans later now) same visit in
-      subst (λ (rs : List Root). FoundSoFar sizes old.contents limit long (take (i + 1) ns) rs later now) (sym push)
-      (subst (λ (ks : List ℕ). FoundSoFar sizes old.contents limit long ks (roots ++ root ∷ []) later now) (sym (take_more ns i 0 lt))
+  pub number_more : (old mid : Medium) (ns : List ℕ) (i : ℕ) (roots pushed : List Root) (root : Root) (marks later : List Bool) (spans now : List Met) → mid ≡ old → i < length ns → pushed ≡ roots ++ root ∷ []
+      → FoundSoFar sizes old.contents limit (take i ns) roots marks spans
+      → (Known sizes mid.contents limit (sizes.levels - 1) marks spans → RootVisited sizes mid.contents limit (get_or ns i 0) root marks spans later now)
+      → FoundSoFar sizes old.contents limit (take (i + 1) ns) pushed later now
+  number_more old mid ns i roots pushed root marks later spans now same lt push found visit =
+      let here = subst (λ (m : Medium). Known sizes m.contents limit (sizes.levels - 1) marks spans → RootVisited sizes m.contents limit (get_or ns i 0) root marks spans later now) same visit in
+      subst (λ (rs : List Root). FoundSoFar sizes old.contents limit (take (i + 1) ns) rs later now) (sym push)
+      (subst (λ (ks : List ℕ). FoundSoFar sizes old.contents limit ks (roots ++ root ∷ []) later now) (sym (take_more ns i 0 lt))
       (one_found sizes old.contents limit (take i ns) roots (get_or ns i 0) root marks later spans now found (here found.known)))
 
-  -- a fault under a number, where each has a tree in blocks that a store may have
-  pub number_fault : {long : Bool} (old mid : Medium) (ns : List ℕ) (i : ℕ) (roots : List Root) (marks : List Bool) (spans : List Met) (F : Type 0) → mid ≡ old → i < length ns
-      → FoundSoFar sizes old.contents limit long (take i ns) roots marks spans → HaveTrees (SuitsAt long old.contents) sizes old.contents limit ns
-      → (Known long sizes mid.contents limit (sizes.levels - 1) marks spans → (m : Map) (bs : List ℕ) → IsTree sizes mid.contents limit (get_or ns i 0) m bs → AllByRecursion (SuitsAt long mid.contents) bs → F) → F
-  number_fault {long} old mid ns i roots marks spans F same lt found trees step =
-      let tree = each_at (λ n. (m : Map) × (bs : List ℕ) × IsTree sizes old.contents limit n m bs × AllByRecursion (SuitsAt long old.contents) bs) ns i 0 lt trees in
-      step (subst (λ (m : Medium). Known long sizes m.contents limit (sizes.levels - 1) marks spans) (sym same) found.known) tree.0 tree.1
+  -- a fault under a number, where each has a tree
+  pub number_fault : (old mid : Medium) (ns : List ℕ) (i : ℕ) (roots : List Root) (marks : List Bool) (spans : List Met) (F : Type 0) → mid ≡ old → i < length ns
+      → FoundSoFar sizes old.contents limit (take i ns) roots marks spans → HaveTrees sizes old.contents limit ns
+      → (Known sizes mid.contents limit (sizes.levels - 1) marks spans → (m : Map) (bs : List ℕ) → IsTree sizes mid.contents limit (get_or ns i 0) m bs → F) → F
+  number_fault old mid ns i roots marks spans F same lt found trees step =
+      let tree = each_at (λ n. (m : Map) × (bs : List ℕ) × IsTree sizes old.contents limit n m bs) ns i 0 lt trees in
+      step (subst (λ (m : Medium). Known sizes m.contents limit (sizes.levels - 1) marks spans) (sym same) found.known) tree.0 tree.1
       (subst (λ (m : Medium). IsTree sizes m.contents limit (get_or ns i 0) tree.0 tree.1) (sym same) tree.2)
-      (subst (λ (m : Medium). AllByRecursion (SuitsAt long m.contents) tree.1) (sym same) tree.3)
 
 -- the numbers of the roots so far
 pub named_more : (ns : List ℕ) (i : ℕ) (roots pushed : List Root) (root : Root) → i < length ns → pushed ≡ roots ++ root ∷ [] → map (λ (r : Root). r.block) roots ≡ take i ns → root.block ≡ get_or ns i 0 → map (λ (r : Root). r.block) pushed ≡ take (i + 1) ns

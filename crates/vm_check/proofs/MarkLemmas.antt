@@ -1,6 +1,6 @@
 -- Marks on the blocks of trees: how they grow, and that what lies under a marked block is marked.
 use Rattle.std.proofs.Common.{◌≡◌, ◌⊎◌, inl, inr, ℕ, zero, suc, ◌+◌, ◌-◌, ◌<◌, ◌≤◌, Bool, true, false, List, [], ◌∷◌, ◌++◌, length, get_or, take, replicate, Result, Ok, Err, refl, sym, ap, ◌∙◌, subst, arith}
-use Rattle.std.specs.Prelude.{slice_set, Contains, OnOk}
+use Rattle.std.specs.Prelude.{slice_set, Contains, IsOk, OnOk, ⊤}
 use Rattle.std.specs.List.{AllByRecursion}
 use Rattle.std.proofs.lemmas.Bool.{cases_eq, false≢true, false_from_ne_true}
 use Rattle.std.proofs.lemmas.List.{take_all}
@@ -9,23 +9,19 @@ use Rattle.vm_disk.specs.Disk.{Contents, block, Medium}
 use Rattle.vm_alloc.specs.Held.{HoldsMore}
 use Rattle.vm_alloc.specs.Marks.{IsMarked, is_marked}
 use Rattle.vm_alloc.proofs.HeldLemmas.{holds_same, holds_more_then, taken_holds_more, taken_is_held, others_as_before, free_new, mark_same, unmarked_less}
-use Rattle.vm_block.specs.Leaf.{Record, Row, HasRows}
+use Rattle.vm_block.specs.Leaf.{Record}
 use Rattle.vm_block.specs.Node.{IsNode}
 use Rattle.vm_block.specs.declared.node.Child.{Child}
 use Rattle.vm_block.proofs.EachLemmas.{each_so, each_join}
-use Rattle.vm_block.proofs.FormLemmas.{node_or_long, rows_or_long, rows_or_node}
-use Rattle.vm_block.proofs.LeafLemmas.{leaf_rows_one}
+use Rattle.vm_block.proofs.FormLemmas.{leaf_or_node}
 use Rattle.vm_block.proofs.NodeLemmas.{node_one}
-use Rattle.vm_tree.specs.Tree.{Sizes, IsData, Children, LeafHolds, Subtree}
-use Rattle.vm_types.specs.Bytes.{longest}
-use Rattle.vm_tree.proofs.TreeLemmas.{LeafAt, node_opens}
-use Rattle.vm_tree.proofs.HoldingLemmas.{IsLongOf, all_long, holds_or_node}
+use Rattle.vm_tree.specs.Tree.{Sizes, IsData, Children, Subtree}
+use Rattle.vm_tree.proofs.TreeLemmas.{node_opens}
 use Rattle.vm_tree.specs.BlockReads.{IsNodeAt}
-use Rattle.vm_check.specs.Marks.{Joined, MarksMore, MarksOnly, ClosedTo, EachLink, LinkedBy, LinksTo, MarksOnlyLink, MarksOnlyLinks, unmarked}
+use Rattle.vm_check.specs.Marks.{Joined, MarksMore, MarksOnly, ClosedTo, unmarked}
 use Rattle.vm_check.specs.Form.{OkUnlessDevice}
 use Rattle.vm_tree.specs.Answers.{OkOrDevice}
 use Rattle.vm_tree.specs.declared.faults.TreeFault.{TreeFault}
-use Rattle.vm_check.proofs.LinkLemmas.{beside_each, linked_at, links_so, links_within}
 use Rattle.vm_check.proofs.JoinLemmas.{LastOf, last_of, joined_front}
 
 -- what holds of each element holds of one of them
@@ -81,25 +77,13 @@ more_then bs cs a b c first then = record {
 
 -- # The blocks of a tree
 
--- what holds of each link of rows holds of one
-pub linked_each : (P : ℕ → Type 0) (ws : List Row) (b : ℕ) → EachLink P ws → LinkedBy ws b → P b
-linked_each P ws b all (w, among, link) = each_of (λ (v : Row). (c : ℕ) → LinksTo v c → P c) ws w all among b link
-
--- the children of each inner block among these are among them, and so are the blocks to which the rows of each leaf link
+-- the children of each inner block among these are among them
 pub record Sealed (x : Contents) (bs : List ℕ) : Type 0 where
-  pub linked : (n : ℕ) (ws : List Row) → Contains bs n → HasRows (block x n) ws → EachLink (Contains bs) ws
   pub sealed : (n level : ℕ) (cs : List Child) → Contains bs n → IsNode (block x n) level cs → AllByRecursion (λ c. Contains bs c.block) cs
 
 pub sealed_join : (x : Contents) (bs ds : List ℕ) → Sealed x bs → Sealed x ds → Sealed x (bs ++ ds)
-sealed_join x bs ds a b = record {
-  linked = λ n ws at leaf. links_by_part n ws leaf (Contains-append_cases bs ds n at);
-  sealed = λ n level cs at node. by_part n level cs node (Contains-append_cases bs ds n at);
-}
+sealed_join x bs ds a b = record { sealed = λ n level cs at node. by_part n level cs node (Contains-append_cases bs ds n at) }
   where
-    links_by_part : (n : ℕ) (ws : List Row) → HasRows (block x n) ws → Contains bs n ⊎ Contains ds n → EachLink (Contains (bs ++ ds)) ws
-    links_by_part n ws leaf (inl at) = links_so (Contains bs) (Contains (bs ++ ds)) (λ b in_it. Contains-append_left bs ds b in_it) ws (a.linked n ws at leaf)
-    links_by_part n ws leaf (inr at) = links_so (Contains ds) (Contains (bs ++ ds)) (λ b in_it. Contains-append_right bs ds b in_it) ws (b.linked n ws at leaf)
-
     by_part : (n level : ℕ) (cs : List Child) → IsNode (block x n) level cs → Contains bs n ⊎ Contains ds n → AllByRecursion (λ c. Contains (bs ++ ds) c.block) cs
     by_part n level cs node (inl at) =
         each_so (λ (c : Child). Contains bs c.block) (λ (c : Child). Contains (bs ++ ds) c.block) (λ c in_it. Contains-append_left bs ds c.block in_it) cs (a.sealed n level cs at node)
@@ -107,7 +91,7 @@ sealed_join x bs ds a b = record {
         each_so (λ (c : Child). Contains ds c.block) (λ (c : Child). Contains (bs ++ ds) c.block) (λ c in_it. Contains-append_right bs ds c.block in_it) cs (b.sealed n level cs at node)
 
 pub none_sealed : (x : Contents) → Sealed x []
-none_sealed x = record { linked = λ n ws at leaf. absurd (none_of [] n refl at); sealed = λ n level cs at node. absurd (none_of [] n refl at) }
+none_sealed x = record { sealed = λ n level cs at node. absurd (none_of [] n refl at) }
 
 children_within : (T : ℕ → List Record → List ℕ → Type 0) → ((b : ℕ) (rs : List Record) (bs : List ℕ) → T b rs bs → Contains bs b)
     → (cs : List Child) (rs : List Record) (bs : List ℕ) → Children T cs rs bs → AllByRecursion (λ c. Contains bs c.block) cs
@@ -128,44 +112,21 @@ children_sealed x T so (c ∷ cs) rs bs t =
 -- the top of a subtree is one of its blocks
 pub top_within : (sizes : Sizes) (x : Contents) (limit l b : ℕ) (rs : List Record) (bs : List ℕ) → Subtree sizes x limit l b rs bs → Contains bs b
 unfolding Subtree
-top_within sizes x limit zero b rs bs t = subst (λ (ds : List ℕ). Contains ds b) (sym t.4) (is_first b t.1)
+top_within sizes x limit zero b rs bs t = subst (λ (ds : List ℕ). Contains ds b) (sym t.2) (is_first b [])
 top_within sizes x limit (suc l) b rs bs t = subst (λ (ds : List ℕ). Contains ds b) (sym t.6) (is_first b t.2)
-
--- a leaf and the blocks beside it
-leaf_sealed : (x : Contents) (limit most b : ℕ) (rs : List Record) (under : List ℕ) → LeafHolds x limit most (block x b) rs under → Sealed x (b ∷ under)
-leaf_sealed x limit most b rs under holds = record {
-  linked = λ n ws at leaf. rows_linked n ws leaf (first_or_other b under n at);
-  sealed = λ n level cs at node. absurd (no_node n level cs node (first_or_other b under n at));
-}
-  where
-    long_at : (n : ℕ) → Contains under n → IsLongOf x rs n
-    long_at n at = each_of (IsLongOf x rs) under n (all_long x limit holds.rows rs under holds.stand) at
-
-    rows_linked : (n : ℕ) (ws : List Row) → HasRows (block x n) ws → (b ≡ n) ⊎ Contains under n → EachLink (Contains (b ∷ under)) ws
-    rows_linked n ws leaf (inl same) =
-        let one = leaf_rows_one (block x b) holds.rows ws holds.leaf (subst (λ k. HasRows (block x k) ws) (sym same) leaf) in
-        subst (EachLink (Contains (b ∷ under))) one (links_so (Contains under) (Contains (b ∷ under)) (is_other b under) holds.rows (links_within x limit holds.rows rs under holds.stand))
-    rows_linked n ws leaf (inr at) = let long = long_at n at in absurd (rows_or_long (block x n) ws long.whose.0 long.whose.1 leaf long.long)
-
-    no_node : (n level : ℕ) (cs : List Child) → IsNode (block x n) level cs → (b ≡ n) ⊎ Contains under n → ⊥
-    no_node n level cs node (inl same) = holds_or_node x limit most (block x b) rs under level cs holds (subst (λ k. IsNode (block x k) level cs) (sym same) node)
-    no_node n level cs node (inr at) = let long = long_at n at in node_or_long (block x n) level cs long.whose.0 long.whose.1 node long.long
 
 pub subtree_sealed : (sizes : Sizes) (x : Contents) (limit l b : ℕ) (rs : List Record) (bs : List ℕ) → Subtree sizes x limit l b rs bs → Sealed x bs
 unfolding Subtree
-subtree_sealed sizes x limit zero b rs bs t = subst (Sealed x) (sym t.4) (leaf_sealed x limit longest b rs t.1 t.2)
+subtree_sealed sizes x limit zero b rs bs t = subst (Sealed x) (sym t.2) record { sealed = λ n level cs at node. leaf_alone n level cs node (first_or_other b [] n at) }
+  where
+    leaf_alone : (n level : ℕ) (cs : List Child) → IsNode (block x n) level cs → (b ≡ n) ⊎ Contains [] n → AllByRecursion (λ c. Contains (b ∷ []) c.block) cs
+    leaf_alone n level cs node (inl same) = absurd (leaf_or_node (block x b) rs level cs t.1 (subst (λ k. IsNode (block x k) level cs) (sym same) node))
+    leaf_alone n level cs node (inr at) = absurd (none_of [] n refl at)
 subtree_sealed sizes x limit (suc l) b rs bs t =
     let below = children_sealed x (Subtree sizes x limit l) (subtree_sealed sizes x limit l) t.1 rs t.2 t.5 in
     let within = children_within (Subtree sizes x limit l) (top_within sizes x limit l) t.1 rs t.2 t.5 in
-    subst (Sealed x) (sym t.6) record {
-      linked = λ n ws at leaf. links_below below n ws leaf (first_or_other b t.2 n at);
-      sealed = λ n level cs at node. top_or_below below within n level cs node (first_or_other b t.2 n at);
-    }
+    subst (Sealed x) (sym t.6) record { sealed = λ n level cs at node. top_or_below below within n level cs node (first_or_other b t.2 n at) }
   where
-    links_below : Sealed x t.2 → (n : ℕ) (ws : List Row) → HasRows (block x n) ws → (b ≡ n) ⊎ Contains t.2 n → EachLink (Contains (b ∷ t.2)) ws
-    links_below below n ws leaf (inl same) = absurd (rows_or_node (block x b) ws (suc l) t.1 (subst (λ k. HasRows (block x k) ws) (sym same) leaf) t.3)
-    links_below below n ws leaf (inr at) = links_so (Contains t.2) (Contains (b ∷ t.2)) (is_other b t.2) ws (below.linked n ws at leaf)
-
     more : (cs : List Child) → AllByRecursion (λ c. Contains t.2 c.block) cs → AllByRecursion (λ c. Contains (b ∷ t.2) c.block) cs
     more cs all = each_so (λ (c : Child). Contains t.2 c.block) (λ (c : Child). Contains (b ∷ t.2) c.block) (λ c at. is_other b t.2 c.block at) cs all
 
@@ -175,48 +136,11 @@ subtree_sealed sizes x limit (suc l) b rs bs t =
         more cs (subst (AllByRecursion (λ (c : Child). Contains t.2 c.block)) one.1 within)
     top_or_below below within n level cs node (inr at) = more cs (below.sealed n level cs at node)
 
--- # Marks beside a leaf
-
--- what is marked of the links of a leaf stands beside it
-pub marks_only_beside : (x : Contents) (limit most : ℕ) (bytes : List ℕ) (rs : List Record) (under : List ℕ) (marks later : List Bool) → (holds : LeafHolds x limit most bytes rs under) → MarksOnlyLinks marks later holds.rows → MarksOnly under marks later
-marks_only_beside x limit most bytes rs under marks later holds only n is = by_case (only n is)
-  where
-    by_case : IsMarked marks n ⊎ LinkedBy holds.rows n → IsMarked marks n ⊎ Contains under n
-    by_case (inl was) = inl was
-    by_case (inr linked) = inr (linked_each (Contains under) holds.rows n (links_within x limit holds.rows rs under holds.stand) linked)
-
--- one row more
-pub marks_only_more : (a b c : List Bool) (ws : List Row) (i : ℕ) (d : Row) → i < length ws → MarksOnlyLinks a b ws → MarksOnlyLink b c (get_or ws i d) → MarksOnlyLinks a c ws
-marks_only_more a b c ws i d lt first then n is = by_case (then n is)
-  where
-    by_case : IsMarked b n ⊎ LinksTo (get_or ws i d) n → IsMarked a n ⊎ LinkedBy ws n
-    by_case (inl was) = first n was
-    by_case (inr link) = inr (linked_at ws i d n lt link)
-
--- of a row: the block to which it links was marked, and no other
-pub link_only : (w : Row) (b : ℕ) (marks first : List Bool) → first ≡ slice_set marks b true → LinksTo w b → MarksOnlyLink marks first w
-link_only w b marks first set link n is = elim (cases_eq n b) [
-  | inl same ↦ inr (subst (LinksTo w) (sym same) link)
-  | inr other ↦ inl (sym (others_as_before marks b n other) ∙ subst (λ (z : List Bool). IsMarked z n) set is)
-]
-
--- what is marked where a leaf's links are sound
-pub fine_so : {T : Type 0} (P Q : Type 0) (result : Result T TreeFault) → OkUnlessDevice result → OnOk result P → (P → Q) → OkOrDevice result (λ done. Q)
-fine_so P Q (Ok x) fine here so = so here
-fine_so P Q (Err fault) fine here so = fine
-
 -- # Marks that are closed
 
 pub closed_more : (x : Contents) (most : ℕ) (bs : List ℕ) (old new : List Bool) → Sealed x bs → ClosedTo x most old → MarksMore bs old new → ClosedTo x most new
-closed_more x most bs old new whole closed more = record {
-  links = λ n ws is leaf. links_by_case n ws leaf (more.only n is);
-  closed = λ n level cs is le node. by_case n level cs le node (more.only n is);
-}
+closed_more x most bs old new whole closed more = record { closed = λ n level cs is le node. by_case n level cs le node (more.only n is) }
   where
-    links_by_case : (n : ℕ) (ws : List Row) → HasRows (block x n) ws → IsMarked old n ⊎ Contains bs n → EachLink (IsMarked new) ws
-    links_by_case n ws leaf (inl is) = links_so (IsMarked old) (IsMarked new) more.grows.still ws (closed.links n ws is leaf)
-    links_by_case n ws leaf (inr at) = links_so (Contains bs) (IsMarked new) (λ b in_it. each_of (IsMarked new) bs b more.each in_it) ws (whole.linked n ws at leaf)
-
     by_case : (n level : ℕ) (cs : List Child) → level ≤ most → IsNode (block x n) level cs → IsMarked old n ⊎ Contains bs n → AllByRecursion (λ c. IsMarked new c.block) cs
     by_case n level cs le node (inl is) =
         each_so (λ (c : Child). IsMarked old c.block) (λ (c : Child). IsMarked new c.block) (λ c was. more.grows.still c.block was) cs (closed.closed n level cs is le node)
@@ -226,16 +150,8 @@ closed_more x most bs old new whole closed more = record {
 -- the marks while the blocks under an inner block are marked
 pub closed_first : (x : Contents) (level k b : ℕ) (ds : List Child) (marks : List Bool) → b < length marks → k < level → IsNode (block x b) level ds
     → ClosedTo x level marks → ClosedTo x k (slice_set marks b true)
-closed_first x level k b ds marks inside below node closed = record {
-  links = λ n ws is leaf. links_by_case n ws leaf is (cases_eq n b);
-  closed = λ n l cs is le other. by_case n l cs le other is (cases_eq n b);
-}
+closed_first x level k b ds marks inside below node closed = record { closed = λ n l cs is le other. by_case n l cs le other is (cases_eq n b) }
   where
-    links_by_case : (n : ℕ) (ws : List Row) → HasRows (block x n) ws → IsMarked (slice_set marks b true) n → (n ≡ b) ⊎ (n ≡ b → ⊥) → EachLink (IsMarked (slice_set marks b true)) ws
-    links_by_case n ws leaf is (inl same) = absurd (rows_or_node (block x b) ws level ds (subst (λ m. HasRows (block x m) ws) same leaf) node)
-    links_by_case n ws leaf is (inr apart) =
-        links_so (IsMarked marks) (IsMarked (slice_set marks b true)) (taken_holds_more marks b).still ws (closed.links n ws (sym (others_as_before marks b n apart) ∙ is) leaf)
-
     by_case : (n l : ℕ) (cs : List Child) → l ≤ k → IsNode (block x n) l cs → IsMarked (slice_set marks b true) n → (n ≡ b) ⊎ (n ≡ b → ⊥) → AllByRecursion (λ c. IsMarked (slice_set marks b true) c.block) cs
     by_case n l cs le other is (inl same) =
         let one = node_one (block x b) level l ds cs node (subst (λ m. IsNode (block x m) l cs) same other) in absurd (omega (arith, one.0))
@@ -255,7 +171,7 @@ pub under_marked : (sizes : Sizes) (x : Contents) (limit most : ℕ) (marks : Li
     → Subtree sizes x limit l b rs bs → IsMarked marks b → AllByRecursion (IsMarked marks) bs
 unfolding Subtree
 under_marked sizes x limit most marks closed zero b rs bs le t is =
-    subst (AllByRecursion (IsMarked marks)) (sym t.4) (is, beside_each x limit (IsMarked marks) t.2.rows rs t.1 t.2.stand (closed.links b t.2.rows is t.2.leaf))
+    subst (AllByRecursion (IsMarked marks)) (sym t.2) (is, tt)
 under_marked sizes x limit most marks closed (suc l) b rs bs le t is =
     subst (AllByRecursion (IsMarked marks)) (sym t.6) (
       is,
@@ -372,17 +288,14 @@ node_marked sizes x limit level b i bs cs marks first new inside is above all st
     let whole = subst (λ (ds : List Child). Joined (IsBelow sizes x limit (level - 1)) ds start.under) (sym (take_all i cs all)) start.joined in
     subst (λ (ds : List ℕ). MarksMore ds marks new) (sym start.first) (more_then (b ∷ []) start.under marks first new more (done start.under whole here))
 
--- a leaf that was marked, and the blocks beside it
-pub leaf_marked : (sizes : Sizes) (x : Contents) (limit level b : ℕ) (rs : List Record) (bs : List ℕ) (marks first new : List Bool) → level ≡ 0 → b < length marks → first ≡ slice_set marks b true
-    → HoldsMore first new → (at : LeafAt sizes x limit b rs bs) → EachLink (IsMarked new) at.holds.rows → MarksOnlyLinks first new at.holds.rows → MarksMore bs marks new
-leaf_marked sizes x limit level b rs bs marks first new none inside is grows at each only =
-    let more : MarksMore (b ∷ []) marks first = subst (λ (z : List Bool). MarksMore (b ∷ []) marks z) (sym is) (first_more b marks inside) in
-    let beside : MarksMore at.under first new = record {
-      grows = grows;
-      each = beside_each x limit (IsMarked new) at.holds.rows rs at.under at.holds.stand each;
-      only = marks_only_beside x limit longest (block x b) rs at.under first new at.holds only;
-    } in
-    subst (λ (ds : List ℕ). MarksMore ds marks new) (sym at.first) (more_then (b ∷ []) at.under marks first new more beside)
+-- a leaf for which a mark was made
+pub leaf_marked : (result : Result ⊤ TreeFault) (b : ℕ) (bs : List ℕ) (marks later : List Bool) → bs ≡ b ∷ [] → IsOk result → HoldsMore marks later → OnOk result (IsMarked later b) → MarksOnly (b ∷ []) marks later → OkOrDevice result (λ done. MarksMore bs marks later)
+leaf_marked (Ok x) b bs marks later is fine grows here only = subst (λ (ds : List ℕ). MarksMore ds marks later) (sym is) (record { grows = grows; each = (here, tt); only = only })
+leaf_marked (Err fault) b bs marks later is fine grows here only = absurd (false≢true fine)
+
+pub ok_fine : (result : Result ⊤ TreeFault) → IsOk result → OkUnlessDevice result
+ok_fine (Ok x) fine = tt
+ok_fine (Err fault) fine = absurd (false≢true fine)
 
 -- a fault under an inner block
 pub node_fault : (sizes : Sizes) (old mid : Medium) (limit level b i : ℕ) (bs : List ℕ) (cs : List Child) (d : Child) (marks first now : List Bool) (F : Type 0) → mid ≡ old → b < length marks → first ≡ slice_set marks b true

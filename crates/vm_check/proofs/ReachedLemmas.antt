@@ -1,22 +1,19 @@
 -- Which blocks are copied, and that they are marked.
 use Rattle.std.proofs.Common.{◌≡◌, inl, inr, ℕ, zero, suc, ◌-◌, ◌<◌, Bool, List, [], ◌∷◌, length, get_or, sym, subst, arith}
-use Rattle.std.specs.Prelude.{Contains}
 use Rattle.std.specs.List.{AllByRecursion}
 use Rattle.vm_disk.specs.Disk.{Contents, DiskState, block}
-use Rattle.vm_block.specs.Leaf.{Record, Row}
+use Rattle.vm_block.specs.Leaf.{Record}
 use Rattle.vm_block.specs.declared.node.Child.{Child}
 use Rattle.vm_block.proofs.EachLemmas.{each_back, each_front}
 use Rattle.vm_block.specs.Node.{IsNode}
 use Rattle.vm_tree.specs.BlockReads.{IsNodeAt}
-use Rattle.vm_tree.specs.Tree.{Children, Sizes, StandForAll, Subtree}
+use Rattle.vm_tree.specs.Tree.{Children, Sizes, Subtree}
 use Rattle.vm_tree.specs.declared.root.Root.{Root}
 use Rattle.vm_tree.proofs.TreeLemmas.{node_opens}
-use Rattle.vm_check.specs.Marks.{EachLink, IsUnder}
+use Rattle.vm_check.specs.Marks.{IsUnder}
 use Rattle.vm_check.specs.TreeCopy.{CopiesMarked, IsMarkedData, Puts}
 use Rattle.vm_check.specs.declared.renumbering.Renumbering.{Renumbering}
 use Rattle.vm_check.proofs.CopyLemmas.{only_then}
-use Rattle.vm_check.proofs.LinkLemmas.{links_so, links_within}
-use Rattle.vm_check.proofs.MarkLemmas.{each_of}
 
 -- nothing was copied
 pub none_copied : {none_left : Type 0} (marks : List Bool) (numbers : Renumbering) → (none_left → ⊥) → CopiesMarked none_left marks numbers numbers
@@ -43,10 +40,6 @@ pub child_each : (P : ℕ → Type 0) (T : ℕ → List Record → List ℕ → 
 child_each P T [] rs bs i d lt all each = absurd (omega arith)
 child_each P T (c ∷ cs) rs bs zero d lt all each = (all.0, all.2, all.4, each_front P all.2 all.3 (subst (AllByRecursion P) all.8 each))
 child_each P T (c ∷ cs) rs bs (suc i) d lt all each = child_each P T cs all.1 all.3 i d (omega arith) all.6 (each_back P all.2 all.3 (subst (AllByRecursion P) all.8 each))
-
--- what holds of each block beside a leaf holds of each to which its rows link
-pub beside_links : (P : ℕ → Type 0) (x : Contents) (limit : ℕ) (ws : List Row) (rs : List Record) (bs : List ℕ) → StandForAll x limit ws rs bs → AllByRecursion P bs → EachLink P ws
-beside_links P x limit ws rs bs stand each = links_so (Contains bs) P (λ b at. each_of P bs b each at) ws (links_within x limit ws rs bs stand)
 
 -- what lies under an inner block that was read, if P holds of all blocks of the subtree
 pub node_each : (P : ℕ → Type 0) (sizes : Sizes) (x : Contents) (limit level b : ℕ) (rs : List Record) (bs : List ℕ) (cs : List Child) → 0 < level → Subtree sizes x limit level b rs bs → ((ds : List Child) → IsNodeAt x limit level b ds → cs ≡ ds)

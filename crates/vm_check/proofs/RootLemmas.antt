@@ -19,7 +19,7 @@ level_low sizes x limit zero b rs bs t = omega arith
 level_low sizes x limit (suc l) b rs bs t = let at = node_opens sizes x limit (suc l) l b rs bs refl t in at.node.low
 
 pub closed_at : (x : Contents) (k most : ℕ) (marks : List Bool) → k ≤ most → ClosedTo x most marks → ClosedTo x k marks
-closed_at x k most marks le closed = record { links = closed.links; closed = λ n level cs is low node. closed.closed n level cs is (omega arith) node }
+closed_at x k most marks le closed = record { closed = λ n level cs is low node. closed.closed n level cs is (omega arith) node }
 
 module _ (sizes : Sizes) (limit : ℕ) where
   under_sealed : (x : Contents) (root : Root) (bs : List ℕ) → IsUnder sizes x limit root bs → Sealed x bs

@@ -1,25 +1,24 @@
 -- Blocks of a tree, told by their bytes.
 use Rattle.std.specs.Prelude.{◌≡◌, ℕ, ◌<◌, ◌≤◌, true, List, length, Result}
 use Rattle.vm_disk.specs.Disk.{DiskState, block}
-use Rattle.vm_block.specs.declared.sizes.TheConstants.{MAX_ROWS, MAX_CHILDREN}
-use Rattle.vm_block.specs.Leaf.{Row, HasRows}
+use Rattle.vm_block.specs.declared.sizes.TheConstants.{MAX_CHILDREN, MAX_RECORDS}
+use Rattle.vm_block.specs.Leaf.{HasRecords, Record}
 use Rattle.vm_block.specs.Node.{IsNode}
 use Rattle.vm_block.specs.declared.node.Child.{Child}
 use Rattle.vm_tree.specs.Answers.{OkOrDevice}
-use Rattle.vm_tree.specs.BlockReads.{Finds, IsNodeAt}
-use Rattle.vm_tree.specs.Tree.{IsData}
+use Rattle.vm_tree.specs.BlockReads.{Finds, IsLeafAt, IsNodeAt}
 use Rattle.vm_tree.specs.declared.faults.TreeFault.{TreeFault}
 use Rattle.vm_check.specs.declared.form.Form.{Form}
 use Rattle.vm_check.specs.declared.form.Form.TheVariants.{Leaf, Node}
 
--- these bytes are a leaf of so many rows, or an inner block of this level with so many children
+-- these bytes are a leaf of so many records, or an inner block of this level with so many children
 abbrev pub IsForm : List ℕ → Form → Type 0
-IsForm bytes (Leaf count) = (ws : List Row) × HasRows bytes ws × (length ws ≡ count)
+IsForm bytes (Leaf count) = (rs : List Record) × HasRecords bytes rs × (length rs ≡ count)
 IsForm bytes (Node level count) = (cs : List Child) × IsNode bytes level cs × (length cs ≡ count)
 
--- it has rows, or a level above that of leaves and children, and no more than a block has room for
+-- it has records, or a level above that of leaves and children, and no more than a block has room for
 abbrev pub IsFilled : Form → Type 0
-IsFilled (Leaf count) = (0 < count) × (count ≤ MAX_ROWS)
+IsFilled (Leaf count) = (0 < count) × (count ≤ MAX_RECORDS)
 IsFilled (Node level count) = (0 < level) × (level ≤ 7) × (0 < count) × (count ≤ MAX_CHILDREN)
 
 -- the answer is Ok, unless the device failed
@@ -33,7 +32,7 @@ HasRead result old new b bytes = Finds result old new (λ x answer. bytes ≡ bl
 -- there a leaf is taken for one
 abbrev pub AcceptsLeaf : {T : Type 0} → Result T TreeFault → DiskState → DiskState → ℕ → ℕ → Type 0
 AcceptsLeaf result old new limit b =
-    new.honest ≡ true → (ws : List Row) → IsData limit b → HasRows (block old.now.contents b) ws → OkUnlessDevice result
+    new.honest ≡ true → (rs : List Record) → IsLeafAt old.now.contents limit b rs → OkUnlessDevice result
 
 -- an inner block of any level is
 abbrev pub AcceptsNode : {T : Type 0} → Result T TreeFault → DiskState → DiskState → ℕ → ℕ → Type 0

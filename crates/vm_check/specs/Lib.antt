@@ -1,9 +1,6 @@
 pub mod TreeCopy
 pub mod Form
 pub mod Marks
-pub mod Noted
-pub mod Notes
 pub mod Renumbering
-pub mod Suits
 pub mod Verification
 pub mod Visits

@@ -1,16 +1,16 @@
 -- Marks on the blocks of trees.
-use Rattle.std.specs.Prelude.{◌≡◌, ◌⊎◌, ℕ, ◌+◌, ◌≤◌, Bool, true, List, [], ◌∷◌, ◌++◌, length, drop, Contains, Option, None, Some, Result, OnOk, IsOk}
+use Rattle.std.specs.Prelude.{◌≡◌, ◌⊎◌, ℕ, suc, ◌+◌, ◌≤◌, ◌&&◌, not, Bool, true, List, [], ◌∷◌, ◌++◌, length, take, drop, codes, Contains, Result, OnOk, if◌then◌else◌}
+use Rattle.std.specs.Str.{bytes_eq}
 use Rattle.std.specs.List.{AllByRecursion}
 use Rattle.vm_types.specs.declared.sizes.TheConstants.{FIRST_DATA}
 use Rattle.vm_types.specs.Map.{Map}
 use Rattle.vm_disk.specs.Disk.{Contents, DiskState, block}
 use Rattle.vm_alloc.specs.Held.{HoldsMore, free_count}
 use Rattle.vm_alloc.specs.Marks.{IsMarked}
-use Rattle.vm_block.specs.Leaf.{Record, Row, HasRows, LinkFits, link_bytes}
+use Rattle.vm_block.specs.Leaf.{Record}
 use Rattle.vm_block.specs.Node.{IsNode}
 use Rattle.vm_block.specs.declared.node.Child.{Child}
-use Rattle.vm_block.specs.declared.stored.Link.{Link}
-use Rattle.vm_tree.specs.Tree.{Sizes, IsData, Subtree}
+use Rattle.vm_tree.specs.Tree.{Sizes, Subtree}
 use Rattle.vm_tree.specs.Answers.{OkOrDevice}
 use Rattle.vm_tree.specs.Root.{IsRooted}
 use Rattle.vm_tree.specs.declared.root.Root.{Root}
@@ -44,25 +44,11 @@ pub record MarksMore (bs : List ℕ) (old new : List Bool) : Type 0 where
   pub each : AllByRecursion (IsMarked new) bs
   pub only : (n : ℕ) → IsMarked new n → IsMarked old n ⊎ Contains bs n
 
--- a row of a leaf links to this block
-abbrev pub LinksTo : Row → ℕ → Type 0
-LinksTo w b = (link : Link) × LinkFits link × (w.1 ≡ link_bytes link) × (link.block ≡ b)
-
--- one of these rows does
-abbrev pub LinkedBy : List Row → ℕ → Type 0
-LinkedBy ws b = (w : Row) × Contains ws w × LinksTo w b
-
--- P holds of each block to which one of these rows links
-abbrev pub EachLink : (ℕ → Type 0) → List Row → Type 0
-EachLink P ws = AllByRecursion (λ w. (b : ℕ) → LinksTo w b → P b) ws
-
--- the children of each inner block that is marked, and has at most this level, are marked, and so are the blocks of the long values
--- of each leaf that is marked
+-- the children of each inner block that is marked, and has at most this level, are marked
 pub record ClosedTo (x : Contents) (most : ℕ) (marks : List Bool) : Type 0 where
-  pub links : (n : ℕ) (ws : List Row) → IsMarked marks n → HasRows (block x n) ws → EachLink (IsMarked marks) ws
   pub closed : (n level : ℕ) (cs : List Child) → IsMarked marks n → level ≤ most → IsNode (block x n) level cs → AllByRecursion (λ c. IsMarked marks c.block) cs
 
--- the children of each inner block that is marked are marked, and the long values of each leaf: inner blocks have at most level 7
+-- the children of each inner block that is marked are marked: inner blocks have at most level 7
 abbrev pub IsClosed : Contents → List Bool → Type 0
 IsClosed x marks = ClosedTo x 7 marks
 
@@ -79,44 +65,23 @@ PaysReads old new marks later = new.reads + unmarked later ≤ old.reads + unmar
 abbrev pub PaysJustReads : DiskState → DiskState → List Bool → List Bool → Type 0
 PaysJustReads old new marks later = new.reads + unmarked later ≡ old.reads + unmarked marks
 
--- # What is marked of a leaf
+-- the bytes begin with the letters of an inner block
+abbrev pub is_inner : List ℕ → Bool
+is_inner bytes = bytes_eq (take 4 bytes) (codes "NODE")
 
--- this is the block to which a row links, or it has no link
-abbrev pub TellsLink : Option ℕ → Row → Type 0
-TellsLink None w = (b : ℕ) → LinksTo w b → ⊥
-TellsLink (Some c) w = LinksTo w c × ((b : ℕ) → LinksTo w b → b ≡ c)
+-- of the blocks from n on, to which these marks belong, so many begin as inner blocks and are not marked
+abbrev pub inner_from : Contents → ℕ → List Bool → ℕ
+inner_from x n [] = 0
+inner_from x n (m ∷ ms) = (if is_inner (block x n) && not m then 1 else 0) + inner_from x (suc n) ms
 
--- the block to which a row links is marked
-abbrev pub MarksLink : {T : Type 0} → Result T TreeFault → List Bool → Row → Type 0
-MarksLink result later w = OnOk result ((b : ℕ) → LinksTo w b → IsMarked later b)
+-- how many blocks that begin as inner blocks are not marked
+abbrev pub unmarked_inner : Contents → List Bool → ℕ
+unmarked_inner x marks = inner_from x 0 marks
 
--- no other block is marked
-abbrev pub MarksOnlyLink : List Bool → List Bool → Row → Type 0
-MarksOnlyLink marks later w = (n : ℕ) → IsMarked later n → IsMarked marks n ⊎ LinksTo w n
-
--- where it is one for data, the answer is Ok
-abbrev pub SoundLink : {T : Type 0} → Result T TreeFault → ℕ → Row → Type 0
-SoundLink result limit w = ((b : ℕ) → LinksTo w b → IsData limit b) → IsOk result
-
--- the blocks to which the rows of a leaf link are marked
-abbrev pub MarksLinks : {T : Type 0} → Result T TreeFault → List Bool → List Row → Type 0
-MarksLinks result later ws = OnOk result (EachLink (IsMarked later) ws)
-
--- and no others
-abbrev pub MarksOnlyLinks : List Bool → List Bool → List Row → Type 0
-MarksOnlyLinks marks later ws = (n : ℕ) → IsMarked later n → IsMarked marks n ⊎ LinkedBy ws n
-
--- where all of them are for data, the answer is Ok
-abbrev pub SoundLinks : {T : Type 0} → Result T TreeFault → ℕ → List Row → Type 0
-SoundLinks result limit ws = EachLink (IsData limit) ws → IsOk result
-
--- where they are, it is Ok unless the device fails
-abbrev pub SoundLeaf : {T : Type 0} → Result T TreeFault → ℕ → List Row → Type 0
-SoundLeaf result limit ws = EachLink (IsData limit) ws → OkUnlessDevice result
-
--- P holds of the rows of this block, where the disk is honest after the call, and the block is a leaf
-abbrev pub OnLeaf : DiskState → DiskState → ℕ → (List Row → Type 0) → Type 0
-OnLeaf old new b P = new.honest ≡ true → (ws : List Row) → HasRows (block old.now.contents b) ws → P ws
+-- where the disk is honest after the call, and the answer is Ok, for each block that was read an inner block was marked
+abbrev pub PaysInner : {T : Type 0} → Result T TreeFault → DiskState → DiskState → List Bool → List Bool → Type 0
+PaysInner result old new marks later =
+    new.honest ≡ true → OnOk result (new.reads + unmarked_inner old.now.contents later ≤ old.reads + unmarked_inner old.now.contents marks)
 
 -- # What is marked of trees, where the disk is honest after the call
 

@@ -1,26 +1,21 @@
 -- Copies of blocks on another disk, under other numbers.
-use Rattle.std.specs.Prelude.{◌≡◌, ◌≢◌, ◌⊎◌, ℕ, ◌+◌, ◌<◌, ◌≤◌, ◌&&◌, nat_le, nat_lt, Bool, true, List, [], ◌∷◌, length, Option, None, Some, Result, Err, IfOk, IsOk, OnOk, map, slice_index_or}
+use Rattle.std.specs.Prelude.{◌≡◌, ◌≢◌, ◌⊎◌, ℕ, ◌+◌, ◌<◌, ◌≤◌, ◌&&◌, nat_le, nat_lt, Bool, true, List, [], ◌∷◌, length, Result, Err, IfOk, IsOk, OnOk, map}
 use Rattle.std.specs.List.{AllByRecursion}
 use Rattle.vm_types.specs.declared.sizes.TheConstants.{FIRST_DATA}
-use Rattle.vm_types.specs.declared.key.Key.{Key}
 use Rattle.vm_types.specs.Map.{Map}
 use Rattle.vm_disk.specs.Disk.{Contents, DiskState, Goes, block}
 use Rattle.vm_disk.specs.Moments.{Throughout, TouchesOnly}
 use Rattle.vm_alloc.specs.Marks.{IsMarked}
-use Rattle.vm_block.specs.Changed.{with_at}
-use Rattle.vm_block.specs.Leaf.{HasRows, IsShort, LinkFits, Record, Row, link_bytes}
-use Rattle.vm_block.specs.Long.{IsLong}
+use Rattle.vm_block.specs.Leaf.{HasRecords, Record}
 use Rattle.vm_block.specs.Node.{IsNode}
 use Rattle.vm_block.specs.declared.node.Child.{Child}
-use Rattle.vm_block.specs.declared.stored.Link.{Link}
 use Rattle.vm_tree.specs.Calls.{Looks}
-use Rattle.vm_tree.specs.BlockReads.{IsLongAt}
 use Rattle.vm_tree.specs.Root.{IsRooted}
 use Rattle.vm_tree.specs.Unsynced.{NeverSyncs}
 use Rattle.vm_tree.specs.declared.root.Root.{Root}
-use Rattle.vm_tree.specs.Tree.{Children, Sizes, StandForAll, StandsFor, Subtree}
+use Rattle.vm_tree.specs.Tree.{Children, Sizes, Subtree}
 use Rattle.vm_tree.specs.declared.faults.TreeFault.TheVariants.{Device, Damaged}
-use Rattle.vm_check.specs.Marks.{EachLink, LinksTo, OnSubtree, OnTree}
+use Rattle.vm_check.specs.Marks.{OnSubtree, OnTree}
 use Rattle.vm_check.specs.Renumbering.{AreGiven, Assigns, GoesOn, IsCopied, count_of, next_of, number_at}
 use Rattle.vm_check.specs.declared.tree_copy.CopyFault.{CopyFault}
 use Rattle.vm_check.specs.declared.tree_copy.CopyFault.TheVariants.{Source, Target, Full}
@@ -35,39 +30,19 @@ Paired R (x ∷ xs) (y ∷ ys) = R x y × Paired R xs ys
 Paired R [] (y ∷ ys) = ⊥
 Paired R (x ∷ xs) [] = ⊥
 
--- this is the same link, but that it names the copy of the block
-abbrev pub renumbered_link : Renumbering → Link → Link
-renumbered_link numbers link = record { len = link.len; block = number_at numbers link.block }
-
 -- the child has the same lowest key, and names the copy of the block
 abbrev pub renumbered : Renumbering → Child → Child
 renumbered numbers child = record { low = child.low; block = number_at numbers child.block }
-
--- a row with a link, whose block was copied, names the copy
-pub record Relinks (numbers : Renumbering) (w v : Row) : Type 0 where
-  pub link : Link
-  pub fits : LinkFits link
-  pub was : w.1 ≡ link_bytes link
-  pub copied : IsCopied numbers link.block
-  pub key : v.0 ≡ w.0
-  pub is : v.1 ≡ link_bytes (renumbered_link numbers link)
-  pub fits_still : LinkFits (renumbered_link numbers link)
-
--- the copy of a row: itself if it is short, else it names the copy of the block to which it links
-abbrev pub RowCopied : Renumbering → Row → Row → Type 0
-RowCopied numbers w v = (IsShort w × (v ≡ w)) ⊎ Relinks numbers w v
 
 -- the block of this child was copied, and its copy is named
 abbrev pub ChildCopied : Renumbering → Child → Child → Type 0
 ChildCopied numbers c d = IsCopied numbers c.block × (d ≡ renumbered numbers c)
 
--- a leaf, and the leaf of the copies of its rows
-pub record LeafCopied (numbers : Renumbering) (bytes copy : List ℕ) : Type 0 where
-  pub rows : List Row
-  pub copies : List Row
-  pub was : HasRows bytes rows
-  pub is : HasRows copy copies
-  pub each : Paired (RowCopied numbers) rows copies
+-- a leaf, and the same bytes
+pub record LeafCopied (bytes copy : List ℕ) : Type 0 where
+  pub records : List Record
+  pub was : HasRecords bytes records
+  pub is : copy ≡ bytes
 
 -- an inner block, and the one of the copies of its children
 pub record NodeCopied (numbers : Renumbering) (bytes copy : List ℕ) : Type 0 where
@@ -78,16 +53,9 @@ pub record NodeCopied (numbers : Renumbering) (bytes copy : List ℕ) : Type 0 w
   pub is : IsNode copy level copies
   pub each : Paired (ChildCopied numbers) children copies
 
--- the block of a long value, and the same bytes
-pub record LongCopied (bytes copy : List ℕ) : Type 0 where
-  pub key : Key
-  pub value : List ℕ
-  pub was : IsLong bytes key value
-  pub is : copy ≡ bytes
-
 -- the bytes of a block of a tree, and those of its copy
 abbrev pub IsCopyOf : Renumbering → List ℕ → List ℕ → Type 0
-IsCopyOf numbers bytes copy = LeafCopied numbers bytes copy ⊎ (NodeCopied numbers bytes copy ⊎ LongCopied bytes copy)
+IsCopyOf numbers bytes copy = LeafCopied bytes copy ⊎ NodeCopied numbers bytes copy
 
 -- in a store of so many blocks, of these contents, stands the copy of each block of the others that was copied
 pub record AreCopied (x y : Contents) (limit : ℕ) (numbers : Renumbering) : Type 0 where
@@ -145,14 +113,9 @@ WhereCopied limit s t old s' t' P =
 abbrev pub IsNumberOf : Renumbering → ℕ → ℕ → Type 0
 IsNumberOf numbers n number = (0 < number) × (number ≡ number_at numbers n)
 
--- the bytes are the block of a long value
-abbrev pub IsSomeLong : List ℕ → Type 0
-IsSomeLong bytes = (key : Key) × (value : List ℕ) × IsLong bytes key value
-
--- the bytes are the block of a long value, a leaf, or an inner block of this level at most
+-- the bytes are a leaf, or an inner block of this level at most
 abbrev pub IsUpTo : ℕ → List ℕ → Type 0
-IsUpTo level bytes =
-    IsSomeLong bytes ⊎ (((ws : List Row) × HasRows bytes ws) ⊎ ((l : ℕ) × (cs : List Child) × (l ≤ level) × IsNode bytes l cs))
+IsUpTo level bytes = ((rs : List Record) × HasRecords bytes rs) ⊎ ((l : ℕ) × (cs : List Child) × (l ≤ level) × IsNode bytes l cs)
 
 -- each block that was copied since has P
 abbrev pub CopiesOnly : (ℕ → Type 0) → Renumbering → Renumbering → Type 0
@@ -167,40 +130,9 @@ abbrev pub CopiesBlock : Result ℕ CopyFault → ℕ → ℕ → DiskState → 
 CopiesBlock result limit n s t old s' t' new =
     WhereCopied limit s t old s' t' (IfOk result (λ number. AreCopied s.now.contents t'.now.contents limit new × IsNumberOf new n number))
 
--- what is copied is the block of a long value, where the source is honest after it
-abbrev pub CopiesLongs : {T : Type 0} → Result T CopyFault → DiskState → Renumbering → DiskState → Renumbering → Type 0
-CopiesLongs result s old s' new = s'.honest ≡ true → OnOk result (CopiesOnly (λ n. IsSomeLong (block s.now.contents n)) old new)
-
--- or a leaf, or an inner block of this level at most
+-- what is copied is a leaf, or an inner block of this level at most, where the source is honest after it
 abbrev pub CopiesUpTo : {T : Type 0} → ℕ → Result T CopyFault → DiskState → Renumbering → DiskState → Renumbering → Type 0
 CopiesUpTo level result s old s' new = s'.honest ≡ true → OnOk result (CopiesOnly (λ n. IsUpTo level (block s.now.contents n)) old new)
-
--- this is the link that a row has, or the row is short
-abbrev pub TellsRow : Option Link → Row → Type 0
-TellsRow None w = IsShort w
-TellsRow (Some link) w = w.1 ≡ link_bytes link
-
--- the bytes are the leaf of these rows with a copy of the one at i in its place
-pub record RowOver (numbers : Renumbering) (i : ℕ) (d : Row) (ws : List Row) (bytes : List ℕ) : Type 0 where
-  pub over : Row
-  pub copied : RowCopied numbers (slice_index_or ws i d) over
-  pub leaf : HasRows bytes (with_at i over ws)
-
--- the row at i of a leaf of so many rows is copied
-abbrev pub CopiesRow : {T : Type 0} → Result T CopyFault → ℕ → ℕ → ℕ → List ℕ → List ℕ → DiskState → DiskState → Renumbering → DiskState → DiskState → Renumbering → Type 0
-CopiesRow result limit count i bytes copy s t old s' t' new =
-    (ws : List Row) (d : Row) → HasRows bytes ws → count ≡ length ws
-    → WhereCopied limit s t old s' t' (OnOk result (AreCopied s.now.contents t'.now.contents limit new × RowOver new i d ws copy))
-
--- the other rows of a leaf of so many stay as they are
-abbrev pub LeavesOthers : ℕ → ℕ → List ℕ → List ℕ → Type 0
-LeavesOthers count i bytes copy = (ws : List Row) (d : Row) → HasRows bytes ws → count ≡ length ws → (over : Row) × HasRows copy (with_at i over ws)
-
--- the rows of a leaf of so many are copied
-abbrev pub CopiesRows : {T : Type 0} → Result T CopyFault → ℕ → ℕ → List ℕ → List ℕ → DiskState → DiskState → Renumbering → DiskState → DiskState → Renumbering → Type 0
-CopiesRows result limit count bytes copy s t old s' t' new =
-    (ws : List Row) → HasRows bytes ws → count ≡ length ws
-    → WhereCopied limit s t old s' t' (OnOk result (AreCopied s.now.contents t'.now.contents limit new × LeafCopied new bytes copy))
 
 -- the children of an inner block of so many are copied
 abbrev pub CopiesChildren : {T : Type 0} → Result T CopyFault → ℕ → ℕ → List ℕ → List ℕ → DiskState → DiskState → Renumbering → DiskState → DiskState → Renumbering → Type 0
@@ -209,22 +141,6 @@ CopiesChildren result limit count bytes copy s t old s' t' new =
     → WhereCopied limit s t old s' t' (OnOk result (AreCopied s.now.contents t'.now.contents limit new × NodeCopied new bytes copy))
 
 -- # Where no damage is found, if the source is honest after it
-
--- at the block of a long value
-abbrev pub SoundLongCopy : {T : Type 0} → Result T CopyFault → ℕ → ℕ → DiskState → DiskState → Type 0
-SoundLongCopy result limit n s s' = s'.honest ≡ true → (key : Key) (value : List ℕ) → IsLongAt s.now.contents limit n key value → IsUndamaged result
-
--- at the row at i of a leaf of so many, which stands for a record
-abbrev pub SoundRowCopy : {T : Type 0} → Result T CopyFault → ℕ → ℕ → ℕ → List ℕ → DiskState → DiskState → Type 0
-SoundRowCopy result limit count i bytes s s' =
-    s'.honest ≡ true → (ws : List Row) (d : Row) (r : Record) (bs : List ℕ) → HasRows bytes ws → count ≡ length ws
-    → StandsFor s.now.contents limit (slice_index_or ws i d) r bs → IsUndamaged result
-
--- at the rows of a leaf of so many, which stand for records
-abbrev pub SoundRowsCopy : {T : Type 0} → Result T CopyFault → ℕ → ℕ → List ℕ → DiskState → DiskState → Type 0
-SoundRowsCopy result limit count bytes s s' =
-    s'.honest ≡ true → (ws : List Row) (rs : List Record) (bs : List ℕ) → HasRows bytes ws → count ≡ length ws
-    → StandForAll s.now.contents limit ws rs bs → IsUndamaged result
 
 -- at the children of an inner block of so many, which are the tops of subtrees of this level
 abbrev pub SoundChildrenCopy : {T : Type 0} → Result T CopyFault → ℕ → ℕ → ℕ → List ℕ → DiskState → DiskState → Type 0
@@ -250,21 +166,6 @@ pub record CopiesMarked (none_left : Type 0) (marks : List Bool) (old new : Renu
 -- the same with this result, if all these blocks are marked
 abbrev pub CopiesAmong : {T : Type 0} → Result T CopyFault → List ℕ → Renumbering → Renumbering → Type 0
 CopiesAmong result bs old new = (marks : List Bool) → AllByRecursion (IsMarked marks) bs → CopiesMarked (result ≡ Err Full) marks old new
-
--- at the block of a long value, if it is marked
-abbrev pub ReachedLongCopy : {T : Type 0} → Result T CopyFault → ℕ → Renumbering → Renumbering → Type 0
-ReachedLongCopy result n old new = (marks : List Bool) → IsMarked marks n → CopiesMarked (result ≡ Err Full) marks old new
-
--- at the row at i of a leaf of `count` rows, if the block to which it links is marked
-abbrev pub ReachedRowCopy : {T : Type 0} → Result T CopyFault → ℕ → ℕ → List ℕ → Renumbering → Renumbering → Type 0
-ReachedRowCopy result count i bytes old new =
-    (marks : List Bool) (ws : List Row) (d : Row) → HasRows bytes ws → count ≡ length ws
-    → ((b : ℕ) → LinksTo (slice_index_or ws i d) b → IsMarked marks b) → CopiesMarked (result ≡ Err Full) marks old new
-
--- at all rows of a leaf of `count` rows, if the blocks to which they link are marked
-abbrev pub ReachedRowsCopy : {T : Type 0} → Result T CopyFault → ℕ → List ℕ → Renumbering → Renumbering → Type 0
-ReachedRowsCopy result count bytes old new =
-    (marks : List Bool) (ws : List Row) → HasRows bytes ws → count ≡ length ws → EachLink (IsMarked marks) ws → CopiesMarked (result ≡ Err Full) marks old new
 
 -- at the `count` children of an inner block, which are the tops of subtrees of this level
 abbrev pub ReachedChildrenCopy : {T : Type 0} → Result T CopyFault → ℕ → ℕ → ℕ → List ℕ → DiskState → Renumbering → DiskState → Renumbering → Type 0

@@ -11,7 +11,6 @@ use Rattle.vm_tree.specs.Root.{IsRooted}
 use Rattle.vm_tree.specs.declared.root.Root.{Root}
 use Rattle.vm_tree.specs.declared.faults.ListFault.{ListFault}
 use Rattle.vm_check.specs.Marks.{unmarked}
-use Rattle.vm_check.specs.Suits.{SuitsAt}
 
 -- under the numbers lie maps, with these roots, in these blocks all together
 abbrev pub AreRoots : Sizes → Contents → ℕ → List ℕ → List Root → List ℕ → Type 0
@@ -21,24 +20,21 @@ AreRoots sizes x limit (n ∷ ns) (r ∷ rs) bs =
 AreRoots sizes x limit [] (r ∷ rs) bs = ⊥
 AreRoots sizes x limit (n ∷ ns) [] bs = ⊥
 
--- under each of the numbers lies a map, in blocks that have P
-abbrev pub HaveTrees : (ℕ → Type 0) → Sizes → Contents → ℕ → List ℕ → Type 0
-HaveTrees P sizes x limit ns = AllByRecursion (λ n. (m : Map) × (bs : List ℕ) × IsTree sizes x limit n m bs × AllByRecursion P bs) ns
+-- under each of the numbers lies a map
+abbrev pub HaveTrees : Sizes → Contents → ℕ → List ℕ → Type 0
+HaveTrees sizes x limit ns = AllByRecursion (λ n. (m : Map) × (bs : List ℕ) × IsTree sizes x limit n m bs) ns
 
--- these roots were found, and just the blocks under them are marked, each one that a store may have
-pub record Found (long : Bool) (sizes : Sizes) (x : Contents) (limit : ℕ) (ns : List ℕ) (roots : List Root) (marks : List Bool) : Type 0 where
+-- these roots were found, and just the blocks under them are marked
+pub record Found (sizes : Sizes) (x : Contents) (limit : ℕ) (ns : List ℕ) (roots : List Root) (marks : List Bool) : Type 0 where
   pub blocks : List ℕ
   pub are : AreRoots sizes x limit ns roots blocks
   pub count : length marks ≡ limit
   pub each : AllByRecursion (IsMarked marks) blocks
   pub only : (n : ℕ) → IsMarked marks n → Contains blocks n
-  pub suits : AllByRecursion (SuitsAt long x) blocks
 
--- where the disk is honest after the call, and each of the numbers has a tree, in blocks that a store may have, it is Ok,
--- unless the device fails or no memory is found
-abbrev pub AcceptsTrees : {T : Type 0} → Result T ListFault → Bool → Sizes → DiskState → DiskState → ℕ → List ℕ → Type 0
-AcceptsTrees result long sizes old new limit ns =
-    new.honest ≡ true → HaveTrees (SuitsAt long old.now.contents) sizes old.now.contents limit ns → Lists result (λ _. Unit {0})
+-- where the disk is honest after the call, and each of the numbers has a tree, it is Ok, unless the device fails or no memory is found
+abbrev pub AcceptsTrees : {T : Type 0} → Result T ListFault → Sizes → DiskState → DiskState → ℕ → List ℕ → Type 0
+AcceptsTrees result sizes old new limit ns = new.honest ≡ true → HaveTrees sizes old.now.contents limit ns → Lists result (λ _. Unit {0})
 
 -- just as many blocks were read as are marked, of so many in the store
 abbrev pub PaidFor : DiskState → DiskState → ℕ → List Bool → Type 0

@@ -4,7 +4,7 @@ ghost use Rattle.vm_tree.specs.Calls.{OnlyLooks};
 ghost use Rattle.vm_tree.specs.BlockReads.{ReadsOne};
 ghost use Rattle.vm_check.specs.Form.{AcceptsLeaf, AcceptsNode, HasRead, IsFilled, IsForm};
 
-use vm_block::{node_size, rows_size};
+use vm_block::{is_leaf, node_size, records_len};
 use vm_disk::{Disk, Need};
 use vm_tree::{TreeFault, load_data};
 use vm_types::BlockNumber;
@@ -12,7 +12,7 @@ use vm_types::BlockNumber;
 /// What a block of a tree is.
 #[derive(Clone, Copy, Debug)]
 pub(crate) enum Form {
-    /// A leaf with this many rows.
+    /// A leaf with this many records.
     Leaf(usize),
     /// An inner block of this level with this many children.
     Node(u8, usize),
@@ -36,11 +36,11 @@ pub(crate) fn form_at<D: Disk>(
 {
     load_data(disk, blocks, block, need)?;
     let bytes = disk.at_hand();
-    match rows_size(bytes) {
-        Some(count) => Ok(Form::Leaf(count)),
-        None => match node_size(bytes) {
-            Some((level, count)) => Ok(Form::Node(level, count)),
-            None => Err(TreeFault::Damaged(block)),
-        },
+    if is_leaf(bytes) {
+        return Ok(Form::Leaf(records_len(bytes)));
+    }
+    match node_size(bytes) {
+        Some((level, count)) => Ok(Form::Node(level, count)),
+        None => Err(TreeFault::Damaged(block)),
     }
 }

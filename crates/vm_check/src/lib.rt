@@ -5,20 +5,18 @@
 //! It stands on `vm_types`, `vm_disk`, `vm_alloc`, `vm_block` and `vm_tree`. Its promises: the
 //! walks only read the disk that they walk, with at most one read for each block that they mark or
 //! copy; the marks grow by exactly what is reached; `verify` is Ok exactly when each number has a
-//! tree, in blocks that the store may have, unless the device fails or memory cannot be allocated;
-//! and under the root of a copy lies the same map, in the copies of its blocks. `mark` works on a
-//! `NotedDisk`, which notes the leaves that it need not read.
+//! tree, unless the device fails or memory cannot be allocated; and under the root of a copy lies
+//! the same map, in the copies of its blocks. Nothing in a leaf names a block, so `mark` reads no
+//! leaf.
 #![tactic(auto)]
 
 mod form;
 mod marks;
-mod noted;
 mod renumbering;
 mod tree_copy;
 mod verification;
 
 pub use marks::mark;
-pub use noted::NotedDisk;
 pub use renumbering::Renumbering;
 pub use tree_copy::{CopyFault, copy_tree};
 pub use verification::verify;

@@ -1,19 +1,14 @@
 //! Copying what lies under roots to another disk, under new numbers.
-ghost use Rattle.std.specs.Prelude.{◌≡◌, ◌≢◌, ◌+◌, ◌<◌, ◌≤◌, true, IfOk, IfSome, OnOk};
+ghost use Rattle.std.specs.Prelude.{◌≡◌, ◌≢◌, ◌+◌, ◌<◌, ◌≤◌, true, IfOk};
 ghost use Rattle.vm_types.specs.declared.sizes.TheConstants.{FIRST_DATA};
 ghost use Rattle.vm_check.specs.declared.tree_copy.CopyFault.TheVariants as copy;
-ghost use Rattle.vm_block.specs.Leaf.{LinkFits};
-ghost use Rattle.vm_block.specs.Told.{IfLeafRowAt};
-ghost use Rattle.vm_check.specs.TreeCopy.{CopiesBlock, CopiesChildren, CopiesLongs, CopiesMap, CopiesRoot, CopiesRow, CopiesRows, CopiesUpTo, IsPut, LeavesOthers, NumbersFit, PutsTo, ReachedChildrenCopy, ReachedCopy, ReachedLongCopy, ReachedRowCopy, ReachedRowsCopy, ReachedTreeCopy, ReadsBesideCopies, SoundChildrenCopy, SoundCopy, SoundLongCopy, SoundRowCopy, SoundRowsCopy, SoundTreeCopy, StepsTo, TellsRow};
+ghost use Rattle.vm_check.specs.TreeCopy.{CopiesBlock, CopiesChildren, CopiesMap, CopiesRoot, CopiesUpTo, IsPut, NumbersFit, PutsTo, ReachedChildrenCopy, ReachedCopy, ReachedTreeCopy, ReadsBesideCopies, SoundChildrenCopy, SoundCopy, SoundTreeCopy, StepsTo};
 ghost use Rattle.vm_check.specs.Renumbering.{count_of, next_of};
 
 use crate::renumbering::Renumbering;
-use vm_block::{
-    Child, Link, MAX_CHILDREN, MAX_ROWS, Stored, child_at, read_long, set_child, set_link,
-    stored_at,
-};
+use vm_block::{Child, MAX_CHILDREN, child_at, set_child};
 use vm_disk::Disk;
-use vm_tree::{Root, TreeFault, data_at, is_data, node_into, rows_into};
+use vm_tree::{Root, TreeFault, is_data, leaf_into, node_into};
 use vm_types::{Block, BlockNumber};
 
 /// Why trees were not copied.
@@ -66,116 +61,7 @@ fn put_copy<T: Disk>(
     Ok(number)
 }
 
-/// Copies the block of a long value, unless it was copied, and returns the number of its copy.
-fn copy_long<S: Disk, T: Disk>(
-    source: &mut S,
-    blocks: u32,
-    target: &mut T,
-    limit: u32,
-    block: BlockNumber,
-    numbers: &mut Renumbering,
-) -> Result<BlockNumber, CopyFault>
-    requires fit { NumbersFit blocks limit (S.state source.old) (T.state target.old) numbers.old }
-    ensures step { StepsTo result limit (S.state source.old) (T.state target.old) numbers.old
-        (S.state source.new) (T.state target.new) numbers.new }
-    ensures few { ReadsBesideCopies 1 (S.state source.old) numbers.old (S.state source.new) numbers.new }
-    ensures copied { CopiesBlock result limit block (S.state source.old) (T.state target.old) numbers.old
-        (S.state source.new) (T.state target.new) numbers.new }
-    ensures only { CopiesLongs result (S.state source.old) numbers.old (S.state source.new) numbers.new }
-    ensures sound { SoundLongCopy result blocks block (S.state source.old) (S.state source.new) }
-    ensures reached { ReachedLongCopy result block numbers.old numbers.new }
-{
-    if !is_data(blocks, block) {
-        return Err(CopyFault::Source(TreeFault::Damaged(block)));
-    }
-    let number = numbers.number_of(block);
-    if number != 0 {
-        return Ok(number);
-    }
-    let mut bytes = [0; 4096];
-    data_at(source, blocks, block, &mut bytes)?;
-    let Some(_) = read_long(&bytes) else {
-        return Err(CopyFault::Source(TreeFault::Damaged(block)));
-    };
-    put_copy(target, limit, block, &bytes, numbers)
-}
-
-/// The link in row `i` of a leaf, if the row is long.
-fn link_in(bytes: &Block, i: usize) -> Option<Link>
-    requires { i < MAX_ROWS }
-    ensures fits { IfSome result LinkFits }
-    ensures row { IfLeafRowAt bytes.now i (TellsRow result) }
-{
-    match stored_at(bytes, i) {
-        Some(Stored::Long(link)) => Some(link),
-        Some(Stored::Short(_)) => None,
-        None => None,
-    }
-}
-
-/// Copies the block that row `i` of a leaf of `count` rows links to, if it has a link, and replaces
-/// the link by one to the copy.
-fn copy_row<S: Disk, T: Disk>(
-    source: &mut S,
-    blocks: u32,
-    target: &mut T,
-    limit: u32,
-    bytes: &mut Block,
-    count: usize,
-    i: usize,
-    numbers: &mut Renumbering,
-) -> Result<(), CopyFault>
-    requires within { i < count }
-    requires few { count ≤ MAX_ROWS }
-    requires fit { NumbersFit blocks limit (S.state source.old) (T.state target.old) numbers.old }
-    ensures step { StepsTo result limit (S.state source.old) (T.state target.old) numbers.old
-        (S.state source.new) (T.state target.new) numbers.new }
-    ensures few { ReadsBesideCopies 1 (S.state source.old) numbers.old (S.state source.new) numbers.new }
-    ensures copied { CopiesRow result limit count i bytes.old bytes.new (S.state source.old) (T.state target.old) numbers.old
-        (S.state source.new) (T.state target.new) numbers.new }
-    ensures only { CopiesLongs result (S.state source.old) numbers.old (S.state source.new) numbers.new }
-    ensures others { OnOk result (LeavesOthers count i bytes.old bytes.new) }
-    ensures sound { SoundRowCopy result blocks count i bytes.old (S.state source.old) (S.state source.new) }
-    ensures reached { ReachedRowCopy result count i bytes.old numbers.old numbers.new }
-{
-    let Some(link) = link_in(bytes, i) else {
-        return Ok(());
-    };
-    let block = copy_long(source, blocks, target, limit, link.block, numbers)?;
-    set_link(bytes, count, i, Link { block, ..link });
-    Ok(())
-}
-
-/// Copies the blocks that the rows of a leaf of `count` rows link to, and replaces the links by
-/// ones to the copies.
-fn copy_rows<S: Disk, T: Disk>(
-    source: &mut S,
-    blocks: u32,
-    target: &mut T,
-    limit: u32,
-    bytes: &mut Block,
-    count: usize,
-    numbers: &mut Renumbering,
-) -> Result<(), CopyFault>
-    requires few { count ≤ MAX_ROWS }
-    requires fit { NumbersFit blocks limit (S.state source.old) (T.state target.old) numbers.old }
-    ensures step { StepsTo result limit (S.state source.old) (T.state target.old) numbers.old
-        (S.state source.new) (T.state target.new) numbers.new }
-    ensures few { ReadsBesideCopies 1 (S.state source.old) numbers.old (S.state source.new) numbers.new }
-    ensures copied { CopiesRows result limit count bytes.old bytes.new (S.state source.old) (T.state target.old) numbers.old
-        (S.state source.new) (T.state target.new) numbers.new }
-    ensures only { CopiesLongs result (S.state source.old) numbers.old (S.state source.new) numbers.new }
-    ensures sound { SoundRowsCopy result blocks count bytes.old (S.state source.old) (S.state source.new) }
-    ensures reached { ReachedRowsCopy result count bytes.old numbers.old numbers.new }
-{
-    for i in 0..count {
-        copy_row(source, blocks, target, limit, bytes, count, i, numbers)?;
-    }
-    Ok(())
-}
-
-/// Copies a leaf and the blocks of its long values, unless it was copied, and returns the number of
-/// its copy.
+/// Copies a leaf, unless it was copied, and returns the number of its copy.
 fn copy_leaf<S: Disk, T: Disk>(
     source: &mut S,
     blocks: u32,
@@ -187,7 +73,7 @@ fn copy_leaf<S: Disk, T: Disk>(
     requires fit { NumbersFit blocks limit (S.state source.old) (T.state target.old) numbers.old }
     ensures step { StepsTo result limit (S.state source.old) (T.state target.old) numbers.old
         (S.state source.new) (T.state target.new) numbers.new }
-    ensures few { ReadsBesideCopies 2 (S.state source.old) numbers.old (S.state source.new) numbers.new }
+    ensures few { ReadsBesideCopies 1 (S.state source.old) numbers.old (S.state source.new) numbers.new }
     ensures copied { CopiesBlock result limit block (S.state source.old) (T.state target.old) numbers.old
         (S.state source.new) (T.state target.new) numbers.new }
     ensures only { CopiesUpTo 0 result (S.state source.old) numbers.old (S.state source.new) numbers.new }
@@ -203,8 +89,7 @@ fn copy_leaf<S: Disk, T: Disk>(
         return Ok(number);
     }
     let mut bytes = [0; 4096];
-    let count = rows_into(source, blocks, block, &mut bytes)?;
-    copy_rows(source, blocks, target, limit, &mut bytes, count, numbers)?;
+    leaf_into(source, blocks, block, &mut bytes)?;
     put_copy(target, limit, block, &bytes, numbers)
 }
 
@@ -225,7 +110,7 @@ fn copy_children<S: Disk, T: Disk>(
     requires fit { NumbersFit blocks limit (S.state source.old) (T.state target.old) numbers.old }
     ensures step { StepsTo result limit (S.state source.old) (T.state target.old) numbers.old
         (S.state source.new) (T.state target.new) numbers.new }
-    ensures few { ReadsBesideCopies (level + 2) (S.state source.old) numbers.old (S.state source.new) numbers.new }
+    ensures few { ReadsBesideCopies (level + 1) (S.state source.old) numbers.old (S.state source.new) numbers.new }
     ensures copied { CopiesChildren result limit count bytes.old bytes.new (S.state source.old) (T.state target.old) numbers.old
         (S.state source.new) (T.state target.new) numbers.new }
     ensures only { CopiesUpTo level result (S.state source.old) numbers.old (S.state source.new) numbers.new }
@@ -257,7 +142,7 @@ fn copy_node<S: Disk, T: Disk>(
     requires fit { NumbersFit blocks limit (S.state source.old) (T.state target.old) numbers.old }
     ensures step { StepsTo result limit (S.state source.old) (T.state target.old) numbers.old
         (S.state source.new) (T.state target.new) numbers.new }
-    ensures few { ReadsBesideCopies (level + 2) (S.state source.old) numbers.old (S.state source.new) numbers.new }
+    ensures few { ReadsBesideCopies (level + 1) (S.state source.old) numbers.old (S.state source.new) numbers.new }
     ensures copied { CopiesBlock result limit block (S.state source.old) (T.state target.old) numbers.old
         (S.state source.new) (T.state target.new) numbers.new }
     ensures only { CopiesUpTo level result (S.state source.old) numbers.old (S.state source.new) numbers.new }
@@ -302,7 +187,7 @@ fn copy_below<S: Disk, T: Disk>(
     requires fit { NumbersFit blocks limit (S.state source.old) (T.state target.old) numbers.old }
     ensures step { StepsTo result limit (S.state source.old) (T.state target.old) numbers.old
         (S.state source.new) (T.state target.new) numbers.new }
-    ensures few { ReadsBesideCopies (level + 2) (S.state source.old) numbers.old (S.state source.new) numbers.new }
+    ensures few { ReadsBesideCopies (level + 1) (S.state source.old) numbers.old (S.state source.new) numbers.new }
     ensures copied { CopiesBlock result limit block (S.state source.old) (T.state target.old) numbers.old
         (S.state source.new) (T.state target.new) numbers.new }
     ensures only { CopiesUpTo level result (S.state source.old) numbers.old (S.state source.new) numbers.new }
@@ -345,9 +230,9 @@ pub fn copy_tree<S: Disk, T: Disk>(
     ensures step { StepsTo result limit (S.state source.old) (T.state target.old) numbers.old
         (S.state source.new) (T.state target.new) numbers.new }
 
-    // Whatever the answer, it reads one block for each that got a number, and at most one per level and
-    // that of a long value beside them.
-    ensures few { ReadsBesideCopies (root.level + 2) (S.state source.old) numbers.old (S.state source.new) numbers.new }
+    // Whatever the answer, it reads one block for each that got a number, and at most one per level beside
+    // them.
+    ensures few { ReadsBesideCopies (root.level + 1) (S.state source.old) numbers.old (S.state source.new) numbers.new }
 
     // If both disks are honest and the target holds what was copied before, then it holds that
     // together with the copies of the blocks under this root, and the same map lies under the

@@ -19,7 +19,8 @@ use Rattle.vm_disk.proofs.MomentLemmas.{weaken}
 use Rattle.vm_store.specs.Refused.{IsAtMostSynced, IsRefused}
 use Rattle.vm_store.specs.Shown.{Shows}
 use Rattle.vm_cli.specs.Keeps.{Keeps}
-use Rattle.vm_cli.specs.Sessions.{HasRefused}
+use Rattle.vm_cli.specs.Openings.{HasRefused, TellsEarlier, refusal_of}
+use Rattle.vm_cli.specs.declared.program.opening.NoStore.{NoStore}
 
 -- what was made for some blocks was made for more than none
 pub some : (n : ℕ) → (n ≡ 0 → ⊥) → 0 < n
@@ -174,12 +175,13 @@ module _ {D : Type 0} (members : Ghosts D) (first last : DelayedDisk D members) 
       (delayed_state members.state first) (members.state (inner_of first)) none_above none_below s commands answers kept
 
   -- why a disk was refused
-  pub refused_late : (refusal : Refusal) → ((members.state (inner_of first)).honest ≡ true → IsClean (members.state (inner_of first)).now)
-      → HasRefused (delayed_state members.state first) (delayed_state members.state last) refusal
-      → HasRefused (members.state (inner_of first)) (members.state (inner_of last)) refusal
-  refused_late refusal clean refused = record {
+  pub refused_late : (why : NoStore) → ((members.state (inner_of first)).honest ≡ true → IsClean (members.state (inner_of first)).now)
+      → HasRefused (delayed_state members.state first) (delayed_state members.state last) why
+      → HasRefused (members.state (inner_of first)) (members.state (inner_of last)) why
+  refused_late why clean refused = record {
     goes = record { same_blocks = refused.goes.same_blocks; earlier = refused.goes.earlier; rising = refused.goes.rising; fault = refused.goes.fault };
-    why = λ honest. subst (λ (m : Medium). IsRefused m.contents refusal) idle.now (refused.why honest);
+    why = λ honest. subst (λ (m : Medium). IsRefused m.contents (refusal_of why)) idle.now (refused.why honest);
+    earlier = λ honest. subst (λ (m : Medium). TellsEarlier m.contents why) idle.now (refused.earlier honest);
     moments = λ honest.
         synced_follows (delayed_state members.state last) (members.state (inner_of last)) (follows honest)
         (delayed_state members.state first) (members.state (inner_of first)) none_above fresh idle.now (clean (refused.goes.earlier honest)) (refused.moments honest);

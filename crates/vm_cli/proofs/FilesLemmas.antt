@@ -6,7 +6,6 @@ use Rattle.std.specs.Str.{bytes_eq}
 use Rattle.clap.specs.Words.{IsAmong, Text, fault_of}
 use Rattle.clap.specs.declared.error.kind.ErrorKind.{ErrorKind}
 use Rattle.vm_types.specs.State.{Seen, opened}
-use Rattle.vm_types.specs.declared.refusal.Refusal.{Refusal}
 use Rattle.vm_disk.specs.Cached.{cached_state, inner_of}
 use Rattle.vm_disk.specs.Delayed.{IsIdleOver, delayed_state, inner_of as below}
 use Rattle.vm_disk.specs.Disk.{IsClean, DiskState, Medium}
@@ -25,7 +24,8 @@ use Rattle.vm_cli.specs.Keeps.{Keeps, answers_of, commands_of}
 use Rattle.vm_cli.specs.Files.{Answers, Counts, Draws, Declines, Does, Duplicates, KeepsAll, Makes}
 use Rattle.vm_cli.specs.Places.{KeepsOthers, PlaceState}
 use Rattle.vm_cli.specs.Runs.{AsksToWrite, Disks, IsLook, LooksOnly, ServesIn, ServesWords}
-use Rattle.vm_cli.specs.Sessions.{HasRefused}
+use Rattle.vm_cli.specs.Openings.{HasRefused}
+use Rattle.vm_cli.specs.declared.program.opening.NoStore.{NoStore}
 use Rattle.vm_cli.specs.Words.{Wanted, altctl}
 use Rattle.vm_cli.specs.Words.Wanted.{check, copy, create, do_lines, draw, run}
 use Rattle.vm_cli.specs.declared.program.Exit.{Exit}
@@ -134,19 +134,19 @@ module _ {D : Type 0} (members : Ghosts D) (late : Ghosts (DelayedDisk D members
 
 -- a disk that was refused, with a late disk over it or without, was so itself
 pub refused_told_late : {D : Type 0} (members : Ghosts D) (late : Ghosts (DelayedDisk D members)) → ((disk : DelayedDisk D members) → late.state disk ≡ delayed_state members.state disk)
-    → (buffer : ℕ) (found back : D) (refusal : Refusal) → (members.state found).past ≡ [] → ((members.state found).honest ≡ true → IsClean (members.state found).now)
-    → IsRefusedLate members late buffer found back refusal → HasRefused (members.state found) (members.state back) refusal
-refused_told_late members late same_late buffer found back refusal fresh clean (inl refused) = refused
-refused_told_late {D} members late same_late buffer found back refusal fresh clean (inr over) =
+    → (buffer : ℕ) (found back : D) (why : NoStore) → (members.state found).past ≡ [] → ((members.state found).honest ≡ true → IsClean (members.state found).now)
+    → IsRefusedLate members late buffer found back why → HasRefused (members.state found) (members.state back) why
+refused_told_late members late same_late buffer found back why fresh clean (inl refused) = refused
+refused_told_late {D} members late same_late buffer found back why fresh clean (inr over) =
     let idle : IsIdleOver members.state (below over.first) buffer over.first = subst (λ (d : D). IsIdleOver members.state d buffer over.first) (sym over.idle.inner) over.idle in
     let new : (members.state (below over.first)).past ≡ [] = subst (λ (d : D). (members.state d).past ≡ []) (sym over.idle.inner) fresh in
     let was : (members.state (below over.first)).honest ≡ true → IsClean (members.state (below over.first)).now =
     subst (λ (d : D). (members.state d).honest ≡ true → IsClean (members.state d).now) (sym over.idle.inner) clean in
-    let refused : HasRefused (delayed_state members.state over.first) (delayed_state members.state over.last) refusal =
-    subst (λ (t : DiskState). HasRefused (delayed_state members.state over.first) t refusal) (same_late over.last)
-    (subst (λ (t : DiskState). HasRefused t (late.state over.last) refusal) (same_late over.first) over.done) in
-    refused_there members found back (below over.first) (below over.last) refusal over.idle.inner over.given_back
-    (refused_late members over.first over.last buffer idle new over.follows refusal was refused)
+    let refused : HasRefused (delayed_state members.state over.first) (delayed_state members.state over.last) why =
+    subst (λ (t : DiskState). HasRefused (delayed_state members.state over.first) t why) (same_late over.last)
+    (subst (λ (t : DiskState). HasRefused t (late.state over.last) why) (same_late over.first) over.done) in
+    refused_there members found back (below over.first) (below over.last) why over.idle.inner over.given_back
+    (refused_late members over.first over.last buffer idle new over.follows why was refused)
 
 -- a disk of which a cache was made, and the cache: its state is that of the disk but for its reads
 module _ {D : Type 0} (members : Ghosts D) (cached : Ghosts (CachedDisk D members)) (same : (disk : CachedDisk D members) → cached.state disk ≡ cached_state members.state disk)
@@ -209,18 +209,18 @@ module _ {D : Type 0} (members : Ghosts D) (cached : Ghosts (CachedDisk D member
             (subst (λ (d : D). Keeps (members.state d) (members.state (inner_of over.last)) (opened seen) commands answers) over.empty.inner below)
 
   -- a disk that was refused, with something over it or without, was so itself
-  pub refused_told : (refusal : Refusal) → (members.state found).past ≡ [] → ((members.state found).honest ≡ true → IsClean (members.state found).now)
-      → IsNotServed members cached late late_cached in_memory found back refusal → HasRefused (members.state found) (members.state back) refusal
-  refused_told refusal fresh clean (inl refused) = refused_told_late members late same_late (buffer_for in_memory.buffer (members.state found).blocks) found back refusal fresh clean refused
-  refused_told refusal fresh clean (inr over) =
-      let above : HasRefused (cached.state over.first) (cached.state over.last) refusal =
-      refused_told_late cached late_cached same_above (buffer_for in_memory.buffer (members.state found).blocks) over.first over.last refusal (fresh_above members cached same found over.first over.empty.inner fresh)
+  pub refused_told : (why : NoStore) → (members.state found).past ≡ [] → ((members.state found).honest ≡ true → IsClean (members.state found).now)
+      → IsNotServed members cached late late_cached in_memory found back why → HasRefused (members.state found) (members.state back) why
+  refused_told why fresh clean (inl refused) = refused_told_late members late same_late (buffer_for in_memory.buffer (members.state found).blocks) found back why fresh clean refused
+  refused_told why fresh clean (inr over) =
+      let above : HasRefused (cached.state over.first) (cached.state over.last) why =
+      refused_told_late cached late_cached same_above (buffer_for in_memory.buffer (members.state found).blocks) over.first over.last why (fresh_above members cached same found over.first over.empty.inner fresh)
       (λ honest. clean_above members cached same found over.first over.empty.inner (clean (honest_below members cached same found over.first over.empty.inner honest))) over.done in
-      let shown : HasRefused (cached_state members.state over.first) (cached_state members.state over.last) refusal =
-      subst (λ (t : DiskState). HasRefused (cached_state members.state over.first) t refusal) (same over.last)
-      (subst (λ (t : DiskState). HasRefused t (cached.state over.last) refusal) (same over.first) above) in
-      refused_there members found back (inner_of over.first) (inner_of over.last) refusal over.empty.inner over.given_back
-      (refused_below members over.first over.last refusal shown)
+      let shown : HasRefused (cached_state members.state over.first) (cached_state members.state over.last) why =
+      subst (λ (t : DiskState). HasRefused (cached_state members.state over.first) t why) (same over.last)
+      (subst (λ (t : DiskState). HasRefused t (cached.state over.last) why) (same over.first) above) in
+      refused_there members found back (inner_of over.first) (inner_of over.last) why over.empty.inner over.given_back
+      (refused_below members over.first over.last why shown)
 
 module _ {D : Type 0} (members : Ghosts D) (cached : Ghosts (CachedDisk D members)) (late : Ghosts (DelayedDisk D members))
     (late_cached : Ghosts (DelayedDisk (CachedDisk D members) cached)) (Untouched Reads Opens : Type 0) (OpensFor : OnCommand → Type 0) (Denied : Text → Type 0) (words : List Text) (exit : Exit)

@@ -22,6 +22,7 @@ pub mod ChainLemmas
 pub mod HandledLemmas
 pub mod ListedLemmas
 pub mod MergeLemmas
+pub mod OpeningLemmas
 pub mod OthersLemmas
 pub mod RequestLemmas
 pub mod WritesLemmas

@@ -11,6 +11,7 @@ use Rattle.vm_disk.specs.declared.delayed.DelayedDisk.{DelayedDisk}
 use Rattle.vm_disk.specs.declared.disk.Disk.{Ghosts}
 use Rattle.vm_cli.specs.DelayedLines.{IsRefusedLate, IsServedLate, answers_late, commands_late}
 use Rattle.vm_cli.specs.declared.program.Exit.{Exit}
+use Rattle.vm_cli.specs.declared.program.opening.NoStore.{NoStore}
 use Rattle.vm_cli.specs.declared.program.task.InMemory.{InMemory}
 use Rattle.vm_cli.specs.declared.program.task.TheConstants.{LEAST_BUFFER, MAX_BUFFER}
 use Rattle.vm_cli.specs.declared.talk.Manner.{Manner}
@@ -39,10 +40,10 @@ module _ {D : Type 0} (members : Ghosts D) (cached : Ghosts (CachedDisk D member
       ⊎ IsDoneOverCache members in_memory.cache (λ first last. IsServedLate cached late_cached (buffer_for in_memory.buffer (members.state old).blocks) on first last exit input before after) old new
 
   -- a disk was refused, itself or with a cache of its blocks over it; either way with a late disk over that or without
-  abbrev pub IsNotServed : InMemory → D → D → Refusal → Type 0
-  IsNotServed in_memory old new refusal =
-      IsRefusedLate members late (buffer_for in_memory.buffer (members.state old).blocks) old new refusal
-      ⊎ IsDoneOverCache members in_memory.cache (λ first last. IsRefusedLate cached late_cached (buffer_for in_memory.buffer (members.state old).blocks) first last refusal) old new
+  abbrev pub IsNotServed : InMemory → D → D → NoStore → Type 0
+  IsNotServed in_memory old new why =
+      IsRefusedLate members late (buffer_for in_memory.buffer (members.state old).blocks) old new why
+      ⊎ IsDoneOverCache members in_memory.cache (λ first last. IsRefusedLate cached late_cached (buffer_for in_memory.buffer (members.state old).blocks) first last why) old new
 
   -- the commands among these lines, where the store stood for this state at first
   abbrev pub commands_told : (in_memory : InMemory) {on : Manner} {old new : D} {exit : Exit} {input before after : Option (List ℕ)}

@@ -15,11 +15,13 @@ use Rattle.vm_store.specs.Refused.{IsStore}
 use Rattle.vm_store.specs.Rest.{spare_of}
 use Rattle.vm_store.specs.Store.{FromState, blocks_of, disk_of, free_of}
 use Rattle.vm_store.specs.declared.store.Store.{Store}
-use Rattle.vm_cli.specs.Exits.{Tells, copied_text, file_text, part_of, refused_text}
+use Rattle.vm_cli.specs.Exits.{Tells, copied_text, file_text, no_store_text, part_of, refused_text}
 use Rattle.vm_cli.specs.Places.{KeepsBut, KeepsOthers, PlaceState}
-use Rattle.vm_cli.specs.Sessions.{HasRefused, HasShown}
+use Rattle.vm_cli.specs.Openings.{HasRefused}
+use Rattle.vm_cli.specs.Sessions.{HasShown}
 use Rattle.vm_cli.specs.declared.program.Exit.{Exit}
 use Rattle.vm_cli.specs.declared.program.Exit.TheVariants.{Done, Refused, Stopped}
+use Rattle.vm_cli.specs.declared.program.opening.NoStore.{NoStore}
 use Rattle.vm_cli.specs.declared.program.store_copy.Size.{Size}
 
 -- how many blocks a copy has: as many as were asked for, or as many as the store
@@ -178,4 +180,4 @@ module _ {P D : Type 0} (own : Ghosts D) (state : P → PlaceState) (denied : P 
       → ((seen : Seen) × (used : ℕ) × HasShown (own.state disk) (own.state result.1) seen × IsInUse own (own.state disk).now.contents seen used
       × MakesCopy (to_write place' ≡ to_write place) (to_write place' ≡ to_write place + 1) (λ name. denied place' ≡ name ∷ denied place)
       name (copy_of seen asked) used (own.state disk) (own.state result.1) result.0 (state place) (state place') before after errors errors')
-      ⊎ ((refusal : Refusal) × HasRefused (own.state disk) (own.state result.1) refusal × (place' ≡ place) × Tells Refused result.0 errors errors' (refused_text refusal))
+      ⊎ ((why : NoStore) × HasRefused (own.state disk) (own.state result.1) why × (place' ≡ place) × Tells Refused result.0 errors errors' (no_store_text why))

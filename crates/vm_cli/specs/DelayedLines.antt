@@ -9,8 +9,10 @@ use Rattle.vm_disk.specs.Delayed.{FollowsBelow, IsIdleOver, delayed_state, inner
 use Rattle.vm_disk.specs.declared.delayed.DelayedDisk.{DelayedDisk}
 use Rattle.vm_disk.specs.declared.disk.Disk.{Ghosts}
 use Rattle.vm_cli.specs.Keeps.{answers_of, commands_of}
-use Rattle.vm_cli.specs.Sessions.{HasRefused, HasServed}
+use Rattle.vm_cli.specs.Openings.{HasRefused}
+use Rattle.vm_cli.specs.Sessions.{HasServed}
 use Rattle.vm_cli.specs.declared.program.Exit.{Exit}
+use Rattle.vm_cli.specs.declared.program.opening.NoStore.{NoStore}
 use Rattle.vm_cli.specs.declared.talk.Manner.{Manner}
 
 module _ {D : Type 0} (members : Ghosts D) where
@@ -26,10 +28,10 @@ module _ {D : Type 0} (members : Ghosts D) where
 
 module _ {D : Type 0} (members : Ghosts D) (late : Ghosts (DelayedDisk D members)) where
   -- a disk was refused, itself or with a late disk over it
-  abbrev pub IsRefusedLate : ℕ → D → D → Refusal → Type 0
-  IsRefusedLate buffer old new refusal =
-      HasRefused (members.state old) (members.state new) refusal
-      ⊎ IsDoneLate members buffer (λ first last. HasRefused (late.state first) (late.state last) refusal) old new
+  abbrev pub IsRefusedLate : ℕ → D → D → NoStore → Type 0
+  IsRefusedLate buffer old new why =
+      HasRefused (members.state old) (members.state new) why
+      ⊎ IsDoneLate members buffer (λ first last. HasRefused (late.state first) (late.state last) why) old new
 
 module _ {D : Type 0} (members : Ghosts D) (late : Ghosts (DelayedDisk D members)) where
   -- lines were answered over a disk itself, or over a late disk over it

@@ -8,6 +8,7 @@ use Rattle.clap.specs.declared.error.kind.ErrorKind.{ErrorKind}
 use Rattle.clap.specs.declared.error.kind.ErrorKind.TheVariants.{DisplayHelp, DisplayVersion, OutOfMemory}
 use Rattle.vm_types.specs.Texts.{refusal_text}
 use Rattle.vm_types.specs.declared.refusal.Refusal.{Refusal}
+use Rattle.vm_types.specs.declared.refusal.Refusal.TheVariants.{NotAStore}
 use Rattle.vm_store.specs.NewStore.{IsOfFormat}
 use Rattle.vm_cli.specs.Carried.{WritesStart}
 use Rattle.vm_cli.specs.Branches.{Branch, drawing}
@@ -16,6 +17,8 @@ use Rattle.vm_cli.specs.Words.Wanted.{check, copy, create, do_lines, draw, run}
 use Rattle.vm_cli.specs.declared.program.Exit.{Exit}
 use Rattle.vm_cli.specs.declared.program.file_lock.NoLock.{NoLock}
 use Rattle.vm_cli.specs.declared.program.file_lock.NoLock.TheVariants.{Memory as NoMemory, InUse, CannotOpen, CannotLock}
+use Rattle.vm_cli.specs.declared.program.opening.NoStore.{NoStore}
+use Rattle.vm_cli.specs.declared.program.opening.NoStore.TheVariants.{Earlier, Refused as NotOpened}
 use Rattle.vm_cli.specs.declared.program.store_counts.Counts.{Counts}
 use Rattle.vm_cli.specs.declared.program.task.InMemory.{InMemory}
 use Rattle.vm_cli.specs.declared.program.Exit.TheVariants.{Done, LineRefused, Refused, WrongWords, Stopped}
@@ -70,6 +73,16 @@ unlocked_text file = file_text (codes "altctl: cannot lock ") file
 abbrev pub refused_text : Refusal → List ℕ
 refused_text refusal = codes "altctl: " ++ (refusal_text refusal ++ 10 ∷ [])
 
+-- a disk is no store of this format, but one of an earlier format
+abbrev pub earlier_text : List ℕ
+earlier_text =
+    refused_text NotAStore ++ (codes "altctl: the file is of an earlier format: tools/upgrade.py OLD NEW carries it over" ++ 10 ∷ [])
+
+-- why a disk is refused
+abbrev pub no_store_text : NoStore → List ℕ
+no_store_text (NotOpened refusal) = refused_text refusal
+no_store_text Earlier = earlier_text
+
 -- the program stopped
 abbrev pub stopped_text : List ℕ
 stopped_text = codes "altctl: stopped" ++ 10 ∷ []
@@ -104,15 +117,15 @@ part_of to = to ++ codes ".part"
 abbrev pub SaysNoCopy : Text → List ℕ → Type 0
 SaysNoCopy to text =
     (text ≡ file_text (codes "altctl: cannot create ") to)
-    ⊎ ((text ≡ file_text (codes "altctl: cannot create ") (part_of to)) ⊎ ((refusal : Refusal) × (text ≡ refused_text refusal)))
+    ⊎ ((text ≡ file_text (codes "altctl: cannot create ") (part_of to)) ⊎ ((why : NoStore) × (text ≡ no_store_text why)))
 
 -- what is said where a job has no disk, or the disk is refused
 abbrev pub SaysRefused : Wanted → List ℕ → Type 0
 SaysRefused (create file blocks) text = (text ≡ file_text (codes "altctl: cannot create ") file) ⊎ ((refusal : Refusal) × IsOfFormat refusal × (text ≡ refused_text refusal))
-SaysRefused (run file in_memory on) text = (text ≡ file_text (codes "altctl: cannot open ") file) ⊎ ((refusal : Refusal) × (text ≡ refused_text refusal))
-SaysRefused (do_lines file input in_memory on) text = (text ≡ file_text (codes "altctl: cannot open ") file) ⊎ ((refusal : Refusal) × (text ≡ refused_text refusal))
-SaysRefused (check file) text = (text ≡ file_text (codes "altctl: cannot open ") file) ⊎ ((refusal : Refusal) × (text ≡ refused_text refusal))
-SaysRefused (draw file) text = (text ≡ file_text (codes "altctl: cannot open ") file) ⊎ ((refusal : Refusal) × (text ≡ refused_text refusal))
+SaysRefused (run file in_memory on) text = (text ≡ file_text (codes "altctl: cannot open ") file) ⊎ ((why : NoStore) × (text ≡ no_store_text why))
+SaysRefused (do_lines file input in_memory on) text = (text ≡ file_text (codes "altctl: cannot open ") file) ⊎ ((why : NoStore) × (text ≡ no_store_text why))
+SaysRefused (check file) text = (text ≡ file_text (codes "altctl: cannot open ") file) ⊎ ((why : NoStore) × (text ≡ no_store_text why))
+SaysRefused (draw file) text = (text ≡ file_text (codes "altctl: cannot open ") file) ⊎ ((why : NoStore) × (text ≡ no_store_text why))
 SaysRefused (copy file to blocks) text = (text ≡ file_text (codes "altctl: cannot open ") file) ⊎ SaysNoCopy to text
 
 -- a text for the output: help or the version, that a store was made or copied, what one holds, or a drawing
@@ -160,7 +173,7 @@ RefusesOn contents exit writer writer' text = TellsOn contents Refused exit writ
 
 -- the errors are told why a disk was refused
 abbrev pub TellsWhy : {F : Type 0} → (F → Option (List ℕ)) → Exit → F → F → Type 0
-TellsWhy in_errors exit errors errors' = (refusal : Refusal) × TellsOn in_errors Refused exit errors errors' (refused_text refusal)
+TellsWhy in_errors exit errors errors' = (why : NoStore) × TellsOn in_errors Refused exit errors errors' (no_store_text why)
 
 -- the errors are told why nothing was copied, unless a device failed
 abbrev pub DropEnds : {F : Type 0} → (F → Option (List ℕ)) → Refusal → Exit → F → F → Type 0

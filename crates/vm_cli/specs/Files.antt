@@ -14,15 +14,17 @@ use Rattle.vm_store.specs.Shown.{Shows}
 use Rattle.vm_cli.specs.CachedLines.{IsServed, answers_told, commands_told}
 use Rattle.vm_cli.specs.Branches.{tree_text}
 use Rattle.vm_cli.specs.Copies.{IsInUse, MakesCopy, copy_of}
-use Rattle.vm_cli.specs.Exits.{IsJob, Tells, check_text, created_text, file_text, refused_text}
+use Rattle.vm_cli.specs.Exits.{IsJob, Tells, check_text, created_text, file_text, no_store_text, refused_text}
 use Rattle.vm_cli.specs.Keeps.{Keeps}
 use Rattle.vm_cli.specs.Places.{KeepsCame, KeepsOthers, PlaceState, WasLent}
-use Rattle.vm_cli.specs.Sessions.{HasCounted, HasMade, HasMadeNone, HasRefused, HasShown}
+use Rattle.vm_cli.specs.Openings.{HasRefused}
+use Rattle.vm_cli.specs.Sessions.{HasCounted, HasMade, HasMadeNone, HasShown}
 use Rattle.vm_cli.specs.Words.{Wanted}
 use Rattle.vm_cli.specs.Words.Wanted.{check, copy, create, do_lines, draw, run}
 use Rattle.vm_cli.specs.declared.program.Exit.{Exit}
 use Rattle.vm_cli.specs.declared.program.task.InMemory.{InMemory}
 use Rattle.vm_cli.specs.declared.program.Exit.TheVariants.{Done, Refused, Stopped}
+use Rattle.vm_cli.specs.declared.program.opening.NoStore.{NoStore}
 use Rattle.vm_cli.specs.declared.talk.Manner.{Manner}
 use Rattle.vm_cli.specs.declared.talk.OnCommand.{OnCommand}
 
@@ -63,9 +65,9 @@ module _ {D : Type 0} (members : Ghosts D) where
     pub back : D
     pub held : old.files name ≡ Some (members.state found).now.contents
     pub lent : WasLent name (members.state found) (members.state back) new
-    pub refusal : Refusal
-    pub refused : HasRefused (members.state found) (members.state back) refusal
-    pub told : Tells Refused exit errors errors' (refused_text refusal)
+    pub why : NoStore
+    pub refused : HasRefused (members.state found) (members.state back) why
+    pub told : Tells Refused exit errors errors' (no_store_text why)
 
   -- the store in the file of this name was to be served, counted or drawn, and no file changed: it is told that the place gave no disk of it, and
   -- none came back, or why its disk was refused

@@ -3,6 +3,7 @@ pub mod Input
 pub mod Lines
 pub mod Listings
 pub mod Numbers
+pub mod Openings
 pub mod Pieces
 pub mod Asking
 pub mod Requests

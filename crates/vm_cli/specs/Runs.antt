@@ -1,19 +1,19 @@
 -- What a job does to a place that is honest after it, by what is known of the place, and what lines are answered on any place.
 use Rattle.std.specs.Prelude.{◌≡◌, ◌≢◌, ◌⊎◌, ◌+◌, ◌∷◌, ℕ, true, List, Option, Some, codes}
 use Rattle.clap.specs.Words.{Text}
-use Rattle.vm_types.specs.declared.refusal.Refusal.{Refusal}
 use Rattle.vm_disk.specs.declared.cached.CachedDisk.{CachedDisk}
 use Rattle.vm_disk.specs.declared.delayed.DelayedDisk.{DelayedDisk}
 use Rattle.vm_disk.specs.declared.disk.Disk.{Ghosts}
 use Rattle.vm_cli.specs.CachedLines.{IsNotServed, IsServed}
 use Rattle.vm_cli.specs.Carried.{WritesStart}
-use Rattle.vm_cli.specs.Exits.{IsJob, Tells, TellsOn, file_text, refused_text, status_of, stopped_text}
+use Rattle.vm_cli.specs.Exits.{IsJob, Tells, TellsOn, file_text, no_store_text, status_of, stopped_text}
 use Rattle.vm_cli.specs.Files.{Answers, Counts, Declines, Does, Draws, Duplicates, Makes}
 use Rattle.vm_cli.specs.Places.{PlaceState}
 use Rattle.vm_cli.specs.Words.{Wanted}
 use Rattle.vm_cli.specs.Words.Wanted.{check, copy, create, do_lines, draw, run}
 use Rattle.vm_cli.specs.declared.program.Exit.{Exit}
 use Rattle.vm_cli.specs.declared.program.Exit.TheVariants.{Refused, Stopped}
+use Rattle.vm_cli.specs.declared.program.opening.NoStore.{NoStore}
 use Rattle.vm_cli.specs.declared.program.task.InMemory.{InMemory}
 use Rattle.vm_cli.specs.declared.talk.Manner.{Manner}
 use Rattle.vm_cli.specs.declared.talk.OnCommand.{OnCommand}
@@ -41,8 +41,8 @@ module _ {D : Type 0} (over : Disks D) (old : D) (result : Exit × D) (in_memory
   -- the disk was refused, and the errors are told why
   abbrev pub TellsRefusalInMemory : {F : Type 0} → (F → Option (List ℕ)) → F → F → Type 0
   TellsRefusalInMemory in_errors errors errors' =
-      (refusal : Refusal) × IsNotServed over.own over.cached over.late over.late_cached in_memory old result.1 refusal
-      × TellsOn in_errors Refused result.0 errors errors' (refused_text refusal)
+      (why : NoStore) × IsNotServed over.own over.cached over.late over.late_cached in_memory old result.1 why
+      × TellsOn in_errors Refused result.0 errors errors' (no_store_text why)
 
 module _ {P D : Type 0} (own : Ghosts D) (state : P → PlaceState) (denied : P → List Text) (place place' : P) where
   -- a file was to be made, with a new store
@@ -123,8 +123,8 @@ module _ {P D : Type 0} (over : Disks D) (denied : P → List Text) (place place
   abbrev pub ServesIn : Text → InMemory → Manner → Exit → Option (List ℕ) → Option (List ℕ) → Option (List ℕ) → Option (List ℕ) → Option (List ℕ) → Type 0
   ServesIn name in_memory on exit input before after errors errors' =
       ((found : D) × (back : D) × IsServed over.own over.cached over.late over.late_cached in_memory on found back exit input before after)
-      ⊎ (((found : D) × (back : D) × (refusal : Refusal) × IsNotServed over.own over.cached over.late over.late_cached in_memory found back refusal
-      × Tells Refused exit errors errors' (refused_text refusal))
+      ⊎ (((found : D) × (back : D) × (why : NoStore) × IsNotServed over.own over.cached over.late over.late_cached in_memory found back why
+      × Tells Refused exit errors errors' (no_store_text why))
       ⊎ ((denied place' ≡ name ∷ denied place) × Tells Refused exit errors errors' (file_text (codes "altctl: cannot open ") name)))
 
   -- words that ask for that have it so, of the input or of their own lines, or the program stopped, and no call of the place was made

@@ -9,7 +9,7 @@ use Rattle.vm_disk.specs.declared.disk.Disk.{Ghosts}
 use Rattle.vm_store.specs.NewStore.{IsBadSize, IsFormatted}
 use Rattle.vm_store.specs.Growth.{Grows}
 use Rattle.vm_store.specs.Recovery.{OpensAs}
-use Rattle.vm_store.specs.Refused.{IsAtMostSynced, IsNoStore, IsRefused, IsStore}
+use Rattle.vm_store.specs.Refused.{IsAtMostSynced, IsNoStore, IsStore}
 use Rattle.vm_store.specs.Shown.{Shows}
 use Rattle.vm_store.specs.Store.{Holds, disk_of, has_failed}
 use Rattle.vm_store.specs.declared.store.Store.{Store}
@@ -52,13 +52,6 @@ pub record HasMadeNone (old new : DiskState) (blocks : ℕ) (refusal : Refusal) 
   pub untouched : refusal ≡ BadSize → NoCalls old new
   pub there : new.honest ≡ true → refusal ≡ AlreadyAStore → IsStore old.now.contents
   pub stands : new.honest ≡ true → IsStore old.now.contents → new.now.contents ≡ old.now.contents
-
--- the disk was refused for this reason, Device only where a call of this disk failed, and at each moment nothing has changed, or all is
--- synced
-pub record HasRefused (old new : DiskState) (refusal : Refusal) : Type 0 where
-  pub goes : Goes (refusal ≡ Device) old new
-  pub why : new.honest ≡ true → IsRefused old.now.contents refusal
-  pub moments : new.honest ≡ true → Throughout old new (IsAtMostSynced old.now)
 
 -- this disk was opened as one that shows this, and came back: at each moment nothing has changed, or all is synced
 pub record HasShown (old new : DiskState) (seen : Seen) : Type 0 where

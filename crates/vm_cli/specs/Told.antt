@@ -9,9 +9,11 @@ use Rattle.vm_disk.specs.declared.disk.Disk.{Ghosts}
 use Rattle.vm_store.specs.NewStore.{IsFormatting, IsOfFormat}
 use Rattle.vm_cli.specs.DelayedLines.{IsRefusedLate, IsServedLate}
 use Rattle.vm_cli.specs.Branches.{tree_text}
-use Rattle.vm_cli.specs.Exits.{TellsOn, check_text, created_text, refused_text}
-use Rattle.vm_cli.specs.Sessions.{HasCounted, HasMade, HasMadeNone, HasRefused, HasServed, HasShown}
+use Rattle.vm_cli.specs.Exits.{TellsOn, check_text, created_text, no_store_text, refused_text}
+use Rattle.vm_cli.specs.Openings.{HasRefused}
+use Rattle.vm_cli.specs.Sessions.{HasCounted, HasMade, HasMadeNone, HasServed, HasShown}
 use Rattle.vm_cli.specs.declared.program.Exit.{Exit}
+use Rattle.vm_cli.specs.declared.program.opening.NoStore.{NoStore}
 use Rattle.vm_cli.specs.declared.program.Exit.TheVariants.{Done, Refused}
 use Rattle.vm_cli.specs.declared.talk.Manner.{Manner}
 
@@ -52,7 +54,7 @@ module _ {D W : Type 0} (members : Ghosts D) (contents : W → Option (List ℕ)
   -- why it was refused
   abbrev pub TellsRefusal : W → W → Type 0
   TellsRefusal writer writer' =
-      (refusal : Refusal) × HasRefused (members.state old) (members.state result.1) refusal × TellsOn contents Refused result.0 writer writer' (refused_text refusal)
+      (why : NoStore) × HasRefused (members.state old) (members.state result.1) why × TellsOn contents Refused result.0 writer writer' (no_store_text why)
 
 -- lines were answered over a disk, which came back beside this end: what of the reader and the writer
 module _ {D R W : Type 0} (members : Ghosts D) (input_of : R → Option (List ℕ)) (contents : W → Option (List ℕ)) (on : Manner) (old : D) (result : Exit × D) where
@@ -68,4 +70,4 @@ module _ {D R W : Type 0} (members : Ghosts D) (input_of : R → Option (List �
 module _ {D F : Type 0} (members : Ghosts D) (late : Ghosts (DelayedDisk D members)) (in_errors : F → Option (List ℕ)) where
   abbrev pub TellsRefusalLate : ℕ → D → Exit × D → F → F → Type 0
   TellsRefusalLate buffer old result errors errors' =
-      (refusal : Refusal) × IsRefusedLate members late buffer old result.1 refusal × TellsOn in_errors Refused result.0 errors errors' (refused_text refusal)
+      (why : NoStore) × IsRefusedLate members late buffer old result.1 why × TellsOn in_errors Refused result.0 errors errors' (no_store_text why)

@@ -8,6 +8,7 @@ pub mod file_lock;
 pub mod given;
 pub mod help;
 pub mod mem_files;
+pub mod opening;
 pub mod place;
 pub mod progress;
 pub mod selector;
@@ -27,6 +28,7 @@ use cached_lines::answer_lines_in_memory;
 use clap::Error;
 use clap::error::ErrorKind;
 use file_lock::NoLock;
+use opening::{open_store, unopened};
 use place::Place;
 use std::alloc::Global;
 use std::io::{Read, Write};
@@ -35,7 +37,7 @@ use store_counts::{Counts, count};
 use task::{InMemory, Job};
 use tree_view::tree;
 use vm_disk::{CachedDisk, DelayedDisk, Disk};
-use vm_store::{format, open};
+use vm_store::format;
 use vm_types::Refusal;
 use words::job;
 
@@ -315,12 +317,12 @@ pub(crate) fn answer_lines<D: Disk, R: Read, W: Write, F: Write>(
     ensures served { AnswersOver D.Disk R.remaining W.contents manner disk result input.old output.old output.new
         ⊎ TellsRefusal D.Disk F.contents disk result errors.old errors.new }
 {
-    match open(alloc, disk) {
+    match open_store(alloc, disk) {
         Ok(mut store) => {
             let served = serve(alloc, input, output, &mut store, manner);
             (end_of(manner.on_refusal, &served), store.close())
         }
-        Err((disk, refusal)) => (refused(&refusal, errors), disk),
+        Err((disk, why)) => (unopened(&why, errors), disk),
     }
 }
 
@@ -375,7 +377,7 @@ fn check_disk<D: Disk, W: Write, F: Write>(
     ensures told { TellsCount D.Disk W.contents disk result output.old output.new
         ⊎ TellsRefusal D.Disk F.contents disk result errors.old errors.new }
 {
-    match open(alloc, disk) {
+    match open_store(alloc, disk) {
         Ok(store) => {
             let counts = count(alloc, &store);
             let disk = store.close();
@@ -384,7 +386,7 @@ fn check_disk<D: Disk, W: Write, F: Write>(
                 Err(refusal) => (refused(&refusal, errors), disk),
             }
         }
-        Err((disk, refusal)) => (refused(&refusal, errors), disk),
+        Err((disk, why)) => (unopened(&why, errors), disk),
     }
 }
 

@@ -1,5 +1,5 @@
 -- Two walks from the roots of two trees to their ends.
-use Rattle.std.proofs.Common.{◌≡◌, ◌≢◌, ◌⊎◌, ℕ, zero, suc, ◌+◌, ◌<◌, ◌≤◌, true, List, [], ◌∷◌, ◌++◌, Result, Ok, Err, inl, inr, refl, sym, ap, ap₂, ◌∙◌, subst, arith, append_assoc, append-nil}
+use Rattle.std.proofs.Common.{◌≡◌, ◌≢◌, ℕ, zero, suc, ◌+◌, ◌<◌, ◌≤◌, true, List, [], ◌∷◌, ◌++◌, Result, Ok, Err, inl, inr, refl, sym, ap, ap₂, ◌∙◌, subst, arith, append_assoc, append-nil}
 use Rattle.vm_types.specs.declared.change.Change.{Change}
 use Rattle.vm_types.specs.declared.key.Key.{Key}
 use Rattle.vm_types.specs.Map.{IsMap, Map, delta}
@@ -58,9 +58,9 @@ module _ (low high : ℕ) (sizes : Sizes) (x : Contents) (limit : ℕ) (root : R
   none_begun walk blocks cost is none free = record {
     rest = [];
     rest_blocks = [];
-    ahead = subst (λ (w : Walk). IsAhead (is_between low high) sizes x limit w [] []) (sym is) (record { next = []; later = []; beside = []; below = []; entries = (refl, refl); under = (refl, refl); records = refl; blocks = refl });
+    ahead = subst (λ (w : Walk). IsAhead (is_between low high) sizes x limit w [] []) (sym is) (record { later = []; under = (refl, refl); records = refl });
     rising = record { rising = tt; fit = tt };
-    is_in = subst (IsIn low high) (sym is) (record { entries = tt; tops = tt; others = tt });
+    is_in = subst (IsIn low high) (sym is) (record { records = tt; tops = tt; others = tt });
     same = none;
     blocks_are = sym free;
     cheaper = omega (arith, ap (λ (w : Walk). aside low w.tops) is);
@@ -87,9 +87,9 @@ module _ (low high : ℕ) (sizes : Sizes) (x : Contents) (limit : ℕ) (root : R
               rest = m;
               rest_blocks = over;
               ahead = subst (λ (w : Walk). IsAhead (is_between low high) sizes x limit w m over) (sym is)
-                  (record { next = []; later = m; beside = []; below = over; entries = (refl, refl); under = (m, [], bs, [], top.subtree, top.lowest, (refl, refl), sym (append-nil m), sym (append-nil over)); records = refl; blocks = refl });
+                  (record { later = m; under = (m, [], bs, [], top.subtree, top.lowest, (refl, refl), sym (append-nil m), sym (append-nil over)); records = refl });
               rising = record { rising = top.rising; fit = subtree_keys sizes x limit root.level root.block m bs top.subtree };
-              is_in = subst (IsIn low high) (sym is) (record { entries = tt; tops = (le, tt); others = tt });
+              is_in = subst (IsIn low high) (sym is) (record { records = tt; tops = (le, tt); others = tt });
               same = refl;
               blocks_are = refl;
               cheaper = omega (arith, ap (λ (w : Walk). aside low w.tops) is);

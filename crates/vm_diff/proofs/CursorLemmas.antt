@@ -3,8 +3,7 @@ use Rattle.std.proofs.Common.{◌≡◌, ℕ, zero, suc, ◌+◌, ◌-◌, ◌<�
 use Rattle.std.proofs.Math.ListN.{set}
 use Rattle.std.proofs.lemmas.List.{length-map}
 use Rattle.vm_types.specs.declared.key.Key.{Key}
-use Rattle.vm_diff.specs.Entry.{Entry}
-use Rattle.vm_diff.specs.Entry.Entry.{Own, Linked}
+use Rattle.vm_block.specs.Leaf.{Record}
 use Rattle.vm_block.specs.declared.node.Child.{Child}
 use Rattle.vm_tree.specs.declared.root.Root.{Root}
 use Rattle.vm_diff.specs.Walk.{tops_of}
@@ -73,14 +72,13 @@ standing ((c ∷ cs) ∷ css) j top ts is =
 
 -- # What a walk stands before
 
-pub tops_first : (ps : List Entry) (ts : List Root) (top : Root) → first_of ps ts ≡ Top top → ts ≡ top ∷ drop 1 ts
+pub tops_first : (ps : List Record) (ts : List Root) (top : Root) → first_of ps ts ≡ Top top → ts ≡ top ∷ drop 1 ts
 tops_first [] [] top e = cc
 tops_first [] (t ∷ ts) top e = let same : t ≡ top = cc in ap (λ (u : Root). u ∷ ts) same
-tops_first (Own k v ∷ es) ts top e = cc
-tops_first (Linked k l ∷ es) ts top e = cc
+tops_first (r ∷ ps) ts top e = cc
 
 -- the top that a walk stands before
-pub first_standing : (ps : List Entry) (ls : List (List Child)) (top : Root) → first_of ps (tops_in 0 ls) ≡ Top top → Standing 0 ls top (drop 1 (tops_in 0 ls))
+pub first_standing : (ps : List Record) (ls : List (List Child)) (top : Root) → first_of ps (tops_in 0 ls) ≡ Top top → Standing 0 ls top (drop 1 (tops_in 0 ls))
 first_standing ps ls top front = standing ls 0 top (drop 1 (tops_in 0 ls)) (tops_first ps (tops_in 0 ls) top front)
 
 -- past it
@@ -155,8 +153,7 @@ tops_fewer ls here front cs d s is lt =
       length-map front (top_of here.level),
     )
 
--- a walk whose first entry is a record with a key stands before it
-pub front_key : (ps : List Entry) (ts : List Root) (key : Key) → Some key ≡ first_key ps → (value : List ℕ) × (first_of ps ts ≡ Pair key value)
+-- a walk whose first record has a key stands before it
+pub front_key : (ps : List Record) (ts : List Root) (key : Key) → Some key ≡ first_key ps → (value : List ℕ) × (first_of ps ts ≡ Pair key value)
 front_key [] ts key e = cc
-front_key (Own k v ∷ es) ts key e = let same : k ≡ key = cc in (v, ap (λ l. Pair l v) same)
-front_key (Linked k l ∷ es) ts key e = cc
+front_key (r ∷ ps) ts key e = let same : r.0 ≡ key = cc in (r.1, ap (λ l. Pair l r.1) same)

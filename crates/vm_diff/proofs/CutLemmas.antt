@@ -1,27 +1,24 @@
 -- What is left of a leaf or an inner block where what does not lie in a part is left out.
-use Rattle.std.proofs.Common.{◌≡◌, ◌⊎◌, inl, inr, ℕ, zero, suc, ◌+◌, ◌-◌, ◌<◌, ◌≤◌, ◌&&◌, nat_le, Bool, true, false, cond, List, [], ◌∷◌, ◌++◌, length, drop, map, refl, sym, ap, ap₂, ◌∙◌, subst, arith, append_assoc, append-nil}
-use Rattle.std.specs.List.{AllByRecursion, list_any}
+use Rattle.std.proofs.Common.{◌≡◌, ◌⊎◌, inl, inr, ℕ, zero, suc, ◌+◌, ◌-◌, ◌<◌, ◌≤◌, nat_le, Bool, true, false, List, [], ◌∷◌, ◌++◌, take, drop, max, refl, sym, ap, ap₂, ◌∙◌, subst, arith, append_assoc, append-nil, take-append-drop}
+use Rattle.std.specs.List.{AllByRecursion}
+use Rattle.std.proofs.Math.Seq.{take-add}
 use Rattle.std.proofs.lemmas.Bool.{and_from, cases_lt, le-leb}
+use Rattle.std.proofs.lemmas.List.{drop-drop}
 use Rattle.vm_types.specs.declared.key.Key.{Key}
 use Rattle.vm_types.specs.Parts.{is_within, part}
 use Rattle.vm_types.specs.Places.{KeyFits, RisesFrom, place, places}
-use Rattle.vm_types.proofs.Bridge.{RisesFrom-lower}
 use Rattle.vm_types.proofs.PartLemmas.{is_before, is_behind, part-append, part_before, part_behind}
 use Rattle.vm_disk.specs.Disk.{Contents}
 use Rattle.vm_block.specs.Leaf.{BeginsWith, Record}
 use Rattle.vm_block.specs.declared.node.Child.{Child}
 use Rattle.vm_block.proofs.EachLemmas.{each_back, each_front, each_join, each_so}
-use Rattle.vm_tree.specs.Over.{children_over, is_between, only_if, subtree_over}
-use Rattle.vm_tree.specs.Spent.{reads_aside}
+use Rattle.vm_tree.specs.Over.{children_over, is_between, subtree_over}
 use Rattle.vm_tree.specs.Tree.{Sizes, Children, Subtree}
 use Rattle.vm_tree.specs.declared.root.Root.{Root}
-use Rattle.vm_tree.proofs.OverLemmas.{aside_few, aside_none, aside_some}
 use Rattle.vm_tree.proofs.OverParts.{NonePass, children_none, subtree_none}
 use Rattle.vm_tree.proofs.Rising.{Above, Below, below_more, rises_above, rises_back, rises_before, rises_front}
-use Rattle.vm_diff.specs.Cuts.{CutsChildren, CutsEntries, FirstAt, SecondAt}
-use Rattle.vm_diff.specs.Differ.{AreRising, aside}
-use Rattle.vm_diff.specs.Entry.{Entry, EntriesFor, EntryFor, key_of_entry}
-use Rattle.vm_diff.specs.Entry.Entry.{Own, Linked}
+use Rattle.vm_diff.specs.Cuts.{CutAt, CutsChildren, CutsRecords, FirstAt, SecondAt}
+use Rattle.vm_diff.specs.Differ.{AreRising}
 use Rattle.vm_diff.specs.Walk.{Under, tops_of}
 
 -- # Records with some left out
@@ -199,111 +196,98 @@ under_tops test sizes x limit level (c ∷ cs) ts rs qs bs ds t u =
     let rest = children_over T (subtree_over test sizes x limit level) cs t.1 t.3 t.6 in
     (t.0, t.1 ++ qs, t.2, rest ++ ds, t.4, t.5, under_tops test sizes x limit level cs ts t.1 qs t.3 ds t.6 u, ap (λ z. z ++ qs) t.7 ∙ append_assoc t.0 t.1 qs, append_assoc (subtree_over test sizes x limit level c.block t.0 t.2 t.4) rest ds)
 
--- # Entries with some left out
+-- # The records of a leaf
 
-entry_place : (x : Contents) (limit : ℕ) (e : Entry) (r : Record) (own : List ℕ) → EntryFor x limit e r own → place r.0 ≡ place (key_of_entry e)
-entry_place x limit (Own key value) r own is = ap (λ (q : Record). place q.0) is.0
-entry_place x limit (Linked key link) r own is = ap place is.key_is
+-- records that rise from the first on
+records_above : (p : ℕ) (rs : List Record) → RisesFrom 0 (places rs) → FirstAt (λ r. r.0) (λ q. p < q) rs → Above p rs
+records_above p [] rises at = tt
+records_above p (r ∷ rs) rises at = (at, rises_above p (place r.0 + 1) rs (omega (arith, at)) rises.1)
 
-module _ (test : ℕ → Bool) (x : Contents) (limit : ℕ) where
-  record EntriesIn (es fs : List Entry) (rs : List Record) (bs : List ℕ) : Type 0 where
-    front : List Record
-    back : List Record
-    left : List ℕ
-    right : List ℕ
-    first : EntriesFor test x limit es front left
-    second : EntriesFor test x limit fs back right
-    records : rs ≡ front ++ back
-    blocks : bs ≡ left ++ right
+records_from : (p : ℕ) (rs : List Record) → RisesFrom 0 (places rs) → FirstAt (λ r. r.0) (λ q. p ≤ q) rs → AllByRecursion (λ (r : Record). p ≤ place r.0) rs
+records_from p [] rises at = tt
+records_from p (r ∷ rs) rises at =
+    (at, each_so (λ (s : Record). place r.0 < place s.0) (λ (s : Record). p ≤ place s.0) (λ s lt. omega (arith, at, lt)) rs (rises_above (place r.0) (place r.0 + 1) rs (omega arith) rises.1))
 
-  entries_in : (es fs : List Entry) (rs : List Record) (bs : List ℕ) → EntriesFor test x limit (es ++ fs) rs bs → EntriesIn es fs rs bs
-  entries_in [] fs rs bs t = record { front = []; back = rs; left = []; right = bs; first = (refl, refl); second = t; records = refl; blocks = refl }
-  entries_in (e ∷ es) fs rs bs t =
-      let s = entries_in es fs t.1 t.3 t.5 in
-      let own = only_if (test (place t.0.0)) t.2 in
-      record {
-        front = t.0 ∷ s.front;
-        back = s.back;
-        left = own ++ s.left;
-        right = s.right;
-        first = (t.0, s.front, t.2, s.left, t.4, s.first, refl, refl);
-        second = s.second;
-        records = t.6 ∙ ap (λ (qs : List Record). t.0 ∷ qs) s.records;
-        blocks = t.7 ∙ ap (λ (ds : List ℕ). own ++ ds) s.blocks ∙ sym (append_assoc own s.left s.right);
-      }
-
-  entries_none : (es : List Entry) (rs : List Record) (bs : List ℕ) → EntriesFor test x limit es rs bs → NonePass test rs → bs ≡ []
-  entries_none [] rs bs t none = t.1
-  entries_none (e ∷ es) rs bs t none =
-      let whole = subst (NonePass test) t.6 none in
-      t.7 ∙ ap (λ s. only_if s t.2 ++ t.3) whole.0 ∙ entries_none es t.1 t.3 t.5 whole.1
-
-  -- what holds of the places of entries holds of those of their records, and the other way round
-  entries_each : (P : ℕ → Type 0) (es : List Entry) (rs : List Record) (bs : List ℕ) → EntriesFor test x limit es rs bs → AllByRecursion (λ e. P (place (key_of_entry e))) es → AllByRecursion (λ r. P (place r.0)) rs
-  entries_each P [] rs bs t all = subst (AllByRecursion (λ (r : Record). P (place r.0))) (sym t.0) tt
-  entries_each P (e ∷ es) rs bs t all =
-      subst (AllByRecursion (λ (r : Record). P (place r.0))) (sym t.6) (subst P (sym (entry_place x limit e t.0 t.2 t.4)) all.0, entries_each P es t.1 t.3 t.5 all.1)
-
-  records_each : (P : ℕ → Type 0) (es : List Entry) (rs : List Record) (bs : List ℕ) → EntriesFor test x limit es rs bs → AllByRecursion (λ r. P (place r.0)) rs → AllByRecursion (λ e. P (place (key_of_entry e))) es
-  records_each P [] rs bs t all = tt
-  records_each P (e ∷ es) rs bs t all =
-      let whole = subst (AllByRecursion (λ (r : Record). P (place r.0))) t.6 all in
-      (subst P (entry_place x limit e t.0 t.2 t.4) whole.0, records_each P es t.1 t.3 t.5 whole.1)
-
-  -- records that rise from the first on
-  entries_above : (p : ℕ) (es : List Entry) (rs : List Record) (bs : List ℕ) → EntriesFor test x limit es rs bs → RisesFrom 0 (places rs) → FirstAt key_of_entry (λ q. p < q) es → Above p rs
-  entries_above p [] rs bs t rises at = subst (Above p) (sym t.0) tt
-  entries_above p (e ∷ es) rs bs t rises at =
-      let whole = subst (λ (qs : List Record). RisesFrom 0 (places qs)) t.6 rises in
-      let here : p < place t.0.0 = omega (arith, at, entry_place x limit e t.0 t.2 t.4) in
-      subst (Above p) (sym t.6) (here, rises_above p (place t.0.0 + 1) t.1 (omega (arith, here)) whole.1)
-
-  entries_from : (p : ℕ) (es : List Entry) (rs : List Record) (bs : List ℕ) → EntriesFor test x limit es rs bs → RisesFrom 0 (places rs) → FirstAt key_of_entry (λ q. p ≤ q) es → AllByRecursion (λ (r : Record). p ≤ place r.0) rs
-  entries_from p [] rs bs t rises at = subst (AllByRecursion (λ (r : Record). p ≤ place r.0)) (sym t.0) tt
-  entries_from p (e ∷ es) rs bs t rises at =
-      let whole = subst (λ (qs : List Record). RisesFrom 0 (places qs)) t.6 rises in
-      let here : p ≤ place t.0.0 = omega (arith, at, entry_place x limit e t.0 t.2 t.4) in
-      subst (AllByRecursion (λ (r : Record). p ≤ place r.0)) (sym t.6)
-      (here, each_so (λ (r : Record). p < place r.0) (λ (r : Record). p ≤ place r.0) (λ r lt. omega (arith, lt)) t.1 (rises_above p (place t.0.0 + 1) t.1 (omega (arith, here)) whole.1))
-
--- what the entries that are kept stand for
-pub record EntriesCut (low high : ℕ) (x : Contents) (limit : ℕ) (kept : List Entry) (rs : List Record) (bs : List ℕ) : Type 0 where
+-- the records that are kept, between the others
+pub record RecordsCut (low high : ℕ) (kept rs : List Record) : Type 0 where
   pub before : List Record
-  pub sub : List Record
   pub behind : List Record
-  pub entries : EntriesFor (is_between low high) x limit kept sub bs
-  pub records : rs ≡ before ++ (sub ++ behind)
+  pub records : rs ≡ before ++ (kept ++ behind)
   pub below : Below low before
   pub above : Above high behind
-  pub within : AllByRecursion (λ e. is_within low high (key_of_entry e) ≡ true) kept
+  pub within : AllByRecursion (λ r. is_within low high r.0 ≡ true) kept
 
-pub entries_cut : (low high : ℕ) (x : Contents) (limit : ℕ) (all kept : List Entry) → CutsEntries low high all kept → (rs : List Record) (bs : List ℕ) → EntriesFor (is_between low high) x limit all rs bs → RisesFrom 0 (places rs) → EntriesCut low high x limit kept rs bs
-entries_cut low high x limit all kept cuts rs bs t rises =
-    let test : ℕ → Bool = is_between low high in
-    let s = entries_in test x limit cuts.before (kept ++ cuts.behind) rs bs (subst (λ (es : List Entry). EntriesFor test x limit es rs bs) cuts.whole t) in
-    let u = entries_in test x limit kept cuts.behind s.back s.right s.second in
-    let all_rise = subst (λ (qs : List Record). RisesFrom 0 (places qs)) s.records rises in
-    let back_rise = rises_back 0 s.front s.back all_rise in
-    let parts_rise = subst (λ (qs : List Record). RisesFrom 0 (places qs)) u.records back_rise in
-    let below = entries_each test x limit (λ p. p < low) cuts.before s.front s.left s.first cuts.below in
-    let above = entries_above test x limit high cuts.behind u.back u.right u.second (rises_back 0 u.front u.back parts_rise) cuts.above in
-    let reached = each_front (λ (r : Record). low ≤ place r.0) u.front u.back (subst (AllByRecursion (λ (r : Record). low ≤ place r.0)) u.records (entries_from test x limit low (kept ++ cuts.behind) s.back s.right s.second back_rise cuts.reached)) in
-    let none_left : s.left ≡ [] = entries_none test x limit cuts.before s.front s.left s.first (none_below low high s.front below) in
-    let none_right : u.right ≡ [] = entries_none test x limit cuts.behind u.back u.right u.second (none_above low high u.back above) in
-    let blocks : u.left ≡ bs = sym (s.blocks ∙ ap₂ (λ (ds es : List ℕ). ds ++ es) none_left (u.blocks ∙ ap (λ (zs : List ℕ). u.left ++ zs) none_right ∙ append-nil u.left)) in
+pub records_cut : (low high : ℕ) (rs kept : List Record) → CutsRecords low high rs kept → RisesFrom 0 (places rs) → RecordsCut low high kept rs
+records_cut low high rs kept cuts rises =
+    let back_rise = rises_back 0 cuts.before (kept ++ cuts.behind) (subst (λ (qs : List Record). RisesFrom 0 (places qs)) cuts.whole rises) in
     record {
-      before = s.front;
-      sub = u.front;
-      behind = u.back;
-      entries = subst (λ (ds : List ℕ). EntriesFor test x limit kept u.front ds) blocks u.first;
-      records = s.records ∙ ap (λ (qs : List Record). s.front ++ qs) u.records;
-      below = below;
-      above = above;
-      within = both_ends kept (records_each test x limit (λ p. low ≤ p) kept u.front u.left u.first reached) cuts.within;
+      before = cuts.before;
+      behind = cuts.behind;
+      records = cuts.whole;
+      below = cuts.below;
+      above = records_above high cuts.behind (rises_back 0 kept cuts.behind back_rise) cuts.above;
+      within = both_ends kept (each_front (λ (r : Record). low ≤ place r.0) kept cuts.behind (records_from low (kept ++ cuts.behind) back_rise cuts.reached)) cuts.within;
     }
   where
-    both_ends : (es : List Entry) → AllByRecursion (λ e. low ≤ place (key_of_entry e)) es → AllByRecursion (λ e. place (key_of_entry e) ≤ high) es → AllByRecursion (λ e. is_within low high (key_of_entry e) ≡ true) es
+    both_ends : (qs : List Record) → AllByRecursion (λ r. low ≤ place r.0) qs → AllByRecursion (λ r. place r.0 ≤ high) qs → AllByRecursion (λ r. is_within low high r.0 ≡ true) qs
     both_ends [] least most = tt
-    both_ends (e ∷ es) least most =
-        let p = place (key_of_entry e) in
-        (and_from (nat_le low p) (nat_le p high) (le-leb low p least.0) (le-leb p high most.0), both_ends es least.1 most.1)
+    both_ends (q ∷ qs) least most =
+        let p = place q.0 in
+        (and_from (nat_le low p) (nat_le p high) (le-leb low p least.0) (le-leb p high most.0), both_ends qs least.1 most.1)
+
+-- what holds of all elements holds of those behind some of them, and of the first
+each_drop : (P : Record → Type 0) (n : ℕ) (rs : List Record) → AllByRecursion P rs → AllByRecursion P (drop n rs)
+each_drop P zero rs all = all
+each_drop P (suc n) [] all = tt
+each_drop P (suc n) (r ∷ rs) all = each_drop P n rs all.1
+
+all_first : (P : ℕ → Type 0) (rs : List Record) → AllByRecursion (λ r. P (place r.0)) rs → FirstAt (λ r. r.0) P rs
+all_first P [] all = tt
+all_first P (r ∷ rs) all = all.0
+
+-- the records of a leaf from one index to another, where those before it stand below a part, and those from the other on above it
+module _ (low high first end : ℕ) (rs : List Record) (rises : RisesFrom 0 (places rs)) (from : CutAt first (λ p. p < low) (λ p. low ≤ p) rs) (to : CutAt end (λ p. p ≤ high) (λ p. high < p) rs) where
+  above_end : Above high (drop end rs)
+  above_end =
+      let whole = subst (λ (qs : List Record). RisesFrom 0 (places qs)) (sym (take-append-drop end rs)) rises in
+      records_above high (drop end rs) (rises_back 0 (take end rs) (drop end rs) whole) to.first
+
+  none_between : end ≤ first → CutsRecords low high rs []
+  none_between le =
+      let far : end + (first - end) ≡ first = omega (arith, le) in
+      let same : drop (first - end) (drop end rs) ≡ drop first rs = drop-drop (first - end) end rs ∙ ap (λ n. drop n rs) far in
+      record {
+        before = take first rs;
+        behind = drop first rs;
+        whole = sym (take-append-drop first rs);
+        below = from.before;
+        reached = from.first;
+        within = tt;
+        above = all_first (λ p. high < p) (drop first rs) (subst (Above high) same (each_drop (λ r. high < place r.0) (first - end) (drop end rs) above_end));
+      }
+
+  some_between : first ≤ end → CutsRecords low high rs (take (end - first) (drop first rs))
+  some_between le =
+      let kept = take (end - first) (drop first rs) in
+      let far : first + (end - first) ≡ end = omega (arith, le) in
+      let rest : kept ++ drop end rs ≡ drop first rs = ap (λ (qs : List Record). kept ++ qs) (sym (drop-drop (end - first) first rs ∙ ap (λ n. drop n rs) far)) ∙ take-append-drop (end - first) (drop first rs) in
+      let front : take end rs ≡ take first rs ++ kept = ap (λ n. take n rs) (sym far) ∙ take-add first (end - first) rs in
+      record {
+        before = take first rs;
+        behind = drop end rs;
+        whole = sym (take-append-drop first rs) ∙ ap (λ (qs : List Record). take first rs ++ qs) (sym rest);
+        below = from.before;
+        reached = subst (FirstAt (λ (r : Record). r.0) (λ p. low ≤ p)) (sym rest) from.first;
+        within = each_back (λ (r : Record). place r.0 ≤ high) (take first rs) kept (subst (AllByRecursion (λ (r : Record). place r.0 ≤ high)) front to.before);
+        above = to.first;
+      }
+
+  pub cut_between : (many : ℕ) → many ≡ max end first → CutsRecords low high rs (take (many - first) (drop first rs))
+  cut_between many is = elim (cases_lt end first) [
+    | inl lt ↦
+        let none : 0 ≡ many - first = omega (arith, is, lt) in
+        subst (λ n. CutsRecords low high rs (take n (drop first rs))) none (none_between (omega (arith, lt)))
+    | inr le ↦
+        let same : end ≡ many = omega (arith, is, le) in
+        subst (λ n. CutsRecords low high rs (take (n - first) (drop first rs))) same (some_between le)
+  ]

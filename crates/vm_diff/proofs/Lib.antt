@@ -1,6 +1,7 @@
 pub mod RowLemmas
 pub mod CursorLemmas
 pub mod CutLemmas
+pub mod LeafCuts
 pub mod OpenLemmas
 pub mod DeltaLemmas
 pub mod SharedLemmas

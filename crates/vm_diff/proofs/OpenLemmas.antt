@@ -1,14 +1,12 @@
 -- What is ahead of a walk once it has opened a subtree, and that this is less.
-use Rattle.std.proofs.Common.{◌≡◌, inl, inr, ℕ, zero, suc, ◌+◌, ◌-◌, ◌*◌, ◌<◌, ◌≤◌, ◌||◌, nat_le, Bool, true, List, [], ◌∷◌, ◌++◌, length, drop, Some, None, Result, Ok, Err, refl, sym, ap, ap₂, ◌∙◌, subst, arith, append_assoc}
+use Rattle.std.proofs.Common.{◌≡◌, inl, inr, ℕ, zero, suc, ◌+◌, ◌-◌, ◌*◌, ◌<◌, ◌≤◌, ◌||◌, nat_le, Bool, true, List, [], ◌∷◌, ◌++◌, length, drop, Result, Ok, Err, refl, sym, ap, ◌∙◌, subst, arith, append_assoc}
 use Rattle.std.specs.Prelude.{⊤, OnOk}
 use Rattle.vm_types.specs.declared.key.Key.{Key}
-use Rattle.vm_disk.specs.Disk.{Contents, block}
-use Rattle.vm_block.specs.Leaf.{Record, Row, BeginsWith}
-use Rattle.vm_block.specs.declared.stored.Link.{Link}
-use Rattle.vm_block.specs.Node.{IsNode}
+use Rattle.vm_disk.specs.Disk.{Contents}
+use Rattle.vm_block.specs.Leaf.{BeginsWith, Record}
 use Rattle.vm_block.specs.declared.node.Child.{Child}
 use Rattle.vm_tree.specs.Tree.{Sizes, Children, Subtree}
-use Rattle.vm_tree.specs.BlockReads.{IsLongAt, IsNodeAt}
+use Rattle.vm_tree.specs.BlockReads.{IsLeafAt, IsNodeAt}
 use Rattle.vm_tree.specs.Answers.{OkOrDevice}
 use Rattle.vm_tree.specs.declared.root.Root.{Root}
 use Rattle.vm_tree.specs.declared.faults.TreeFault.{TreeFault}
@@ -17,52 +15,35 @@ use Rattle.std.proofs.lemmas.Bool.{and_from, cases_lt, le-leb}
 use Rattle.vm_types.specs.Parts.{is_within, part}
 use Rattle.vm_types.specs.Places.{RisesFrom, place, places}
 use Rattle.vm_block.proofs.EachLemmas.{each_back, each_front, each_join, each_so}
-use Rattle.vm_tree.specs.Over.{beside_over, children_over, is_between, only_if, subtree_over, top_over}
+use Rattle.vm_tree.specs.Over.{children_over, is_between, only_if, subtree_over, top_over}
 use Rattle.vm_tree.specs.Spent.{reads_aside}
 use Rattle.vm_tree.proofs.OverLemmas.{aside_few, aside_none, aside_some, leaf_over, node_over}
 use Rattle.vm_tree.proofs.Rising.{rises_above, rises_front}
-use Rattle.vm_diff.specs.Cuts.{CutsChildren, CutsEntries}
+use Rattle.vm_diff.specs.Cuts.{CutsChildren, CutsRecords}
 use Rattle.vm_diff.specs.Walk.{Walk, IsAhead, Under, into_tops, size, tops_of, weight, weight_of}
 use Rattle.vm_diff.specs.Front.{first_of, front_of}
 use Rattle.vm_diff.specs.Differ.{AreRising, Enters, IsIn, Passes, aside}
-use Rattle.vm_diff.specs.Front.Front.{Pair, Far, Top}
-use Rattle.vm_diff.specs.Entry.{Entry, EntriesFor, IsBehind, key_of_entry, steps_past}
-use Rattle.vm_diff.specs.Entry.Entry.{Own, Linked}
-use Rattle.vm_diff.specs.Rows.{entries_from}
-use Rattle.vm_diff.specs.Opened.{HasRowsAt}
-use Rattle.vm_diff.proofs.ApartLemmas.{own_none}
-use Rattle.vm_diff.proofs.CutLemmas.{children_cut, entries_cut, part_cut, rising_cut, under_tops}
-use Rattle.vm_diff.proofs.RowLemmas.{entries_stand}
+use Rattle.vm_diff.specs.Front.Front.{Pair, Top}
+use Rattle.vm_diff.proofs.CutLemmas.{children_cut, part_cut, records_cut, rising_cut, under_tops}
 
 -- ---- what a walk stands before
 
-pub front_pair : (es : List Entry) (ts : List Root) (key : Key) (value : List ℕ) → first_of es ts ≡ Pair key value → es ≡ Own key value ∷ drop 1 es
+pub front_pair : (ps : List Record) (ts : List Root) (key : Key) (value : List ℕ) → first_of ps ts ≡ Pair key value → ps ≡ (key, value) ∷ drop 1 ps
 front_pair [] [] key value e = cc
 front_pair [] (t ∷ ts) key value e = cc
-front_pair (Own k v ∷ es) ts key value e =
-    let keys : k ≡ key = cc in
-    let values : v ≡ value = cc in
-    λ i. Own (keys i) (values i) ∷ es
-front_pair (Linked k l ∷ es) ts key value e = cc
+front_pair (r ∷ ps) ts key value e =
+    let keys : r.0 ≡ key = cc in
+    let values : r.1 ≡ value = cc in
+    λ i. (keys i, values i) ∷ ps
 
-pub front_far : (es : List Entry) (ts : List Root) (key : Key) (link : Link) → first_of es ts ≡ Far key link → es ≡ Linked key link ∷ drop 1 es
-front_far [] [] key link e = cc
-front_far [] (t ∷ ts) key link e = cc
-front_far (Own k v ∷ es) ts key link e = cc
-front_far (Linked k l ∷ es) ts key link e =
-    let keys : k ≡ key = cc in
-    let links : l ≡ link = cc in
-    λ i. Linked (keys i) (links i) ∷ es
-
-pub front_top : (es : List Entry) (ts : List Root) (top : Root) → first_of es ts ≡ Top top → (es ≡ []) × (ts ≡ top ∷ drop 1 ts)
+pub front_top : (ps : List Record) (ts : List Root) (top : Root) → first_of ps ts ≡ Top top → (ps ≡ []) × (ts ≡ top ∷ drop 1 ts)
 front_top [] [] top e = cc
 front_top [] (t ∷ ts) top e = let same : t ≡ top = cc in (refl, ap (λ (u : Root). u ∷ ts) same)
-front_top (Own k v ∷ es) ts top e = cc
-front_top (Linked k l ∷ es) ts top e = cc
+front_top (r ∷ ps) ts top e = cc
 
 -- ---- how much is ahead
 
-weight_least : weight 0 ≡ 33
+weight_least : weight 0 ≡ 341
 unfolding weight
 weight_least = refl
 
@@ -79,12 +60,6 @@ weight_under level most [] ts few = omega arith
 weight_under level zero (c ∷ cs) ts few = absurd (omega arith)
 weight_under level (suc most) (c ∷ cs) ts few = omega (arith, weight_under level most cs ts (omega arith))
 
--- past each entry there are two steps at most
-steps_few : (es : List Entry) → steps_past es ≤ 2 * length es
-steps_few [] = omega arith
-steps_few (Own k v ∷ es) = omega (arith, steps_few es)
-steps_few (Linked k l ∷ es) = omega (arith, steps_few es)
-
 -- past a subtree less is ahead
 pub skip_falls : (old new : Walk) (top : Root) → front_of old ≡ Top top → new ≡ record { pending = old.pending; tops = drop 1 old.tops } → size new < size old
 skip_falls old new top front is =
@@ -92,27 +67,11 @@ skip_falls old new top front is =
     omega (arith, ap size is, ap weight_of at.1, weight_some top.level)
 
 -- a leaf that is opened makes less of what is ahead
-pub leaf_falls : (old new : Walk) (top : Root) → front_of old ≡ Top top → top.level ≡ 0 → length new.pending ≤ 16 → new.tops ≡ drop 1 old.tops → size new < size old
+pub leaf_falls : (old new : Walk) (top : Root) → front_of old ≡ Top top → top.level ≡ 0 → length new.pending ≤ 340 → new.tops ≡ drop 1 old.tops → size new < size old
 leaf_falls old new top front zero_is few is =
     let at = front_top old.pending old.tops top front in
-    let least : weight top.level ≡ 33 = ap weight zero_is ∙ weight_least in
-    omega (arith, ap weight_of is, ap weight_of at.1, ap steps_past at.0, least, steps_few new.pending)
-
--- and so does a long value that is read
-pub long_falls : (old new : Walk) (key : Key) (link : Link) (result : Result ⊤ TreeFault) → front_of old ≡ Far key link → OnOk result ((k : Key) × (value : List ℕ) × (new ≡ record { pending = Own k value ∷ drop 1 old.pending; tops = old.tops })) → OnOk result (size new < size old)
-long_falls old new key link result front is =
-    let at = front_far old.pending old.tops key link front in
-    ok_then result is (λ h. omega (arith, ap size h.2, ap steps_past at))
-  where
-    ok_then : {A B : Type 0} (answer : Result ⊤ TreeFault) → OnOk answer A → (A → B) → OnOk answer B
-    ok_then (Ok x) h so = so h
-    ok_then (Err e) h so = h
-
--- past a long value less is ahead, too
-pub far_passed_falls : (old new : Walk) (key : Key) (link : Link) → front_of old ≡ Far key link → new ≡ record { pending = drop 1 old.pending; tops = old.tops } → size new < size old
-far_passed_falls old new key link front is =
-    let at = front_far old.pending old.tops key link front in
-    omega (arith, ap size is, ap steps_past at)
+    let least : weight top.level ≡ 341 = ap weight zero_is ∙ weight_least in
+    omega (arith, ap weight_of is, ap weight_of at.1, least, few)
 
 -- and so does an inner block
 pub node_falls : (old new : Walk) (top : Root) (cs : List Child) → front_of old ≡ Top top → 0 < top.level → length cs ≤ 256
@@ -134,7 +93,7 @@ pub ok_or : {A B : Type 0} (result : Result ⊤ TreeFault) → OkOrDevice result
 ok_or (Ok x) h so = so h
 ok_or (Err e) h so = h
 
-pub leaf_opening_falls : (old new : Walk) (top : Root) (result : Result ⊤ TreeFault) → front_of old ≡ Top top → top.level ≡ 0 → OnOk result ((length new.pending ≤ 16) × (new.tops ≡ drop 1 old.tops)) → OnOk result (size new < size old)
+pub leaf_opening_falls : (old new : Walk) (top : Root) (result : Result ⊤ TreeFault) → front_of old ≡ Top top → top.level ≡ 0 → OnOk result ((length new.pending ≤ 340) × (new.tops ≡ drop 1 old.tops)) → OnOk result (size new < size old)
 leaf_opening_falls old new top result front zero_is few = ok_then result few (λ h. leaf_falls old new top front zero_is h.0 h.1)
 
 pub node_opening_falls : (old new : Walk) (top : Root) (result : Result ⊤ TreeFault) → front_of old ≡ Top top → 0 < top.level
@@ -167,8 +126,7 @@ pub record TopAhead (test : ℕ → Bool) (sizes : Sizes) (x : Contents) (limit 
 pub top_ahead : (test : ℕ → Bool) (sizes : Sizes) (x : Contents) (limit : ℕ) (walk : Walk) (top : Root) (rs : List Record) (bs : List ℕ) → front_of walk ≡ Top top → IsAhead test sizes x limit walk rs bs → TopAhead test sizes x limit top (drop 1 walk.tops) rs bs
 top_ahead test sizes x limit walk top rs bs front ahead =
     let at = front_top walk.pending walk.tops top front in
-    let u = subst (λ (ts : List Root). Under test sizes x limit ts ahead.later ahead.below) at.1 ahead.under in
-    let none = subst (λ (es : List Entry). EntriesFor test x limit es ahead.next ahead.beside) at.0 ahead.entries in
+    let u = subst (λ (ts : List Root). Under test sizes x limit ts ahead.later bs) at.1 ahead.under in
     record {
       sub = u.0;
       rest = u.1;
@@ -177,8 +135,8 @@ top_ahead test sizes x limit walk top rs bs front ahead =
       subtree = u.4;
       begins = u.5;
       after = u.6;
-      records = ahead.records ∙ ap (λ (qs : List Record). qs ++ ahead.later) none.0 ∙ u.7;
-      blocks = ahead.blocks ∙ ap (λ (ds : List ℕ). ds ++ ahead.below) none.1 ∙ u.8;
+      records = ahead.records ∙ ap (λ (qs : List Record). qs ++ ahead.later) at.0 ∙ u.7;
+      blocks = u.8;
     }
 
 -- ---- what is opened, as far as it may lie in a part
@@ -249,38 +207,37 @@ module _ (low high : ℕ) (sizes : Sizes) (x : Contents) (limit : ℕ) (old new 
   aside_is = ap (aside low) tops_are
 
   -- the walk has opened a leaf
-  leaf_opened : top.level ≡ 0 → ((ws : List Row) → HasRowsAt x limit top.block ws → CutsEntries low high (entries_from (block x top.block) 0 (length ws)) new.pending × (new.tops ≡ drop 1 old.tops)) → Enters sizes x limit low high (Top top) old new rs bs
+  leaf_opened : top.level ≡ 0 → ((qs : List Record) → IsLeafAt x limit top.block qs → CutsRecords low high qs new.pending × (new.tops ≡ drop 1 old.tops)) → Enters sizes x limit low high (Top top) old new rs bs
   leaf_opened zero_is only =
       let t = top_ahead (is_between low high) sizes x limit old top rs bs front ahead in
       let here = leaf_over sizes x limit top.level top.block t.sub t.own zero_is t.subtree in
-      let read = only here.holds.rows (record { inside = here.place; rows = here.holds.leaf }) in
+      let read = only t.sub (record { inside = here.place; leaf = here.leaf }) in
       let whole = subst AreRising t.records rising in
-      let beside = beside_over (is_between low high) x limit here.holds.rows t.sub here.under here.holds.stand in
-      let cut = entries_cut low high x limit (entries_from (block x top.block) 0 (length here.holds.rows)) new.pending read.0 t.sub beside (entries_stand (is_between low high) x limit (block x top.block) t.sub here.under here.holds) (rises_front 0 t.sub t.rest whole.rising) in
-      let cut_records : rs ≡ (cut.before ++ (cut.sub ++ cut.behind)) ++ t.rest = t.records ∙ ap (λ (qs : List Record). qs ++ t.rest) cut.records in
+      let cut = records_cut low high t.sub new.pending read.0 (rises_front 0 t.sub t.rest whole.rising) in
+      let cut_records : rs ≡ (cut.before ++ (new.pending ++ cut.behind)) ++ t.rest = t.records ∙ ap (λ (qs : List Record). qs ++ t.rest) cut.records in
       let later_aside : aside low new.tops ≡ 0 = ap (aside low) read.1 ∙ aside_others low (drop 1 old.tops) is_in.others in
       record {
-        rest = cut.sub ++ t.rest;
-        rest_blocks = beside ++ t.others;
-        ahead = record { next = cut.sub; later = t.rest; beside = beside; below = t.others; entries = cut.entries; under = subst (λ (ts : List Root). Under (is_between low high) sizes x limit ts t.rest t.others) (sym read.1) t.after; records = refl; blocks = refl };
-        rising = rising_cut cut.before cut.sub cut.behind t.rest (subst AreRising cut_records rising);
+        rest = new.pending ++ t.rest;
+        rest_blocks = t.others;
+        ahead = record { later = t.rest; under = subst (λ (ts : List Root). Under (is_between low high) sizes x limit ts t.rest t.others) (sym read.1) t.after; records = refl };
+        rising = rising_cut cut.before new.pending cut.behind t.rest (subst AreRising cut_records rising);
         is_in = record {
-          entries = cut.within;
+          records = cut.within;
           tops = subst (AllByRecursion (λ (t : Root). place t.low ≤ high)) (sym read.1) tops_high.1;
           others = subst (λ (ts : List Root). AllByRecursion (λ (t : Root). low ≤ place t.low) (drop 1 ts)) (sym read.1) (drop_joined (λ (t : Root). low ≤ place t.low) [] (drop 1 old.tops) tt is_in.others);
         };
-        records = ap (part low high) cut_records ∙ part_cut low high cut.before cut.sub cut.behind t.rest cut.below cut.above;
+        records = ap (part low high) cut_records ∙ part_cut low high cut.before new.pending cut.behind t.rest cut.below cut.above;
         counted = list_any (λ r. is_between low high (place r.0)) t.sub;
-        blocks = t.blocks ∙ ap (λ (ds : List ℕ). ds ++ t.others) (here.over (is_between low high)) ∙ append_assoc (top_over (is_between low high) top.block t.sub) beside t.others;
+        blocks = t.blocks ∙ ap (λ (ds : List ℕ). ds ++ t.others) (here.over (is_between low high));
         pays = top_pays low high top t.sub (list_any (λ r. is_between low high (place r.0)) t.sub) (aside low old.tops) (aside low new.tops) t.begins tops_high.0 refl aside_is (λ le. later_aside) (omega (arith, later_aside));
       }
 
   -- what is read of a leaf, and of an inner block
-  pub leaf_read : top.level ≡ 0 → (ws : List Row) × HasRowsAt x limit top.block ws
+  leaf_read : top.level ≡ 0 → (qs : List Record) × IsLeafAt x limit top.block qs
   leaf_read zero_is =
       let t = top_ahead (is_between low high) sizes x limit old top rs bs front ahead in
       let here = leaf_over sizes x limit top.level top.block t.sub t.own zero_is t.subtree in
-      (here.holds.rows, record { inside = here.place; rows = here.holds.leaf })
+      (t.sub, record { inside = here.place; leaf = here.leaf })
 
   node_read : 0 < top.level → (cs : List Child) × IsNodeAt x limit top.level top.block cs
   node_read above =
@@ -317,18 +274,13 @@ module _ (low high : ℕ) (sizes : Sizes) (x : Contents) (limit : ℕ) (old new 
         rest = cut.sub ++ t.rest;
         rest_blocks = kept_over ++ t.others;
         ahead = record {
-          next = [];
           later = cut.sub ++ t.rest;
-          beside = [];
-          below = kept_over ++ t.others;
-          entries = subst (λ (es : List Entry). EntriesFor (is_between low high) x limit es [] []) (sym pending_is) (refl, refl);
           under = subst (λ (ts : List Root). Under (is_between low high) sizes x limit ts (cut.sub ++ t.rest) (kept_over ++ t.others)) (sym tops_now) under;
-          records = refl;
-          blocks = refl;
+          records = ap (λ (qs : List Record). qs ++ (cut.sub ++ t.rest)) (sym pending_is);
         };
         rising = rising_cut cut.before cut.sub cut.behind t.rest (subst AreRising cut_records rising);
         is_in = record {
-          entries = subst (AllByRecursion (λ e. is_within low high (key_of_entry e) ≡ true)) (sym pending_is) tt;
+          records = subst (AllByRecursion (λ (r : Record). is_within low high r.0 ≡ true)) (sym pending_is) tt;
           tops = subst (AllByRecursion (λ (t : Root). place t.low ≤ high)) (sym tops_now) (each_join (λ (t : Root). place t.low ≤ high) (tops_of (top.level - 1) kept) (drop 1 old.tops) (each_tops (λ (t : Root). place t.low ≤ high) (top.level - 1) kept read.1.within) tops_high.1);
           others = subst (λ (ts : List Root). AllByRecursion (λ (t : Root). low ≤ place t.low) (drop 1 ts)) (sym tops_now)
               (drop_joined (λ (t : Root). low ≤ place t.low) (tops_of (top.level - 1) kept) (drop 1 old.tops)
@@ -342,7 +294,7 @@ module _ (low high : ℕ) (sizes : Sizes) (x : Contents) (limit : ℕ) (old new 
 
   -- what is answered where a leaf, or an inner block, that the walk stands before is opened
   pub leaf_opening : (result : Result ⊤ TreeFault) → top.level ≡ 0
-      → ((ws : List Row) → HasRowsAt x limit top.block ws → OkOrDevice result (λ _. CutsEntries low high (entries_from (block x top.block) 0 (length ws)) new.pending × (new.tops ≡ drop 1 old.tops))) → OkOrDevice result (λ _. Enters sizes x limit low high (Top top) old new rs bs)
+      → ((qs : List Record) → IsLeafAt x limit top.block qs → OkOrDevice result (λ _. CutsRecords low high qs new.pending × (new.tops ≡ drop 1 old.tops))) → OkOrDevice result (λ _. Enters sizes x limit low high (Top top) old new rs bs)
   leaf_opening (Ok y) zero_is only = leaf_opened zero_is only
   leaf_opening (Err e) zero_is only = let here = leaf_read zero_is in only here.0 here.1
 
@@ -357,108 +309,28 @@ module _ (test : ℕ → Bool) (sizes : Sizes) (x : Contents) (limit : ℕ) wher
       → IsAhead test sizes x limit old rs bs → Passes test sizes x limit (key, value) new rs bs
   pair_passed old new key value rs bs front is ahead =
       let at = front_pair old.pending old.tops key value front in
-      let e = subst (λ (es : List Entry). EntriesFor test x limit es ahead.next ahead.beside) at ahead.entries in
-      let next : IsAhead test sizes x limit (record { pending = drop 1 old.pending; tops = old.tops }) (e.1 ++ ahead.later) bs =
-      record { next = e.1; later = ahead.later; beside = e.3; below = ahead.below; entries = e.5; under = ahead.under; records = refl; blocks = ahead.blocks ∙ ap (λ (ds : List ℕ). ds ++ ahead.below) (own_none (test (place e.0.0)) e.2 e.3 ahead.beside e.7 e.4.1) } in
+      let next : IsAhead test sizes x limit (record { pending = drop 1 old.pending; tops = old.tops }) (drop 1 old.pending ++ ahead.later) bs =
+      record { later = ahead.later; under = ahead.under; records = refl } in
       record {
-        rest = e.1 ++ ahead.later;
-        ahead = subst (λ (w : Walk). IsAhead test sizes x limit w (e.1 ++ ahead.later) bs) (sym is) next;
-        records = ahead.records ∙ ap (λ (qs : List Record). qs ++ ahead.later) (e.6 ∙ ap (λ (r : Record). r ∷ e.1) e.4.0);
+        rest = drop 1 old.pending ++ ahead.later;
+        ahead = subst (λ (w : Walk). IsAhead test sizes x limit w (drop 1 old.pending ++ ahead.later) bs) (sym is) next;
+        records = ahead.records ∙ ap (λ (qs : List Record). qs ++ ahead.later) at;
       }
-
-  -- a long value that is ahead of a walk that stands before it, and what comes then
-  pub record FarAhead (walk : Walk) (key : Key) (link : Link) (rs : List Record) (bs : List ℕ) : Type 0 where
-    pub whose : Record
-    pub rest : List Record
-    pub others : List ℕ
-    pub later : List Record
-    pub below : List ℕ
-    pub behind : IsBehind x limit key link whose (link.block ∷ [])
-    pub entries : EntriesFor test x limit (drop 1 walk.pending) rest others
-    pub under : Under test sizes x limit walk.tops later below
-    pub records : rs ≡ whose ∷ (rest ++ later)
-    pub blocks : bs ≡ only_if (test (place key)) (link.block ∷ []) ++ (others ++ below)
-
-  pub far_ahead : (walk : Walk) (key : Key) (link : Link) (rs : List Record) (bs : List ℕ) → front_of walk ≡ Far key link → IsAhead test sizes x limit walk rs bs → FarAhead walk key link rs bs
-  far_ahead walk key link rs bs front ahead =
-      let at = front_far walk.pending walk.tops key link front in
-      let e = subst (λ (es : List Entry). EntriesFor test x limit es ahead.next ahead.beside) at ahead.entries in
-      let own : only_if (test (place e.0.0)) e.2 ≡ only_if (test (place key)) (link.block ∷ []) = ap₂ (λ (k : Key) (ds : List ℕ). only_if (test (place k)) ds) e.4.key_is e.4.only in
-      record {
-        whose = e.0;
-        rest = e.1;
-        others = e.3;
-        later = ahead.later;
-        below = ahead.below;
-        behind = subst (λ (ds : List ℕ). IsBehind x limit key link e.0 ds) e.4.only e.4;
-        entries = e.5;
-        under = ahead.under;
-        records = ahead.records ∙ ap (λ (qs : List Record). qs ++ ahead.later) e.6;
-        blocks =
-            ahead.blocks ∙ ap (λ (ds : List ℕ). ds ++ ahead.below) (e.7 ∙ ap (λ (ds : List ℕ). ds ++ e.3) own)
-            ∙ append_assoc (only_if (test (place key)) (link.block ∷ [])) e.3 ahead.below;
-      }
-
-  -- what lies past it
-  pub far_passed : (old new : Walk) (key : Key) (link : Link) (rs : List Record) (bs : List ℕ) → (front : front_of old ≡ Far key link) → new ≡ record { pending = drop 1 old.pending; tops = old.tops }
-      → (ahead : IsAhead test sizes x limit old rs bs) → let f = far_ahead old key link rs bs front ahead in IsAhead test sizes x limit new (f.rest ++ f.later) (f.others ++ f.below)
-  far_passed old new key link rs bs front is ahead =
-      let f = far_ahead old key link rs bs front ahead in
-      subst (λ (w : Walk). IsAhead test sizes x limit w (f.rest ++ f.later) (f.others ++ f.below)) (sym is)
-      (record { next = f.rest; later = f.later; beside = f.others; below = f.below; entries = f.entries; under = f.under; records = refl; blocks = refl })
 
 -- past a subtree a walk stands in the part still
 pub in_skipped : (low high : ℕ) (old new : Walk) (top : Root) → front_of old ≡ Top top → new ≡ record { pending = old.pending; tops = drop 1 old.tops } → IsIn low high old → IsIn low high new
 in_skipped low high old new top front is is_in =
     let tops = (front_top old.pending old.tops top front).1 in
     let all = subst (AllByRecursion (λ (t : Root). place t.low ≤ high)) tops is_in.tops in
-    subst (IsIn low high) (sym is) (record { entries = is_in.entries; tops = all.1; others = drop_joined (λ (t : Root). low ≤ place t.low) [] (drop 1 old.tops) tt is_in.others })
+    subst (IsIn low high) (sym is) (record { records = is_in.records; tops = all.1; others = drop_joined (λ (t : Root). low ≤ place t.low) [] (drop 1 old.tops) tt is_in.others })
 
-module _ (low high : ℕ) (sizes : Sizes) (x : Contents) (limit : ℕ) where
-  -- where a walk stands in a part, so does its next entry
-  pub in_far : (walk : Walk) (key : Key) (link : Link) → front_of walk ≡ Far key link → IsIn low high walk → (is_within low high key ≡ true) × AllByRecursion (λ e. is_within low high (key_of_entry e) ≡ true) (drop 1 walk.pending)
-  in_far walk key link front is_in =
-      let all = subst (AllByRecursion (λ e. is_within low high (key_of_entry e) ≡ true)) (front_far walk.pending walk.tops key link front) is_in.entries in
-      (all.0, all.1)
-
-  pub in_pair : (walk : Walk) (key : Key) (value : List ℕ) → front_of walk ≡ Pair key value → IsIn low high walk → (is_within low high key ≡ true) × AllByRecursion (λ e. is_within low high (key_of_entry e) ≡ true) (drop 1 walk.pending)
+module _ (low high : ℕ) where
+  -- where a walk stands in a part, so does its next record
+  pub in_pair : (walk : Walk) (key : Key) (value : List ℕ) → front_of walk ≡ Pair key value → IsIn low high walk → (is_within low high key ≡ true) × AllByRecursion (λ r. is_within low high r.0 ≡ true) (drop 1 walk.pending)
   in_pair walk key value front is_in =
-      let all = subst (AllByRecursion (λ e. is_within low high (key_of_entry e) ≡ true)) (front_pair walk.pending walk.tops key value front) is_in.entries in
+      let all = subst (AllByRecursion (λ (r : Record). is_within low high r.0 ≡ true)) (front_pair walk.pending walk.tops key value front) is_in.records in
       (all.0, all.1)
 
-  -- past an entry it stands there still
-  pub in_past : (old new : Walk) → AllByRecursion (λ e. is_within low high (key_of_entry e) ≡ true) (drop 1 old.pending) → new ≡ record { pending = drop 1 old.pending; tops = old.tops } → IsIn low high old → IsIn low high new
-  in_past old new all is is_in = subst (IsIn low high) (sym is) (record { entries = all; tops = is_in.tops; others = is_in.others })
-
-  -- the walk has read a long value
-  long_opened : (old new : Walk) (key : Key) (link : Link) (rs : List Record) (bs : List ℕ) → front_of old ≡ Far key link → IsAhead (is_between low high) sizes x limit old rs bs → AreRising rs → IsIn low high old
-      → ((value : List ℕ) → IsLongAt x limit link.block key value → length value ≡ link.len → new ≡ record { pending = Own key value ∷ drop 1 old.pending; tops = old.tops })
-      → Enters sizes x limit low high (Far key link) old new rs bs
-  long_opened old new key link rs bs front ahead rising is_in only =
-      let test : ℕ → Bool = is_between low high in
-      let f = far_ahead test sizes x limit old key link rs bs front ahead in
-      let value = f.whose.1 in
-      let inside = in_far old key link front is_in in
-      let same : f.whose ≡ (key, value) = ap (λ (k : Key). (k, value)) f.behind.key_is in
-      let next : IsAhead test sizes x limit (record { pending = Own key value ∷ drop 1 old.pending; tops = old.tops }) rs (f.others ++ f.below) =
-      record { next = f.whose ∷ f.rest; later = f.later; beside = f.others; below = f.below; entries = (f.whose, f.rest, [], f.others, (same, refl), f.entries, refl, sym (own_none (test (place f.whose.0)) [] f.others (only_if (test (place f.whose.0)) [] ++ f.others) refl refl)); under = f.under; records = f.records; blocks = refl } in
-      let read = only value (record { inside = f.behind.place; long = f.behind.value }) f.behind.many in
-      record {
-        rest = rs;
-        rest_blocks = f.others ++ f.below;
-        ahead = subst (λ (w : Walk). IsAhead test sizes x limit w rs (f.others ++ f.below)) (sym read) next;
-        rising = rising;
-        is_in = subst (IsIn low high) (sym read) (record { entries = (inside.0, inside.1); tops = is_in.tops; others = is_in.others });
-        records = refl;
-        counted = true;
-        blocks = f.blocks ∙ ap (λ t. only_if t (link.block ∷ []) ++ (f.others ++ f.below)) inside.0;
-        pays = omega (arith, ap (λ (w : Walk). aside low w.tops) read);
-      }
-
-  pub long_opening : (old new : Walk) (key : Key) (link : Link) (rs : List Record) (bs : List ℕ) (result : Result ⊤ TreeFault) → front_of old ≡ Far key link → IsAhead (is_between low high) sizes x limit old rs bs → AreRising rs → IsIn low high old
-      → ((value : List ℕ) → IsLongAt x limit link.block key value → length value ≡ link.len → OkOrDevice result (λ _. new ≡ record { pending = Own key value ∷ drop 1 old.pending; tops = old.tops }))
-      → OkOrDevice result (λ _. Enters sizes x limit low high (Far key link) old new rs bs)
-  long_opening old new key link rs bs (Ok y) front ahead rising is_in only = long_opened old new key link rs bs front ahead rising is_in only
-  long_opening old new key link rs bs (Err e) front ahead rising is_in only =
-      let f = far_ahead (is_between low high) sizes x limit old key link rs bs front ahead in
-      only f.whose.1 (record { inside = f.behind.place; long = f.behind.value }) f.behind.many
+  -- past a record it stands there still
+  pub in_past : (old new : Walk) → AllByRecursion (λ r. is_within low high r.0 ≡ true) (drop 1 old.pending) → new ≡ record { pending = drop 1 old.pending; tops = old.tops } → IsIn low high old → IsIn low high new
+  in_past old new all is is_in = subst (IsIn low high) (sym is) (record { records = all; tops = is_in.tops; others = is_in.others })

@@ -1,28 +1,24 @@
--- Rows of a block one after another, and what two blocks share of them.
-use Rattle.std.proofs.Common.{◌≡◌, ◌⊎◌, inl, inr, Option, None, Some, ℕ, zero, suc, ◌+◌, ◌-◌, ◌<◌, ◌≤◌, Bool, subst, List, [], ◌∷◌, ◌++◌, length, get_or, drop, refl, sym, ap, ap₂, ◌∙◌, arith}
+-- Records and children in the bytes of blocks, one after another, and what two blocks share of them.
+use Rattle.std.proofs.Common.{◌≡◌, ◌⊎◌, inl, inr, ℕ, zero, suc, ◌+◌, ◌-◌, ◌*◌, ◌<◌, ◌≤◌, subst, List, [], ◌∷◌, ◌++◌, length, get_or, take, drop, refl, sym, ap, ap₂, ◌∙◌, arith, append_assoc}
 use Rattle.std.specs.List.{AllByRecursion}
-use Rattle.vm_types.specs.declared.key.Key.{Key}
-use Rattle.vm_disk.specs.Disk.{Contents}
-use Rattle.vm_block.specs.Leaf.{Record, Row, RowFits, record_bytes}
-use Rattle.vm_block.specs.Long.{long_value_of}
-use Rattle.vm_block.specs.declared.stored.Link.{Link}
-use Rattle.vm_block.proofs.RecordLemmas.{record_key}
-use Rattle.vm_block.proofs.WayLemmas.{leaf_piece}
-use Rattle.vm_tree.specs.Over.{beside_over}
-use Rattle.vm_tree.specs.Tree.{IsWithin, LeafHolds, StandForAll, StandsFor}
-use Rattle.vm_types.specs.Bytes.{longest}
+use Rattle.std.proofs.Math.Seq.{drop-cons, take-add}
+use Rattle.std.proofs.lemmas.List.{drop_at, drop-drop, take_at}
 use Rattle.vm_types.specs.Places.{place}
-use Rattle.vm_diff.specs.Cuts.{CutsChildren, CutsEntries, FirstAt, SecondAt}
-use Rattle.vm_diff.specs.Entry.{Entry, EntryFor, EntriesFor, key_of_entry}
-use Rattle.vm_diff.specs.Entry.Entry.{Own, Linked}
+use Rattle.vm_types.specs.declared.key.Key.{Key}
+use Rattle.vm_block.specs.Bounds.{bound_of, bounds_of}
+use Rattle.vm_block.specs.Leaf.{Record, bounds_from, size_of, values_of}
 use Rattle.vm_block.specs.Node.{IsNode}
-use Rattle.vm_block.specs.Row.{key_of, link_of, record_of, child_of, leaf_row, node_row}
+use Rattle.vm_block.specs.Padding.{zeros}
+use Rattle.vm_block.specs.Row.{child_of, node_row}
 use Rattle.vm_block.specs.declared.node.Child.{Child}
-use Rattle.vm_block.proofs.RowLemmas.{node_child, row_key, row_linked, row_record, row_unlinked}
-use Rattle.vm_diff.specs.Rows.{rows_from, entry_of, entry_with, entries_from, children_from, with_held}
-use Rattle.vm_diff.specs.Front.{first_of, next_of}
-use Rattle.vm_diff.specs.Front.Front.{End, Far, Pair}
+use Rattle.vm_block.proofs.LeafLemmas.{leaf_bounds, values_there}
+use Rattle.vm_block.proofs.RowLemmas.{node_child}
+use Rattle.vm_tree.specs.BlockReads.{IsLeafSize}
 use Rattle.vm_diff.specs.Ahead.{PassedBoth}
+use Rattle.vm_diff.specs.Cuts.{CutsChildren, FirstAt, SecondAt}
+use Rattle.vm_diff.specs.Front.{first_of}
+use Rattle.vm_diff.specs.Front.Front.{End, Pair}
+use Rattle.vm_diff.specs.Rows.{AreSameRecords, IsLeafTo, children_from, records_from, records_of, records_with, rows_from}
 
 module _ {X : Type 0} where
   rows_same : (f g : ℕ → X) (n i j : ℕ) → ((k : ℕ) → k < n → f (i + k) ≡ g (j + k)) → rows_from f i n ≡ rows_from g j n
@@ -80,117 +76,108 @@ module _ {X : Type 0} where
   rows_some f i zero some = absurd (omega arith)
   rows_some f i (suc n) some = let same : n ≡ suc n - 1 = omega arith in ap (λ k. f i ∷ rows_from f (suc i) k) same
 
--- # Entries
+-- # Records
 
--- the entry in a row, by its link
-pub entry_linked : (row : List ℕ) (link : Link) → link_of row ≡ Some link → entry_of row ≡ Linked (key_of row) link
-unfolding entry_of
-entry_linked row link is = ap (λ (found : Option Link). entry_with found row) is
+-- the records that were written are read
+read_written : (from : ℕ) (rs : List Record) (entries tail : List ℕ) → bounds_of (length rs) entries ≡ bounds_from from rs → records_with (length rs) from entries (values_of rs ++ tail) ≡ rs
+read_written from [] entries tail e = refl
+read_written from (r ∷ rs) entries tail e =
+    let key : (bound_of entries).key ≡ r.0 = ap (λ bs. (get_or bs 0 (bound_of [])).key) e in
+    let end : (bound_of entries).end ≡ from + length r.1 = ap (λ bs. (get_or bs 0 (bound_of [])).end) e in
+    let next = ap (λ bs. drop 1 bs) e in
+    let vs : List ℕ = (r.1 ++ values_of rs) ++ tail in
+    let n : from + length r.1 - from ≡ length r.1 = omega arith in
+    let here : vs ≡ r.1 ++ (values_of rs ++ tail) = append_assoc r.1 (values_of rs) tail in
+    let value : take (from + length r.1 - from) vs ≡ r.1 = ap₂ (λ k z. take k z) n here ∙ take_at r.1 (values_of rs ++ tail) (length r.1) refl in
+    let rest : drop (from + length r.1 - from) vs ≡ values_of rs ++ tail = ap₂ (λ k z. drop k z) n here ∙ drop_at r.1 (values_of rs ++ tail) (length r.1) refl in
+    ap₂ (λ (k : Key) m. (k, take (m - from) vs) ∷ records_with (length rs) m (drop 12 entries) (drop (m - from) vs)) key end
+    ∙ ap₂ (λ (v ws : List ℕ). (r.0, v) ∷ records_with (length rs) (from + length r.1) (drop 12 entries) ws) value rest
+    ∙ ap (λ (qs : List Record). r ∷ qs) (read_written (from + length r.1) rs (drop 12 entries) tail next)
 
-pub entry_own : (row : List ℕ) → link_of row ≡ None → entry_of row ≡ Own (record_of row).0 (record_of row).1
-unfolding entry_of
-entry_own row is = ap (λ (found : Option Link). entry_with found row) is
+-- what is read of a leaf are its records
+pub records_whole : (len : ℕ) (bytes : List ℕ) (leaf : IsLeafSize bytes len) → records_of len bytes ≡ leaf.records
+unfolding records_of
+records_whole len bytes leaf =
+    let rs = leaf.records in
+    ap (λ n. records_with n 0 (drop 16 bytes) (drop (16 + 12 * n) bytes)) leaf.many
+    ∙ ap (λ vs. records_with (length rs) 0 (drop 16 bytes) vs) (values_there bytes rs leaf.leaf)
+    ∙ read_written 0 rs (drop 16 bytes) (zeros (4080 - size_of rs)) (leaf_bounds bytes rs leaf.leaf)
 
--- the key in a row of a leaf
-row_keyed : (w : Row) → RowFits w → key_of (record_bytes w) ≡ w.0
-row_keyed w fits = row_key (record_bytes w) w.0 fits.0 (record_key w)
+-- so many of them, from one on
+pub records_part : (len : ℕ) (bytes : List ℕ) (i n : ℕ) (leaf : IsLeafSize bytes len) → take n (drop i (records_of len bytes)) ≡ take n (drop i leaf.records)
+records_part len bytes i n leaf = ap (λ qs. take n (drop i qs)) (records_whole len bytes leaf)
 
--- what a row stands for, the entry in its bytes stands for
-entry_stands : (x : Contents) (limit : ℕ) (w : Row) (r : Record) (bs row : List ℕ) → RowFits w → row ≡ record_bytes w → IsWithin longest r → StandsFor x limit w r bs → EntryFor x limit (entry_of row) r bs
-entry_stands x limit w r bs row fits is within (inl itself) =
-    let of = row_record row w fits itself.short is in
-    let entry : entry_of row ≡ Own w.0 w.1 = entry_own row (row_unlinked row w fits itself.short is) ∙ ap (λ (q : Record). Own q.0 q.1) of in
-    subst (λ (e : Entry). EntryFor x limit e r bs) (sym entry) (itself.same, itself.none)
-entry_stands x limit w r bs row fits is within (inr linked) =
-    let key : key_of row ≡ w.0 = ap key_of is ∙ row_keyed w fits in
-    let entry : entry_of row ≡ Linked w.0 linked.link = entry_linked row linked.link (row_linked row w linked.link fits linked.fits linked.spelled is) ∙ ap (λ (k : Key). Linked k linked.link) key in
-    subst (λ (e : Entry). EntryFor x limit e r bs) (sym entry)
-    (record { key_is = linked.key; many = linked.many; most = within.1; place = linked.place; value = linked.value; only = linked.only })
+-- none of records
+pub part_none : (rs : List Record) (i n : ℕ) → n ≡ 0 → take n (drop i rs) ≡ []
+part_none rs i n none = ap (λ k. take k (drop i rs)) none
 
--- what rows stand for, the entries in their bytes stand for
-rows_stand : (test : ℕ → Bool) (x : Contents) (limit : ℕ) (ws : List Row) (rs : List Record) (bs : List ℕ) (f : ℕ → List ℕ) (i n : ℕ) → n ≡ length ws → ((k : ℕ) (d : Row) → k < length ws → (f (i + k) ≡ record_bytes (get_or ws k d)) × RowFits (get_or ws k d))
-    → AllByRecursion (IsWithin longest) rs → (t : StandForAll x limit ws rs bs) → EntriesFor test x limit (rows_from (λ k. entry_of (f k)) i n) rs (beside_over test x limit ws rs bs t)
-rows_stand test x limit [] rs bs f i zero many at within t = (t.0, refl)
-rows_stand test x limit [] rs bs f i (suc n) many at within t = absurd (omega arith)
-rows_stand test x limit (w ∷ ws) rs bs f i zero many at within t = absurd (omega arith)
-rows_stand test x limit (w ∷ ws) rs bs f i (suc n) many at within t =
-    let whole = subst (AllByRecursion (IsWithin longest)) t.6 within in
+-- so many of records, from one on, where there are any
+pub part_some : (rs : List Record) (i n : ℕ) (d : Record) → 0 < n → i + n ≤ length rs → take n (drop i rs) ≡ get_or rs i d ∷ take (n - 1) (drop (i + 1) rs)
+part_some rs i zero d some le = absurd (omega arith)
+part_some rs i (suc n) d some le =
+    let a : n ≡ suc n - 1 = omega arith in
+    let b : suc i ≡ i + 1 = omega arith in
+    ap (take (suc n)) (drop-cons rs i d (omega (arith, le))) ∙ ap₂ (λ k j. get_or rs i d ∷ take k (drop j rs)) a b
+
+-- the first of them passed
+pub part_past : (rs : List Record) (i n all : ℕ) → n + 1 ≡ all → take n (drop (i + 1) rs) ≡ drop 1 (take all (drop i rs))
+part_past rs i n all many =
+    ap (take n) (sym (drop-drop 1 i rs)) ∙ past n (drop i rs) ∙ ap (λ k. drop 1 (take k (drop i rs))) many
+  where
+    none_taken : (n : ℕ) → take {A = Record} n [] ≡ []
+    none_taken zero = refl
+    none_taken (suc n) = refl
+
+    past : (n : ℕ) (ys : List Record) → take n (drop 1 ys) ≡ drop 1 (take (n + 1) ys)
+    past n [] = let a : suc n ≡ n + 1 = omega arith in none_taken n ∙ ap (λ k. drop 1 (take k [])) a
+    past n (y ∷ ys) = let a : suc n ≡ n + 1 = omega arith in ap (λ k. drop 1 (take k (y ∷ ys))) a
+
+-- so many of two leaves' records are the same, where each is
+parts_same : (rs qs : List Record) (i j n : ℕ) → i + n ≤ length rs → j + n ≤ length qs → ((k : ℕ) (d : Record) → k < n → get_or rs (i + k) d ≡ get_or qs (j + k) d) → take n (drop i rs) ≡ take n (drop j qs)
+parts_same rs qs i j zero one other same = refl
+parts_same rs qs i j (suc n) one other same =
+    let d : Record = (record { table = 0; number = 0 }, []) in
     let here : i ≡ i + 0 = omega arith in
-    let next : (k : ℕ) (d : Row) → k < length ws → (f (suc i + k) ≡ record_bytes (get_or ws k d)) × RowFits (get_or ws k d) = λ k d lt.
-    let a : suc i + k ≡ i + suc k = omega arith in let there = at (suc k) d (omega arith) in (ap f a ∙ there.0, there.1) in
-    let first = at 0 w (omega arith) in
-    (t.0, t.1, t.2, beside_over test x limit ws t.1 t.3 t.5, entry_stands x limit w t.0 t.2 (f i) first.1 (ap f here ∙ first.0) whole.0 t.4, rows_stand test x limit ws t.1 t.3 f (suc i) n (omega arith) next whole.1 t.5, t.6, refl)
+    let there : j + 0 ≡ j = omega arith in
+    let first : get_or rs i d ≡ get_or qs j d = ap (λ k. get_or rs k d) here ∙ same 0 d (omega arith) ∙ ap (λ k. get_or qs k d) there in
+    let next : (k : ℕ) (e : Record) → k < n → get_or rs (suc i + k) e ≡ get_or qs (suc j + k) e = λ k e lt.
+    let a : suc i + k ≡ i + suc k = omega arith in
+    let b : j + suc k ≡ suc j + k = omega arith in
+    ap (λ m. get_or rs m e) a ∙ same (suc k) e (omega (arith, lt)) ∙ ap (λ m. get_or qs m e) b in
+    ap (take (suc n)) (drop-cons rs i d (omega (arith, one)))
+    ∙ ap₂ (λ r rest. r ∷ rest) first (parts_same rs qs (suc i) (suc j) n (omega (arith, one)) (omega (arith, other)) next)
+    ∙ ap (take (suc n)) (sym (drop-cons qs j d (omega (arith, other))))
 
--- the entries of a leaf stand for what it holds
-pub entries_stand : (test : ℕ → Bool) (x : Contents) (limit : ℕ) (bytes : List ℕ) (rs : List Record) (under : List ℕ) → (holds : LeafHolds x limit longest bytes rs under) → EntriesFor test x limit (entries_from bytes 0 (length holds.rows)) rs (beside_over test x limit holds.rows rs under holds.stand)
-unfolding entries_from
-entries_stand test x limit bytes rs under holds =
-    rows_stand test x limit holds.rows rs under (leaf_row bytes) 0 (length holds.rows) refl (λ k d lt. let a : 0 + k ≡ k = omega arith in let there = leaf_piece bytes holds.rows k d holds.leaf lt in (ap (leaf_row bytes) a ∙ there.0, there.1)) holds.within holds.stand
+leaves_same : (k l : ℕ) (one other : List ℕ) (i j n count many : ℕ) → IsLeafTo k one count → IsLeafTo l other many → i + n ≤ count → j + n ≤ many → AreSameRecords one i other j n
+    → take n (drop i (records_of k one)) ≡ take n (drop j (records_of l other))
+leaves_same k l one other i j zero count many here there le most same = refl
+leaves_same k l one other i j (suc n) count many here there le most same =
+    let a = here.1 (omega (arith, le)) in
+    let b = there.1 (omega (arith, most)) in
+    ap (λ rs. take (suc n) (drop i rs)) (records_whole k one a)
+    ∙ parts_same a.records b.records i j (suc n) (omega (arith, le, here.0, a.many)) (omega (arith, most, there.0, b.many))
+    (λ m d lt. same m lt a.records b.records d a.leaf b.leaf (omega (arith, le, lt, here.0, a.many)) (omega (arith, most, lt, there.0, b.many)))
+    ∙ ap (λ rs. take (suc n) (drop j rs)) (sym (records_whole l other b))
 
-pub entries_none : (bytes : List ℕ) (i n : ℕ) → n ≡ 0 → entries_from bytes i n ≡ []
-unfolding entries_from
-entries_none bytes i n none = rows_none (λ k. entry_of (leaf_row bytes k)) i n none
+part_split : (rs : List Record) (i n all rest : ℕ) → all ≡ n + rest → take all (drop i rs) ≡ take n (drop i rs) ++ take rest (drop (i + n) rs)
+part_split rs i n all rest many = ap (λ k. take k (drop i rs)) many ∙ take-add n rest (drop i rs) ∙ ap (λ ys. take n (drop i rs) ++ take rest ys) (drop-drop n i rs)
 
-pub entries_some : (bytes : List ℕ) (i n : ℕ) → 0 < n → entries_from bytes i n ≡ entry_of (leaf_row bytes i) ∷ entries_from bytes (suc i) (n - 1)
-unfolding entries_from
-entries_some bytes i n some = rows_some (λ k. entry_of (leaf_row bytes k)) i n some
+pub records_passed : (k l : ℕ) (one other : List ℕ) (i j all rest many more n : ℕ) → IsLeafTo k one (i + all) → IsLeafTo l other (j + many) → all ≡ n + rest → many ≡ n + more → AreSameRecords one i other j n
+    → PassedBoth (records_from k one i all) (records_from l other j many) (records_from k one (i + n) rest) (records_from l other (j + n) more)
+records_passed k l one other i j all rest many more n here there first second same = record {
+  front = take n (drop i (records_of k one));
+  first = part_split (records_of k one) i n all rest first;
+  second =
+      part_split (records_of l other) j n many more second
+      ∙ ap (λ ys. ys ++ take more (drop (j + n) (records_of l other))) (sym (leaves_same k l one other i j n (i + all) (j + many) here there (omega (arith, first)) (omega (arith, second)) same));
+}
 
-pub entries_past : (bytes : List ℕ) (i n all : ℕ) → n + 1 ≡ all → entries_from bytes (i + 1) n ≡ drop 1 (entries_from bytes i all)
-unfolding entries_from
-entries_past bytes i n all many = rows_past (λ k. entry_of (leaf_row bytes k)) i n all many
+-- what comes first of records is told by the first
+pub first_pair : (r : Record) (rest now : List Record) (key : Key) (value : List ℕ) → r ∷ rest ≡ now → first_of now [] ≡ Pair key value → r.1 ≡ value
+first_pair r rest now key value is first = let both : Pair r.0 r.1 ≡ Pair key value = ap (λ (rs : List Record). first_of rs []) is ∙ first in cc
 
-pub entries_count : (bytes : List ℕ) (n i : ℕ) → length (entries_from bytes i n) ≡ n
-unfolding entries_from
-entries_count bytes zero i = refl
-entries_count bytes (suc n) i = let more = entries_count bytes n (suc i) in omega (arith, more)
-
-pub entries_passed : (one other : List ℕ) (i j all rest many more n : ℕ) → all ≡ n + rest → many ≡ n + more → ((k : ℕ) → k < n → leaf_row one (i + k) ≡ leaf_row other (j + k))
-    → PassedBoth (entries_from one i all) (entries_from other j many) (entries_from one (i + n) rest) (entries_from other (j + n) more)
-unfolding entries_from
-entries_passed one other i j all rest many more n first second same =
-    rows_passed (λ k. entry_of (leaf_row one k)) (λ k. entry_of (leaf_row other k)) i j all rest many more n first second (λ k lt. ap entry_of (same k lt))
-
--- where no value is held, the entries are those of the leaf, and else its record comes before them
-pub leaf_alone : (h : Option Key) (long : List ℕ) (len : ℕ) (es : List Entry) → h ≡ None → with_held h long len es ≡ es
-leaf_alone h long len es none = ap (λ (k : Option Key). with_held k long len es) none
-
-pub unheld : (h : Option Key) (long : List ℕ) (len : ℕ) (es now : List Entry) → h ≡ None → with_held h long len es ≡ now → es ≡ now
-unheld h long len es now none view = subst (λ (k : Option Key). with_held k long len es ≡ now) none view
-
-pub held_first : (h : Option Key) (key : Key) (long : List ℕ) (len : ℕ) (es now : List Entry) → h ≡ Some key → with_held h long len es ≡ now → Own key (long_value_of len long) ∷ es ≡ now
-held_first h key long len es now some view = subst (λ (k : Option Key). with_held k long len es ≡ now) some view
-
--- where a link comes first, no value is held, and some entries are left
-pub far_inside : (h : Option Key) (long bytes : List ℕ) (len at n : ℕ) (key : Key) (link : Link) → first_of (with_held h long len (entries_from bytes at n)) [] ≡ Far key link → (h ≡ None) × (0 < n)
-unfolding entries_from
-far_inside (Some k) long bytes len at n key link is = absurd cc
-far_inside None long bytes len at zero key link is = absurd cc
-far_inside None long bytes len at (suc n) key link is = (refl, omega arith)
-
--- what comes first is told by the first entry
-pub next_first : (e : Entry) (es : List Entry) → next_of (first_of (e ∷ es) []) ≡ next_of (first_of (e ∷ []) [])
-next_first (Own key value) es = refl
-next_first (Linked key link) es = refl
-
--- where a record comes first, its value is that in the row
-first_own : (e : Entry) (es : List Entry) (key : Key) (value : List ℕ) → first_of (e ∷ es) [] ≡ Pair key value → e ≡ Own key value
-first_own (Own k v) es key value is = let keys : k ≡ key = cc in let values : v ≡ value = cc in ap₂ Own keys values
-first_own (Linked k link) es key value is = absurd cc
-
-value_with : (link : Option Link) (row : List ℕ) (key : Key) (value : List ℕ) → entry_with link row ≡ Own key value → (record_of row).1 ≡ value
-value_with None row key value is = cc
-value_with (Some link) row key value is = absurd cc
-
-own_value : (row : List ℕ) (key : Key) (value : List ℕ) → entry_of row ≡ Own key value → (record_of row).1 ≡ value
-unfolding entry_of
-own_value row key value is = value_with (link_of row) row key value is
-
-pub row_first : (row : List ℕ) (es now : List Entry) (key : Key) (value : List ℕ) → entry_of row ∷ es ≡ now → first_of now [] ≡ Pair key value → (record_of row).1 ≡ value
-row_first row es now key value is first =
-    own_value row key value (first_own (entry_of row) es key value (ap (λ (xs : List Entry). first_of xs []) is ∙ first))
-
-pub none_first : (now : List Entry) (key : Key) (value : List ℕ) → [] ≡ now → first_of now [] ≡ Pair key value → [] ≡ value
-none_first now key value is first = let both : End ≡ Pair key value = ap (λ (xs : List Entry). first_of xs []) is ∙ first in absurd cc
+pub none_first : (now : List Record) (key : Key) (value : List ℕ) → [] ≡ now → first_of now [] ≡ Pair key value → [] ≡ value
+none_first now key value is first = let both : End ≡ Pair key value = ap (λ (rs : List Record). first_of rs []) is ∙ first in absurd cc
 
 -- # Children
 
@@ -240,16 +227,6 @@ second_at : {X : Type 0} (key : X → Key) (P : ℕ → Type 0) (f : ℕ → X) 
 second_at key P f i zero at = tt
 second_at key P f i (suc n) at = first_at key P f (suc i) n (λ some. at (omega (arith, some)))
 
--- the key of the entry in a row
-key_with : (link : Option Link) (row : List ℕ) → key_of_entry (entry_with link row) ≡ key_of row
-unfolding record_of
-key_with None row = refl
-key_with (Some link) row = refl
-
-entry_key : (row : List ℕ) → key_of_entry (entry_of row) ≡ key_of row
-unfolding entry_of
-entry_key row = key_with (link_of row) row
-
 pub children_cuts : (low high : ℕ) (bytes : List ℕ) (first end count : ℕ) (cs : List Child) → cs ≡ children_from bytes 0 count → first ≤ end → end ≤ count
     → (0 < first → (first < count) × (place (child_of (node_row bytes first)).low ≤ low)) → (first + 1 < count → low < place (child_of (node_row bytes (first + 1))).low)
     → ((k : ℕ) → first ≤ k → k < end → place (child_of (node_row bytes k)).low ≤ high) → (end < count → high < place (child_of (node_row bytes end)).low)
@@ -279,22 +256,3 @@ children_cuts low high bytes first end count cs all le few passed next within ab
           joined ∙ rows_some (λ k. child_of (node_row bytes k)) (suc n) (count - suc n) (omega (arith, here.0)),
           here.1,
         )
-
-pub entries_cuts : (low high : ℕ) (bytes : List ℕ) (first end count : ℕ) → first ≤ end → end ≤ count
-    → ((k : ℕ) → k < first → place (key_of (leaf_row bytes k)) < low) → (first < count → low ≤ place (key_of (leaf_row bytes first)))
-    → ((k : ℕ) → first ≤ k → k < end → place (key_of (leaf_row bytes k)) ≤ high) → (end < count → high < place (key_of (leaf_row bytes end)))
-    → CutsEntries low high (entries_from bytes 0 count) (entries_from bytes first (end - first))
-unfolding entries_from
-entries_cuts low high bytes first end count le few below reached within above =
-    let f : ℕ → Entry = λ k. entry_of (leaf_row bytes k) in
-    let three = rows_in_three f first end count le few in
-    let at : (k : ℕ) → place (key_of_entry (f k)) ≡ place (key_of (leaf_row bytes k)) = λ k. ap place (entry_key (leaf_row bytes k)) in
-    record {
-      before = rows_from f 0 first;
-      behind = rows_from f end (count - end);
-      whole = three.0;
-      below = rows_each (λ e. place (key_of_entry e) < low) f first 0 (λ k least lt. let there = below k (omega (arith, lt)) in omega (arith, at k, there));
-      reached = subst (FirstAt key_of_entry (λ p. low ≤ p)) (sym three.1) (first_at key_of_entry (λ p. low ≤ p) f first (count - first) (λ some. let there = reached (omega (arith, some)) in omega (arith, at first, there)));
-      within = rows_each (λ e. place (key_of_entry e) ≤ high) f (end - first) first (λ k least lt. let there = within k least (omega (arith, lt, le)) in omega (arith, at k, there));
-      above = first_at key_of_entry (λ p. high < p) f end (count - end) (λ some. let there = above (omega (arith, some)) in omega (arith, at end, there));
-    }

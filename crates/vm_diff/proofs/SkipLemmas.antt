@@ -3,8 +3,7 @@ use Rattle.std.proofs.Common.{◌≡◌, ℕ, ◌+◌, ◌<◌, ◌≤◌, List,
 use Rattle.std.proofs.lemmas.Slice.Eq.{bytes_eq-Decides}
 use Rattle.vm_types.specs.declared.change.Change.{Change}
 use Rattle.vm_disk.specs.Disk.{Contents}
-use Rattle.vm_diff.specs.Entry.{Entry, steps_past}
-use Rattle.vm_diff.specs.Entry.Entry.{Own, Linked}
+use Rattle.vm_block.specs.Leaf.{Record}
 use Rattle.vm_tree.specs.Tree.{Sizes}
 use Rattle.vm_tree.specs.declared.root.Root.{Root}
 use Rattle.vm_diff.specs.Walk.{Walk, size, weight_of}
@@ -12,40 +11,32 @@ use Rattle.vm_diff.specs.Ahead.{PassedBoth}
 use Rattle.vm_diff.specs.Front.{first_of}
 use Rattle.vm_diff.specs.Differ.{Differ}
 use Rattle.vm_diff.proofs.OpenLemmas.{weight_back, weight_less}
-use Rattle.vm_diff.proofs.StepLemmas.{both_linked, both_same, both_skipped}
+use Rattle.vm_diff.proofs.StepLemmas.{both_same, both_skipped}
 
 -- of two walks no more is ahead, and what differs is as it was
 pub record Skips (one other one_now other_now : Walk) : Type 0 where
   pub most : size one_now + size other_now ≤ size one + size other
   pub differ : (sizes : Sizes) (x : Contents) (limit low high reads most : ℕ) (changes : List Change) → Differ sizes x limit low high one other reads most changes → Differ sizes x limit low high one_now other_now reads most changes
 
-steps_back : (front es : List Entry) → steps_past es ≤ steps_past (front ++ es)
-steps_back [] es = omega arith
-steps_back (e ∷ front) es = omega (arith, steps_back front es)
+pending_back : (front rs : List Record) → length rs ≤ length (front ++ rs)
+pending_back front rs = omega (arith, length-append front rs)
 
 walk_is : (w v : Walk) → w.pending ≡ v.pending → w.tops ≡ v.tops → w ≡ v
 walk_is w v a b = λ i. record { pending = a i; tops = b i }
 
 module _ (sizes : Sizes) (x : Contents) (limit low high reads most : ℕ) (changes : List Change) where
-  records_left_out : (front : List Entry) (one other one_now other_now : Walk) → one.pending ≡ front ++ one_now.pending → other.pending ≡ front ++ other_now.pending → one_now.tops ≡ one.tops → other_now.tops ≡ other.tops
+  records_left_out : (front : List Record) (one other one_now other_now : Walk) → one.pending ≡ front ++ one_now.pending → other.pending ≡ front ++ other_now.pending → one_now.tops ≡ one.tops → other_now.tops ≡ other.tops
       → Differ sizes x limit low high one other reads most changes → Differ sizes x limit low high one_now other_now reads most changes
   records_left_out [] one other one_now other_now first second one_tops other_tops d =
       subst (λ (w : Walk). Differ sizes x limit low high w other_now reads most changes) (walk_is one one_now first (sym one_tops))
       (subst (λ (w : Walk). Differ sizes x limit low high one w reads most changes) (walk_is other other_now second (sym other_tops)) d)
-  records_left_out (Linked key link ∷ front) one other one_now other_now first second one_tops other_tops d =
+  records_left_out (r ∷ front) one other one_now other_now first second one_tops other_tops d =
       let one_mid : Walk = record { pending = front ++ one_now.pending; tops = one.tops } in
       let other_mid : Walk = record { pending = front ++ other_now.pending; tops = other.tops } in
       records_left_out front one_mid other_mid one_now other_now refl refl one_tops other_tops
-      (both_linked sizes x limit low high reads most one other one_mid other_mid key key link link changes
-      (ap (λ (ps : List Entry). first_of ps one.tops) first) (ap (λ (ps : List Entry). first_of ps other.tops) second) refl
-      (ap (λ (ps : List Entry). record { pending = drop 1 ps; tops = one.tops }) (sym first)) (ap (λ (ps : List Entry). record { pending = drop 1 ps; tops = other.tops }) (sym second)) d)
-  records_left_out (Own key value ∷ front) one other one_now other_now first second one_tops other_tops d =
-      let one_mid : Walk = record { pending = front ++ one_now.pending; tops = one.tops } in
-      let other_mid : Walk = record { pending = front ++ other_now.pending; tops = other.tops } in
-      records_left_out front one_mid other_mid one_now other_now refl refl one_tops other_tops
-      (both_same sizes x limit low high reads most one other one_mid other_mid key value value changes
-      (ap (λ (ps : List Entry). first_of ps one.tops) first) (key, ap (λ (ps : List Entry). first_of ps other.tops) second, refl) ((bytes_eq-Decides value value).1 refl)
-      (ap (λ (ps : List Entry). record { pending = drop 1 ps; tops = one.tops }) (sym first)) (ap (λ (ps : List Entry). record { pending = drop 1 ps; tops = other.tops }) (sym second)) d)
+      (both_same sizes x limit low high reads most one other one_mid other_mid r.0 r.1 r.1 changes
+      (ap (λ (ps : List Record). first_of ps one.tops) first) (r.0, ap (λ (ps : List Record). first_of ps other.tops) second, refl) ((bytes_eq-Decides r.1 r.1).1 refl)
+      (ap (λ (ps : List Record). record { pending = drop 1 ps; tops = one.tops }) (sym first)) (ap (λ (ps : List Record). record { pending = drop 1 ps; tops = other.tops }) (sym second)) d)
 
   tops_left_out : (front : List Root) (one other one_now other_now : Walk) → one.pending ≡ [] → other.pending ≡ [] → one.tops ≡ front ++ one_now.tops → other.tops ≡ front ++ other_now.tops → one_now.pending ≡ one.pending → other_now.pending ≡ other.pending
       → Differ sizes x limit low high one other reads most changes → Differ sizes x limit low high one_now other_now reads most changes
@@ -66,10 +57,10 @@ records_skipped one other one_now other_now p one_tops other_tops = record {
   most =
       omega (
         arith,
-        ap steps_past p.first,
-        steps_back p.front one_now.pending,
-        ap steps_past p.second,
-        steps_back p.front other_now.pending,
+        ap (λ (rs : List Record). length rs) p.first,
+        pending_back p.front one_now.pending,
+        ap (λ (rs : List Record). length rs) p.second,
+        pending_back p.front other_now.pending,
         ap weight_of one_tops,
         ap weight_of other_tops,
       );
@@ -86,8 +77,8 @@ tops_skipped one other one_now other_now one_none other_none p one_still other_s
         weight_back p.front one_now.tops,
         ap weight_of p.second,
         weight_back p.front other_now.tops,
-        ap steps_past one_still,
-        ap steps_past other_still,
+        ap (λ (rs : List Record). length rs) one_still,
+        ap (λ (rs : List Record). length rs) other_still,
       );
   differ = λ sizes x limit low high reads most changes. tops_left_out sizes x limit low high reads most changes p.front one other one_now other_now one_none other_none p.first p.second one_still other_still;
 }
@@ -103,8 +94,8 @@ tops_fall one other one_now other_now p one_still other_still lt =
       weight_less p.front one_now.tops some,
       ap weight_of p.second,
       weight_back p.front other_now.tops,
-      ap steps_past one_still,
-      ap steps_past other_still,
+      ap (λ (rs : List Record). length rs) one_still,
+      ap (λ (rs : List Record). length rs) other_still,
     )
 
 -- one after the other

@@ -5,8 +5,6 @@ use Rattle.vm_disk.specs.Disk.{Contents}
 use Rattle.vm_block.specs.Leaf.{Record, BeginsWith}
 use Rattle.vm_tree.specs.Tree.{Sizes}
 use Rattle.vm_tree.specs.declared.root.Root.{Root}
-use Rattle.vm_diff.specs.Entry.{Entry, EntriesFor}
-use Rattle.vm_diff.specs.Entry.Entry.{Own, Linked}
 use Rattle.vm_diff.specs.Walk.{Walk, IsAhead, Under}
 use Rattle.vm_diff.specs.Front.{first_of, front_of, place_of}
 use Rattle.vm_diff.specs.Differ.{AreRising}
@@ -30,11 +28,10 @@ module _ (test : ℕ → Bool) (sizes : Sizes) (x : Contents) (limit : ℕ) wher
       begins [] b = absurd b
       begins (r ∷ first) b = ap place b
 
-  pub starts_parts : (es : List Entry) (ts : List Root) (next later : List Record) (ds bs : List ℕ) → EntriesFor test x limit es next ds → Under test sizes x limit ts later bs → StartsAt (place_of (first_of es ts)) (next ++ later)
-  starts_parts [] ts next later ds bs n u = subst (λ (qs : List Record). StartsAt (place_of (first_of [] ts)) (qs ++ later)) (sym n.0) (starts_later ts later bs u)
-  starts_parts (Own key value ∷ es) ts next later ds bs n u = subst (λ (qs : List Record). StartsAt (place key) (qs ++ later)) (sym n.6) (ap (λ (r : Record). place r.0) n.4.0)
-  starts_parts (Linked key link ∷ es) ts next later ds bs n u = subst (λ (qs : List Record). StartsAt (place key) (qs ++ later)) (sym n.6) (ap place n.4.key_is)
+  pub starts_parts : (ps : List Record) (ts : List Root) (later : List Record) (bs : List ℕ) → Under test sizes x limit ts later bs → StartsAt (place_of (first_of ps ts)) (ps ++ later)
+  starts_parts [] ts later bs u = starts_later ts later bs u
+  starts_parts (r ∷ ps) ts later bs u = refl
 
   -- what is ahead of a walk starts where the walk stands
   pub starts : (walk : Walk) (rs : List Record) (bs : List ℕ) → IsAhead test sizes x limit walk rs bs → StartsAt (place_of (front_of walk)) rs
-  starts walk rs bs ahead = subst (StartsAt (place_of (front_of walk))) (sym ahead.records) (starts_parts walk.pending walk.tops ahead.next ahead.later ahead.beside ahead.below ahead.entries ahead.under)
+  starts walk rs bs ahead = subst (StartsAt (place_of (front_of walk))) (sym ahead.records) (starts_parts walk.pending walk.tops ahead.later bs ahead.under)

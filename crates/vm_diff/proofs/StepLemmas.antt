@@ -10,39 +10,35 @@ use Rattle.vm_types.specs.Places.{place}
 use Rattle.vm_types.proofs.PartLemmas.{part-append, part_in}
 use Rattle.vm_types.proofs.Bridge.{exact_places}
 use Rattle.vm_types.proofs.ChangeLemmas.{change_of}
-use Rattle.vm_disk.specs.Disk.{Contents, block}
+use Rattle.vm_disk.specs.Disk.{Contents}
 use Rattle.vm_block.specs.Leaf.{Record}
-use Rattle.vm_block.specs.Long.{IsLong}
-use Rattle.vm_block.specs.declared.stored.Link.{Link}
-use Rattle.vm_block.proofs.LongLemmas.{long_one}
 use Rattle.vm_tree.specs.Tree.{Sizes, Subtree as LiesUnder}
 use Rattle.vm_tree.specs.Answers.{OkOrDevice}
 use Rattle.vm_tree.specs.declared.root.Root.{Root}
 use Rattle.vm_tree.specs.declared.faults.TreeFault.{TreeFault}
 use Rattle.vm_tree.specs.Replacement.{Lacks}
-use Rattle.vm_tree.specs.Over.{is_between, only_if, subtree_over}
+use Rattle.vm_tree.specs.Over.{is_between, subtree_over}
 use Rattle.vm_tree.proofs.OverParts.{subtree_each, subtree_over_one}
 use Rattle.vm_tree.proofs.TreeLemmas.{subtree_one}
 use Rattle.vm_tree.proofs.ApartLemmas.{all_above}
-use Rattle.vm_diff.specs.Entry.{Entry, EntriesFor}
 use Rattle.vm_diff.specs.Walk.{Walk, IsAhead, Under}
 use Rattle.vm_diff.specs.Front.{Front, front_of, next_of, next_place, place_of, opened_at}
 use Rattle.vm_diff.specs.Shared.{unshared}
 use Rattle.vm_diff.specs.Differ.{AreRising, Differ, Enters, aside}
 use Rattle.vm_diff.specs.Steps.{StepsBy, Meet, moved_by}
 use Rattle.vm_diff.specs.declared.front.Step.{Step}
-use Rattle.vm_diff.specs.Front.Front.{End, Pair, Far, Top}
+use Rattle.vm_diff.specs.Front.Front.{End, Pair, Top}
 use Rattle.vm_diff.specs.declared.front.Next.{Next}
-use Rattle.vm_diff.specs.declared.front.Next.TheVariants.{Record as OneRecord, Long, Subtree}
+use Rattle.vm_diff.specs.declared.front.Next.TheVariants.{Record as OneRecord, Subtree}
 use Rattle.vm_diff.proofs.ApartLemmas.{subtree_apart}
-use Rattle.vm_diff.proofs.OpenLemmas.{aside_others, far_ahead, far_passed, front_top, in_far, in_pair, in_past, in_skipped, pair_passed, top_ahead}
-use Rattle.vm_diff.proofs.PayLemmas.{GoesFirst, far_once, left_paid, right_paid}
+use Rattle.vm_diff.proofs.OpenLemmas.{aside_others, front_top, in_pair, in_past, in_skipped, pair_passed, top_ahead}
+use Rattle.vm_diff.proofs.PayLemmas.{GoesFirst, left_paid, right_paid}
 use Rattle.vm_diff.proofs.SharedLemmas.{skip_free}
 use Rattle.vm_diff.proofs.StartLemmas.{starts, above_start}
 use Rattle.vm_diff.proofs.DeltaLemmas.{rising_rest, rising_back, rising_part, rises_part, first_removed, first_added, first_both, shared_front}
 
 module _ (sizes : Sizes) (x : Contents) (limit low high reads most : ℕ) where
-  -- the first walk has opened a subtree, or read a long value
+  -- the first walk has opened a subtree
   pub left_moved : (one other now : Walk) (later : ℕ) (changes : List Change) (d : Differ sizes x limit low high one other reads most changes) → GoesFirst (front_of one) (front_of other) → later ≤ reads + length (opened_at (front_of one))
       → Enters sizes x limit low high (front_of one) one now d.first d.first_blocks → Differ sizes x limit low high now other later most changes
   left_moved one other now later changes d first few p = record {
@@ -88,7 +84,7 @@ module _ (sizes : Sizes) (x : Contents) (limit low high reads most : ℕ) where
   left_found one other now key value changes front is lt d =
       let r : Record = (key, value) in
       let p = pair_passed (is_between low high) sizes x limit one now key value d.first d.first_blocks front is d.first_ahead in
-      let inside = in_pair low high sizes x limit one key value front d.first_in in
+      let inside = in_pair low high one key value front d.first_in in
       let rising = subst AreRising p.records d.first_rising in
       let above = above_start (place key) (place_of (front_of other)) d.second (omega (arith, ap place_of front, lt)) (starts (is_between low high) sizes x limit other d.second d.second_blocks d.second_ahead) d.second_rising in
       let firsts : part low high d.first ≡ r ∷ part low high p.rest = ap (part low high) p.records ∙ part_in low high r p.rest inside.0 in (
@@ -104,7 +100,7 @@ module _ (sizes : Sizes) (x : Contents) (limit low high reads most : ℕ) where
           second_ahead = d.second_ahead;
           first_rising = rising_rest r p.rest rising;
           second_rising = d.second_rising;
-          first_in = in_past low high sizes x limit one now inside.1 is d.first_in;
+          first_in = in_past low high one now inside.1 is d.first_in;
           second_in = d.second_in;
           differences = refl;
           paid = omega (arith, d.paid, ap (λ (w : Walk). aside low w.tops) is);
@@ -117,7 +113,7 @@ module _ (sizes : Sizes) (x : Contents) (limit low high reads most : ℕ) where
   right_found one other now key value changes front is lt d =
       let r : Record = (key, value) in
       let p = pair_passed (is_between low high) sizes x limit other now key value d.second d.second_blocks front is d.second_ahead in
-      let inside = in_pair low high sizes x limit other key value front d.second_in in
+      let inside = in_pair low high other key value front d.second_in in
       let rising = subst AreRising p.records d.second_rising in
       let above = above_start (place key) (place_of (front_of one)) d.first (omega (arith, ap place_of front, lt)) (starts (is_between low high) sizes x limit one d.first d.first_blocks d.first_ahead) d.first_rising in
       let seconds : part low high d.second ≡ r ∷ part low high p.rest = ap (part low high) p.records ∙ part_in low high r p.rest inside.0 in (
@@ -134,7 +130,7 @@ module _ (sizes : Sizes) (x : Contents) (limit low high reads most : ℕ) where
           first_rising = d.first_rising;
           second_rising = rising_rest r p.rest rising;
           first_in = d.first_in;
-          second_in = in_past low high sizes x limit other now inside.1 is d.second_in;
+          second_in = in_past low high other now inside.1 is d.second_in;
           differences = refl;
           paid = omega (arith, d.paid, ap (λ (w : Walk). aside low w.tops) is);
         },
@@ -144,7 +140,7 @@ module _ (sizes : Sizes) (x : Contents) (limit low high reads most : ℕ) where
   past_top walk now top rs bs front is under =
       let at = front_top walk.pending walk.tops top front in
       let next : IsAhead (is_between low high) sizes x limit (record { pending = walk.pending; tops = drop 1 walk.tops }) rs bs =
-      record { next = []; later = rs; beside = []; below = bs; entries = subst (λ (es : List Entry). EntriesFor (is_between low high) x limit es [] []) (sym at.0) (refl, refl); under = under; records = refl; blocks = refl } in
+      record { later = rs; under = under; records = ap (λ (qs : List Record). qs ++ rs) (sym at.0) } in
       subst (λ (w : Walk). IsAhead (is_between low high) sizes x limit w rs bs) (sym is) next
 
   -- both walks have skipped one subtree
@@ -204,8 +200,8 @@ module _ (sizes : Sizes) (x : Contents) (limit low high reads most : ℕ) where
       let P : List Record → List Record = part low high in
       let p = pair_passed test sizes x limit one one_now key v d.first d.first_blocks front_one one_is d.first_ahead in
       let q = pair_passed test sizes x limit other other_now first w d.second d.second_blocks front_other other_is d.second_ahead in
-      let inside = in_pair low high sizes x limit one key v front_one d.first_in in
-      let inside_other = in_pair low high sizes x limit other first w front_other d.second_in in
+      let inside = in_pair low high one key v front_one d.first_in in
+      let inside_other = in_pair low high other first w front_other d.second_in in
       let first_rising = subst AreRising p.records d.first_rising in
       let low_rising = subst AreRising q.records d.second_rising in
       let same : first ≡ key = exact_places first key low_rising.fit.0 first_rising.fit.0 (sym level) in
@@ -224,14 +220,14 @@ module _ (sizes : Sizes) (x : Contents) (limit low high reads most : ℕ) where
           second_ahead = q.ahead;
           first_rising = rising_rest (key, v) p.rest first_rising;
           second_rising = rising_rest (key, w) q.rest second_rising;
-          first_in = in_past low high sizes x limit one one_now inside.1 one_is d.first_in;
-          second_in = in_past low high sizes x limit other other_now inside_other.1 other_is d.second_in;
+          first_in = in_past low high one one_now inside.1 one_is d.first_in;
+          second_in = in_past low high other other_now inside_other.1 other_is d.second_in;
           differences = refl;
           paid = omega (arith, d.paid, ap (λ (w : Walk). aside low w.tops) one_is, ap (λ (w : Walk). aside low w.tops) other_is);
         },
       )
 
-  -- a step that has opened a subtree, or read a long value, ahead of the first walk
+  -- a step that has opened a subtree ahead of the first walk
   pub left_opened : (one other now : Walk) (later : ℕ) (here : Front) (changes : List Change) (opened : Result ⊤ TreeFault) (result : Result Step TreeFault) → result ≡ moved_by opened → front_of one ≡ here → GoesFirst here (front_of other) → later ≤ reads + length (opened_at here)
       → (d : Differ sizes x limit low high one other reads most changes) → OkOrDevice opened (λ _. Enters sizes x limit low high here one now d.first d.first_blocks) → StepsBy result changes (Differ sizes x limit low high now other later most)
   left_opened one other now later here changes (Ok y) result is front first few d p =
@@ -252,54 +248,6 @@ module _ (sizes : Sizes) (x : Contents) (limit low high reads most : ℕ) where
       (subst (λ f. later ≤ reads + length (opened_at f)) (sym front) few)
       (subst (λ f. Enters sizes x limit low high f other now d.second d.second_blocks) (sym front) p))
   right_opened one other now later here changes (Err e) result is front first few d p = subst (λ (r : Result Step TreeFault). StepsBy r changes (Differ sizes x limit low high one now later most)) (sym is) p
-
-  -- both walks have gone past a long value of one key in one block
-  pub both_linked : (one other one_now other_now : Walk) (key first : Key) (link there : Link) (changes : List Change) → front_of one ≡ Far key link → front_of other ≡ Far first there → link.block ≡ there.block
-      → one_now ≡ record { pending = drop 1 one.pending; tops = one.tops } → other_now ≡ record { pending = drop 1 other.pending; tops = other.tops }
-      → Differ sizes x limit low high one other reads most changes → Differ sizes x limit low high one_now other_now reads most changes
-  both_linked one other one_now other_now key first link there changes front_one front_other shared one_is other_is d =
-      let test : ℕ → Bool = is_between low high in
-      let P : List Record → List Record = part low high in
-      let f = far_ahead test sizes x limit one key link d.first d.first_blocks front_one d.first_ahead in
-      let g = far_ahead test sizes x limit other first there d.second d.second_blocks front_other d.second_ahead in
-      let inside = in_far low high sizes x limit one key link front_one d.first_in in
-      let inside_other = in_far low high sizes x limit other first there front_other d.second_in in
-      let whose = long_one (block x link.block) key first f.whose.1 g.whose.1 f.behind.value (subst (λ b. IsLong (block x b) first g.whose.1) (sym shared) g.behind.value) in
-      let same : g.whose ≡ f.whose = λ i. ((g.behind.key_is ∙ sym whose.0 ∙ sym f.behind.key_is) i, sym whose.1 i) in
-      let second : d.second ≡ f.whose ∷ (g.rest ++ g.later) = g.records ∙ ap (λ (r : Record). r ∷ (g.rest ++ g.later)) same in
-      let first_blocks : d.first_blocks ≡ link.block ∷ (f.others ++ f.below) = f.blocks ∙ ap (λ t. only_if t (link.block ∷ []) ++ (f.others ++ f.below)) inside.0 in
-      let second_blocks : d.second_blocks ≡ link.block ∷ (g.others ++ g.below) = g.blocks ∙ ap (λ t. only_if t (there.block ∷ []) ++ (g.others ++ g.below)) inside_other.0 ∙ ap (λ b. b ∷ (g.others ++ g.below)) (sym shared) in
-      let first_rising = subst AreRising f.records d.first_rising in
-      let second_rising = subst AreRising second d.second_rising in
-      let left = far_once test sizes x limit one other d.first d.second d.first_blocks d.second_blocks d.first_ahead d.second_ahead d.first_rising d.second_rising key link front_one in
-      let right = subst (λ b. Lacks b (g.others ++ g.below)) (sym shared) (far_once test sizes x limit other one d.second d.first d.second_blocks d.first_blocks d.second_ahead d.first_ahead d.second_rising d.first_rising first there front_other) in
-      let within : is_within low high f.whose.0 ≡ true = ap (is_within low high) f.behind.key_is ∙ inside.0 in
-      let firsts : P d.first ≡ f.whose ∷ P (f.rest ++ f.later) = ap P f.records ∙ part_in low high f.whose (f.rest ++ f.later) within in
-      let seconds : P d.second ≡ f.whose ∷ P (g.rest ++ g.later) = ap P second ∙ part_in low high f.whose (g.rest ++ g.later) within in
-      record {
-        first = f.rest ++ f.later;
-        second = g.rest ++ g.later;
-        first_blocks = f.others ++ f.below;
-        second_blocks = g.others ++ g.below;
-        first_ahead = far_passed test sizes x limit one one_now key link d.first d.first_blocks front_one one_is d.first_ahead;
-        second_ahead = far_passed test sizes x limit other other_now first there d.second d.second_blocks front_other other_is d.second_ahead;
-        first_rising = rising_rest f.whose (f.rest ++ f.later) first_rising;
-        second_rising = rising_rest f.whose (g.rest ++ g.later) second_rising;
-        first_in = in_past low high sizes x limit one one_now inside.1 one_is d.first_in;
-        second_in = in_past low high sizes x limit other other_now inside_other.1 other_is d.second_in;
-        differences =
-            d.differences ∙ ap₂ delta firsts seconds
-            ∙ shared_front (f.whose ∷ []) (P (f.rest ++ f.later)) (P (g.rest ++ g.later)) (part_first f.whose (f.rest ++ f.later) within first_rising) (part_first f.whose (g.rest ++ g.later) within second_rising);
-        paid =
-            omega (
-              arith,
-              d.paid,
-              ap₂ unshared first_blocks second_blocks,
-              skip_free (link.block ∷ []) (f.others ++ f.below) (g.others ++ g.below) (left, tt) (right, tt),
-              ap (λ (w : Walk). aside low w.tops) one_is,
-              ap (λ (w : Walk). aside low w.tops) other_is,
-            );
-      }
 
   -- records of one key have no difference, where their values are equal
   pub both_same : (one other one_now other_now : Walk) (key : Key) (v w : List ℕ) (changes : List Change) → front_of one ≡ Pair key v → (first : Key) × (front_of other ≡ Pair first w) × (place key ≡ place first) → bytes_eq v w ≡ true
@@ -362,23 +310,12 @@ module _ (sizes : Sizes) (x : Contents) (limit low high reads most : ℕ) where
 pub next_top : (front : Front) (top : Root) → next_of front ≡ Subtree top → front ≡ Top top
 next_top End top e = cc
 next_top (Pair key value) top e = cc
-next_top (Far key link) top e = cc
 next_top (Top t) top e = cc
 
 pub next_pair : (front : Front) (key : Key) → next_of front ≡ OneRecord key → (value : List ℕ) × (front ≡ Pair key value)
 next_pair End key e = cc
 next_pair (Pair low value) key e = let same : low ≡ key = cc in (value, ap (λ k. Pair k value) same)
-next_pair (Far k l) key e = cc
 next_pair (Top t) key e = cc
-
-pub next_far : (front : Front) (key : Key) (link : Link) → next_of front ≡ Long key link → front ≡ Far key link
-next_far End key link e = cc
-next_far (Pair k v) key link e = cc
-next_far (Far k l) key link e =
-    let keys : k ≡ key = cc in
-    let links : l ≡ link = cc in
-    ap₂ Far keys links
-next_far (Top t) key link e = cc
 
 pub record_or_top : (front : Front) (key : Key) (top : Root) → OneRecord key ≡ next_of front → front ≡ Top top → ⊥
 record_or_top front key top is at = let both : OneRecord key ≡ Subtree top = is ∙ ap next_of at in cc
@@ -386,5 +323,4 @@ record_or_top front key top is at = let both : OneRecord key ≡ Subtree top = i
 pub place_next : (front : Front) (next : Next) → next ≡ next_of front → next_place next ≡ place_of front
 place_next End next is = ap next_place is
 place_next (Pair key value) next is = ap next_place is
-place_next (Far key link) next is = ap next_place is
 place_next (Top top) next is = ap next_place is

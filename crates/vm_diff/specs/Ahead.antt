@@ -1,17 +1,15 @@
 -- What comes next in lists, and what two of them share.
 use Rattle.std.specs.Prelude.{◌≡◌, ℕ, suc, List, [], ◌∷◌, ◌++◌, Option, Some, None}
 use Rattle.vm_types.specs.declared.key.Key.{Key}
-use Rattle.vm_diff.specs.Entry.{Entry}
-use Rattle.vm_diff.specs.Entry.Entry.{Own, Linked}
+use Rattle.vm_block.specs.Leaf.{Record}
 use Rattle.vm_block.specs.declared.node.Child.{Child}
 use Rattle.vm_tree.specs.declared.root.Root.{Root}
 use Rattle.vm_diff.specs.Walk.{tops_of}
 
--- the key of the first entry, where it is a record
-abbrev pub first_key : List Entry → Option Key
+-- the key of the first record
+abbrev pub first_key : List Record → Option Key
 first_key [] = None
-first_key (Own key value ∷ es) = Some key
-first_key (Linked key link ∷ es) = None
+first_key (r ∷ rs) = Some r.0
 
 -- the first child
 abbrev pub first_child : List Child → Option Child

@@ -16,7 +16,6 @@ use Rattle.vm_tree.specs.Root.{IsRooted}
 use Rattle.vm_tree.specs.declared.root.Root.{Root}
 use Rattle.vm_tree.specs.declared.faults.ListFault.{ListFault}
 use Rattle.vm_tree.specs.declared.faults.TreeFault.{TreeFault}
-use Rattle.vm_diff.specs.Entry.{key_of_entry}
 use Rattle.vm_diff.specs.Front.{Front, opened_at}
 use Rattle.vm_diff.specs.Opened.{HasNoValue, HasValue}
 use Rattle.vm_diff.specs.Shared.{unshared}
@@ -29,10 +28,10 @@ pub record AreRising (rs : List Record) : Type 0 where
   pub rising : RisesFrom 0 (places rs)
   pub fit : FitKeys rs
 
--- the walk stands in the part from place low to place high: what comes next from its leaf lies there, no subtree begins above it, and
+-- the walk stands in the part from place low to place high: the records that come next from its leaf lie there, no subtree begins above it, and
 -- none but the first below it
 pub record IsIn (low high : ℕ) (walk : Walk) : Type 0 where
-  pub entries : AllByRecursion (λ e. is_within low high (key_of_entry e) ≡ true) walk.pending
+  pub records : AllByRecursion (λ r. is_within low high r.0 ≡ true) walk.pending
   pub tops : AllByRecursion (λ t. place t.low ≤ high) walk.tops
   pub others : AllByRecursion (λ t. low ≤ place t.low) (drop 1 walk.tops)
 
@@ -63,8 +62,7 @@ pub record Passes (test : ℕ → Bool) (sizes : Sizes) (x : Contents) (limit : 
   pub ahead : IsAhead test sizes x limit walk rest bs
   pub records : rs ≡ taken ∷ rest
 
--- what is left of them ahead of one that has opened the subtree before which it stood, or the block of a long value: the records of the
--- part; and that the read is paid for, by a block over the part or aside
+-- what is left of them ahead of one that has opened the subtree before which it stood: the records of the part; and that the read is paid for, by a block over the part or aside
 pub record Enters (sizes : Sizes) (x : Contents) (limit low high : ℕ) (front : Front) (walk later : Walk) (rs : List Record) (bs : List ℕ) : Type 0 where
   pub rest : List Record
   pub rest_blocks : List ℕ

@@ -1,4 +1,3 @@
-pub mod Entry
 pub mod Walk
 pub mod Rows
 pub mod Ahead

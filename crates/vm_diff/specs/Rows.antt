@@ -1,35 +1,43 @@
--- What stands in rows of the bytes of a block.
-use Rattle.std.specs.Prelude.{◌≡◌, ℕ, zero, suc, ◌+◌, ◌<◌, List, [], ◌∷◌, Option, Some, None}
-use Rattle.vm_types.specs.declared.key.Key.{Key}
-use Rattle.vm_diff.specs.Entry.{Entry}
-use Rattle.vm_diff.specs.Entry.Entry.{Own, Linked}
-use Rattle.vm_block.specs.Long.{long_value_of}
-use Rattle.vm_block.specs.Row.{key_of, link_of, record_of, child_of, leaf_row, node_row}
-use Rattle.vm_block.specs.declared.stored.Link.{Link}
+-- What stands in the bytes of a block.
+use Rattle.std.specs.Prelude.{◌≡◌, ℕ, zero, suc, ◌+◌, ◌-◌, ◌*◌, ◌<◌, ◌≤◌, List, [], ◌∷◌, length, take, drop, slice_index_or}
+use Rattle.vm_block.specs.Bounds.{bound_of}
+use Rattle.vm_block.specs.Leaf.{HasRecords, Record}
+use Rattle.vm_block.specs.Row.{child_of, node_row}
+use Rattle.vm_tree.specs.BlockReads.{IsLeafSize}
 use Rattle.vm_block.specs.declared.node.Child.{Child}
+
+-- so many records, by their entries and by their values, which stand behind `from` bytes of values
+abbrev pub records_with : ℕ → ℕ → List ℕ → List ℕ → List Record
+records_with zero from entries values = []
+records_with (suc n) from entries values =
+    ((bound_of entries).key, take ((bound_of entries).end - from) values)
+    ∷ records_with n (bound_of entries).end (drop 12 entries) (drop ((bound_of entries).end - from) values)
+
+-- so many records in the bytes of a leaf, whatever the bytes are
+unfoldable pub records_of : ℕ → List ℕ → List Record
+records_of len bytes = records_with len 0 (drop 16 bytes) (drop (16 + 12 * len) bytes)
+
+-- so many of them, from the one at i on
+abbrev pub records_from : ℕ → List ℕ → ℕ → ℕ → List Record
+records_from len bytes i n = take n (drop i (records_of len bytes))
+
+-- `count` is no more than the number of records of a leaf, and if it is not 0, the bytes are that leaf
+abbrev pub IsLeafTo : ℕ → List ℕ → ℕ → Type 0
+IsLeafTo len bytes count = (count ≤ len) × (0 < count → IsLeafSize bytes len)
+
+-- two leaves have the same record at these indices
+abbrev pub IsSameRecord : List ℕ → ℕ → List ℕ → ℕ → Type 0
+IsSameRecord one i other j =
+    (rs qs : List Record) (d : Record) → HasRecords one rs → HasRecords other qs → i < length rs → j < length qs → slice_index_or rs i d ≡ slice_index_or qs j d
+
+-- they have so many same records, from these indices on
+abbrev pub AreSameRecords : List ℕ → ℕ → List ℕ → ℕ → ℕ → Type 0
+AreSameRecords one i other j n = (k : ℕ) → k < n → IsSameRecord one (i + k) other (j + k)
 
 -- what stands in so many rows, from row i on
 abbrev pub rows_from : {X : Type 0} → (ℕ → X) → ℕ → ℕ → List X
 rows_from row i zero = []
 rows_from row i (suc n) = row i ∷ rows_from row (suc i) n
-
--- the entry in a row that has this link, or none
-abbrev pub entry_with : Option Link → List ℕ → Entry
-entry_with (Some link) row = Linked (key_of row) link
-entry_with None row = Own (record_of row).0 (record_of row).1
-
--- the entry in a row
-unfoldable pub entry_of : List ℕ → Entry
-entry_of row = entry_with (link_of row) row
-
--- the entries in so many rows of a leaf, from row i on
-unfoldable pub entries_from : List ℕ → ℕ → ℕ → List Entry
-entries_from bytes i n = rows_from (λ k. entry_of (leaf_row bytes k)) i n
-
--- before these entries one comes whose value stands in a block, if its key is held
-abbrev pub with_held : Option Key → List ℕ → ℕ → List Entry → List Entry
-with_held None bytes len es = es
-with_held (Some key) bytes len es = Own key (long_value_of len bytes) ∷ es
 
 -- the children in so many rows of an inner block, from row i on
 unfoldable pub children_from : List ℕ → ℕ → ℕ → List Child

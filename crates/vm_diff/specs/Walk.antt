@@ -1,17 +1,17 @@
 -- Walks through trees: what lies ahead of one, and how much that is.
-use Rattle.std.specs.Prelude.{◌≡◌, ℕ, zero, suc, ◌+◌, ◌*◌, Bool, List, [], ◌∷◌, ◌++◌, map, drop}
+use Rattle.std.specs.Prelude.{◌≡◌, ℕ, zero, suc, ◌+◌, ◌*◌, Bool, List, [], ◌∷◌, ◌++◌, length, map, drop}
 use Rattle.vm_disk.specs.Disk.{Contents}
+use Rattle.vm_block.specs.declared.sizes.TheConstants.{MAX_CHILDREN, MAX_RECORDS}
 use Rattle.vm_block.specs.Leaf.{Record, BeginsWith}
 use Rattle.vm_block.specs.declared.node.Child.{Child}
 use Rattle.vm_tree.specs.Over.{subtree_over}
 use Rattle.vm_tree.specs.Tree.{Sizes, Subtree}
 use Rattle.vm_tree.specs.declared.root.Root.{Root}
-use Rattle.vm_diff.specs.Entry.{Entry, EntriesFor, steps_past}
 
 -- a walk through a tree
 pub record Walk : Type 0 where
-  -- what comes next, from a leaf that is open
-  pub pending : List Entry
+  -- the records that come next, from a leaf that is open
+  pub pending : List Record
   -- the tops of the subtrees that come then
   pub tops : List Root
 
@@ -23,7 +23,7 @@ walk_of tops = record { pending = []; tops = tops }
 abbrev pub tops_of : ℕ → List Child → List Root
 tops_of level cs = map (λ c. record { block = c.block; level = level; low = c.low }) cs
 
--- the walk past its first entry
+-- the walk past its first record
 abbrev pub past_record : Walk → Walk
 past_record walk = record { pending = drop 1 walk.pending; tops = walk.tops }
 
@@ -33,8 +33,8 @@ into_tops tops walk = record { pending = walk.pending; tops = tops ++ drop 1 wal
 
 -- more than all that a top of this level is opened into, whatever the blocks hold
 unfoldable pub weight : ℕ → ℕ
-weight zero = 33
-weight (suc level) = 257 * weight level
+weight zero = MAX_RECORDS + 1
+weight (suc level) = (MAX_CHILDREN + 1) * weight level
 
 abbrev pub weight_of : List Root → ℕ
 weight_of [] = 0
@@ -42,7 +42,7 @@ weight_of (t ∷ ts) = weight t.level + weight_of ts
 
 -- how much is ahead of a walk at most
 abbrev pub size : Walk → ℕ
-size walk = steps_past walk.pending + weight_of walk.tops
+size walk = length walk.pending + weight_of walk.tops
 
 -- under these tops lie these records, joined, and these are the blocks there that have a record under them whose place passes the test
 abbrev pub Under : (ℕ → Bool) → Sizes → Contents → ℕ → List Root → List Record → List ℕ → Type 0
@@ -52,14 +52,9 @@ Under test sizes x limit (t ∷ ts) rs bs =
     × (tree : Subtree sizes x limit t.level t.block first own) × BeginsWith t.low first × Under test sizes x limit ts rest others
     × (rs ≡ first ++ rest) × (bs ≡ subtree_over test sizes x limit t.level t.block first own tree ++ others)
 
--- these records are ahead of the walk, and these are the blocks with one of them whose place passes the test: those of long values of the
--- leaf that is open, which it has not read, and those of the subtrees that it has not opened
+-- these records are ahead of the walk, and these are the blocks of the subtrees that it has not opened with a record under them whose place
+-- passes the test
 pub record IsAhead (test : ℕ → Bool) (sizes : Sizes) (x : Contents) (limit : ℕ) (walk : Walk) (rs : List Record) (bs : List ℕ) : Type 0 where
-  pub next : List Record
   pub later : List Record
-  pub beside : List ℕ
-  pub below : List ℕ
-  pub entries : EntriesFor test x limit walk.pending next beside
-  pub under : Under test sizes x limit walk.tops later below
-  pub records : rs ≡ next ++ later
-  pub blocks : bs ≡ beside ++ below
+  pub under : Under test sizes x limit walk.tops later bs
+  pub records : rs ≡ walk.pending ++ later

@@ -6,22 +6,21 @@ ghost use Rattle.vm_tree.specs.Calls.{OnlyLooks};
 ghost use Rattle.vm_diff.specs.Walk.{Walk, past_record, walk_of};
 ghost use Rattle.vm_diff.specs.Ahead.{PassedBoth, first_top, tops_in};
 ghost use Rattle.vm_diff.specs.Front.{front_of, next_of};
-ghost use Rattle.vm_diff.specs.Front.Front.{Far, Top};
-ghost use Rattle.vm_diff.specs.Opened.{Begins, GoesPast, HasNoValue, HasValue, IsIntoRecord, IsIntoRecords, IsIntoTops, IsNextValue, OpensLeaf, OpensLong, OpensNode, Stays};
+ghost use Rattle.vm_diff.specs.Front.Front.{Top};
+ghost use Rattle.vm_diff.specs.Opened.{Begins, GoesPast, HasNoValue, HasValue, IsIntoRecords, IsIntoTops, IsNextValue, OpensLeaf, OpensNode, Stays};
 
 use crate::children::Children;
 use crate::front::Next;
 use crate::part::Part;
 use crate::records::Records;
 use std::marker::Model;
-use vm_block::Link;
 use vm_disk::Disk;
 use vm_tree::{Root, TreeFault};
 use vm_types::Key;
 
-/// A walk through a tree: the records of the open leaf (and the block of a long value, if one was
-/// read), and then the subtrees that are not open yet, those of each level in the inner block one
-/// level above. The root is the only child at its own level.
+/// A walk through a tree: the records of the open leaf, and then the subtrees that are not open yet,
+/// those of each level in the inner block one level above. The root is the only child at its own
+/// level.
 #[derive(Drop)]
 pub(crate) struct Cursor {
     records: Records,
@@ -58,7 +57,7 @@ fn next_top(levels: &[Children; 8]) -> Option<Root>
 }
 
 impl Cursor {
-    /// A walk at its end. It has buffers for ten blocks, so it is made where it stays, and begun
+    /// A walk at its end. It has buffers for nine blocks, so it is made where it stays, and begun
     /// there.
     pub(crate) fn empty() -> Cursor
         ensures { result ≡ walk_of [] }
@@ -105,12 +104,12 @@ impl Cursor {
     pub(crate) fn next(&self) -> Next
         ensures { result ≡ next_of (front_of self.now) }
     {
-        match self.records.next() {
-            Next::End => match next_top(&self.levels) {
+        match self.records.key() {
+            Some(key) => Next::Record(key),
+            None => match next_top(&self.levels) {
                 Some(top) => Next::Subtree(top),
                 None => Next::End,
             },
-            next => next,
         }
     }
 
@@ -181,25 +180,6 @@ impl Cursor {
         self.records.read(disk, blocks, part, top.block)
     }
 
-    /// Reads the long value that comes next. The record takes the place of the link to it.
-    pub(crate) fn open_long<D: Disk>(
-        &mut self,
-        disk: &mut D,
-        blocks: u32,
-        key: Key,
-        link: Link,
-    ) -> Result<(), TreeFault>
-        requires blocks { blocks ≤ (D.state disk.old).blocks }
-        requires front { front_of self.old ≡ Far key link }
-        ensures looks { OnlyLooks result (D.state disk.old) (D.state disk.new) }
-        ensures once { (D.state disk.new).reads ≤ (D.state disk.old).reads + 1 }
-        ensures record { OnOk result (IsIntoRecord self.old self.new) }
-        ensures only { OpensLong result (D.state disk.old) (D.state disk.new)
-            blocks key link self.old self.new }
-    {
-        self.records.read_next(disk, blocks, key, link)
-    }
-
     /// Opens the inner block that comes next. The subtrees under it take its place, except those
     /// with nothing of the part.
     pub(crate) fn open_node<D: Disk>(
@@ -223,8 +203,8 @@ impl Cursor {
     }
 }
 
-/// Passes the records that come next in both walks, as far as their bytes are equal, and tells
-/// whether neither has any left then.
+/// Passes the records that come next in both walks, as far as they are equal, and tells whether
+/// neither has any left then.
 pub(crate) fn pass_records(one: &mut Cursor, other: &mut Cursor) -> bool
     ensures passed { PassedBoth one.old.pending other.old.pending
         one.new.pending other.new.pending }

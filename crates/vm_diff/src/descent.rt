@@ -1,18 +1,16 @@
-//! Opening the subtree, or reading the long value, that comes next in a walk.
-ghost use Rattle.std.specs.Prelude.{◌≡◌, ◌≢◌, ℕ, ◌+◌, ◌≤◌, ◌<◌, OnOk};
+//! Opening the subtree that comes next in a walk.
+ghost use Rattle.std.specs.Prelude.{◌≡◌, ◌≢◌, ◌+◌, ◌≤◌, ◌<◌, OnOk};
 ghost use Rattle.vm_types.specs.Places.{place};
 ghost use Rattle.vm_tree.specs.Calls.{OnlyLooks};
 ghost use Rattle.vm_diff.specs.Walk.{size};
 ghost use Rattle.vm_diff.specs.Front.{front_of};
-ghost use Rattle.vm_diff.specs.Front.Front.{Far, Top};
+ghost use Rattle.vm_diff.specs.Front.Front.{Top};
 ghost use Rattle.vm_diff.specs.Differ.{Opens};
 
 use crate::cursor::Cursor;
 use crate::part::Part;
-use vm_block::Link;
 use vm_disk::Disk;
 use vm_tree::{Root, TreeFault};
-use vm_types::Key;
 
 /// Opens the subtree that comes next, by one read. What lies under it takes its place, as far as it
 /// may lie in the part.
@@ -36,23 +34,4 @@ pub(crate) fn open<D: Disk>(
     } else {
         walk.open_node(disk, blocks, part, top)
     }
-}
-
-/// Reads the long value that comes next, by one read. The record takes the place of the link to it.
-pub(crate) fn open_long<D: Disk>(
-    disk: &mut D,
-    blocks: u32,
-    walk: &mut Cursor,
-    key: Key,
-    link: Link,
-) -> Result<(), TreeFault>
-    requires blocks { blocks ≤ (D.state disk.old).blocks }
-    requires front { front_of walk.old ≡ Far key link }
-    ensures looks { OnlyLooks result (D.state disk.old) (D.state disk.new) }
-    ensures once { (D.state disk.new).reads ≤ (D.state disk.old).reads + 1 }
-    ensures falls { OnOk result (size walk.new < size walk.old) }
-    ensures opens { (low high : ℕ) → Opens result (D.state disk.old) (D.state disk.new)
-        blocks low high (Far key link) walk.old walk.new }
-{
-    walk.open_long(disk, blocks, key, link)
 }

@@ -1,17 +1,14 @@
 //! What comes next in a walk, and the outcome of a step of two walks.
 ghost use Rattle.std.specs.Prelude.{◌≡◌, ◌^◌, ◌≤◌};
 
-use vm_block::Link;
 use vm_tree::Root;
 use vm_types::Key;
 
-/// What comes next in a walk: a record with this key, a key with the link to its long value, which
-/// has not been read, or a subtree.
+/// What comes next in a walk: a record with this key, or a subtree.
 #[derive(Clone, Copy, Debug)]
 pub(crate) enum Next {
     End,
     Record(Key),
-    Long(Key, Link),
     Subtree(Root),
 }
 
@@ -26,7 +23,7 @@ impl Next {
     {
         match self {
             Next::End => 1 << 80,
-            Next::Record(key) | Next::Long(key, _) => key.place(),
+            Next::Record(key) => key.place(),
             Next::Subtree(top) => top.low.place(),
         }
     }

@@ -4,17 +4,16 @@ ghost use Rattle.vm_types.specs.Places.{place};
 ghost use Rattle.vm_tree.specs.Calls.{OnlyLooks};
 ghost use Rattle.vm_diff.specs.Walk.{size};
 ghost use Rattle.vm_diff.specs.Front.{front_of, next_of, place_of};
-ghost use Rattle.vm_diff.specs.Front.Front.{Far, Top};
+ghost use Rattle.vm_diff.specs.Front.Front.{Top};
 ghost use Rattle.vm_diff.specs.Differ.{PassesChange, ReadsWithin, Steps, StepsUnread};
 ghost use Rattle.vm_diff.specs.Opened.{StandsAt};
 ghost use Rattle.vm_diff.specs.Steps.{Falls, FoundBy, Meet, moved_by};
 
 use crate::cursor::Cursor;
-use crate::descent::{open, open_long};
+use crate::descent::open;
 use crate::front::{Next, Step};
 use crate::part::Part;
 use crate::shared::skip_shared;
-use vm_block::Link;
 use vm_disk::Disk;
 use vm_tree::{Root, TreeFault};
 use vm_types::Key;
@@ -82,29 +81,6 @@ fn meet_pairs(one: &mut Cursor, other: &mut Cursor, key: Key) -> Step
     }
 }
 
-/// The step if a long value of one key in one block comes next in both walks. It is not read.
-fn meet_links(
-    one: &mut Cursor,
-    other: &mut Cursor,
-    key: Key,
-    link: Link,
-    low: Key,
-    there: Link,
-) -> Step
-    requires first { front_of one.old ≡ Far key link }
-    requires second { front_of other.old ≡ Far low there }
-    requires block { link.block ≡ there.block }
-    ensures falls { Falls (Ok result) (size one.old + size other.old)
-        (size one.new + size other.new) }
-    ensures found { FoundBy (Ok result) (front_of one.new) (front_of other.new) }
-    ensures steps { StepsUnread (Ok result) one.old other.old one.new other.new }
-{
-    one.take();
-    other.take();
-    skip_shared(one, other);
-    Step::Moved
-}
-
 /// The step if both walks are at the same key, or both at the end.
 fn meet<D: Disk>(
     disk: &mut D,
@@ -134,20 +110,11 @@ fn meet<D: Disk>(
         },
         Next::Record(key) => match there {
             Next::Subtree(second) => moved(open(disk, blocks, part, other, second)),
-            Next::Long(low, link) => moved(open_long(disk, blocks, other, low, link)),
             Next::Record(_) => Ok(meet_pairs(one, other, key)),
             Next::End => Ok(Step::Done),
         },
-        Next::Long(key, link) => match there {
-            Next::Subtree(second) => moved(open(disk, blocks, part, other, second)),
-            Next::Long(low, far) if link.block == far.block => {
-                Ok(meet_links(one, other, key, link, low, far))
-            }
-            _ => moved(open_long(disk, blocks, one, key, link)),
-        },
         Next::End => match there {
             Next::Subtree(second) => moved(open(disk, blocks, part, other, second)),
-            Next::Long(low, link) => moved(open_long(disk, blocks, other, low, link)),
             _ => Ok(Step::Done),
         },
     }
@@ -176,7 +143,6 @@ pub(crate) fn step<D: Disk>(
     if near < far {
         return match here {
             Next::Record(key) => Ok(Step::Found(key)),
-            Next::Long(key, link) => moved(open_long(disk, blocks, one, key, link)),
             Next::Subtree(top) => moved(open(disk, blocks, part, one, top)),
             Next::End => Ok(Step::Done),
         };
@@ -184,7 +150,6 @@ pub(crate) fn step<D: Disk>(
     if far < near {
         return match there {
             Next::Record(key) => Ok(Step::Found(key)),
-            Next::Long(key, link) => moved(open_long(disk, blocks, other, key, link)),
             Next::Subtree(top) => moved(open(disk, blocks, part, other, top)),
             Next::End => Ok(Step::Done),
         };

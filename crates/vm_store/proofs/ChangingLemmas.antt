@@ -11,12 +11,12 @@ use Rattle.vm_types.proofs.ChangeLemmas.{with_changes-more}
 use Rattle.vm_types.proofs.Keys.{without_absent}
 use Rattle.vm_disk.specs.Disk.{Contents, Medium, block}
 use Rattle.vm_alloc.specs.Held.{IsHeld}
-use Rattle.vm_block.specs.Leaf.{Record, HasRows}
+use Rattle.vm_block.specs.Leaf.{HasRecords, Record}
 use Rattle.vm_block.specs.Node.{IsNode}
 use Rattle.vm_block.specs.declared.node.Child.{Child}
 use Rattle.vm_block.proofs.EachLemmas.{each_front, each_back}
 use Rattle.vm_block.proofs.NodeLemmas.{node_one}
-use Rattle.vm_tree.specs.FullPath.{FullBelow, FullPath, blocks_of}
+use Rattle.vm_tree.specs.FullPath.{FullPath, GrowsBy, blocks_of}
 use Rattle.vm_tree.specs.Tree.{Children, Subtree}
 use Rattle.vm_tree.specs.Answers.{LacksRoom, Puts}
 use Rattle.vm_tree.specs.Root.{IsRooted, IsRootedIn}
@@ -25,7 +25,7 @@ use Rattle.vm_tree.specs.declared.faults.PutFault.{PutFault}
 use Rattle.vm_tree.specs.declared.faults.PutFault.TheVariants.{Tree, Deep}
 use Rattle.vm_tree.specs.declared.faults.TreeFault.{TreeFault}
 use Rattle.vm_tree.specs.declared.faults.TreeFault.TheVariants.{Device, Damaged}
-use Rattle.vm_tree.proofs.RootLemmas.{full_level}
+use Rattle.vm_tree.proofs.FullPaths.{grows_level}
 use Rattle.vm_store.specs.ChangeList.{Makes, MeetsFullPath}
 use Rattle.vm_store.specs.Sizes.{sizes}
 use Rattle.vm_store.proofs.TopLemmas.{grown_in, grown_of}
@@ -47,35 +47,36 @@ under_child P T (c ∷ cs) zero rs bs lt t all =
 under_child P T (c ∷ cs) (suc i) rs bs lt t all =
     under_child P T cs i t.1 t.3 (omega arith) t.6 (each_back P t.2 t.3 (subst (AllByRecursion P) t.8 all))
 
--- below a block of a tree a full path stays full
-full_in : (P : ℕ → Type 0) (x y : Contents) (limit p : ℕ) → ((n : ℕ) → P n → block y n ≡ block x n)
-    → (l b : ℕ) (rs : List Record) (bs : List ℕ) → Subtree sizes x limit l b rs bs → AllByRecursion P bs → FullBelow sizes x p l b → FullBelow sizes y p l b
-unfolding Subtree FullBelow
-full_in P x y limit p same zero b rs bs tree all full =
-    let here = (subst (AllByRecursion P) tree.4 all).0 in
-    (full.0, subst (λ (bytes : List ℕ). HasRows bytes full.0) (sym (same b here)) full.1, full.2)
-full_in P x y limit p same (suc l) b rs bs tree all full =
+-- a block of a tree grows by as many blocks
+grows_in : (P : ℕ → Type 0) (x y : Contents) (limit : ℕ) (r : Record) → ((n : ℕ) → P n → block y n ≡ block x n)
+    → (l b more : ℕ) (rs : List Record) (bs : List ℕ) → Subtree sizes x limit l b rs bs → AllByRecursion P bs → GrowsBy sizes x r l b more → GrowsBy sizes y r l b more
+unfolding Subtree GrowsBy
+grows_in P x y limit r same zero b more rs bs tree all grows =
+    let here = (subst (AllByRecursion P) tree.2 all).0 in
+    (grows.0, subst (λ (bytes : List ℕ). HasRecords bytes grows.0) (sym (same b here)) grows.1, grows.2)
+grows_in P x y limit r same (suc l) b more rs bs tree all grows =
     let whole = subst (AllByRecursion P) tree.6 all in
-    let children = (node_one (block x b) (suc l) (suc l) tree.1 full.0 tree.3 full.2).1 in
+    let children = (node_one (block x b) (suc l) (suc l) tree.1 grows.0 tree.3 grows.3).1 in
     let below = subst (λ (cs : List Child). Children (Subtree sizes x limit l) cs rs tree.2) children tree.5 in
-    let within : full.1 < length full.0 = omega (arith, full.4.within, length-map full.0 (λ (c : Child). place c.low)) in
-    let child = under_child P (Subtree sizes x limit l) full.0 full.1 rs tree.2 within below whole.1 in (
-      full.0,
-      full.1,
-      subst (λ (bytes : List ℕ). IsNode bytes (suc l) full.0) (sym (same b whole.0)) full.2,
-      full.3,
-      full.4,
-      full_in P x y limit p same l (slice_index (blocks_of full.0) full.1) child.records child.blocks child.tree child.each full.5,
+    let within : grows.1 < length grows.0 = omega (arith, grows.4.within, length-map grows.0 (λ (c : Child). place c.low)) in
+    let child = under_child P (Subtree sizes x limit l) grows.0 grows.1 rs tree.2 within below whole.1 in (
+      grows.0,
+      grows.1,
+      grows.2,
+      subst (λ (bytes : List ℕ). IsNode bytes (suc l) grows.0) (sym (same b whole.0)) grows.3,
+      grows.4,
+      grows_in P x y limit r same l (slice_index (blocks_of grows.0) grows.1) grows.2 child.records child.blocks child.tree child.each grows.5,
+      grows.6,
     )
 
--- and so does the path from a root
-full_path_in : (P : ℕ → Type 0) (x y : Contents) (limit p : ℕ) → ((n : ℕ) → P n → block y n ≡ block x n)
-    → (root : Root) (m : Map) (bs : List ℕ) → IsRooted sizes x limit root m bs → AllByRecursion P bs → 0 < root.block → FullPath sizes x p root.block → FullPath sizes y p root.block
-full_path_in P x y limit p same root m bs (inl bare) all some full = absurd (omega (arith, bare.none, some))
-full_path_in P x y limit p same root m bs (inr top) all some full =
-    let level = full_level sizes x limit p full.0 root.level root.block m bs full.2 top.subtree in
+-- and so the path from a root stays full
+full_path_in : (P : ℕ → Type 0) (x y : Contents) (limit : ℕ) (r : Record) → ((n : ℕ) → P n → block y n ≡ block x n)
+    → (root : Root) (m : Map) (bs : List ℕ) → IsRooted sizes x limit root m bs → AllByRecursion P bs → 0 < root.block → FullPath sizes x r root.block → FullPath sizes y r root.block
+full_path_in P x y limit r same root m bs (inl bare) all some full = absurd (omega (arith, bare.none, some))
+full_path_in P x y limit r same root m bs (inr top) all some full =
+    let level = grows_level sizes x r limit full.0 root.level root.block full.1 m bs full.4 top.subtree in
     let tree = subst (λ l. Subtree sizes x limit l root.block m bs) (sym level) top.subtree in
-    (full.0, full.1, full_in P x y limit p same full.0 root.block m bs tree all full.2)
+    (full.0, full.1, full.2, full.3, grows_in P x y limit r same full.0 root.block full.1 m bs tree all full.4)
 
 -- ---- one change
 
@@ -86,33 +87,33 @@ so_failed (Err e) A B so h = so h
 
 module _ (x y : Contents) (held now : List Bool) (limit : ℕ) (root : Root) (m : Map) (change : Change) where
   -- where a record finds no room, the blocks of the tree keep their bytes, and it meets a full path
-  lacks_meets : (P : ℕ → Type 0) → ((n : ℕ) → P n → block y n ≡ block x n) → IsRootedIn sizes P x limit root m → change.after ≢ None → LacksRoom sizes x root m change.key
+  lacks_meets : (P : ℕ → Type 0) (value : List ℕ) → ((n : ℕ) → P n → block y n ≡ block x n) → IsRootedIn sizes P x limit root m → change.after ≡ Some value → LacksRoom sizes x root (change.key, value)
       → MeetsFullPath y limit m (change ∷ [])
-  lacks_meets P same grown adds lacks =
+  lacks_meets P value same grown sets lacks =
       let stays = grown_in P P x y limit same (λ n is. is) root m grown in
       record {
         earlier = [];
         change = change;
         later = [];
         parts = refl;
-        adds = adds;
-        absent = lacks.absent;
+        value = value;
+        sets = sets;
         root = root;
         blocks = stays.stands_in;
         tree = stays.rooted;
         some = lacks.some;
-        full = full_path_in P x y limit (place change.key) same root m grown.stands_in grown.rooted grown.each lacks.some lacks.full;
+        full = full_path_in P x y limit (change.key, value) same root m grown.stands_in grown.rooted grown.each lacks.some lacks.full;
       }
 
   -- a change to a value answers what a Put of it answers
   pub put_makes : (value : List ℕ) (result : Result Root PutFault) → change.after ≡ Some value → OnErr result ((n : ℕ) → IsHeld held n → block y n ≡ block x n) → (grown : IsRootedIn sizes (IsHeld held) x limit root m)
-      → Puts result (LacksRoom sizes x root m change.key) (λ r. AllByRecursion (IsHeld held) grown.stands_in → IsRootedIn sizes (IsHeld now) y limit r (with_value m change.key value))
+      → Puts result (LacksRoom sizes x root (change.key, value)) (λ r. AllByRecursion (IsHeld held) grown.stands_in → IsRootedIn sizes (IsHeld now) y limit r (with_value m change.key value))
       → Makes result (MeetsFullPath y limit m (change ∷ [])) (λ r. IsRootedIn sizes (IsHeld now) y limit r (with_change m change))
   put_makes value (Ok r) is same grown put =
       subst (λ (after : Option (List ℕ)). IsRootedIn sizes (IsHeld now) y limit r (put_or_taken m change.key after)) (sym is) (put.0 grown.each)
   put_makes value (Err (Tree Device)) is same grown put = tt
   put_makes value (Err (Tree (Damaged b))) is same grown put = put
-  put_makes value (Err Deep) is same grown put = lacks_meets (IsHeld held) same grown (λ none. cc) put
+  put_makes value (Err Deep) is same grown put = lacks_meets (IsHeld held) value same grown is put
 
 -- the old root has the map where the record to be taken out is absent
 pub absent_makes : (old new : Medium) (held now : List Bool) (limit : ℕ) (root : Root) (m : Map) (change : Change) → change.after ≡ None → new ≡ old → now ≡ held → get m change.key ≡ None
@@ -153,8 +154,8 @@ meets_among y limit m before changes after meets =
       change = meets.change;
       later = meets.later ++ after;
       parts = ap (λ cs. before ++ (cs ++ after)) meets.parts ∙ ap (λ cs. before ++ cs) (append_assoc meets.earlier (meets.change ∷ meets.later) after) ∙ sym (append_assoc before meets.earlier (meets.change ∷ (meets.later ++ after)));
-      adds = meets.adds;
-      absent = subst (λ (k : Map). get k meets.change.key ≡ None) n meets.absent;
+      value = meets.value;
+      sets = meets.sets;
       root = meets.root;
       blocks = meets.blocks;
       tree = subst (λ (k : Map). IsRooted sizes y limit meets.root k meets.blocks) n meets.tree;

@@ -23,12 +23,11 @@ use Rattle.vm_tree.specs.declared.root.Root.{Root}
 use Rattle.vm_types.specs.Name.{IsName}
 use Rattle.vm_check.specs.TreeCopy.{AreCopied, IsUndamaged, Paired, RootCopied, Steps, StepsTo, is_for_copies}
 use Rattle.vm_check.specs.Renumbering.{AreGiven, GoesOn, IsCopied, IsUnused, next_of, number_at}
-use Rattle.vm_check.specs.Suits.{SuitsAt}
 use Rattle.vm_check.specs.declared.renumbering.Renumbering.{Renumbering}
 use Rattle.vm_check.proofs.CopySteps.{first_apart}
 use Rattle.vm_check.proofs.CopyLemmas.{paired_join, paired_so, root_on, rooted_copied}
 use Rattle.vm_store.specs.Copies.{ComesBefore, EntriesCopied, FillsFrom, GoesOnBoth, HasVersions, HoldsVersions, IsCopy, IsOfFill, IsOfTarget, VersionCopied, refusal_of_copy}
-use Rattle.vm_store.specs.Filed.{Filed, Standing, StandsAs}
+use Rattle.vm_store.specs.Filed.{Anywhere, Filed, Standing, StandsAs}
 use Rattle.vm_store.specs.Layout.{HasMaps, IsPutDown}
 use Rattle.vm_store.specs.Rest.{IsSafe, Rests}
 use Rattle.vm_store.specs.Sizes.{sizes}
@@ -41,20 +40,19 @@ use Rattle.vm_store.proofs.StandingLemmas.{standing_in}
 pub version_on : {old new : Renumbering} → GoesOn old new → (v w : Version) → VersionCopied old v w → VersionCopied new v w
 version_on on v w is = record { kind = is.kind; name = is.name; owner = is.owner; current = root_on on v.current w.current is.current; base = root_on on v.base w.base is.base }
 
--- a store of format 2 may have any block
-all_suit : (y : Contents) (bs : List ℕ) → AllByRecursion (SuitsAt true y) bs
-all_suit y [] = tt
-all_suit y (b ∷ bs) = ((λ (e : true ≡ false). cc), all_suit y bs)
+all_anywhere : (bs : List ℕ) → AllByRecursion Anywhere bs
+all_anywhere [] = tt
+all_anywhere (b ∷ bs) = (tt, all_anywhere bs)
 
 module _ (P : ℕ → Type 0) (x y : Contents) (kept limit : ℕ) (numbers : Renumbering) (all : AreCopied x y limit numbers) where
-  root_stands : (root copy : Root) (m : Map) → RootCopied numbers root copy → IsRootedIn sizes P x kept root m → IsRootedIn sizes (SuitsAt true y) y limit copy m
+  root_stands : (root copy : Root) (m : Map) → RootCopied numbers root copy → IsRootedIn sizes P x kept root m → IsRootedIn sizes Anywhere y limit copy m
   root_stands root copy m is stands = record {
     stands_in = map (number_at numbers) stands.stands_in;
     rooted = rooted_copied x y kept limit numbers all sizes root copy m stands.stands_in is stands.rooted;
-    each = all_suit y (map (number_at numbers) stands.stands_in);
+    each = all_anywhere (map (number_at numbers) stands.stands_in);
   }
 
-  version_stands : (v w : Version) (f : Filed) → VersionCopied numbers v w → StandsAs P x kept v f → StandsAs (SuitsAt true y) y limit w f
+  version_stands : (v w : Version) (f : Filed) → VersionCopied numbers v w → StandsAs P x kept v f → StandsAs Anywhere y limit w f
   version_stands v w f is stands = record {
     kind = stands.kind ∙ sym is.kind;
     name = stands.name ∙ sym is.name;
@@ -64,7 +62,7 @@ module _ (P : ℕ → Type 0) (x y : Contents) (kept limit : ℕ) (numbers : Ren
   }
 
   -- the same maps stand under the copies of all versions
-  pub versions_stand : (vs ws : List Version) (fs : List Filed) → Paired (VersionCopied numbers) vs ws → Standing P x kept vs fs → Standing (SuitsAt true y) y limit ws fs
+  pub versions_stand : (vs ws : List Version) (fs : List Filed) → Paired (VersionCopied numbers) vs ws → Standing P x kept vs fs → Standing Anywhere y limit ws fs
   versions_stand [] [] [] pairs stands = tt
   versions_stand [] [] (f ∷ fs) pairs stands = absurd stands
   versions_stand (v ∷ vs) (w ∷ ws) [] pairs stands = absurd stands
@@ -152,7 +150,7 @@ maps_copied tree x m kept limit numbers vs es least most has copied = record {
   filed = has.filed;
   named = copied.named;
   fits = subst (SlotFits limit) copied.named (entries_fit limit numbers copied.copied.given copied.copied.within most kept vs copied.copies least copied.each has.fits);
-  stands = versions_stand (λ n. Unit {0}) x m.contents kept limit numbers copied.copied vs copied.copies has.filed copied.each has.stands;
+  stands = versions_stand Anywhere x m.contents kept limit numbers copied.copied vs copied.copies has.filed copied.each has.stands;
   gives = has.gives;
 }
 
@@ -162,7 +160,7 @@ pub has_versions : (m : Medium) (limit : ℕ) (slot_name : SlotName) (bits : Lis
 has_versions m limit slot_name bits committed working s rests = record {
   filed = rests.old;
   fits = rests.rest.names.slot.fits;
-  stands = standing_in (IsSafe rests.format bits m) (λ n. Unit {0}) m.contents m.contents s.kept (λ n is. refl) (λ n is. tt) committed rests.old rests.safe;
+  stands = standing_in (IsSafe bits m) Anywhere m.contents m.contents s.kept (λ n is. refl) (λ n is. tt) committed rests.old rests.safe;
   gives = rests.gives_old;
 }
 
@@ -178,7 +176,7 @@ pub versions_held : (m : Medium) (limit kept : ℕ) (slot_name : SlotName) (bits
 versions_held m limit kept slot_name bits committed working s same rests = record {
   first = rests.system;
   filed = rests.old;
-  stands = subst (λ n. Standing (IsHeld bits) m.contents n committed rests.old) (sym same) (standing_in (IsSafe rests.format bits m) (IsHeld bits) m.contents m.contents s.kept (λ n is. refl) (λ n is. is.held) committed rests.old rests.safe);
+  stands = subst (λ n. Standing (IsHeld bits) m.contents n committed rests.old) (sym same) (standing_in (IsSafe bits m) (IsHeld bits) m.contents m.contents s.kept (λ n is. refl) (λ n is. is.held) committed rests.old rests.safe);
 }
 
 -- what a copy reads is held, where it was done

@@ -7,8 +7,6 @@ use Rattle.vm_types.specs.Tree.{fresh}
 use Rattle.vm_disk.specs.Disk.{Contents, Medium, block}
 use Rattle.vm_disk.specs.declared.disk.DeviceFault.{DeviceFault}
 use Rattle.vm_disk.specs.Moments.{Leaves}
-use Rattle.vm_block.specs.declared.slot.SlotFormat.TheVariants.{Two}
-use Rattle.vm_check.specs.Suits.{SuitsAt}
 use Rattle.vm_block.specs.Header.{IsHeader}
 use Rattle.vm_block.specs.declared.selector.SlotName.TheVariants.{A}
 use Rattle.vm_block.specs.Slot.{SlotFits}
@@ -18,6 +16,7 @@ use Rattle.vm_block.specs.declared.slot.Kind.TheVariants as kind
 use Rattle.vm_block.specs.declared.slot.Entry.{Entry}
 use Rattle.vm_catalog.specs.Written.{IsAsWritten}
 use Rattle.vm_store.specs.Sizes.{sizes}
+use Rattle.vm_store.specs.Filed.{Anywhere}
 use Rattle.vm_store.specs.Shown.{ShowsAtMostNew}
 use Rattle.vm_store.specs.Layout.{HasMaps, IsPutDown}
 use Rattle.vm_store.specs.Refused.{IsSynced, IsAtMostSynced}
@@ -60,13 +59,13 @@ fresh_maps blocks es m is least most = record {
   gives = refl;
 }
   where
-    empty : IsRootedIn sizes (SuitsAt true m.contents) m.contents blocks no_root []
-    empty = none_grown (SuitsAt true m.contents) m.contents blocks no_root refl
+    empty : IsRootedIn sizes Anywhere m.contents blocks no_root []
+    empty = none_grown Anywhere m.contents blocks no_root refl
 
 -- what was put down is a new store, where it was done
 pub formatted_now : {T : Type 0} (blocks : ℕ) (es : List Entry) (result : Result T DeviceFault) (m : Medium) (x : T) → es ≡ fresh_entry ∷ [] → result ≡ Ok x → OnOk result (IsPutDown fresh blocks es m) → IsFormatted blocks m
 formatted_now blocks es (Err e) m x is ok down = cc
-formatted_now blocks es (Ok y) m x is ok down = record { shown = down.shown; written = subst (λ (l : List Entry). IsAsWritten m.contents A Two blocks l) is down.written; clean = down.clean }
+formatted_now blocks es (Ok y) m x is ok down = record { shown = down.shown; written = subst (λ (l : List Entry). IsAsWritten m.contents A blocks l) is down.written; clean = down.clean }
 
 -- nothing has changed in what the disk holds
 pub still_there : (old m : Medium) → IsAtMostSynced old m → m.contents ≡ old.contents

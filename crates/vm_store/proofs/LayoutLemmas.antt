@@ -6,12 +6,10 @@ use Rattle.vm_types.specs.declared.sizes.TheConstants.{FIRST_DATA}
 use Rattle.vm_disk.specs.Disk.{Contents, DiskState, IsClean, Medium, Syncs, Writes, block}
 use Rattle.vm_disk.specs.declared.disk.DeviceFault.{DeviceFault}
 use Rattle.vm_disk.specs.Moments.{Leaves, TouchesOnly}
-use Rattle.vm_block.specs.declared.slot.SlotFormat.{SlotFormat}
-use Rattle.vm_block.specs.declared.slot.SlotFormat.TheVariants.{Two}
 use Rattle.vm_block.specs.Header.{IsHeader}
 use Rattle.vm_block.specs.Selector.{named_slot, selector_bytes}
 use Rattle.vm_block.specs.declared.selector.SlotName.TheVariants.{A}
-use Rattle.vm_block.specs.Slot.{SlotFits, IsSlot, has_long, used_blocks}
+use Rattle.vm_block.specs.Slot.{SlotFits, IsSlot, used_blocks}
 use Rattle.vm_block.specs.declared.slot.Entry.{Entry}
 use Rattle.vm_catalog.specs.Place.{selected, blocks_from, region}
 use Rattle.vm_catalog.specs.Written.{slot_blocks}
@@ -20,9 +18,8 @@ use Rattle.vm_catalog.proofs.PlaceLemmas.{blocks_same, no_data}
 use Rattle.vm_catalog.proofs.PublishLemmas.{slot_in, stays_written, written_selector}
 use Rattle.vm_catalog.proofs.SlotLaw.{written_slot}
 use Rattle.vm_catalog.proofs.SlotOne.{slot_one}
-use Rattle.vm_check.specs.Suits.{SuitsAt}
 use Rattle.vm_tree.specs.Tree.{IsData}
-use Rattle.vm_store.specs.Filed.{Filed, Standing, tree_of}
+use Rattle.vm_store.specs.Filed.{Anywhere, Filed, Standing, tree_of}
 use Rattle.vm_store.specs.Layout.{HasMaps, IsLaidOut, IsPutDown, IsReady}
 use Rattle.vm_store.specs.Shown.{ShowsAtMost, ShowsNothing}
 use Rattle.vm_store.specs.Versions.{slot_entries}
@@ -61,41 +58,40 @@ first_synced (Err e) old mid new keeps sync = record { same = ap (λ (x : Conten
 -- the slot and the selector are written, and synced
 pub laid_now : {T : Type 0} (blocks : ℕ) (es : List Entry) (result : Result T DeviceFault) (old : Medium) (written chosen new : DiskState) {U : Type 0} (select : Result U DeviceFault) (u : U) → SlotFits blocks es
     → TouchesOnly (region 2 (used_blocks (length es))) old written.now
-    → blocks_from written.now.contents 2 (used_blocks (length es)) ≡ slot_blocks Two blocks es → select ≡ Ok u → Writes 1 (selector_bytes A) select written chosen → Syncs result chosen new → OnOk result (IsLaidOut blocks es old new.now)
+    → blocks_from written.now.contents 2 (used_blocks (length es)) ≡ slot_blocks blocks es → select ≡ Ok u → Writes 1 (selector_bytes A) select written chosen → Syncs result chosen new → OnOk result (IsLaidOut blocks es old new.now)
 laid_now blocks es (Err e) old written chosen new select u fits touches slot ok writes sync = tt
 laid_now blocks es (Ok y) old written chosen new (Err e) u fits touches slot ok writes sync = cc
 laid_now blocks es (Ok y) old written chosen new (Ok v) u fits touches slot ok writes sync =
     let x = new.now.contents in
     let same : (n : ℕ) → n ≢ 1 → block x n ≡ block written.now.contents n = λ n other. ap (λ (x : Contents). block x n) sync.same ∙ writes.others n other in
-    let there : SlotAt written.now.contents A Two blocks es = subst (λ (bs : List (List ℕ)). IsSlot bs Two blocks es) (sym slot) (written_slot Two blocks es fits) in
+    let there : SlotAt written.now.contents A blocks es = subst (λ (bs : List (List ℕ)). IsSlot bs blocks es) (sym slot) (written_slot blocks es fits) in
     record {
       count = ap length sync.same ∙ writes.count ∙ touches.count;
       same = λ n far. same n (λ (e : n ≡ 1). omega (arith, far)) ∙ touches.same n (no_data A (length es) n fits.head.few far);
       selected = ap (λ b. named_slot b) (ap (λ (x : Contents). block x 1) sync.same ∙ writes.written) ∙ written_selector A;
-      slot = slot_in written.now.contents x A Two blocks es (λ n low high. same n (λ (e : n ≡ 1). omega (arith, low))) there;
-      written = stays_written (Ok y) written.now.contents chosen.now.contents x A Two blocks es slot writes.others writes.written sync.same;
+      slot = slot_in written.now.contents x A blocks es (λ n low high. same n (λ (e : n ≡ 1). omega (arith, low))) there;
+      written = stays_written (Ok y) written.now.contents chosen.now.contents x A blocks es slot writes.others writes.written sync.same;
       clean = sync.synced;
     }
 
 -- # What is shown
 
 -- where slot A is named, and under its entries lie the maps of a tree, only that tree can be shown
-only_tree : (x : Contents) (tree : Tree) (blocks : ℕ) (vs : List Version) (fs : List Filed) → selected x ≡ A → SlotAt x A Two blocks (slot_entries vs) → Standing (SuitsAt true x) x blocks vs fs → tree_of fs ≡ tree
+only_tree : (x : Contents) (tree : Tree) (blocks : ℕ) (vs : List Version) (fs : List Filed) → selected x ≡ A → SlotAt x A blocks (slot_entries vs) → Standing Anywhere x blocks vs fs → tree_of fs ≡ tree
     → ShowsAtMost (record { tree = tree; blocks = blocks }) x
 only_tree x tree blocks vs fs in_use slot stands gives seen shown =
-    let same = slot_one x A shown.format Two seen.blocks blocks (slot_entries shown.versions) (slot_entries vs) (subst (λ b. SlotAt x b shown.format seen.blocks (slot_entries shown.versions)) in_use shown.names.slot) slot in
-    let alike = subst (λ (format : SlotFormat). Standing (SuitsAt (has_long format) x) x seen.blocks shown.versions shown.filed) same.0 shown.stands in
-    let there = subst (λ l. Standing (SuitsAt true x) x l shown.versions shown.filed) same.1 alike in
-    let one = all_filed_one (SuitsAt true x) x blocks shown.versions vs shown.filed fs same.2 there stands in
+    let same = slot_one x A seen.blocks blocks (slot_entries shown.versions) (slot_entries vs) (subst (λ b. SlotAt x b seen.blocks (slot_entries shown.versions)) in_use shown.names.slot) slot in
+    let there = subst (λ l. Standing Anywhere x l shown.versions shown.filed) same.0 shown.stands in
+    let one = all_filed_one Anywhere x blocks shown.versions vs shown.filed fs same.1 there stands in
     let is : seen.tree ≡ tree = sym shown.gives ∙ ap tree_of one ∙ gives in
-    ap (λ (t : Tree). record { tree = t; blocks = seen.blocks }) is ∙ ap (λ n. record { tree = tree; blocks = n }) same.1
+    ap (λ (t : Tree). record { tree = t; blocks = seen.blocks }) is ∙ ap (λ n. record { tree = tree; blocks = n }) same.0
 
 module _ (tree : Tree) (blocks : ℕ) (es : List Entry) where
   -- the maps lie wherever the data blocks are the same
-  maps_in : (m : Medium) (x : Contents) (maps : HasMaps tree blocks es m) → ((n : ℕ) → FIRST_DATA ≤ n → block x n ≡ block m.contents n) → Standing (SuitsAt true x) x blocks maps.versions maps.filed
+  maps_in : (m : Medium) (x : Contents) (maps : HasMaps tree blocks es m) → ((n : ℕ) → FIRST_DATA ≤ n → block x n ≡ block m.contents n) → Standing Anywhere x blocks maps.versions maps.filed
   maps_in m x maps same =
-      standing_in (λ n. SuitsAt true m.contents n × IsData blocks n) (SuitsAt true x) m.contents x blocks (λ n is. same n is.1.0) (λ n is (e : true ≡ false). cc) maps.versions maps.filed
-      (standing_data (SuitsAt true m.contents) m.contents blocks maps.versions maps.filed maps.stands)
+      standing_in (λ n. Anywhere n × IsData blocks n) Anywhere m.contents x blocks (λ n is. same n is.1.0) (λ n is. tt) maps.versions maps.filed
+      (standing_data Anywhere m.contents blocks maps.versions maps.filed maps.stands)
 
   -- the entries are laid out over the maps, so all is there but the header
   pub ready_now : (old m : Medium) → HasMaps tree blocks es old → IsLaidOut blocks es old m → IsReady tree blocks es m
@@ -105,14 +101,14 @@ module _ (tree : Tree) (blocks : ℕ) (es : List Entry) where
   }
 
   -- the entries, where all but block 0 is as it was
-  slot_still : (old : Medium) (x : Contents) (ready : IsReady tree blocks es old) → ((n : ℕ) → n ≢ 0 → block x n ≡ block old.contents n) → SlotAt x A Two blocks (slot_entries ready.maps.versions)
+  slot_still : (old : Medium) (x : Contents) (ready : IsReady tree blocks es old) → ((n : ℕ) → n ≢ 0 → block x n ≡ block old.contents n) → SlotAt x A blocks (slot_entries ready.maps.versions)
   slot_still old x ready same =
-      subst (λ (l : List Entry). SlotAt x A Two blocks l) (sym ready.maps.named) (slot_in old.contents x A Two blocks es (λ n low high. same n (λ (e : n ≡ 0). omega (arith, low))) ready.laid.slot)
+      subst (λ (l : List Entry). SlotAt x A blocks l) (sym ready.maps.named) (slot_in old.contents x A blocks es (λ n low high. same n (λ (e : n ≡ 0). omega (arith, low))) ready.laid.slot)
 
   named_still : (old : Medium) (x : Contents) → IsReady tree blocks es old → ((n : ℕ) → n ≢ 0 → block x n ≡ block old.contents n) → selected x ≡ A
   named_still old x ready same = ap (λ b. named_slot b) (same 1 (λ (e : 1 ≡ 0). omega arith)) ∙ ready.laid.selected
 
-  stands_still : (old : Medium) (x : Contents) (ready : IsReady tree blocks es old) → ((n : ℕ) → n ≢ 0 → block x n ≡ block old.contents n) → Standing (SuitsAt true x) x blocks ready.maps.versions ready.maps.filed
+  stands_still : (old : Medium) (x : Contents) (ready : IsReady tree blocks es old) → ((n : ℕ) → n ≢ 0 → block x n ≡ block old.contents n) → Standing Anywhere x blocks ready.maps.versions ready.maps.filed
   stands_still old x ready same = maps_in old x ready.maps (λ n far. same n (λ (e : n ≡ 0). omega (arith, far)))
 
 -- # While the header is written
@@ -149,10 +145,9 @@ module _ (tree : Tree) (blocks : ℕ) (es : List Entry) where
       let es' = slot_entries ready.maps.versions in
       record {
         shown = record {
-          format = Two;
           versions = ready.maps.versions;
           filed = ready.maps.filed;
-          names = record { header = ap (λ (x : Contents). block x 0) sync.same ∙ header; slot = subst (λ b. SlotAt x b Two blocks es') (sym (named_still tree blocks es old x ready same)) (slot_still tree blocks es old x ready same) };
+          names = record { header = ap (λ (x : Contents). block x 0) sync.same ∙ header; slot = subst (λ b. SlotAt x b blocks es') (sym (named_still tree blocks es old x ready same)) (slot_still tree blocks es old x ready same) };
           inside = subst (λ n. blocks ≤ n) (sym (ap length sync.same ∙ keeps.count)) inside;
           stands = stands_still tree blocks es old x ready same;
           gives = ready.maps.gives;

@@ -41,7 +41,6 @@ pub mod SlotLemmas
 pub mod SpareLemmas
 pub mod SpareTests
 pub mod StandingLemmas
-pub mod SuitLemmas
 pub mod TakenLemmas
 pub mod TallyLemmas
 pub mod TopLemmas

@@ -26,8 +26,6 @@ use Rattle.vm_catalog.proofs.PublishLemmas.{names_in}
 use Rattle.vm_store.specs.Answers.{IsGrowDue}
 use Rattle.vm_store.specs.Growth.{Grows}
 use Rattle.vm_store.specs.Guarded.{IsGuarded}
-use Rattle.vm_block.specs.Slot.{has_long}
-use Rattle.vm_store.proofs.SuitLemmas.{suits_alike}
 use Rattle.vm_store.specs.Rest.{IsSafe, Rests}
 use Rattle.vm_store.specs.Shown.{Shows}
 use Rattle.vm_store.specs.Versions.{slot_entries}
@@ -81,7 +79,6 @@ module _ (old new : Medium) (longer : Lengthens old new) (limit more : ℕ) (slo
   -- where all that was held is held, the store stands for the same, with so many blocks
   pub rests_longer : Rests new more slot_name after committed working (record s { blocks = more })
   rests_longer = record {
-    format = rests.format;
     old = rests.old;
     new = rests.new;
     blocks = refl;
@@ -90,7 +87,7 @@ module _ (old new : Medium) (longer : Lengthens old new) (limit more : ℕ) (slo
     sure = omega (arith, rests.sure, longer.sure);
     system = λ n low. still n (rests.system n low);
     rest = record {
-      names = names_in old.contents new.contents slot_name rests.format s.kept (slot_entries committed) (λ n used. longer.same n (used_inside n used)) rests.rest.in_use rests.rest.names;
+      names = names_in old.contents new.contents slot_name s.kept (slot_entries committed) (λ n used. longer.same n (used_inside n used)) rests.rest.in_use rests.rest.names;
       in_use = ap (λ b. named_slot b) (longer.same 1 first_inside) ∙ rests.rest.in_use;
       clean = λ n used. longer.same_dirty n (used_inside n used) ∙ rests.rest.clean n used;
     };
@@ -99,9 +96,9 @@ module _ (old new : Medium) (longer : Lengthens old new) (limit more : ℕ) (slo
       each = rests.fits.each;
       ledger = rests.fits.ledger;
     };
-    safe = standing_in (λ n. IsSafe rests.format bits old n × IsData s.kept n) (IsSafe rests.format after new) old.contents new.contents s.kept (λ n safe. longer.same n (old_inside n safe.1))
-        (λ n safe. record { held = still n safe.0.held; clean = longer.same_dirty n (old_inside n safe.1) ∙ safe.0.clean; suits = suits_alike (has_long rests.format) old.contents new.contents n (longer.same n (old_inside n safe.1)) safe.0.suits }) committed rests.old
-        (standing_data (IsSafe rests.format bits old) old.contents s.kept committed rests.old rests.safe);
+    safe = standing_in (λ n. IsSafe bits old n × IsData s.kept n) (IsSafe after new) old.contents new.contents s.kept (λ n safe. longer.same n (old_inside n safe.1))
+        (λ n safe. record { held = still n safe.0.held; clean = longer.same_dirty n (old_inside n safe.1) ∙ safe.0.clean }) committed rests.old
+        (standing_data (IsSafe bits old) old.contents s.kept committed rests.old rests.safe);
     stands = standing_wider (IsHeld after) new.contents limit more few working rests.new
         (standing_in (λ n. IsHeld bits n × IsData limit n) (IsHeld after) old.contents new.contents limit (λ n held. longer.same n (new_inside n held.1)) (λ n held. still n held.0) working rests.new
         (standing_data (IsHeld bits) old.contents limit working rests.new rests.stands));

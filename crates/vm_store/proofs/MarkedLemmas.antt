@@ -26,20 +26,20 @@ module _ (m : Medium) (limit : ℕ) (slot_name : SlotName) (bits : List Bool) (c
   pub free_at_most : free_count bits ≤ spare_of rests
   free_at_most =
       free-le-spare bits limit _ many rests.system
-      (each_join (IsHeld bits) (reach (IsSafe rests.format bits m) m.contents s.kept committed rests.old rests.safe) _
-      (each_so (IsSafe rests.format bits m) (IsHeld bits) (λ n safe. safe.held) _ (reach_each (IsSafe rests.format bits m) m.contents s.kept committed rests.old rests.safe))
+      (each_join (IsHeld bits) (reach (IsSafe bits m) m.contents s.kept committed rests.old rests.safe) _
+      (each_so (IsSafe bits m) (IsHeld bits) (λ n safe. safe.held) _ (reach_each (IsSafe bits m) m.contents s.kept committed rests.old rests.safe))
       (reach_each (IsHeld bits) m.contents limit working rests.new rests.stands))
 
   -- all that they reach
   abbrev pub reached : List ℕ
-  reached = reach (IsSafe rests.format bits m) m.contents s.kept committed rests.old rests.safe ++ reach (IsHeld bits) m.contents limit working rests.new rests.stands
+  reached = reach (IsSafe bits m) m.contents s.kept committed rests.old rests.safe ++ reach (IsHeld bits) m.contents limit working rests.new rests.stands
 
   module _ (marking : List Bool) (marked : MarksMore reached (replicate limit false) marking) where
-    committed_marked : AllByRecursion (IsMarked marking) (reach (IsSafe rests.format bits m) m.contents s.kept committed rests.old rests.safe)
-    committed_marked = each_front (IsMarked marking) (reach (IsSafe rests.format bits m) m.contents s.kept committed rests.old rests.safe) (reach (IsHeld bits) m.contents limit working rests.new rests.stands) marked.each
+    committed_marked : AllByRecursion (IsMarked marking) (reach (IsSafe bits m) m.contents s.kept committed rests.old rests.safe)
+    committed_marked = each_front (IsMarked marking) (reach (IsSafe bits m) m.contents s.kept committed rests.old rests.safe) (reach (IsHeld bits) m.contents limit working rests.new rests.stands) marked.each
 
     working_marked : AllByRecursion (IsMarked marking) (reach (IsHeld bits) m.contents limit working rests.new rests.stands)
-    working_marked = each_back (IsMarked marking) (reach (IsSafe rests.format bits m) m.contents s.kept committed rests.old rests.safe) (reach (IsHeld bits) m.contents limit working rests.new rests.stands) marked.each
+    working_marked = each_back (IsMarked marking) (reach (IsSafe bits m) m.contents s.kept committed rests.old rests.safe) (reach (IsHeld bits) m.contents limit working rests.new rests.stands) marked.each
 
     just_reached : (n : ℕ) → IsMarked marking n → list_any (λ b. eqb b n) reached ≡ true
     just_reached n is = ⊎_elim (λ before. absurd (none_marked limit n before)) (λ at. any_contained reached n at) (marked.only n is)
@@ -62,7 +62,6 @@ module _ (m : Medium) (limit : ℕ) (slot_name : SlotName) (bits : List Bool) (c
       -- a marking changes nothing of what the store stands for
       pub rests_marked : Rests m limit slot_name after committed working s
       rests_marked = record {
-        format = rests.format;
         old = rests.old;
         new = rests.new;
         blocks = rests.blocks;
@@ -72,10 +71,10 @@ module _ (m : Medium) (limit : ℕ) (slot_name : SlotName) (bits : List Bool) (c
         system = system';
         rest = rests.rest;
         fits = rests.fits;
-        safe = standing_in (λ n. (IsSafe rests.format bits m n × IsMarked marking n) × IsData s.kept n) (IsSafe rests.format after m) m.contents m.contents s.kept (λ n h. refl)
-            (λ n h. record { held = replaced n h.1.0 ∙ h.0.1; clean = h.0.0.clean; suits = h.0.0.suits }) committed rests.old
-            (standing_data (λ n. IsSafe rests.format bits m n × IsMarked marking n) m.contents s.kept committed rests.old
-            (standing_and (IsSafe rests.format bits m) (IsMarked marking) m.contents s.kept committed rests.old rests.safe committed_marked));
+        safe = standing_in (λ n. (IsSafe bits m n × IsMarked marking n) × IsData s.kept n) (IsSafe after m) m.contents m.contents s.kept (λ n h. refl)
+            (λ n h. record { held = replaced n h.1.0 ∙ h.0.1; clean = h.0.0.clean }) committed rests.old
+            (standing_data (λ n. IsSafe bits m n × IsMarked marking n) m.contents s.kept committed rests.old
+            (standing_and (IsSafe bits m) (IsMarked marking) m.contents s.kept committed rests.old rests.safe committed_marked));
         stands = standing_in (λ n. (IsHeld bits n × IsMarked marking n) × IsData limit n) (IsHeld after) m.contents m.contents limit (λ n h. refl)
             (λ n h. replaced n h.1.0 ∙ h.0.1) working rests.new
             (standing_data (λ n. IsHeld bits n × IsMarked marking n) m.contents limit working rests.new
@@ -97,12 +96,12 @@ module _ (m : Medium) (limit : ℕ) (slot_name : SlotName) (bits : List Bool) (c
 
   -- what the first one reaches, and where it begins
   abbrev pub reached_old : List ℕ
-  reached_old = reach (IsSafe rests.format bits m) m.contents s.kept committed rests.old rests.safe
+  reached_old = reach (IsSafe bits m) m.contents s.kept committed rests.old rests.safe
 
   pub first_reach : AreReached m.contents (length cleared) lent reached_old
   first_reach =
       subst (λ (vs : List Version). AreReached m.contents (length cleared) vs reached_old) (sym same)
-      (subst (λ n. AreReached m.contents n committed reached_old) (sym length_clear) (standing_reached (IsSafe rests.format bits m) m.contents s.kept limit rests.fewer committed rests.old rests.safe))
+      (subst (λ n. AreReached m.contents n committed reached_old) (sym length_clear) (standing_reached (IsSafe bits m) m.contents s.kept limit rests.fewer committed rests.old rests.safe))
 
   pub first_closed : IsClosed m.contents cleared
   first_closed = subst (IsClosed m.contents) (sym is_clear) (clear_closed m.contents limit)

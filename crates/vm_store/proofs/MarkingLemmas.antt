@@ -43,7 +43,7 @@ none_marked limit n is = by_case (cases_lt n limit)
 
 -- clear marks are closed
 pub clear_closed : (x : Contents) (limit : ℕ) → IsClosed x (replicate limit false)
-clear_closed x limit = record { links = λ n ws is leaf. absurd (none_marked limit n is); closed = λ n level cs is low node. absurd (none_marked limit n is) }
+clear_closed x limit = record { closed = λ n level cs is low node. absurd (none_marked limit n is) }
 
 -- a block of a list is found in it
 pub any_contained : (bs : List ℕ) (n : ℕ) → Contains bs n → list_any (λ b. eqb b n) bs ≡ true

@@ -10,14 +10,12 @@ use Rattle.vm_disk.proofs.MomentLemmas.{clean_sure, started, goes_on, same_mediu
 use Rattle.vm_alloc.specs.Held.{is_held, IsHeld, free_count}
 use Rattle.vm_alloc.specs.Marks.{is_marked, IsMarked}
 use Rattle.std.specs.List.{AllByRecursion}
-use Rattle.vm_block.specs.Slot.{SlotFits, has_long}
-use Rattle.vm_block.specs.declared.slot.SlotFormat.{SlotFormat}
-use Rattle.vm_check.specs.Suits.{SuitsAt}
+use Rattle.vm_block.specs.Slot.{SlotFits}
 use Rattle.vm_block.specs.declared.slot.Entry.{Entry}
 use Rattle.vm_block.specs.declared.selector.SlotName.{SlotName}
 use Rattle.std.proofs.lemmas.List.{length-replicate}
 use Rattle.std.proofs.lemmas.List.Elements.{Contains-append_left}
-use Rattle.vm_block.proofs.EachLemmas.{each_both, each_front, each_back, each_join}
+use Rattle.vm_block.proofs.EachLemmas.{each_front, each_back, each_join}
 use Rattle.vm_tree.specs.Tree.{IsData}
 use Rattle.vm_check.specs.Marks.{MarksMore}
 use Rattle.vm_store.proofs.MarkedLemmas.{free_exactly}
@@ -38,7 +36,7 @@ use Rattle.vm_store.specs.Versions.{numbers_of, slot_entries, versions_of}
 use Rattle.vm_store.specs.declared.version.Version.{Version}
 use Rattle.vm_store.proofs.TopLemmas.{rooted_one, rooted_tree}
 use Rattle.vm_store.proofs.WiderLemmas.{rooted_wider}
-use Rattle.vm_store.specs.Filed.{Filed, Standing, reach, tree_of}
+use Rattle.vm_store.specs.Filed.{Anywhere, Filed, Standing, reach, tree_of}
 use Rattle.vm_store.specs.Shown.{Shows, ShowsNothing}
 use Rattle.vm_store.specs.Rest.{IsSafe, Rests, spare_of}
 use Rattle.vm_store.specs.Refused.{IsStore, LacksMap, IsRefused, IsSynced, IsAtMostSynced}
@@ -98,41 +96,39 @@ found_standing P x limit (e ∷ es) (r ∷ q ∷ rs) bs are all =
     }
 
 -- standing versions have trees under their numbers
-pub have_trees : (P : ℕ → Type 0) (x : Contents) (limit : ℕ) (vs : List Version) (fs : List Filed) → Standing P x limit vs fs → HaveTrees P sizes x limit (numbers_of (slot_entries vs))
+pub have_trees : (P : ℕ → Type 0) (x : Contents) (limit : ℕ) (vs : List Version) (fs : List Filed) → Standing P x limit vs fs → HaveTrees sizes x limit (numbers_of (slot_entries vs))
 have_trees P x limit [] [] s = tt
 have_trees P x limit (v ∷ vs) (f ∷ fs) s =
     let current = s.0.current in
     let base = s.0.base in (
-      (f.current, current.stands_in, rooted_tree x limit v.current f.current current.stands_in current.rooted, current.each),
-      ((f.base, base.stands_in, rooted_tree x limit v.base f.base base.stands_in base.rooted, base.each), have_trees P x limit vs fs s.1),
+      (f.current, current.stands_in, rooted_tree x limit v.current f.current current.stands_in current.rooted),
+      ((f.base, base.stands_in, rooted_tree x limit v.base f.base base.stands_in base.rooted), have_trees P x limit vs fs s.1),
     )
 have_trees P x limit [] (f ∷ fs) s = absurd s
 have_trees P x limit (v ∷ vs) [] s = absurd s
 
-module _ (m : Medium) (format : SlotFormat) (limit : ℕ) (slot_name : SlotName) (es : List Entry) (clean : IsClean m) (store : IsStore m.contents) (in_use : slot_name ≡ selected m.contents) (slot : SlotAt m.contents slot_name format limit es)
+module _ (m : Medium) (limit : ℕ) (slot_name : SlotName) (es : List Entry) (clean : IsClean m) (store : IsStore m.contents) (in_use : slot_name ≡ selected m.contents) (slot : SlotAt m.contents slot_name limit es)
     (inside : limit ≤ length m.contents) where
-  names : Names m.contents format limit es
-  names = names_slot m.contents slot_name format limit es store.header (sym in_use) slot
+  names : Names m.contents limit es
+  names = names_slot m.contents slot_name limit es store.header (sym in_use) slot
 
   -- versions that all stand are shown
-  pub shows_found : (vs : List Version) (fs : List Filed) → slot_entries vs ≡ es → Standing (SuitsAt (has_long format) m.contents) m.contents limit vs fs → Shows m.contents (record { tree = tree_of fs; blocks = limit })
+  pub shows_found : (vs : List Version) (fs : List Filed) → slot_entries vs ≡ es → Standing Anywhere m.contents limit vs fs → Shows m.contents (record { tree = tree_of fs; blocks = limit })
   shows_found vs fs same s = record {
-    format = format;
     versions = vs;
     filed = fs;
-    names = subst (λ (l : List Entry). Names m.contents format limit l) (sym same) names;
+    names = subst (λ (l : List Entry). Names m.contents limit l) (sym same) names;
     inside = inside;
     stands = s;
     gives = refl;
   }
 
   -- and a store with them stands for the tree that is shown
-  pub rests_found : (marks bits : List Bool) (vs : List Version) (fs : List Filed) → slot_entries vs ≡ es → ((n : ℕ) → n < 34 → IsHeld bits n) → ((n : ℕ) → 34 ≤ n → is_held bits n ≡ is_marked marks n) → Standing (λ n. IsMarked marks n × SuitsAt (has_long format) m.contents n) m.contents limit vs fs
+  pub rests_found : (marks bits : List Bool) (vs : List Version) (fs : List Filed) → slot_entries vs ≡ es → ((n : ℕ) → n < 34 → IsHeld bits n) → ((n : ℕ) → 34 ≤ n → is_held bits n ≡ is_marked marks n) → Standing (IsMarked marks) m.contents limit vs fs
       → Rests m limit slot_name bits vs vs (opened (record { tree = tree_of fs; blocks = limit }))
   rests_found marks bits vs fs same system replaced s =
-      let data_blocks = standing_data (λ n. IsMarked marks n × SuitsAt (has_long format) m.contents n) m.contents limit vs fs s in
+      let data_blocks = standing_data (IsMarked marks) m.contents limit vs fs s in
       record {
-        format = format;
         old = fs;
         new = fs;
         blocks = refl;
@@ -140,30 +136,29 @@ module _ (m : Medium) (format : SlotFormat) (limit : ℕ) (slot_name : SlotName)
         inside = inside;
         sure = omega (arith, clean_sure m clean);
         system = system;
-        rest = record { names = subst (λ (l : List Entry). Names m.contents format limit l) (sym same) names; in_use = sym in_use; clean = λ n used. clean n };
+        rest = record { names = subst (λ (l : List Entry). Names m.contents limit l) (sym same) names; in_use = sym in_use; clean = λ n used. clean n };
         fits = subst (SlotFits limit) (sym same) slot.fits;
-        safe = standing_in (λ n. (IsMarked marks n × SuitsAt (has_long format) m.contents n) × IsData limit n) (IsSafe format bits m) m.contents m.contents limit (λ n is. refl) (λ n is. record { held = replaced n is.1.0 ∙ is.0.0; clean = clean n; suits = is.0.1 }) vs fs data_blocks;
-        stands = standing_in (λ n. (IsMarked marks n × SuitsAt (has_long format) m.contents n) × IsData limit n) (IsHeld bits) m.contents m.contents limit (λ n is. refl) (λ n is. replaced n is.1.0 ∙ is.0.0) vs fs data_blocks;
+        safe = standing_in (λ n. IsMarked marks n × IsData limit n) (IsSafe bits m) m.contents m.contents limit (λ n is. refl) (λ n is. record { held = replaced n is.1.0 ∙ is.0; clean = clean n }) vs fs data_blocks;
+        stands = standing_in (λ n. IsMarked marks n × IsData limit n) (IsHeld bits) m.contents m.contents limit (λ n is. refl) (λ n is. replaced n is.1.0 ∙ is.0) vs fs data_blocks;
         gives_old = refl;
         gives_new = refl;
       }
 
 -- without a premise on what is clean
-module _ (m : Medium) (format : SlotFormat) (limit : ℕ) (slot_name : SlotName) (es : List Entry) (store : IsStore m.contents) (in_use : slot_name ≡ selected m.contents) (slot : SlotAt m.contents slot_name format limit es)
+module _ (m : Medium) (limit : ℕ) (slot_name : SlotName) (es : List Entry) (store : IsStore m.contents) (in_use : slot_name ≡ selected m.contents) (slot : SlotAt m.contents slot_name limit es)
     (inside : limit ≤ length m.contents) where
   -- entries of which some root has no map
-  pub lacks_map : (HaveTrees (SuitsAt (has_long format) m.contents) sizes m.contents limit (numbers_of es) → ⊥) → LacksMap m.contents
+  pub lacks_map : (HaveTrees sizes m.contents limit (numbers_of es) → ⊥) → LacksMap m.contents
   lacks_map none = record {
-    format = format;
     limit = limit;
     entries = es;
-    slot = subst (λ b. SlotAt m.contents b format limit es) in_use slot;
+    slot = subst (λ b. SlotAt m.contents b limit es) in_use slot;
     inside = inside;
-    none = λ vs fs same s. none (subst (λ (l : List Entry). HaveTrees (SuitsAt (has_long format) m.contents) sizes m.contents limit (numbers_of l)) same (have_trees (SuitsAt (has_long format) m.contents) m.contents limit vs fs s));
+    none = λ vs fs same s. none (subst (λ (l : List Entry). HaveTrees sizes m.contents limit (numbers_of l)) same (have_trees Anywhere m.contents limit vs fs s));
   }
 
   -- a fault of the walk
-  pub fault_refused : (f : ListFault) → (HaveTrees (SuitsAt (has_long format) m.contents) sizes m.contents limit (numbers_of es) → Lists {T = Unit {0}} (Err f) (λ _. Unit {0})) → IsRefused m.contents (refusal_of_list f)
+  pub fault_refused : (f : ListFault) → (HaveTrees sizes m.contents limit (numbers_of es) → Lists {T = Unit {0}} (Err f) (λ _. Unit {0})) → IsRefused m.contents (refusal_of_list f)
   fault_refused (list.Tree fault.Device) only = tt
   fault_refused (list.Tree (fault.Damaged n)) only = (store, inr (lacks_map only))
   fault_refused list.Memory only = tt
@@ -174,18 +169,17 @@ refused_none x refusal.NotAStore why no_device no_memory seen shown =
     why (record { least = omega (arith, shown.inside, shown.names.slot.fits.head.least); header = shown.names.header })
 refused_none x refusal.BadSize why no_device no_memory seen shown =
     let large = why.1 in
-    let same = slot_one x (selected x) shown.format large.format seen.blocks large.limit (slot_entries shown.versions) large.entries shown.names.slot large.slot in
+    let same = slot_one x (selected x) seen.blocks large.limit (slot_entries shown.versions) large.entries shown.names.slot large.slot in
     let inside = shown.inside in
     let larger = large.larger in
-    let is = same.1 in
+    let is = same.0 in
     omega arith
 refused_none x (refusal.Damaged n) why no_device no_memory seen shown =
     ⊎_elim
-    (λ none. none.1 shown.format seen.blocks (slot_entries shown.versions) shown.names.slot)
+    (λ none. none.1 seen.blocks (slot_entries shown.versions) shown.names.slot)
     (λ lacks.
-    let same = slot_one x (selected x) shown.format lacks.format seen.blocks lacks.limit (slot_entries shown.versions) lacks.entries shown.names.slot lacks.slot in
-    let alike = subst (λ (format : SlotFormat). Standing (SuitsAt (has_long format) x) x seen.blocks shown.versions shown.filed) same.0 shown.stands in
-    lacks.none shown.versions shown.filed same.2 (subst (λ l. Standing (SuitsAt (has_long lacks.format) x) x l shown.versions shown.filed) same.1 alike))
+    let same = slot_one x (selected x) seen.blocks lacks.limit (slot_entries shown.versions) lacks.entries shown.names.slot lacks.slot in
+    lacks.none shown.versions shown.filed same.1 (subst (λ l. Standing Anywhere x l shown.versions shown.filed) same.0 shown.stands))
     why.1
 refused_none x refusal.Device why no_device no_memory seen shown = no_device refl
 refused_none x refusal.Memory why no_device no_memory seen shown = no_memory refl
@@ -207,14 +201,13 @@ refused_none x refusal.Failed why no_device no_memory seen shown = why
 refused_none x refusal.AlreadyAStore why no_device no_memory seen shown = why
 
 -- what the walk found under the numbers of lent entries
-pub found_here : (long : Bool) (x : Contents) (limit : ℕ) (es first : List Entry) (numbers lent : List ℕ) (rs : List Root) (marks : List Bool) → lent ≡ numbers → numbers ≡ numbers_of first → first ≡ es
-    → Found long sizes x limit lent rs marks → FoundStanding (λ n. IsMarked marks n × SuitsAt long x n) x limit es rs
-found_here long x limit es first numbers lent rs marks same are is found =
-    found_standing (λ n. IsMarked marks n × SuitsAt long x n) x limit es rs found.blocks (subst (λ ns. AreRoots sizes x limit ns rs found.blocks) (same ∙ are ∙ ap numbers_of is) found.are)
-    (each_both (IsMarked marks) (SuitsAt long x) found.blocks found.each found.suits)
+pub found_here : (x : Contents) (limit : ℕ) (es first : List Entry) (numbers lent : List ℕ) (rs : List Root) (marks : List Bool) → lent ≡ numbers → numbers ≡ numbers_of first → first ≡ es
+    → Found sizes x limit lent rs marks → FoundStanding (IsMarked marks) x limit es rs
+found_here x limit es first numbers lent rs marks same are is found =
+    found_standing (IsMarked marks) x limit es rs found.blocks (subst (λ ns. AreRoots sizes x limit ns rs found.blocks) (same ∙ are ∙ ap numbers_of is) found.are) found.each
 
-pub trees_here : (P : ℕ → Type 0) (x : Contents) (limit : ℕ) (es first : List Entry) (numbers lent : List ℕ) → lent ≡ numbers → numbers ≡ numbers_of first → first ≡ es → HaveTrees P sizes x limit (numbers_of es) → HaveTrees P sizes x limit lent
-trees_here P x limit es first numbers lent same are is trees = subst (HaveTrees P sizes x limit) (sym (same ∙ are ∙ ap numbers_of is)) trees
+pub trees_here : (x : Contents) (limit : ℕ) (es first : List Entry) (numbers lent : List ℕ) → lent ≡ numbers → numbers ≡ numbers_of first → first ≡ es → HaveTrees sizes x limit (numbers_of es) → HaveTrees sizes x limit lent
+trees_here x limit es first numbers lent same are is trees = subst (HaveTrees sizes x limit) (sym (same ∙ are ∙ ap numbers_of is)) trees
 
 -- the versions of lent entries and roots
 pub found_alike : (es lent : List Entry) (rs lent_roots : List Root) → lent ≡ es → lent_roots ≡ rs → versions_of lent lent_roots ≡ versions_of es rs
@@ -257,12 +250,12 @@ reached_named P x few limit le es rs bs vs fs same are =
     subst (λ (us : List Version). (s : Standing P x few us fs) → reach P x few us fs s ≡ bs) (sym same) (roots_reach P x few limit le es rs bs fs are)
 
 -- just the spare blocks are free
-pub freed : (long : Bool) (m : Medium) (limit : ℕ) (slot_name : SlotName) (after : List Bool) (committed working : List Version) (es : List Entry) (rs : List Root) (marks : List Bool)
-    → committed ≡ versions_of es rs → working ≡ versions_of es rs → Found long sizes m.contents limit (numbers_of es) rs marks
+pub freed : (m : Medium) (limit : ℕ) (slot_name : SlotName) (after : List Bool) (committed working : List Version) (es : List Entry) (rs : List Root) (marks : List Bool)
+    → committed ≡ versions_of es rs → working ≡ versions_of es rs → Found sizes m.contents limit (numbers_of es) rs marks
     → length after ≡ limit → ((n : ℕ) → n < 34 → IsHeld after n) → ((n : ℕ) → 34 ≤ n → is_held after n ≡ is_marked marks n)
     → (s : State) (rests : Rests m limit slot_name after committed working s) → free_count after ≡ spare_of rests
-freed long m limit slot_name after committed working es rs marks old new found many system replaced s rests =
-    let first = reached_named (IsSafe rests.format after m) m.contents s.kept limit rests.fewer es rs found.blocks committed rests.old old found.are rests.safe in
+freed m limit slot_name after committed working es rs marks old new found many system replaced s rests =
+    let first = reached_named (IsSafe after m) m.contents s.kept limit rests.fewer es rs found.blocks committed rests.old old found.are rests.safe in
     let then = reached_named (IsHeld after) m.contents limit limit (omega arith) es rs found.blocks working rests.new new found.are rests.stands in
     let all : MarksMore (found.blocks ++ found.blocks) (replicate limit false) marks = record {
       grows = record { same_length = found.count ∙ sym (length-replicate {A = Bool} limit false); still = λ n is. absurd (none_marked limit n is) };
@@ -273,9 +266,9 @@ freed long m limit slot_name after committed working es rs marks old new found m
     (subst (λ (ds : List ℕ). MarksMore (ds ++ reach (IsHeld after) m.contents limit working rests.new rests.stands) (replicate limit false) marks) (sym first)
     (subst (λ (ds : List ℕ). MarksMore (found.blocks ++ ds) (replicate limit false) marks) (sym then) all)) after many system replaced
 
-pub found_as_named : (long : Bool) (x : Contents) (limit : ℕ) (es first : List Entry) (numbers lent : List ℕ) (rs : List Root) (marks : List Bool) → lent ≡ numbers → numbers ≡ numbers_of first → first ≡ es
-    → Found long sizes x limit lent rs marks → Found long sizes x limit (numbers_of es) rs marks
-found_as_named long x limit es first numbers lent rs marks same are is found = subst (λ ns. Found long sizes x limit ns rs marks) (same ∙ are ∙ ap numbers_of is) found
+pub found_as_named : (x : Contents) (limit : ℕ) (es first : List Entry) (numbers lent : List ℕ) (rs : List Root) (marks : List Bool) → lent ≡ numbers → numbers ≡ numbers_of first → first ≡ es
+    → Found sizes x limit lent rs marks → Found sizes x limit (numbers_of es) rs marks
+found_as_named x limit es first numbers lent rs marks same are is found = subst (λ ns. Found sizes x limit ns rs marks) (same ∙ are ∙ ap numbers_of is) found
 
 -- what is known of one medium is known of the same
 pub freed_on : (old mid : Medium) (limit : ℕ) (slot_name : SlotName) (after : List Bool) (committed working : List Version) → mid ≡ old

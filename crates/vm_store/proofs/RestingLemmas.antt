@@ -7,7 +7,7 @@ use Rattle.vm_types.specs.declared.key.Key.{Key}
 use Rattle.vm_types.specs.declared.refusal.Refusal.TheVariants.{NoSuchAlternative, Full}
 use Rattle.vm_types.specs.Firsts.{change_first}
 use Rattle.vm_types.specs.Map.{Map, get, with_value}
-use Rattle.vm_types.specs.Tree.{Tree, Alternative, named, changed, current_of}
+use Rattle.vm_types.specs.Tree.{Tree, Alternative, named, changed}
 use Rattle.vm_types.specs.Step.{step, done, or_refuse}
 use Rattle.vm_types.specs.State.{State, committed_of, next}
 use Rattle.vm_types.specs.Kept.{LeftBy}
@@ -36,13 +36,8 @@ use Rattle.vm_tree.specs.declared.faults.PutFault.{PutFault}
 use Rattle.vm_tree.specs.declared.faults.PutFault.TheVariants as put
 use Rattle.vm_tree.specs.declared.faults.TreeFault.TheVariants as fault
 use Rattle.vm_store.specs.Sizes.{sizes}
-use Rattle.vm_store.specs.Filed.{Filed, Standing, tree_of}
+use Rattle.vm_store.specs.Filed.{Anywhere, Filed, Standing, tree_of}
 use Rattle.vm_store.specs.Shown.{Shows}
-use Rattle.vm_block.specs.Slot.{has_long}
-use Rattle.vm_block.specs.declared.slot.SlotFormat.{SlotFormat}
-use Rattle.vm_block.specs.declared.slot.SlotFormat.TheVariants.{Two}
-use Rattle.vm_check.specs.Suits.{SuitsAt}
-use Rattle.vm_store.proofs.SuitLemmas.{suits_alike, suits_any}
 use Rattle.vm_store.specs.Rest.{IsSafe, Rests}
 use Rattle.vm_types.specs.Queries.{value_in, value_of}
 use Rattle.vm_store.specs.Answers.{LacksRoom, IsDue, IsAnswer}
@@ -71,7 +66,7 @@ module _ (m : Medium) (limit : ℕ) (slot_name : SlotName) (bits : List Bool) (c
   few = rests.rest.names.slot.fits.head.few
 
   -- blocks that are held and clean are kept by a crash after calls that write free blocks alone
-  kept_safe : (now : Medium) → TouchesOnly (is_free bits) m now → (left : Contents) → MayLeave now left → (n : ℕ) → IsSafe rests.format bits m n → block left n ≡ block m.contents n
+  kept_safe : (now : Medium) → TouchesOnly (is_free bits) m now → (left : Contents) → MayLeave now left → (n : ℕ) → IsSafe bits m n → block left n ≡ block m.contents n
   kept_safe now spares left may n safe = left_untouched (is_free bits) m now spares left may n (held_not_free bits n safe.held) safe.clean
 
   kept_used : (now : Medium) → TouchesOnly (is_free bits) m now → (left : Contents) → MayLeave now left → (n : ℕ) → is_used slot_name (length (slot_entries committed)) n ≡ true → block left n ≡ block m.contents n
@@ -81,30 +76,29 @@ module _ (m : Medium) (limit : ℕ) (slot_name : SlotName) (bits : List Bool) (c
   -- a crash after calls that write free blocks alone shows what was committed
   pub shows_old : (now : Medium) → TouchesOnly (is_free bits) m now → (left : Contents) → MayLeave now left → Shows left (committed_of s)
   shows_old now spares left may = record {
-    format = rests.format;
     versions = committed;
     filed = rests.old;
-    names = names_in m.contents left slot_name rests.format s.kept (slot_entries committed) (kept_used now spares left may) rests.rest.in_use rests.rest.names;
+    names = names_in m.contents left slot_name s.kept (slot_entries committed) (kept_used now spares left may) rests.rest.in_use rests.rest.names;
     inside = omega (arith, may.least, spares.sure, rests.sure);
-    stands = standing_in (IsSafe rests.format bits m) (SuitsAt (has_long rests.format) left) m.contents left s.kept (kept_safe now spares left may)
-        (λ n safe. suits_alike (has_long rests.format) m.contents left n (kept_safe now spares left may n safe) safe.suits) committed rests.old rests.safe;
+    stands = standing_in (IsSafe bits m) Anywhere m.contents left s.kept (kept_safe now spares left may)
+        (λ n safe. tt) committed rests.old rests.safe;
     gives = rests.gives_old;
   }
 
   -- the committed entries are at rest after calls that write free blocks alone
-  pub at_rest : (now : Medium) → TouchesOnly (is_free bits) m now → AtRest slot_name now rests.format s.kept (slot_entries committed)
+  pub at_rest : (now : Medium) → TouchesOnly (is_free bits) m now → AtRest slot_name now s.kept (slot_entries committed)
   at_rest now spares =
       let same : (n : ℕ) → is_used slot_name (length (slot_entries committed)) n ≡ true → is_free bits n ≡ false = λ n used. held_not_free bits n (rests.system n (used_low slot_name (length (slot_entries committed)) n few used)) in
       record {
-        names = names_in m.contents now.contents slot_name rests.format s.kept (slot_entries committed) (λ n used. spares.same n (same n used)) rests.rest.in_use rests.rest.names;
+        names = names_in m.contents now.contents slot_name s.kept (slot_entries committed) (λ n used. spares.same n (same n used)) rests.rest.in_use rests.rest.names;
         in_use = ap (λ b. named_slot b) (spares.same 1 (held_not_free bits 1 (rests.system 1 (omega arith)))) ∙ rests.rest.in_use;
         clean = λ n used. spares.clean n (same n used) (rests.rest.clean n used);
       }
 
-  pub safe_on : (now : Medium) (after : List Bool) → TouchesOnly (is_free bits) m now → HoldsMore bits after → Standing (IsSafe rests.format after now) now.contents s.kept committed rests.old
+  pub safe_on : (now : Medium) (after : List Bool) → TouchesOnly (is_free bits) m now → HoldsMore bits after → Standing (IsSafe after now) now.contents s.kept committed rests.old
   safe_on now after spares more =
-      standing_in (IsSafe rests.format bits m) (IsSafe rests.format after now) m.contents now.contents s.kept (λ n safe. spares.same n (held_not_free bits n safe.held))
-      (λ n safe. record { held = more.still n safe.held; clean = spares.clean n (held_not_free bits n safe.held) safe.clean; suits = suits_alike (has_long rests.format) m.contents now.contents n (spares.same n (held_not_free bits n safe.held)) safe.suits }) committed rests.old rests.safe
+      standing_in (IsSafe bits m) (IsSafe after now) m.contents now.contents s.kept (λ n safe. spares.same n (held_not_free bits n safe.held))
+      (λ n safe. record { held = more.still n safe.held; clean = spares.clean n (held_not_free bits n safe.held) safe.clean }) committed rests.old rests.safe
 
   pub stands_on : (now : Medium) (after : List Bool) → TouchesOnly (is_free bits) m now → HoldsMore bits after → Standing (IsHeld after) now.contents limit working rests.new
   stands_on now after spares more =
@@ -115,7 +109,6 @@ module _ (m : Medium) (limit : ℕ) (slot_name : SlotName) (bits : List Bool) (c
       → SlotFits limit (slot_entries changed) → Standing (IsHeld after) now.contents limit changed new → tree_of new ≡ tree
       → Rests now limit slot_name after committed changed (record s { working = tree })
   rests_on now after changed new tree spares more fits stands gives = record {
-    format = rests.format;
     old = rests.old;
     new = new;
     blocks = rests.blocks;
@@ -147,44 +140,41 @@ module _ (m : Medium) (limit : ℕ) (slot_name : SlotName) (bits : List Bool) (c
       (grown_changed name g [] rests.new refl ∙ ap (λ t. changed t name (recurrent g)) rests.gives_new)
 
   -- a crash in a publish shows what was committed, or what was working
-  pub published_left : (left : Contents) → PublishLeaves m rests.format s.kept (slot_entries committed) Two limit (slot_entries working) left → LeftBy Shows s Commit left
+  pub published_left : (left : Contents) → PublishLeaves m s.kept (slot_entries committed) limit (slot_entries working) left → LeftBy Shows s Commit left
   published_left left leaves = by_names leaves.2
     where
-      by_names : (Names left rests.format s.kept (slot_entries committed) × ((n : ℕ) → 34 ≤ n → m.dirty n ≡ false → block left n ≡ block m.contents n))
-          ⊎ (Names left Two limit (slot_entries working) × (length left ≡ length m.contents) × ((n : ℕ) → 34 ≤ n → block left n ≡ block m.contents n)) → LeftBy Shows s Commit left
+      by_names : (Names left s.kept (slot_entries committed) × ((n : ℕ) → 34 ≤ n → m.dirty n ≡ false → block left n ≡ block m.contents n))
+          ⊎ (Names left limit (slot_entries working) × (length left ≡ length m.contents) × ((n : ℕ) → 34 ≤ n → block left n ≡ block m.contents n)) → LeftBy Shows s Commit left
       by_names (inl old) = inl (record {
-        format = rests.format;
         versions = committed;
         filed = rests.old;
         names = old.0;
         inside = omega (arith, leaves.0, rests.sure);
-        stands = standing_in (λ n. IsSafe rests.format bits m n × IsData s.kept n) (SuitsAt (has_long rests.format) left) m.contents left s.kept (λ n safe. old.1 n safe.1.0 safe.0.clean)
-            (λ n safe. suits_alike (has_long rests.format) m.contents left n (old.1 n safe.1.0 safe.0.clean) safe.0.suits) committed rests.old
-            (standing_data (IsSafe rests.format bits m) m.contents s.kept committed rests.old rests.safe);
+        stands = standing_in (λ n. IsSafe bits m n × IsData s.kept n) Anywhere m.contents left s.kept (λ n safe. old.1 n safe.1.0 safe.0.clean)
+            (λ n safe. tt) committed rests.old
+            (standing_data (IsSafe bits m) m.contents s.kept committed rests.old rests.safe);
         gives = rests.gives_old;
       })
       by_names (inr new) = inr (
         refl,
         record {
-          format = Two;
           versions = working;
           filed = rests.new;
-          names = subst (λ n. Names left Two n (slot_entries working)) rests.blocks new.0;
+          names = subst (λ n. Names left n (slot_entries working)) rests.blocks new.0;
           inside = omega (arith, new.1, rests.inside, rests.blocks);
-          stands = subst (λ n. Standing (SuitsAt true left) left n working rests.new) rests.blocks
-              (standing_in (λ n. IsHeld bits n × IsData limit n) (SuitsAt true left) m.contents left limit (λ n held. new.2 n held.1.0) (λ n held. suits_any left n) working rests.new
+          stands = subst (λ n. Standing Anywhere left n working rests.new) rests.blocks
+              (standing_in (λ n. IsHeld bits n × IsData limit n) Anywhere m.contents left limit (λ n held. new.2 n held.1.0) (λ n held. tt) working rests.new
               (standing_data (IsHeld bits) m.contents limit working rests.new rests.stands));
           gives = rests.gives_new;
         },
       )
 
   -- after a publish the working entries are the committed ones
-  pub published : (now : Medium) (copied : List Version) (answer : Answer) → IsPublished (other_slot slot_name) m now Two limit (slot_entries working) → copied ≡ working
+  pub published : (now : Medium) (copied : List Version) (answer : Answer) → IsPublished (other_slot slot_name) m now limit (slot_entries working) → copied ≡ working
       → Rests now limit (other_slot slot_name) bits copied working (next s Commit (Ok answer))
   published now copied answer done same =
       let stands : Standing (λ n. IsHeld bits n × IsData limit n) m.contents limit working rests.new = standing_data (IsHeld bits) m.contents limit working rests.new rests.stands in
       let rests' : Rests now limit (other_slot slot_name) bits working working (next s Commit (Ok answer)) = record {
-        format = Two;
         old = rests.new;
         new = rests.new;
         blocks = rests.blocks;
@@ -192,10 +182,10 @@ module _ (m : Medium) (limit : ℕ) (slot_name : SlotName) (bits : List Bool) (c
         inside = subst (λ n. limit ≤ n) (sym done.count) rests.inside;
         sure = omega (arith, clean_sure now done.clean, done.count, rests.inside, rests.blocks);
         system = rests.system;
-        rest = subst (λ n. AtRest (other_slot slot_name) now Two n (slot_entries working)) rests.blocks done.rest;
+        rest = subst (λ n. AtRest (other_slot slot_name) now n (slot_entries working)) rests.blocks done.rest;
         fits = rests.fits;
-        safe = subst (λ n. Standing (IsSafe Two bits now) now.contents n working rests.new) rests.blocks
-            (standing_in (λ n. IsHeld bits n × IsData limit n) (IsSafe Two bits now) m.contents now.contents limit (λ n held. done.same n held.1.0) (λ n held. record { held = held.0; clean = done.clean n; suits = suits_any now.contents n }) working rests.new stands);
+        safe = subst (λ n. Standing (IsSafe bits now) now.contents n working rests.new) rests.blocks
+            (standing_in (λ n. IsHeld bits n × IsData limit n) (IsSafe bits now) m.contents now.contents limit (λ n held. done.same n held.1.0) (λ n held. record { held = held.0; clean = done.clean n }) working rests.new stands);
         stands = standing_in (λ n. IsHeld bits n × IsData limit n) (IsHeld bits) m.contents now.contents limit (λ n held. done.same n held.1.0) (λ n held. held.0) working rests.new stands;
         gives_old = rests.gives_new;
         gives_new = rests.gives_new;
@@ -250,18 +240,11 @@ module _ (m : Medium) (limit : ℕ) (slot_name : SlotName) (bits : List Bool) (c
         let found = found_entry name e is in
         ap (λ o. or_refuse o NoSuchAlternative (λ _. done (changed s.working name (λ x. record x { current = with_value x.current key value })))) (named_as name found.filed found.found).named
 
-    -- the records in which it is put
-    pub put_current : current_of s.working name ≡ (found_entry name e is).filed.current
-    put_current =
-        let found = found_entry name e is in
-        let as_named = named_as name found.filed found.found in
-        ap (λ o. unwrap_or (option_map (λ (a : Alternative). a.current) o) []) as_named.named ∙ as_named.current
-
 -- a crash in a publish of the working entries, written to a list of their own
 pub lent_left : (m : Medium) (limit : ℕ) (slot_name : SlotName) (bits : List Bool) (committed working : List Version) (s : State) → (rests : Rests m limit slot_name bits committed working s)
-    → (lent : List Entry) → lent ≡ slot_entries working → (left : Contents) → PublishLeaves m rests.format s.kept (slot_entries committed) Two limit lent left → LeftBy Shows s Commit left
+    → (lent : List Entry) → lent ≡ slot_entries working → (left : Contents) → PublishLeaves m s.kept (slot_entries committed) limit lent left → LeftBy Shows s Commit left
 lent_left m limit slot_name bits committed working s rests lent same left leaves =
-    published_left m limit slot_name bits committed working s rests left (subst (λ (es : List Entry). PublishLeaves m rests.format s.kept (slot_entries committed) Two limit es left) same leaves)
+    published_left m limit slot_name bits committed working s rests left (subst (λ (es : List Entry). PublishLeaves m s.kept (slot_entries committed) limit es left) same leaves)
 
 -- reads change nothing
 pub read_rests : (old new : DiskState) (limit : ℕ) (slot_name : SlotName) (bits : List Bool) (committed working : List Version) (s : State) → OnlyReads old new
@@ -272,17 +255,16 @@ read_rests old new limit slot_name bits committed working s reads rests =
 -- what is committed is shown
 pub shows_now : (m : Medium) (limit : ℕ) (slot_name : SlotName) (bits : List Bool) (committed working : List Version) (s : State) → Rests m limit slot_name bits committed working s → Shows m.contents (committed_of s)
 shows_now m limit slot_name bits committed working s rests = record {
-  format = rests.format;
   versions = committed;
   filed = rests.old;
   names = rests.rest.names;
   inside = omega (arith, rests.sure, m.within);
-  stands = standing_in (IsSafe rests.format bits m) (SuitsAt (has_long rests.format) m.contents) m.contents m.contents s.kept (λ n safe. refl) (λ n safe. safe.suits) committed rests.old rests.safe;
+  stands = standing_in (IsSafe bits m) Anywhere m.contents m.contents s.kept (λ n safe. refl) (λ n safe. tt) committed rests.old rests.safe;
   gives = rests.gives_old;
 }
 
-pub is_published_as : (slot_name : SlotName) (old new : Medium) (format : SlotFormat) (limit : ℕ) (lent working : List Entry) → lent ≡ working → IsPublished slot_name old new format limit lent → IsPublished slot_name old new format limit working
-is_published_as slot_name old new format limit lent working same done = subst (λ (es : List Entry). IsPublished slot_name old new format limit es) same done
+pub is_published_as : (slot_name : SlotName) (old new : Medium) (limit : ℕ) (lent working : List Entry) → lent ≡ working → IsPublished slot_name old new limit lent → IsPublished slot_name old new limit working
+is_published_as slot_name old new limit lent working same done = subst (λ (es : List Entry). IsPublished slot_name old new limit es) same done
 
 -- which fault a put into a tree answers
 pub fault_of_put : (f : PutFault) (deep : Type 0) (P : Root → Type 0) → Puts (Err f) deep P → (f ≡ put.Tree fault.Device) ⊎ ((f ≡ put.Deep) × deep)
@@ -325,16 +307,12 @@ module _ (m : Medium) (limit : ℕ) (slot_name : SlotName) (bits : List Bool) (c
             inr (subst (λ o. IsDue o (nat_lt spare 17) deep (Err (refusal_of_put f))) (sym accepts)
             (subst (λ (b : Bool). IsDue (Ok (changed s.working name (λ x. record x { current = with_value x.current key value }), Done)) b deep (Err (refusal_of_put f))) (sym room) (inr (ap Err (ap refusal_of_put at.0), so at.1))))
 
-    -- the tree of the alternative and the records that the model has there
-    pub deep_here : (x : Contents) → LacksRoom x (current_root (find (is_alternative_of name) working)) (current_of s.working name) key → LacksRoom x e.current.block (found_entry m limit slot_name bits committed working s rests name e is).filed.current key
-    deep_here x deep =
-        subst (λ (c : Map). LacksRoom x e.current.block c key) (put_current m limit slot_name bits committed working s rests name e is key value)
-        (subst (λ (o : Option Version). LacksRoom x (current_root o) (current_of s.working name) key) is deep)
+    -- the tree of the alternative
+    pub deep_here : (x : Contents) → LacksRoom x (current_root (find (is_alternative_of name) working)) (key, value) → LacksRoom x e.current.block (key, value)
+    deep_here x deep = subst (λ (o : Option Version). LacksRoom x (current_root o) (key, value)) is deep
 
-    pub here_deep : (x : Contents) → LacksRoom x e.current.block (found_entry m limit slot_name bits committed working s rests name e is).filed.current key → LacksRoom x (current_root (find (is_alternative_of name) working)) (current_of s.working name) key
-    here_deep x here =
-        subst (λ (o : Option Version). LacksRoom x (current_root o) (current_of s.working name) key) (sym is)
-        (subst (λ (c : Map). LacksRoom x e.current.block c key) (sym (put_current m limit slot_name bits committed working s rests name e is key value)) here)
+    pub here_deep : (x : Contents) → LacksRoom x e.current.block (key, value) → LacksRoom x (current_root (find (is_alternative_of name) working)) (key, value)
+    here_deep x here = subst (λ (o : Option Version). LacksRoom x (current_root o) (key, value)) (sym is) here
 
 -- entries that are known by another name
 pub rests_as : (m : Medium) (limit : ℕ) (slot_name : SlotName) (bits : List Bool) (committed working other : List Version) (s : State) → working ≡ other

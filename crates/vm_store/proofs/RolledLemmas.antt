@@ -23,9 +23,8 @@ pub rests_rolled : (m : Medium) (limit kept : ℕ) (slot_name : SlotName) (bits 
 rests_rolled m limit kept slot_name bits after committed working copied s answer rests same still is =
     let rolled = next s Rollback (Ok answer) in
     let head = rests.rest.names.slot.fits.head in
-    let placed = standing_data (IsSafe rests.format bits m) m.contents s.kept committed rests.old rests.safe in
+    let placed = standing_data (IsSafe bits m) m.contents s.kept committed rests.old rests.safe in
     let rests' : Rests m s.kept slot_name after committed committed rolled = record {
-      format = rests.format;
       old = rests.old;
       new = rests.old;
       blocks = refl;
@@ -35,9 +34,9 @@ rests_rolled m limit kept slot_name bits after committed working copied s answer
       system = λ n low. still n (omega (arith, low, head.least, same)) (rests.system n low);
       rest = rests.rest;
       fits = rests.rest.names.slot.fits;
-      safe = standing_in (λ n. IsSafe rests.format bits m n × IsData s.kept n) (IsSafe rests.format after m) m.contents m.contents s.kept (λ n safe. refl)
-          (λ n safe. record { held = still n (omega (arith, safe.1.1, same)) safe.0.held; clean = safe.0.clean; suits = safe.0.suits }) committed rests.old placed;
-      stands = standing_in (λ n. IsSafe rests.format bits m n × IsData s.kept n) (IsHeld after) m.contents m.contents s.kept (λ n safe. refl)
+      safe = standing_in (λ n. IsSafe bits m n × IsData s.kept n) (IsSafe after m) m.contents m.contents s.kept (λ n safe. refl)
+          (λ n safe. record { held = still n (omega (arith, safe.1.1, same)) safe.0.held; clean = safe.0.clean }) committed rests.old placed;
+      stands = standing_in (λ n. IsSafe bits m n × IsData s.kept n) (IsHeld after) m.contents m.contents s.kept (λ n safe. refl)
           (λ n safe. still n (omega (arith, safe.1.1, same)) safe.0.held) committed rests.old placed;
       gives_old = rests.gives_old;
       gives_new = rests.gives_old;

@@ -162,7 +162,6 @@ and_second false y is = absurd (false≢true is)
 rests_both : (m : Medium) (limit : ℕ) (slot_name : SlotName) (one other both : List Bool) (committed working : List Version) (s : State) → ((n : ℕ) → IsHeld one n → IsHeld other n → IsHeld both n)
     → Rests m limit slot_name one committed working s → Rests m limit slot_name other committed working s → Rests m limit slot_name both committed working s
 rests_both m limit slot_name one other both committed working s so rests rests' = record {
-  format = rests.format;
   old = rests.old;
   new = rests.new;
   blocks = rests.blocks;
@@ -172,8 +171,8 @@ rests_both m limit slot_name one other both committed working s so rests rests' 
   system = λ n low. so n (rests.system n low) (rests'.system n low);
   rest = rests.rest;
   fits = rests.fits;
-  safe = standing_in (λ n. IsSafe rests.format one m n × IsSafe rests'.format other m n) (IsSafe rests.format both m) m.contents m.contents s.kept (λ n h. refl) (λ n h. record { held = so n h.0.held h.1.held; clean = h.0.clean; suits = h.0.suits }) committed rests.old
-      (standing_both (IsSafe rests.format one m) (IsSafe rests'.format other m) m.contents s.kept committed rests.old rests'.old rests.safe rests'.safe);
+  safe = standing_in (λ n. IsSafe one m n × IsSafe other m n) (IsSafe both m) m.contents m.contents s.kept (λ n h. refl) (λ n h. record { held = so n h.0.held h.1.held; clean = h.0.clean }) committed rests.old
+      (standing_both (IsSafe one m) (IsSafe other m) m.contents s.kept committed rests.old rests'.old rests.safe rests'.safe);
   stands = standing_in (λ n. IsHeld one n × IsHeld other n) (IsHeld both) m.contents m.contents limit (λ n h. refl) (λ n h. so n h.0 h.1) working rests.new
       (standing_both (IsHeld one) (IsHeld other) m.contents limit working rests.new rests'.new rests.stands rests'.stands);
   gives_old = rests.gives_old;

@@ -4,15 +4,12 @@ use Rattle.vm_types.specs.Map.{Map}
 use Rattle.vm_types.specs.State.{Seen}
 use Rattle.vm_types.specs.Tree.{Tree}
 use Rattle.vm_disk.specs.Disk.{Contents}
-use Rattle.vm_block.specs.Slot.{has_long}
-use Rattle.vm_block.specs.declared.slot.SlotFormat.{SlotFormat}
-use Rattle.vm_check.specs.Suits.{SuitsAt}
 use Rattle.vm_catalog.proofs.SlotOne.{names_one}
 use Rattle.vm_tree.specs.Tree.{IsTree}
 use Rattle.vm_tree.specs.Root.{IsRootedIn}
 use Rattle.vm_tree.specs.declared.root.Root.{Root}
 use Rattle.vm_store.specs.Sizes.{sizes}
-use Rattle.vm_store.specs.Filed.{Filed, StandsAs, Standing, tree_of}
+use Rattle.vm_store.specs.Filed.{Anywhere, Filed, StandsAs, Standing, tree_of}
 use Rattle.vm_store.specs.Shown.{Shows}
 use Rattle.vm_store.specs.Versions.{entry_of, slot_entries}
 use Rattle.vm_store.specs.declared.version.Version.{Version}
@@ -58,10 +55,8 @@ all_filed_one P x limit (v ∷ vs) (w ∷ ws) (f ∷ fs) [] same s t = absurd t
 
 pub shown_one : (x : Contents) (t u : Seen) → Shows x t → Shows x u → t ≡ u
 shown_one x t u one other =
-    let P : ℕ → Type 0 = SuitsAt (has_long other.format) x in
-    let named = names_one x one.format other.format t.blocks u.blocks (slot_entries one.versions) (slot_entries other.versions) one.names other.names in
-    let alike = subst (λ (format : SlotFormat). Standing (SuitsAt (has_long format) x) x t.blocks one.versions one.filed) named.0 one.stands in
-    let stands = subst (λ l. Standing P x l one.versions one.filed) named.1 alike in
-    let same = all_filed_one P x u.blocks one.versions other.versions one.filed other.filed named.2 stands other.stands in
+    let named = names_one x t.blocks u.blocks (slot_entries one.versions) (slot_entries other.versions) one.names other.names in
+    let stands = subst (λ l. Standing Anywhere x l one.versions one.filed) named.0 one.stands in
+    let same = all_filed_one Anywhere x u.blocks one.versions other.versions one.filed other.filed named.1 stands other.stands in
     let tree : t.tree ≡ u.tree = sym one.gives ∙ ap tree_of same ∙ other.gives in
-    ap (λ (a : Tree). record { tree = a; blocks = t.blocks }) tree ∙ ap (λ n. record { tree = u.tree; blocks = n }) named.1
+    ap (λ (a : Tree). record { tree = a; blocks = t.blocks }) tree ∙ ap (λ n. record { tree = u.tree; blocks = n }) named.0

@@ -1,9 +1,9 @@
 -- Trees under tops: contents that agree on the blocks of a tree have the same tree, and all blocks of a tree are for data.
 use Rattle.std.proofs.Common.{◌≡◌, inl, inr, ℕ, ◌<◌, ◌≤◌, ◌^◌, List, [], refl, sym, subst, arith}
 use Rattle.std.specs.List.{AllByRecursion}
-use Rattle.vm_types.specs.declared.key.Key.{Key}
 use Rattle.vm_types.specs.Map.{Map}
 use Rattle.vm_disk.specs.Disk.{Contents, block}
+use Rattle.vm_block.specs.Leaf.{Record}
 use Rattle.vm_block.proofs.EachLemmas.{each_so, each_both}
 use Rattle.vm_tree.specs.Tree.{IsData, IsTree}
 use Rattle.vm_tree.proofs.TreeLemmas.{subtree_in, tree_data, tree_none, tree_closes, tree_one}
@@ -69,11 +69,11 @@ none_grown P x limit root none = record { stands_in = []; rooted = inl (record {
 
 -- ---- room for one more record
 
-pub lacks_under : (x : Contents) (root : Root) (m : Map) (key : Key) → tree.LacksRoom sizes x root m key → LacksRoom x root.block m key
-lacks_under x root m key lacks = (lacks.absent, lacks.some, lacks.full)
+pub lacks_under : (x : Contents) (root : Root) (r : Record) → tree.LacksRoom sizes x root r → LacksRoom x root.block r
+lacks_under x root r lacks = (lacks.some, lacks.full)
 
-pub lacks_over : (x : Contents) (root : Root) (m : Map) (key : Key) → LacksRoom x root.block m key → tree.LacksRoom sizes x root m key
-lacks_over x root m key lacks = record { absent = lacks.0; some = lacks.1; full = lacks.2 }
+pub lacks_over : (x : Contents) (root : Root) (r : Record) → LacksRoom x root.block r → tree.LacksRoom sizes x root r
+lacks_over x root r lacks = record { some = lacks.0; full = lacks.1 }
 
 -- the same tree, in a store of so many blocks, counted otherwise
 pub rooted_of : (x : Contents) (limit other : ℕ) (root : Root) (m : Map) (bs : List ℕ) → other ≡ limit → IsRooted sizes x limit root m bs → IsRooted sizes x other root m bs

@@ -1,5 +1,5 @@
 -- What a store stands for, through the commands that change its entries alone.
-use Rattle.std.proofs.Common.{◌≡◌, inl, inr, ℕ, ◌*◌, nat_lt, Bool, false, List, Result, Ok, Err, IfOk, IfErr, IsOk, OnOk, refl, sym, ap, ◌∙◌, subst, arith}
+use Rattle.std.proofs.Common.{◌≡◌, inl, inr, ℕ, ◌+◌, ◌*◌, ◌≤◌, nat_lt, Bool, false, List, Result, Ok, Err, IfOk, IfErr, IsOk, OnOk, refl, sym, ap, ◌∙◌, subst, arith}
 use Rattle.std.proofs.lemmas.Bool.Decides.{nat_tests}
 use Rattle.vm_types.specs.Tree.{Tree, changed}
 use Rattle.vm_types.specs.Step.{Outcome, done, step}
@@ -12,18 +12,18 @@ use Rattle.vm_types.specs.declared.refusal.Refusal.{Refusal}
 use Rattle.vm_types.specs.declared.refusal.Refusal.TheVariants.{Device}
 use Rattle.vm_disk.specs.Disk.{Medium}
 use Rattle.vm_disk.proofs.MomentLemmas.{touches_nothing}
-use Rattle.vm_alloc.specs.Held.{IsHeld}
+use Rattle.vm_alloc.specs.Held.{IsHeld, free_count}
 use Rattle.vm_block.specs.Slot.{SlotFits}
 use Rattle.vm_block.specs.declared.selector.SlotName.{SlotName}
 use Rattle.vm_store.specs.declared.version.Version.{Version}
 use Rattle.vm_store.specs.Answers.{IsDue, IsAnswer}
 use Rattle.vm_store.specs.Versions.{slot_entries}
 use Rattle.vm_store.specs.Filed.{Filed, Standing, tree_of}
-use Rattle.vm_store.specs.Rest.{Rests}
+use Rattle.vm_store.specs.Rest.{Rests, spare_of}
 use Rattle.vm_store.proofs.FirstLemmas.{unread}
 use Rattle.vm_store.proofs.RestingLemmas.{rests_on}
-use Rattle.vm_store.specs.Answers.{ChangesEntriesAlone, HasMarked}
-use Rattle.vm_store.specs.Store.{Answers, Holds, IsHonest, KeepsFree, ReadsFew, ReadsOnly, disk_of, held_of}
+use Rattle.vm_store.specs.Answers.{ChangesEntriesAlone, HasMarked, TakesForChanges, most_taken}
+use Rattle.vm_store.specs.Store.{Answers, Holds, IsHonest, KeepsFree, ReadsFew, ReadsOnly, TakesUpTo, disk_of, free_of, held_of}
 use Rattle.vm_store.specs.declared.store.Store.{Store}
 use Rattle.vm_store.specs.Turns.{StandFor, Turns}
 
@@ -130,10 +130,20 @@ entries_keep c a old new alone = absurd alone
 
 -- whether the store has failed says nothing of them
 module _ {D : Type 0} {members : _} (a : Result Answer Refusal) (old new other : Store D members) (honest : IsHonest other → IsHonest new) (held : held_of other ≡ held_of new) where
+  same_free : free_of other ≡ free_of new
+  same_free = ap free_count held
+
+  takes_on : (most : ℕ) → TakesUpTo most a old new → TakesUpTo most a old other
+  takes_on most keeps = (
+    λ enough. subst (λ n. free_of old ≤ n + most_taken most a) (sym same_free) (keeps.0 enough),
+    λ is few comes s holds. subst (λ n. spare_of holds.rests ≤ n + most_taken most a) (sym same_free) (keeps.1 (honest is) few comes s holds),
+  )
+
   pub keeps_on : (c : Command) → KeepsFree c a old new → KeepsFree c a old other
-  keeps_on (Put alt key value) keeps = rw held (keeps.0, λ is. keeps.1 (honest is))
-  keeps_on (Remove alt key) keeps = rw held (keeps.0, λ is. keeps.1 (honest is))
-  keeps_on (Merge alt settled) keeps = λ is s holds. rw held (keeps (honest is) s holds)
+  keeps_on (Put alt key value) keeps = takes_on 16 keeps
+  keeps_on (Remove alt key) keeps = takes_on 8 keeps
+  keeps_on (Merge alt settled) keeps = λ is s holds.
+      subst (λ n. TakesForChanges (changes_made s.working (Merge alt settled)) a (free_of old) n (spare_of holds.rests)) (sym same_free) (keeps (honest is) s holds)
   keeps_on (Post alt) keeps = held ∙ keeps
   keeps_on Commit keeps = held ∙ keeps
   keeps_on c keeps = tt

@@ -1,12 +1,10 @@
 -- A tree that stands within so many blocks stands within more of them, with the same records and blocks.
 use Rattle.std.proofs.Common.{inl, inr, ℕ, zero, suc, ◌≤◌, List, [], ◌∷◌, arith}
 use Rattle.vm_types.specs.Map.{Map}
-use Rattle.vm_disk.specs.Disk.{Contents, block}
+use Rattle.vm_disk.specs.Disk.{Contents}
 use Rattle.vm_block.specs.Leaf.{Record}
 use Rattle.vm_block.specs.declared.node.Child.{Child}
 use Rattle.vm_tree.specs.Tree.{IsData, Children, Subtree}
-use Rattle.vm_types.specs.Bytes.{longest}
-use Rattle.vm_tree.proofs.HoldingLemmas.{holds_wider}
 use Rattle.vm_tree.specs.Root.{IsRootedIn, IsRooted}
 use Rattle.vm_tree.specs.declared.root.Root.{Root}
 use Rattle.vm_store.specs.Filed.{Filed, Standing}
@@ -28,8 +26,7 @@ data_wider limit more b few place = (place.0, omega (arith, place.1))
 subtree_wider : (x : Contents) (limit more : ℕ) → limit ≤ more
     → (l b : ℕ) (rs : List Record) (bs : List ℕ) → Subtree sizes x limit l b rs bs → Subtree sizes x more l b rs bs
 unfolding Subtree
-subtree_wider x limit more few zero b rs bs t =
-    (data_wider limit more b few t.0, t.1, holds_wider x limit more longest few (block x b) rs t.1 t.2, t.3, t.4)
+subtree_wider x limit more few zero b rs bs t = (data_wider limit more b few t.0, t.1, t.2)
 subtree_wider x limit more few (suc l) b rs bs t = (
   data_wider limit more b few t.0,
   t.1,

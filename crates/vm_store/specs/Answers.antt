@@ -1,5 +1,5 @@
 -- What a store answers.
-use Rattle.std.specs.Prelude.{◌≡◌, ◌⊎◌, ℕ, ◌+◌, ◌*◌, ◌<◌, ◌≤◌, nat_lt, Bool, true, false, List, Option, None, option_copied, Result, Ok, Err, IsOk}
+use Rattle.std.specs.Prelude.{◌≡◌, ◌⊎◌, ℕ, ◌+◌, ◌*◌, ◌<◌, ◌≤◌, nat_lt, Bool, true, false, List, Option, option_copied, Result, Ok, Err, IsOk}
 use Rattle.std.specs.Borrow.{Bor}
 use Rattle.vm_types.specs.declared.answer.Answer.{Answer}
 use Rattle.vm_types.specs.declared.command.Command.{Command}
@@ -8,24 +8,22 @@ use Rattle.vm_types.specs.declared.command.Command.TheVariants.{New, NewAt, Drop
 use Rattle.vm_types.specs.declared.key.Key.{Key}
 use Rattle.vm_types.specs.declared.refusal.Refusal.{Refusal}
 use Rattle.vm_types.specs.declared.refusal.Refusal.TheVariants.{Full, Deep, Device, Memory, Damaged}
-use Rattle.vm_types.specs.Map.{Map, get}
 use Rattle.vm_types.specs.Queries.{conflicts_in}
-use Rattle.vm_types.specs.Places.{place}
 use Rattle.vm_types.specs.State.{State, blocks_a_change, changes_made, outcome}
 use Rattle.vm_types.specs.Step.{Outcome, step}
-use Rattle.vm_types.specs.Tree.{Tree, current_of}
 use Rattle.vm_disk.specs.Disk.{Contents}
+use Rattle.vm_block.specs.Leaf.{Record}
 use Rattle.vm_tree.specs.FullPath.{FullPath}
 use Rattle.vm_store.specs.Sizes.{sizes}
 
--- the key is absent from the map, and the tree under the root has no room for one more record where it belongs
-abbrev pub LacksRoom : Contents → ℕ → Map → Key → Type 0
-LacksRoom x root m key = (get m key ≡ None) × (0 < root) × FullPath sizes x (place key) root
+-- the tree under the root has no room for this record
+abbrev pub LacksRoom : Contents → ℕ → Record → Type 0
+LacksRoom x root r = (0 < root) × FullPath sizes x r root
 
--- a Put would add a record to the tree of an alternative, the block of whose root `root_of` tells, and there is no room for it
-abbrev pub IsDeep : Contents → (List ℕ → ℕ) → Tree → Command → Type 0
-IsDeep x root_of tree (Put alt key value) = LacksRoom x (root_of alt) (current_of tree alt) key
-IsDeep x root_of tree command = ⊥
+-- a Put would set a record in the tree of an alternative, the block of whose root `root_of` tells, and there is no room for it
+abbrev pub IsDeep : Contents → (List ℕ → ℕ) → Command → Type 0
+IsDeep x root_of (Put alt key value) = LacksRoom x (root_of alt) (key, value)
+IsDeep x root_of command = ⊥
 
 -- a command that the model accepts is answered so, unless too few blocks are spare, or its tree has no room
 abbrev pub IsDue : Outcome → Bool → Type 0 → Result Answer Refusal → Type 0
@@ -38,7 +36,7 @@ abbrev pub IsAnswer : State → ℕ → Type 0 → Command → Result Answer Ref
 IsAnswer s spare deep command result =
     (result ≡ Err Device) ⊎ IsDue (outcome s command) (nat_lt spare (blocks_a_change * changes_made s.working command)) deep result
 
--- a Merge that the model accepts is answered so, unless too few blocks are spare, or some record that it adds finds no room
+-- a Merge that the model accepts is answered so, unless too few blocks are spare, or some record that it sets finds no room
 abbrev pub IsMergeDue : Outcome → Bool → Type 0 → Result Answer Refusal → Type 0
 IsMergeDue (Err refusal) full deep result = result ≡ Err refusal
 IsMergeDue (Ok accepted) true deep result = result ≡ Err Full

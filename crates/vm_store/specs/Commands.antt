@@ -59,7 +59,7 @@ module _ {D : Type 0} {members : _} where
     -- of the free blocks, or on an honest disk of the spare ones after a marking, a Put takes 16 at most and a Remove 8; on an honest disk, a
     -- Merge takes 16 for each change that it makes; a Post and a Commit take none
     pub free : KeepsFree command answer old new
-    -- on an honest disk, a Commit writes the other slot, in format 2, and the selector, byte by byte, and no other block
+    -- on an honest disk, a Commit writes the other slot and the selector, byte by byte, and no other block
     pub written : command ≡ Commit → WritesCommit answer old new
     -- a Rollback is always accepted, makes no device call, and takes no block
     pub back : command ≡ Rollback → RollsBack answer old new

@@ -18,7 +18,7 @@ use Rattle.vm_check.specs.declared.tree_copy.CopyFault.TheVariants as of_copy
 use Rattle.vm_check.specs.Renumbering.{IsUnused}
 use Rattle.vm_check.specs.declared.renumbering.Renumbering.{Renumbering}
 use Rattle.vm_tree.specs.Faults.{refusal_of}
-use Rattle.vm_store.specs.Filed.{Filed, Standing, StandsAs, tree_of}
+use Rattle.vm_store.specs.Filed.{Anywhere, Filed, Standing, StandsAs, tree_of}
 use Rattle.vm_store.specs.Layout.{WithoutHeader}
 use Rattle.vm_store.specs.NewStore.{IsBadSize}
 use Rattle.vm_store.specs.Refused.{IsAtMostSynced}
@@ -51,11 +51,11 @@ CopiesVersions result limit vs copies s t old s' t' new =
 
 -- under both roots of the version lie maps
 abbrev pub SoundVersionCopy : {T : Type 0} → Result T CopyFault → ℕ → Version → DiskState → DiskState → Type 0
-SoundVersionCopy result kept v s s' = s'.honest ≡ true → (f : Filed) → StandsAs (λ n. Unit {0}) s.now.contents kept v f → IsUndamaged result
+SoundVersionCopy result kept v s s' = s'.honest ≡ true → (f : Filed) → StandsAs Anywhere s.now.contents kept v f → IsUndamaged result
 
 -- under the roots of all versions do
 abbrev pub SoundVersionsCopy : {T : Type 0} → Result T CopyFault → ℕ → List Version → DiskState → DiskState → Type 0
-SoundVersionsCopy result kept vs s s' = s'.honest ≡ true → (fs : List Filed) → Standing (λ n. Unit {0}) s.now.contents kept vs fs → IsUndamaged result
+SoundVersionsCopy result kept vs s s' = s'.honest ≡ true → (fs : List Filed) → Standing Anywhere s.now.contents kept vs fs → IsUndamaged result
 
 -- # Which blocks are copied, whatever the answer, if the source is honest after it
 
@@ -108,7 +108,7 @@ pub record GoesOnBoth (fails : Type 0) (s t s' t' : DiskState) : Type 0 where
 pub record HasVersions (tree : Tree) (kept : ℕ) (vs : List Version) (x : Contents) : Type 0 where
   pub filed : List Filed
   pub fits : SlotFits kept (slot_entries vs)
-  pub stands : Standing (λ n. Unit {0}) x kept vs filed
+  pub stands : Standing Anywhere x kept vs filed
   pub gives : tree_of filed ≡ tree
 
 -- a device failed, or the target is too small

@@ -9,6 +9,10 @@ use Rattle.vm_tree.specs.Root.{IsRootedIn}
 use Rattle.vm_store.specs.Sizes.{sizes}
 use Rattle.vm_store.specs.declared.version.Version.{Version}
 
+-- any block
+abbrev pub Anywhere : ℕ → Type 0
+Anywhere n = Unit {0}
+
 -- a version with maps in the place of its roots
 pub record Filed : Type 0 where
   pub kind : Kind

@@ -7,13 +7,11 @@ use Rattle.vm_disk.specs.Moments.{Leaves, Throughout}
 use Rattle.vm_block.specs.Header.{IsHeader}
 use Rattle.vm_block.specs.Slot.{SlotFits}
 use Rattle.vm_block.specs.declared.slot.Entry.{Entry}
-use Rattle.vm_block.specs.declared.slot.SlotFormat.TheVariants.{Two}
 use Rattle.vm_block.specs.declared.selector.SlotName.TheVariants.{A}
 use Rattle.vm_catalog.specs.Place.{selected}
 use Rattle.vm_catalog.specs.Catalog.{SlotAt}
 use Rattle.vm_catalog.specs.Written.{IsAsWritten}
-use Rattle.vm_check.specs.Suits.{SuitsAt}
-use Rattle.vm_store.specs.Filed.{Filed, Standing, tree_of}
+use Rattle.vm_store.specs.Filed.{Anywhere, Filed, Standing, tree_of}
 use Rattle.vm_store.specs.Shown.{Shows, ShowsAtMost}
 use Rattle.vm_store.specs.Versions.{slot_entries}
 use Rattle.vm_store.specs.declared.version.Version.{Version}
@@ -24,8 +22,8 @@ pub record IsLaidOut (blocks : ℕ) (es : List Entry) (old m : Medium) : Type 0 
   pub count : length m.contents ≡ length old.contents
   pub same : (n : ℕ) → FIRST_DATA ≤ n → block m.contents n ≡ block old.contents n
   pub selected : selected m.contents ≡ A
-  pub slot : SlotAt m.contents A Two blocks es
-  pub written : IsAsWritten m.contents A Two blocks es
+  pub slot : SlotAt m.contents A blocks es
+  pub written : IsAsWritten m.contents A blocks es
   pub clean : IsClean m
 
 -- a slot of a store of so many blocks may have these entries, and under their roots lie the maps of this tree
@@ -34,7 +32,7 @@ pub record HasMaps (tree : Tree) (blocks : ℕ) (es : List Entry) (m : Medium) :
   pub filed : List Filed
   pub named : slot_entries versions ≡ es
   pub fits : SlotFits blocks es
-  pub stands : Standing (SuitsAt true m.contents) m.contents blocks versions filed
+  pub stands : Standing Anywhere m.contents blocks versions filed
   pub gives : tree_of filed ≡ tree
 
 -- all is there but the header
@@ -46,7 +44,7 @@ pub record IsReady (tree : Tree) (blocks : ℕ) (es : List Entry) (m : Medium) :
 -- all is synced
 pub record IsPutDown (tree : Tree) (blocks : ℕ) (es : List Entry) (m : Medium) : Type 0 where
   pub shown : Shows m.contents (record { tree = tree; blocks = blocks })
-  pub written : IsAsWritten m.contents A Two blocks es
+  pub written : IsAsWritten m.contents A blocks es
   pub clean : IsClean m
 
 -- what the steps do to a disk that is honest after them

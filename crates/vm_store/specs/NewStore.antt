@@ -8,7 +8,6 @@ use Rattle.vm_disk.specs.Moments.{Leaves, Throughout}
 use Rattle.vm_block.specs.Header.{IsHeader}
 use Rattle.vm_block.specs.declared.slot.Kind.TheVariants as kind
 use Rattle.vm_block.specs.declared.slot.Entry.{Entry}
-use Rattle.vm_block.specs.declared.slot.SlotFormat.TheVariants.{Two}
 use Rattle.vm_block.specs.declared.selector.SlotName.TheVariants.{A}
 use Rattle.vm_catalog.specs.Written.{IsAsWritten}
 use Rattle.vm_store.specs.Refused.{IsAtMostSynced}
@@ -25,7 +24,7 @@ IsBadSize blocks available = (blocks < MIN_BLOCKS) ⊎ ((MAX_BLOCKS < blocks) �
 -- a new store of so many blocks is shown, slot A and the selector are as they are written, byte by byte, and all is synced
 pub record IsFormatted (blocks : ℕ) (m : Medium) : Type 0 where
   pub shown : Shows m.contents (new_store blocks)
-  pub written : IsAsWritten m.contents A Two blocks (fresh_entry ∷ [])
+  pub written : IsAsWritten m.contents A blocks (fresh_entry ∷ [])
   pub clean : IsClean m
 
 -- nothing has changed but that it may be synced; or there was no header, and a crash shows at most a new store of so many blocks

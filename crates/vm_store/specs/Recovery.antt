@@ -43,13 +43,13 @@ module _ (old new : DiskState) where
   abbrev pub RefusesMaps : {T : Type 0} → Result T Refusal → SlotName → Slot → Type 0
   RefusesMaps result slot_name slot =
       new.honest ≡ true → IsStore old.now.contents → slot_name ≡ named_slot (block old.now.contents 1)
-      → SlotAt old.now.contents slot_name slot.format slot.blocks slot.entries.items → IfErr result (IsRefused old.now.contents)
+      → SlotAt old.now.contents slot_name slot.blocks slot.entries.items → IfErr result (IsRefused old.now.contents)
 
   -- the parts of a store stand for the maps of this slot, on a disk that is synced
   abbrev pub ReadsMaps : Result Parts Refusal → SlotName → Slot → Type 0
   ReadsMaps result slot_name slot =
       new.honest ≡ true → IsClean old.now → IsStore old.now.contents → slot_name ≡ named_slot (block old.now.contents 1)
-      → SlotAt old.now.contents slot_name slot.format slot.blocks slot.entries.items → IfOk result (PartsHold new.now)
+      → SlotAt old.now.contents slot_name slot.blocks slot.entries.items → IfOk result (PartsHold new.now)
 
   -- a refusal with which the disk comes back has its reason
   abbrev pub RefusesFor : {T E : Type 0} → Result T (E × Refusal) → Type 0

@@ -6,13 +6,10 @@ use Rattle.vm_types.specs.declared.refusal.Refusal.TheVariants.{Device, Memory, 
 use Rattle.vm_disk.specs.Disk.{Contents, DiskState, Medium, IsClean, block}
 use Rattle.vm_disk.specs.Moments.{Throughout}
 use Rattle.vm_block.specs.Header.{IsHeader}
-use Rattle.vm_block.specs.Slot.{has_long}
 use Rattle.vm_block.specs.declared.slot.Entry.{Entry}
-use Rattle.vm_block.specs.declared.slot.SlotFormat.{SlotFormat}
 use Rattle.vm_catalog.specs.Place.{slot_at, selected}
 use Rattle.vm_catalog.specs.Catalog.{SlotAt}
-use Rattle.vm_check.specs.Suits.{SuitsAt}
-use Rattle.vm_store.specs.Filed.{Filed, Standing}
+use Rattle.vm_store.specs.Filed.{Anywhere, Filed, Standing}
 use Rattle.vm_store.specs.Versions.{slot_entries}
 use Rattle.vm_store.specs.declared.version.Version.{Version}
 
@@ -27,24 +24,22 @@ IsNoStore x = IsStore x → ⊥
 
 -- the slot that the selector names is no slot
 abbrev pub HasNoSlot : Contents → Type 0
-HasNoSlot x = (format : SlotFormat) (limit : ℕ) (es : List Entry) → SlotAt x (selected x) format limit es → ⊥
+HasNoSlot x = (limit : ℕ) (es : List Entry) → SlotAt x (selected x) limit es → ⊥
 
 -- that slot is one, of a store of more blocks than there are
 pub record IsTooLarge (x : Contents) : Type 0 where
-  pub format : SlotFormat
   pub limit : ℕ
   pub entries : List Entry
-  pub slot : SlotAt x (selected x) format limit entries
+  pub slot : SlotAt x (selected x) limit entries
   pub larger : length x < limit
 
--- that slot is one, of a store within the disk, but under some root lies no map, or one in blocks that a store of its format can't have
+-- that slot is one, of a store within the disk, but under some root lies no map
 pub record LacksMap (x : Contents) : Type 0 where
-  pub format : SlotFormat
   pub limit : ℕ
   pub entries : List Entry
-  pub slot : SlotAt x (selected x) format limit entries
+  pub slot : SlotAt x (selected x) limit entries
   pub inside : limit ≤ length x
-  pub none : (versions : List Version) (filed : List Filed) → slot_entries versions ≡ entries → Standing (SuitsAt (has_long format) x) x limit versions filed → ⊥
+  pub none : (versions : List Version) (filed : List Filed) → slot_entries versions ≡ entries → Standing Anywhere x limit versions filed → ⊥
 
 -- why an opening refuses these contents; that the device fails and that memory is wanting may come anywhere
 abbrev pub IsRefused : Contents → Refusal → Type 0

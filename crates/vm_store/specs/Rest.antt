@@ -6,11 +6,9 @@ use Rattle.vm_types.specs.State.{State}
 use Rattle.vm_types.specs.Tree.{changed}
 use Rattle.vm_disk.specs.Disk.{Medium}
 use Rattle.vm_alloc.specs.Held.{HoldsMore, IsHeld}
-use Rattle.vm_block.specs.Slot.{SlotFits, has_long}
-use Rattle.vm_block.specs.declared.slot.SlotFormat.{SlotFormat}
+use Rattle.vm_block.specs.Slot.{SlotFits}
 use Rattle.vm_block.specs.declared.selector.SlotName.{SlotName}
 use Rattle.vm_catalog.specs.Catalog.{AtRest}
-use Rattle.vm_check.specs.Suits.{SuitsAt}
 use Rattle.vm_store.specs.Filed.{Filed, Standing, tree_of, reach}
 use Rattle.vm_store.specs.Spare.{spare}
 use Rattle.vm_tree.specs.declared.root.Root.{Root}
@@ -18,17 +16,15 @@ use Rattle.vm_store.specs.Versions.{is_alternative_of, slot_entries, with_curren
 use Rattle.vm_store.specs.declared.store.parts.Parts.{Parts}
 use Rattle.vm_store.specs.declared.version.Version.{Version}
 
--- held, not to be lost in a crash, and such as a store of this format may have
-pub record IsSafe (format : SlotFormat) (bits : List Bool) (m : Medium) (n : ℕ) : Type 0 where
+-- held, and not to be lost in a crash
+pub record IsSafe (bits : List Bool) (m : Medium) (n : ℕ) : Type 0 where
   pub held : IsHeld bits n
   pub clean : m.dirty n ≡ false
-  pub suits : SuitsAt (has_long format) m.contents n
 
 -- a store with these versions, blocks and held blocks stands for this state, on a disk that holds m: the slot in use names the
 -- committed ones, and says how many blocks were committed, all of which a crash leaves; their trees stand in blocks of those that are
 -- held and clean, those of the working ones in blocks that are held
 pub record Rests (m : Medium) (limit : ℕ) (slot_name : SlotName) (bits : List Bool) (committed working : List Version) (s : State) : Type 0 where
-  pub format : SlotFormat
   pub old : List Filed
   pub new : List Filed
   pub blocks : limit ≡ s.blocks
@@ -36,9 +32,9 @@ pub record Rests (m : Medium) (limit : ℕ) (slot_name : SlotName) (bits : List 
   pub inside : limit ≤ length m.contents
   pub sure : s.kept ≤ m.sure
   pub system : (n : ℕ) → n < FIRST_DATA → IsHeld bits n
-  pub rest : AtRest slot_name m format s.kept (slot_entries committed)
+  pub rest : AtRest slot_name m s.kept (slot_entries committed)
   pub fits : SlotFits limit (slot_entries working)
-  pub safe : Standing (IsSafe format bits m) m.contents s.kept committed old
+  pub safe : Standing (IsSafe bits m) m.contents s.kept committed old
   pub stands : Standing (IsHeld bits) m.contents limit working new
   pub gives_old : tree_of old ≡ s.committed
   pub gives_new : tree_of new ≡ s.working
@@ -46,7 +42,7 @@ pub record Rests (m : Medium) (limit : ℕ) (slot_name : SlotName) (bits : List 
 -- how many blocks are spare: for data, and under no root of the committed or the working versions
 abbrev pub spare_of : {m : Medium} {limit : ℕ} {slot_name : SlotName} {bits : List Bool} {committed working : List Version} {s : State} → Rests m limit slot_name bits committed working s → ℕ
 spare_of {m} {limit} {slot_name} {bits} {committed} {working} {s} rests =
-    spare limit (reach (IsSafe rests.format bits m) m.contents s.kept committed rests.old rests.safe ++ reach (IsHeld bits) m.contents limit working rests.new rests.stands)
+    spare limit (reach (IsSafe bits m) m.contents s.kept committed rests.old rests.safe ++ reach (IsHeld bits) m.contents limit working rests.new rests.stands)
 
 -- the root of the empty map
 abbrev pub no_root : Root

@@ -3,23 +3,19 @@ use Rattle.std.specs.Prelude.{◌≡◌, ℕ, ◌≤◌, List, length}
 use Rattle.vm_types.specs.State.{Seen}
 use Rattle.vm_types.specs.Tree.{fresh}
 use Rattle.vm_disk.specs.Disk.{Contents}
-use Rattle.vm_block.specs.Slot.{has_long}
-use Rattle.vm_block.specs.declared.slot.SlotFormat.{SlotFormat}
 use Rattle.vm_catalog.specs.Catalog.{Names}
-use Rattle.vm_check.specs.Suits.{SuitsAt}
-use Rattle.vm_store.specs.Filed.{Filed, Standing, tree_of}
+use Rattle.vm_store.specs.Filed.{Anywhere, Filed, Standing, tree_of}
 use Rattle.vm_store.specs.Versions.{slot_entries}
 use Rattle.vm_store.specs.declared.version.Version.{Version}
 
 -- these contents show this tree in a store of so many blocks: a header and a slot name versions within the disk, and under each root
--- lies a map, in blocks that a store of the slot's format may have
+-- lies a map
 pub record Shows (x : Contents) (seen : Seen) : Type 0 where
-  pub format : SlotFormat
   pub versions : List Version
   pub filed : List Filed
-  pub names : Names x format seen.blocks (slot_entries versions)
+  pub names : Names x seen.blocks (slot_entries versions)
   pub inside : seen.blocks ≤ length x
-  pub stands : Standing (SuitsAt (has_long format) x) x seen.blocks versions filed
+  pub stands : Standing Anywhere x seen.blocks versions filed
   pub gives : tree_of filed ≡ seen.tree
 
 -- these contents show nothing

@@ -14,10 +14,8 @@ use Rattle.vm_disk.specs.Disk.{Goes}
 use Rattle.vm_disk.specs.Moments.{Leaves, OnlyReads, Throughout}
 use Rattle.vm_alloc.specs.Held.{free_count}
 use Rattle.vm_block.specs.Selector.{other_slot}
-use Rattle.vm_block.specs.declared.slot.SlotFormat.TheVariants.{Two}
 use Rattle.vm_catalog.specs.Written.{TouchesBoth, WritesBoth}
 use Rattle.vm_tree.specs.Unsynced.{NeverSyncs}
-use Rattle.vm_check.specs.Noted.{inner_of}
 use Rattle.vm_store.specs.Answers.{ComesAfterMarking, ComesFirst, HasMarked, IsAnswer, IsDeep, IsEarly, IsGrowDue, IsMergeAnswer, MakesNoChange, TakesForChanges, most_taken}
 use Rattle.vm_store.specs.ChangeList.{MeetsFullPath}
 use Rattle.vm_store.specs.Growth.{Grows}
@@ -33,7 +31,7 @@ use Rattle.vm_store.specs.declared.version.Version.{Version}
 module _ {D : Type 0} {members : _} where
   -- the disk below
   abbrev pub disk_of : Store D members → D
-  disk_of store = inner_of store.disk
+  disk_of store = store.disk
 
   -- an earlier command was answered by Device
   abbrev pub has_failed : Store D members → Bool
@@ -172,11 +170,11 @@ module _ {D : Type 0} {members : _} where
   KeepsFree Commit answer old new = held_of new ≡ held_of old
   KeepsFree command answer old new = Unit {0}
 
-  -- a Commit that is done has written, byte by byte, the working entries into the slot that was not in use, in format 2 and with the
-  -- store's number of blocks, and the selector that names this slot; and at no moment it touches another block
+  -- a Commit that is done has written, byte by byte, the working entries into the slot that was not in use, with the store's
+  -- number of blocks, and the selector that names this slot; and at no moment it touches another block
   abbrev pub WritesCommit : Result Answer Refusal → (old new : Store D members) → Type 0
   WritesCommit answer old new =
-      WritesBoth answer (members.state (disk_of new)) (other_slot old.parts.slot_name) Two old.parts.blocks (slot_entries old.parts.working)
+      WritesBoth answer (members.state (disk_of new)) (other_slot old.parts.slot_name) old.parts.blocks (slot_entries old.parts.working)
       × TouchesBoth (members.state (disk_of old)) (members.state (disk_of new)) (other_slot old.parts.slot_name) (slot_entries old.parts.working)
 
   -- a command that is refused before it takes or writes a block only reads
@@ -235,7 +233,7 @@ module _ {D : Type 0} {members : _} where
       IsMergeAnswer s (spare_of holds.rests) (MeetsFullPath (members.state (disk_of new)).now.contents new.parts.blocks (start_of s.working alt settled) (merge_changes s.working alt settled)) alt settled result
   Answers old new s holds (Grow blocks) result = IsGrowDue (outcome s (Grow blocks)) result
   Answers old new s holds command result =
-      IsAnswer s (spare_of holds.rests) (IsDeep (members.state (disk_of old)).now.contents (root_of old) s.working command) command result
+      IsAnswer s (spare_of holds.rests) (IsDeep (members.state (disk_of old)).now.contents (root_of old) command) command result
 
   -- a command was carried out by a store that stands for the state, on an honest disk
   pub record Carries (old new : Store D members) (s : State) (holds : Holds old s) (command : Command) (answer : Result Answer Refusal) : Type 0 where

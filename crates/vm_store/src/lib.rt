@@ -21,9 +21,6 @@ pub use laws::one_tree_shown;
 pub use store::{Stop, Store, copy, format, open};
 pub use tally::Tally;
 
-/// The maximum number of records in a leaf.
-const LEAF: usize = vm_block::MAX_ROWS;
-
 /// The maximum number of children of an inner block.
 const FAN: usize = vm_block::MAX_CHILDREN;
 

@@ -13,16 +13,16 @@ ghost use Rattle.vm_tree.specs.Answers.{LacksRoom, Puts, Removes};
 ghost use Rattle.vm_tree.specs.Calls.{LooksIf, LooksIfDamaged, PutsIfDamaged, PutsIfDeep};
 ghost use Rattle.vm_tree.specs.Unsynced.{NeverSyncs};
 ghost use Rattle.vm_tree.specs.Free.{is_free};
-ghost use Rattle.vm_tree.specs.Replacement.{Lacks, long_of, path_under};
+ghost use Rattle.vm_tree.specs.Replacement.{Lacks, path_under};
 ghost use Rattle.vm_tree.specs.Root.{IfWhole, IsRootedIn};
 ghost use Rattle.vm_store.specs.Rest.{before_of, before_series};
 ghost use Rattle.vm_store.specs.Sizes.{sizes};
 
-use crate::{FAN, LEAF, LEVELS};
+use crate::{FAN, LEVELS};
 use vm_alloc::{Baseline, Held};
 use vm_disk::Disk;
 use vm_tree::{PutFault, Root, TreeFault, put, remove};
-use vm_types::{BlockNumber, Key, Name};
+use vm_types::{Key, Name};
 
 /// Whether the series of this alternative goes on.
 pub fn goes_on(series: &Option<Name>, alt: &Name) -> bool
@@ -96,27 +96,9 @@ fn forget_taken<D: Disk>(disk: &mut D, before: &Baseline, blocks: &[u32])
     }
 }
 
-/// Forgets the block of a long value, if the number is not 0 and it was not held before.
-fn forget_long<D: Disk>(disk: &mut D, before: &Baseline, long: BlockNumber)
-    requires { length before.now ≤ (D.state disk.old).blocks }
-    ensures any { Idles (D.state disk.old) (D.state disk.new) }
-    ensures moments { (D.state disk.new).honest ≡ true
-        → Throughout (D.state disk.old) (D.state disk.new)
-        (TouchesOnly (is_free before.now) (D.state disk.old).now) }
-    ensures unsynced { (D.state disk.new).honest ≡ true
-        → NeverSyncs (D.state disk.old) (D.state disk.new) }
-    ensures others { (D.state disk.new).honest ≡ true → (n : ℕ) → Lacks n (long_of long)
-        → block (D.state disk.new).now.contents n ≡ block (D.state disk.old).now.contents n }
-{
-    if long != 0 {
-        forget_taken(disk, before, &[long]);
-    }
-}
-
 /// Tells the disk that the blocks of a path that a change replaced are not needed, except those
-/// that were held before. The same goes for the block of the long value, if `path[8]` names one.
-/// The root is the one that the path led from.
-fn forget_path<D: Disk>(disk: &mut D, before: &Baseline, root: Root, path: &[u32; 9])
+/// that were held before. The root is the one that the path led from.
+fn forget_path<D: Disk>(disk: &mut D, before: &Baseline, root: Root, path: &[u32; 8])
     requires { length before.now ≤ (D.state disk.old).blocks }
     ensures any { Idles (D.state disk.old) (D.state disk.new) }
     ensures moments { (D.state disk.new).honest ≡ true
@@ -128,7 +110,6 @@ fn forget_path<D: Disk>(disk: &mut D, before: &Baseline, root: Root, path: &[u32
         → Lacks n (path_under root path.now)
         → block (D.state disk.new).now.contents n ≡ block (D.state disk.old).now.contents n }
 {
-    forget_long(disk, before, path[8]);
     if root.block == 0 {
         return;
     }
@@ -171,13 +152,13 @@ pub fn put_forgetting<D: Disk>(
         → NeverSyncs (D.state disk.old) (D.state disk.new) }
 
     ensures put { IfWhole (D.state disk.old) (D.state disk.new) sizes (length held.old) root
-        (λ m bs. Puts result (LacksRoom sizes (D.state disk.old).now.contents root m key)
+        (λ m bs. Puts result (LacksRoom sizes (D.state disk.old).now.contents root (key, value.now))
         (λ r. AllByRecursion (IsHeld held.old) bs
         → IsRootedIn sizes (IsHeld held.new) (D.state disk.new).now.contents
         (length held.old) r (with_value m key value.now))) }
 {
-    let mut path = [0; 9];
-    let new_root = put::<D, LEAF, FAN, LEVELS>(disk, held, root, key, value, &mut path)?;
+    let mut path = [0; 8];
+    let new_root = put::<D, FAN, LEVELS>(disk, held, root, key, value, &mut path)?;
     if let Some(before) = before {
         forget_path(disk, before, root, &path);
     }
@@ -221,8 +202,8 @@ pub fn remove_forgetting<D: Disk>(
         → IsRootedIn sizes (IsHeld held.new) (D.state disk.new).now.contents
         (length held.old) r (without m key))) }
 {
-    let mut path = [0; 9];
-    let Some(rest) = remove::<D, LEAF, FAN, LEVELS>(disk, held, root, key, &mut path)? else {
+    let mut path = [0; 8];
+    let Some(rest) = remove::<D, FAN, LEVELS>(disk, held, root, key, &mut path)? else {
         return Ok(None);
     };
     if let Some(before) = before {

@@ -2,7 +2,6 @@
 ghost use Rattle.std.specs.Prelude.{◌≡◌, ◌↔◌, ◌≤◌, true, false, length, IsTrue};
 ghost use Rattle.vm_types.specs.Bytes.{longest};
 ghost use Rattle.vm_types.specs.declared.command.Command.TheVariants.{Put};
-ghost use Rattle.vm_check.specs.Noted.{inner_of};
 ghost use Rattle.vm_disk.specs.Moments.{Leaves};
 ghost use Rattle.vm_store.specs.Shown.{Shows};
 
@@ -21,7 +20,6 @@ pub use new_store::format;
 use parts::Parts;
 pub use recovery::open;
 use std::alloc::Global;
-use vm_check::NotedDisk;
 use vm_disk::Disk;
 use vm_types::{Answer, Command, Key, Name, Refusal};
 
@@ -34,12 +32,11 @@ fn is_device(answer: &Result<Answer, Refusal>) -> bool
 
 /// A store on a disk: what is committed there, and what commands have made of it since.
 pub struct Store<D: Disk> {
-    // It notes which leaves have no long value, so that a marking need not read them.
-    disk: NotedDisk<D>,
+    disk: D,
     alloc: Global,
     parts: Parts,
     failed: bool,
-    ghost inside: { parts.blocks ≤ (D.state (inner_of disk)).blocks },
+    ghost inside: { parts.blocks ≤ (D.state disk).blocks },
 }
 
 impl<D: Disk> Store<D> {
@@ -95,6 +92,6 @@ impl<D: Disk> Store<D> {
             parts: _,
             failed: _,
         } = self;
-        disk.into_inner()
+        disk
     }
 }

@@ -5,17 +5,13 @@ use Rattle.vm_types.specs.declared.key.Key.{Key}
 use Rattle.vm_types.specs.Places.{place, RisesFrom, places}
 use Rattle.vm_disk.specs.Disk.{Contents, block}
 use Rattle.vm_block.specs.Leaf.{Record, BeginsWith}
-use Rattle.vm_block.specs.Long.{IsLong}
 use Rattle.vm_block.specs.declared.node.Child.{Child}
-use Rattle.vm_block.proofs.EachLemmas.{each_front, each_back, each_join, each_so}
-use Rattle.vm_block.proofs.FormLemmas.{node_or_long, rows_or_long}
-use Rattle.vm_block.proofs.LongLemmas.{long_one}
+use Rattle.vm_block.proofs.EachLemmas.{each_front, each_back, each_join}
+use Rattle.vm_block.proofs.FormLemmas.{leaf_or_node}
 use Rattle.vm_block.proofs.NodeLemmas.{node_one}
-use Rattle.vm_tree.specs.Tree.{Sizes, Children, LeafHolds, Subtree}
-use Rattle.vm_types.specs.Bytes.{longest}
+use Rattle.vm_tree.specs.Tree.{Sizes, Children, Subtree}
 use Rattle.vm_tree.specs.Replacement.{Lacks, Apart}
 use Rattle.vm_tree.proofs.TreeLemmas.{subtree_one}
-use Rattle.vm_tree.proofs.HoldingLemmas.{IsLongOf, all_long, each_whose, holds_or_node, holds_some}
 use Rattle.vm_tree.proofs.Rising.{Above, rises_front, rises_back, rises_above}
 
 -- the first of these records stands at p
@@ -98,55 +94,16 @@ module _ (T : ℕ → List Record → List ℕ → Type 0) where
 module _ (sizes : Sizes) (x : Contents) (limit : ℕ) where
   pub subtree_some : (l b : ℕ) (rs : List Record) (bs : List ℕ) → Subtree sizes x limit l b rs bs → 0 < length rs
   unfolding Subtree
-  subtree_some zero b rs bs t = holds_some x limit longest (block x b) rs t.1 t.2
+  subtree_some zero b rs bs t = t.1.some
   subtree_some (suc l) b rs bs t = children_some (Subtree sizes x limit l) t.1 rs t.2 t.3.some t.5
 
   -- the same block is the top of subtrees of one level
   level_one : (l k b : ℕ) (rs qs : List Record) (bs ds : List ℕ) → Subtree sizes x limit l b rs bs → Subtree sizes x limit k b qs ds → l ≡ k
   unfolding Subtree
   level_one zero zero b rs qs bs ds t u = refl
-  level_one zero (suc k) b rs qs bs ds t u = absurd (holds_or_node x limit longest (block x b) rs t.1 (suc k) u.1 t.2 u.3)
-  level_one (suc l) zero b rs qs bs ds t u = absurd (holds_or_node x limit longest (block x b) qs u.1 (suc l) t.1 u.2 t.3)
+  level_one zero (suc k) b rs qs bs ds t u = absurd (leaf_or_node (block x b) rs (suc k) u.1 t.1 u.3)
+  level_one (suc l) zero b rs qs bs ds t u = absurd (leaf_or_node (block x b) qs (suc l) t.1 u.1 t.3)
   level_one (suc l) (suc k) b rs qs bs ds t u = (node_one (block x b) (suc l) (suc k) t.1 u.1 t.3 u.3).0
-
-  -- a leaf or an inner block is none of the blocks of long values
-  top_or_long : (l b : ℕ) (rs : List Record) (bs : List ℕ) → Subtree sizes x limit l b rs bs → (key : Key) (value : List ℕ) → IsLong (block x b) key value → ⊥
-  unfolding Subtree
-  top_or_long zero b rs bs t key value long = rows_or_long (block x b) t.2.rows key value t.2.leaf long
-  top_or_long (suc l) b rs bs t key value long = node_or_long (block x b) (suc l) t.1 key value t.3 long
-
-  -- the blocks beside a leaf have its long values
-  leaf_longs : (b : ℕ) (rs : List Record) (under : List ℕ) → LeafHolds x limit longest (block x b) rs under → AllByRecursion (IsLongOf x rs) under
-  leaf_longs b rs under holds = all_long x limit holds.rows rs under holds.stand
-
-  -- no block of a tree stands beside a leaf
-  beside : (l b : ℕ) (rs qs : List Record) (bs under : List ℕ) → Subtree sizes x limit l b rs bs → AllByRecursion (IsLongOf x qs) under → Lacks b under
-  beside l b rs qs bs under t longs =
-      each_so (IsLongOf x qs) (λ n. n ≢ b) (λ n of same. top_or_long l b rs bs t of.whose.0 of.whose.1 (subst (λ k. IsLong (block x k) of.whose.0 of.whose.1) same of.long)) under longs
-
-  long_no_top : (b : ℕ) (key : Key) (value : List ℕ) → IsLong (block x b) key value → (l c : ℕ) (rs : List Record) (bs : List ℕ) → Subtree sizes x limit l c rs bs → c ≢ b
-  long_no_top b key value long l c rs bs t same =
-      top_or_long l c rs bs t key value (subst (λ n. IsLong (block x n) key value) (sym same) long)
-
-  -- two long values of one block have one key
-  long_keys : (b : ℕ) (key : Key) (value : List ℕ) → IsLong (block x b) key value → (rs : List Record) → Above (place key) rs → (n : ℕ) → IsLongOf x rs n → n ≢ b
-  long_keys b key value long rs above n of same =
-      let one = long_one (block x b) of.whose.0 key of.whose.1 value (subst (λ k. IsLong (block x k) of.whose.0 of.whose.1) same of.long) long in
-      omega (arith, each_whose (λ (r : Record). place key < place r.0) x rs n of above, ap place one.0)
-
-  -- the block of a long value lies in no subtree whose records are above its key
-  pub long_far : (b : ℕ) (key : Key) (value : List ℕ) → IsLong (block x b) key value → (l c : ℕ) (rs : List Record) (bs : List ℕ) → Subtree sizes x limit l c rs bs → Above (place key) rs → Lacks b bs
-  unfolding Subtree
-  long_far b key value long zero c rs bs t above =
-      subst (Lacks b) (sym t.4) (
-        long_no_top b key value long zero c rs bs t,
-        each_so (IsLongOf x rs) (λ n. n ≢ b) (long_keys b key value long rs above) t.1 (leaf_longs c rs t.1 t.2),
-      )
-  long_far b key value long (suc l) c rs bs t above =
-      subst (Lacks b) (sym t.6) (
-        long_no_top b key value long (suc l) c rs bs t,
-        children_far (Subtree sizes x limit l) b (place key) (long_far b key value long l) t.1 rs t.2 t.5 above,
-      )
 
   -- block b is the top of a subtree of level k, with records that start at place p
   pub record IsTopAt (k b p : ℕ) : Type 0 where
@@ -175,15 +132,14 @@ module _ (sizes : Sizes) (x : Contents) (limit : ℕ) where
     -- so it does not lie in a subtree whose records are above
     pub far : (l c : ℕ) (rs : List Record) (bs : List ℕ) → Subtree sizes x limit l c rs bs → Above p rs → Lacks b bs
     unfolding Subtree
-    far zero c rs bs t above = subst (Lacks b) (sym t.4) (top_far zero c rs bs t above, beside k b top.sub rs top.own t.1 top.subtree (leaf_longs c rs t.1 t.2))
+    far zero c rs bs t above = subst (Lacks b) (sym t.2) (top_far zero c rs bs t above, tt)
     far (suc l) c rs bs t above =
         subst (Lacks b) (sym t.6) (top_far (suc l) c rs bs t above, children_far (Subtree sizes x limit l) b p (far l) t.1 rs t.2 t.5 above)
 
     -- nor in one that starts at the same place and isn't higher, unless it is that one
     pub near : (l c : ℕ) (rs : List Record) (bs : List ℕ) → l ≤ k → (l ≡ k → c ≢ b) → Subtree sizes x limit l c rs bs → Heads p rs → RisesFrom 0 (places rs) → Lacks b bs
     unfolding Subtree
-    near zero c rs bs low other t heads rises =
-        subst (Lacks b) (sym t.4) (top_other zero c rs bs t other, beside k b top.sub rs top.own t.1 top.subtree (leaf_longs c rs t.1 t.2))
+    near zero c rs bs low other t heads rises = subst (Lacks b) (sym t.2) (top_other zero c rs bs t other, tt)
     near (suc l) c rs bs low other t heads rises =
         subst (Lacks b) (sym t.6) (
           top_other (suc l) c rs bs t other,
@@ -198,26 +154,20 @@ module _ (sizes : Sizes) (x : Contents) (limit : ℕ) where
   -- the first of the blocks of a subtree is its top, which does not come again
   pub subtree_once : (l b : ℕ) (rs : List Record) (bs : List ℕ) → Subtree sizes x limit l b rs bs → RisesFrom 0 (places rs) → (under : List ℕ) × (bs ≡ b ∷ under) × Lacks b under
   unfolding Subtree
-  subtree_once zero b rs bs t rises = (t.1, t.4, beside zero b rs rs bs t.1 t (leaf_longs b rs t.1 t.2))
+  subtree_once zero b rs bs t rises = ([], t.2, tt)
   subtree_once (suc l) b rs bs t rises =
       let heads = heads_some rs (subtree_some (suc l) b rs bs t) in
       (t.2, t.6, lacks_itself (suc l) b heads.0 (record { sub = rs; own = bs; subtree = t; heads = heads.1 }) l t.1 rs t.2 (omega arith) t.5 heads.1 rises)
 
   -- the blocks of a subtree are none of those in which nothing above a place stands that is before its records
-  module _ (rest : List Record) (others : List ℕ) (after : (k c p : ℕ) → IsTopAt k c p → Above p rest → Lacks c others)
-      (long_after : (c : ℕ) (key : Key) (value : List ℕ) → IsLong (block x c) key value → Above (place key) rest → Lacks c others) where
+  module _ (rest : List Record) (others : List ℕ) (after : (k c p : ℕ) → IsTopAt k c p → Above p rest → Lacks c others) where
     top_apart : (l c : ℕ) (rs : List Record) (bs : List ℕ) → Subtree sizes x limit l c rs bs → AllByRecursion (λ r. Above (place r.0) rest) rs → Lacks c others
     top_apart l c [] bs tree above = absurd (omega (arith, subtree_some l c [] bs tree))
     top_apart l c (r ∷ rs) bs tree above = after l c (place r.0) (record { sub = r ∷ rs; own = bs; subtree = tree; heads = refl }) above.0
 
     pub subtree_before : (l c : ℕ) (rs : List Record) (bs : List ℕ) → Subtree sizes x limit l c rs bs → AllByRecursion (λ r. Above (place r.0) rest) rs → Apart bs others
     unfolding Subtree
-    subtree_before zero c rs bs t above =
-        subst (λ (ds : List ℕ). Apart ds others) (sym t.4) (
-          top_apart zero c rs bs t above,
-          each_so (IsLongOf x rs) (λ n. Lacks n others)
-              (λ n of. long_after n of.whose.0 of.whose.1 of.long (each_whose (λ (r : Record). Above (place r.0) rest) x rs n of above)) t.1 (leaf_longs c rs t.1 t.2),
-        )
+    subtree_before zero c rs bs t above = subst (λ (ds : List ℕ). Apart ds others) (sym t.2) (top_apart zero c rs bs t above, tt)
     subtree_before (suc l) c rs bs t above =
         subst (λ (ds : List ℕ). Apart ds others) (sym t.6) (top_apart (suc l) c rs bs t above, children_apart (Subtree sizes x limit l) rest others (subtree_before l) t.1 rs t.2 t.5 above)
 
@@ -227,5 +177,4 @@ module _ (sizes : Sizes) (x : Contents) (limit : ℕ) where
   children_before l k cs ds rs qs bs es t u above =
       children_apart (Subtree sizes x limit l) qs es
       (subtree_before qs es
-      (λ j c p top later. children_far (Subtree sizes x limit k) c p (far j c p top k) ds qs es u later)
-      (λ c key value long later. children_far (Subtree sizes x limit k) c (place key) (long_far c key value long k) ds qs es u later) l) cs rs bs t above
+      (λ j c p top later. children_far (Subtree sizes x limit k) c p (far j c p top k) ds qs es u later) l) cs rs bs t above

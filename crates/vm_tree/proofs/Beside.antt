@@ -1,5 +1,5 @@
 -- The blocks of a tree that are beside a path in it.
-use Rattle.std.proofs.Common.{◌≡◌, ◌≢◌, ℕ, suc, ◌+◌, ◌-◌, ◌<◌, ◌≤◌, Bool, true, List, [], ◌∷◌, ◌++◌, length, get_or, take, drop, refl, sym, ap, ◌∙◌, subst, arith, append_assoc}
+use Rattle.std.proofs.Common.{◌≡◌, ◌≢◌, ℕ, suc, ◌+◌, ◌-◌, ◌<◌, ◌≤◌, Bool, true, List, [], ◌∷◌, ◌++◌, length, get_or, take, drop, refl, sym, ap, ◌∙◌, subst, arith}
 use Rattle.std.specs.Prelude.{slice_index, slice_set}
 use Rattle.std.specs.List.{AllByRecursion}
 use Rattle.std.proofs.Math.ListN.{length-set}
@@ -14,7 +14,7 @@ use Rattle.vm_block.specs.declared.node.Child.{Child}
 use Rattle.vm_block.proofs.EachLemmas.{each_front, each_back, each_join, each_so, each_both}
 use Rattle.vm_tree.specs.Tree.{Sizes, Children, Subtree}
 use Rattle.vm_tree.specs.BlockReads.{IsNodeAt}
-use Rattle.vm_tree.specs.Replacement.{Lacks, Apart, IsPathIn, IsRenewed, KeepsAbove, KeepsBeside, long_of, path_from}
+use Rattle.vm_tree.specs.Replacement.{Lacks, Apart, IsPathIn, IsRenewed, KeepsAbove, KeepsBeside, path_from}
 use Rattle.vm_tree.proofs.ApartLemmas.{all_above, children_before, subtree_once}
 use Rattle.vm_tree.proofs.Descent.{Opened, opens}
 use Rattle.vm_tree.proofs.Rising.{rises_back}
@@ -30,41 +30,36 @@ apart_turned xs (y ∷ ys) apart = (
 )
 
 -- the path of a block and of what is under it: that of its child, written at the levels below, and then the block
-pub path_grown : (path old : List ℕ) (level at b d : ℕ) → length path ≡ 9 → length old ≡ 9 → level ≤ 7 → at ≡ level → 0 < level
+pub path_grown : (path old : List ℕ) (level at b d : ℕ) → length path ≡ 8 → length old ≡ 8 → level ≤ 7 → at ≡ level → 0 < level
     → ((k : ℕ) → level - 1 ≤ k → k < 8 → slice_index path k ≡ slice_index (slice_set (slice_set old at b) (level - 1) d) k)
     → path_from level path ≡ path_from (level - 1) path ++ (b ∷ [])
 path_grown path old level at b d many within low is above same =
-    let long = long_of (slice_index path 8) in
     let less : level - 1 + 1 ≡ level = omega arith in
     let here : get_or path level 0 ≡ b = same level (omega arith) (omega (arith, low)) ∙ ap (λ l. get_or (slice_set (slice_set old l b) (level - 1) d) level 0) is
     ∙ get_or-set_other (slice_set old level b) (level - 1) level d 0 (λ e. omega (arith, e, above)) ∙ get_or-set_same old level b 0 (omega (arith, within, low)) in
-    ap (λ (z : List ℕ). long ++ z) (take_more path level 0 (omega (arith, many, low)) ∙ ap (λ n. take level path ++ (n ∷ [])) here)
-    ∙ sym (append_assoc long (take level path) (b ∷ []))
-    ∙ ap (λ n. (long ++ take n path) ++ (b ∷ [])) (sym less)
+    take_more path level 0 (omega (arith, many, low)) ∙ ap (λ n. take level path ++ (n ∷ [])) here
+    ∙ ap (λ n. take n path ++ (b ∷ [])) (sym less)
 
 -- above a child, whose block was written into the path at the level below, it is as it was
 pub keeps_above : (path old : List ℕ) (level at b d : ℕ) → at ≡ level → 0 < level → KeepsAbove (level - 1) d (slice_set old at b) path → KeepsAbove level b old path
 keeps_above path old level at b d is above same k le lt =
     same k (omega arith) lt ∙ get_or-set_other (slice_set old at b) (level - 1) k d 0 (λ e. omega (arith, e, above, le)) ∙ ap (λ l. get_or (slice_set old l b) k 0) is
 
--- the path of a leaf is its block, and that of its long value
-pub path_alone : (old : List ℕ) (level at b n : ℕ) → length old ≡ 9 → level ≡ 0 → at ≡ level → path_from level (slice_set (slice_set old at b) 8 n) ≡ long_of n ++ (b ∷ [])
-path_alone old level at b n many low is =
+-- the path of a leaf is its block
+pub path_alone : (old : List ℕ) (level at b : ℕ) → length old ≡ 8 → level ≡ 0 → at ≡ level → path_from level (slice_set old at b) ≡ b ∷ []
+path_alone old level at b many low is =
     let first = slice_set old 0 b in
-    let whole = slice_set first 8 n in
     let size = length-set old 0 b in
-    let last : get_or whole 8 0 ≡ n = get_or-set_same first 8 n 0 (omega (arith, many, size)) in
-    let here : get_or whole 0 0 ≡ b = get_or-set_other first 8 0 n 0 (λ e. omega (arith, e)) ∙ get_or-set_same old 0 b 0 (omega (arith, many)) in
-    ap (λ l. path_from level (slice_set (slice_set old l b) 8 n)) (is ∙ low) ∙ ap (λ l. path_from l whole) low
-    ∙ ap (λ (z : List ℕ). long_of (get_or whole 8 0) ++ z) (take_more whole 0 0 (omega (arith, many, size, length-set first 8 n)) ∙ ap (λ c. c ∷ []) here)
-    ∙ ap (λ k. long_of k ++ (b ∷ [])) last
+    let here : get_or first 0 0 ≡ b = get_or-set_same old 0 b 0 (omega (arith, many)) in
+    ap (λ l. path_from level (slice_set old l b)) (is ∙ low) ∙ ap (λ l. path_from l first) low
+    ∙ take_more first 0 0 (omega (arith, many, size)) ∙ ap (λ c. c ∷ []) here
 
--- they are blocks of the tree
-pub path_leaf : (sizes : Sizes) (x : Contents) (limit level at b n : ℕ) (rs : List Record) (bs old : List ℕ) → length old ≡ 9 → level ≡ 0 → at ≡ level → Subtree sizes x limit level b rs bs → IsPathIn (long_of n) bs
-    → IsPathIn (path_from level (slice_set (slice_set old at b) 8 n)) bs
-path_leaf sizes x limit level at b n rs bs old many low is tree within k lacks =
+-- it is a block of the tree
+pub path_leaf : (sizes : Sizes) (x : Contents) (limit level at b : ℕ) (rs : List Record) (bs old : List ℕ) → length old ≡ 8 → level ≡ 0 → at ≡ level → Subtree sizes x limit level b rs bs
+    → IsPathIn (path_from level (slice_set old at b)) bs
+path_leaf sizes x limit level at b rs bs old many low is tree k lacks =
     let there = leaf_opens sizes x limit level b rs bs low tree in
-    subst (Lacks k) (sym (path_alone old level at b n many low is)) (each_join (λ c. c ≢ k) (long_of n) (b ∷ []) (within k lacks) ((subst (Lacks k) there.first lacks).0, tt))
+    subst (Lacks k) (sym (path_alone old level at b many low is)) ((subst (Lacks k) there.first lacks).0, tt)
 
 module _ (sizes : Sizes) (x : Contents) (limit level b p : ℕ) (rs : List Record) (bs : List ℕ) (cs : List Child) (i : ℕ) (d : Child) (above : 0 < level)
     (tree : Subtree sizes x limit level b rs bs) (rises : RisesFrom 0 (places rs)) (at : Opened sizes x limit level b p rs bs cs i d) where

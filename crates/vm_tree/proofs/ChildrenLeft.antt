@@ -1,10 +1,8 @@
 -- Records under the children of an inner block, given one child after another: what is left of them, and how many reads they cost.
-use Rattle.std.proofs.Common.{◌≡◌, ◌⊎◌, inl, inr, ℕ, zero, suc, ◌+◌, ◌-◌, ◌<◌, ◌≤◌, Bool, true, false, List, [], ◌∷◌, ◌++◌, length, get_or, drop, Result, Ok, Err, refl, sym, ap, ◌∙◌, subst, arith, append_assoc, append-nil, length-append}
-use Rattle.std.specs.List.{AllByRecursion}
+use Rattle.std.proofs.Common.{◌≡◌, inl, inr, ℕ, suc, ◌+◌, ◌<◌, ◌≤◌, Bool, true, List, [], ◌∷◌, ◌++◌, length, get_or, drop, Result, Ok, Err, refl, sym, ap, ◌∙◌, subst, arith, append_assoc, append-nil, length-append}
 use Rattle.std.proofs.lemmas.Bool.{cases_lt}
 use Rattle.std.proofs.lemmas.List.{drop_more, drop_all}
 use Rattle.vm_types.specs.declared.key.Key.{Key}
-use Rattle.vm_types.specs.Map.{Map}
 use Rattle.vm_types.specs.Places.{RisesFrom, place, places}
 use Rattle.vm_disk.specs.Disk.{Contents, DiskState, Medium}
 use Rattle.vm_disk.proofs.MomentLemmas.{same_medium}
@@ -16,7 +14,7 @@ use Rattle.vm_tree.specs.Given.{AddsUnder}
 use Rattle.vm_tree.specs.Over.{children_over, subtree_over}
 use Rattle.vm_tree.specs.Spent.{AllPass, ReadsUnder, reads_aside}
 use Rattle.vm_tree.specs.Tree.{Sizes, Children, Subtree}
-use Rattle.vm_tree.specs.Windows.{GivesNone, MayGive, given_of, is_full}
+use Rattle.vm_tree.specs.Windows.{GivesNone, MayGive, given_of}
 use Rattle.vm_tree.specs.declared.faults.ListFault.{ListFault}
 use Rattle.vm_tree.specs.declared.window.Window.{Window}
 use Rattle.vm_tree.proofs.Looking.{looks_on}

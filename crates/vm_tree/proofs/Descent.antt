@@ -3,18 +3,17 @@ use Rattle.std.proofs.Common.{◌≡◌, ℕ, zero, suc, ◌+◌, ◌-◌, ◌<�
 use Rattle.std.specs.Prelude.{slice_index}
 use Rattle.std.proofs.lemmas.List.{length-map, get_or-map, drop-map}
 use Rattle.vm_types.specs.declared.key.Key.{Key}
-use Rattle.vm_types.specs.Bytes.{longest}
 use Rattle.vm_types.specs.Map.{get}
 use Rattle.vm_types.specs.Places.{KeyFits, place, RisesFrom, places, value_at}
 use Rattle.vm_types.proofs.Bridge.{value_at-get}
 use Rattle.vm_disk.specs.Disk.{Contents, block, Medium}
-use Rattle.vm_block.specs.Leaf.{Record, BeginsWith}
+use Rattle.vm_block.specs.Leaf.{Record, RecordFits, BeginsWith}
 use Rattle.vm_block.specs.Node.{IsNode, lows}
 use Rattle.vm_block.specs.Way.{IsChosen, Lowest, Takes}
 use Rattle.vm_block.specs.declared.node.Child.{Child}
 use Rattle.vm_block.proofs.EachLemmas.{each_so}
 use Rattle.vm_block.proofs.NodeLemmas.{node_one}
-use Rattle.vm_tree.specs.Tree.{Sizes, IsData, IsWithin, Children, Subtree}
+use Rattle.vm_tree.specs.Tree.{Sizes, IsData, Children, Subtree}
 use Rattle.vm_tree.specs.Answers.{OkOrDevice}
 use Rattle.vm_tree.specs.Given.{IsLeafWith}
 use Rattle.vm_tree.specs.BlockReads.{IsNodeAt}
@@ -143,7 +142,7 @@ leaf_now sizes old mid limit p value leaf still at = subst (λ (m : Medium). IsL
 -- the value where a key stands in a tree is the value at the key
 pub value_whole : (sizes : Sizes) (x : Contents) (limit l b : ℕ) (rs : List Record) (bs : List ℕ) (key : Key) → KeyFits key → Subtree sizes x limit l b rs bs → value_at (place key) rs ≡ get rs key
 value_whole sizes x limit l b rs bs key fits tree =
-    value_at-get key rs fits (each_so (IsWithin longest) (λ r. KeyFits r.0) (λ r within. within.0) rs (subtree_fit sizes x limit l b rs bs tree))
+    value_at-get key rs fits (each_so RecordFits (λ r. KeyFits r.0) (λ r within. within.0) rs (subtree_fit sizes x limit l b rs bs tree))
 
 -- children over records have the lowest key with which these begin
 pub lowest_of : (T : ℕ → List Record → List ℕ → Type 0) (cs : List Child) (low : Key) (rs : List Record) (bs : List ℕ) → 0 < length cs → Children T cs rs bs → BeginsWith low rs → Lowest low cs

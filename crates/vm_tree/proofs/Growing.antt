@@ -5,18 +5,14 @@ use Rattle.std.specs.List.{AllByRecursion}
 use Rattle.vm_types.specs.declared.key.Key.{Key}
 use Rattle.vm_types.specs.Places.{place, KeyFits, RisesFrom, places}
 use Rattle.vm_disk.specs.Disk.{Contents, block}
-use Rattle.vm_block.specs.Leaf.{Record, BeginsWith}
+use Rattle.vm_block.specs.Leaf.{HasRecords, Record, BeginsWith}
 use Rattle.vm_block.specs.Node.{ChildFits, IsNode, lows, node_bytes}
 use Rattle.vm_block.specs.Way.{Lowest}
 use Rattle.vm_block.specs.declared.node.Child.{Child}
 use Rattle.vm_block.proofs.EachLemmas.{each_front, each_back, each_join, each_so}
-use Rattle.vm_tree.specs.Tree.{Sizes, IsData, Children, LeafHolds, Subtree}
-use Rattle.vm_types.specs.Bytes.{longest}
+use Rattle.vm_tree.specs.Tree.{Sizes, IsData, Children, Subtree}
 use Rattle.vm_tree.specs.Splits.{Made}
 use Rattle.vm_tree.proofs.TreeLemmas.{subtree_in, leaf_closes, node_closes}
-use Rattle.vm_tree.proofs.HoldingLemmas.{holds_in}
-use Rattle.vm_tree.proofs.LeafRows.{all_begun}
-use Rattle.vm_tree.specs.Rows.{IsLeafIn}
 use Rattle.vm_tree.proofs.Rising.{rises_back}
 use Rattle.vm_tree.proofs.Splitting.{children_in, children_join, child_alone, cut_at}
 
@@ -76,26 +72,6 @@ module _ (P Q : ℕ → Type 0) (sizes : Sizes) (x y : Contents) (limit : ℕ) w
     fit = made.fit;
   }
 
-  -- a leaf was written over what stands beside it
-  pub leaf_made : ((n : ℕ) → P n → block y n ≡ block x n) → ((n : ℕ) → P n → Q n) → (n : ℕ) (low : Key) (bytes : List ℕ) (rs : List Record) → (leaf : IsLeafIn P x limit bytes rs) → length rs ≤ sizes.leaf
-      → IsData limit n → n < 2 ^ 32 → Q n → block y n ≡ bytes → KeyFits low → BeginsWith low leaf.holds.rows → Made Q sizes y limit 0 (record { low = low; block = n } ∷ []) rs
-  leaf_made same so n low bytes rs leaf few inside small is spelled fits begins =
-      let under = leaf.beside in
-      let now = holds_in x limit longest P y same bytes rs under leaf.holds leaf.each in
-      let top : Subtree sizes y limit 0 n rs (n ∷ under) = leaf_closes sizes y limit n rs (n ∷ under) (record {
-        place = inside;
-        under = under;
-        holds = subst (λ (b : List ℕ). LeafHolds y limit longest b rs under) (sym spelled) now;
-        few = few;
-        first = refl;
-      }) in
-      record {
-        blocks = n ∷ under;
-        under = child_alone (Subtree sizes y limit 0) (record { low = low; block = n }) rs (n ∷ under) top (all_begun x limit low leaf.holds.rows rs under leaf.holds.stand begins);
-        each = (is, each_so P Q so under leaf.each);
-        fit = ((fits, small), tt);
-      }
-
   -- an inner block was written over what was made
   pub node_made : ((n : ℕ) → P n → block y n ≡ block x n) → ((n : ℕ) → P n → Q n) → (level n : ℕ) (cs : List Child) (d : Child) (rs : List Record) → 0 < level → level ≤ 7 → 0 < length cs → length cs ≤ 256 → length cs ≤ sizes.fan
       → IsData limit n → n < 2 ^ 32 → Q n → block y n ≡ node_bytes level cs → RisesFrom 0 (places rs) → Made P sizes x limit (level - 1) cs rs
@@ -129,6 +105,22 @@ module _ (P Q : ℕ → Type 0) (sizes : Sizes) (x y : Contents) (limit : ℕ) w
         each = (is, now.each);
         fit = (((first_of_each ChildFits cs d some made.fit).0, small), tt);
       }
+
+-- a leaf was written
+pub leaf_made : (Q : ℕ → Type 0) (sizes : Sizes) (y : Contents) (limit n : ℕ) (low : Key) (bytes : List ℕ) (rs : List Record) → HasRecords bytes rs
+    → IsData limit n → n < 2 ^ 32 → Q n → block y n ≡ bytes → KeyFits low → BeginsWith low rs → Made Q sizes y limit 0 (record { low = low; block = n } ∷ []) rs
+leaf_made Q sizes y limit n low bytes rs leaf inside small is spelled fits begins =
+    let top : Subtree sizes y limit 0 n rs (n ∷ []) = leaf_closes sizes y limit n rs (n ∷ []) (record {
+      place = inside;
+      leaf = subst (λ (b : List ℕ). HasRecords b rs) (sym spelled) leaf;
+      first = refl;
+    }) in
+    record {
+      blocks = n ∷ [];
+      under = child_alone (Subtree sizes y limit 0) (record { low = low; block = n }) rs (n ∷ []) top begins;
+      each = (is, tt);
+      fit = ((fits, small), tt);
+    }
 
 module _ (P : ℕ → Type 0) (sizes : Sizes) (x : Contents) (limit : ℕ) where
   -- what was made, side by side

@@ -1,25 +1,13 @@
 -- A descent that leads down, from its steps.
-use Rattle.std.proofs.Common.{◌≡◌, ℕ, zero, suc, ◌+◌, ◌-◌, ◌*◌, ◌<◌, ◌≤◌, Bool, List, take, drop, Result, Ok, Err, IfOk, refl, sym, ap, ◌∙◌, subst, arith}
+use Rattle.std.proofs.Common.{◌≡◌, ℕ, zero, suc, ◌+◌, ◌-◌, ◌*◌, ◌<◌, List, take, drop, Result, Ok, Err, IfOk, refl, sym, ap, ◌∙◌, subst, arith}
 use Rattle.vm_types.specs.declared.key.Key.{Key}
 use Rattle.vm_disk.specs.Disk.{Contents, block, Medium}
-use Rattle.vm_block.specs.Head.{IsNodeHead, IsRowsHead}
+use Rattle.vm_block.specs.Head.{IsNodeHead}
 use Rattle.vm_block.specs.Node.{child_bytes}
 use Rattle.vm_block.specs.declared.node.Child.{Child}
 use Rattle.vm_block.specs.Way.{ChoosesAmong}
 use Rattle.vm_tree.specs.BlockReads.{EndsAt, IsBlockAt, LeadsDown, StepsTo}
 use Rattle.vm_tree.specs.declared.faults.TreeFault.{TreeFault}
-
--- the block that was read has the head of a leaf of rows
-pub ends_at : (x : Contents) (limit b : ℕ) (low : Key) (bytes : List ℕ) (most : ℕ) (long : Bool) (n : ℕ) → most ≤ 16 → IsBlockAt x limit b low bytes → IsRowsHead bytes most long n → EndsAt x limit b low
-ends_at x limit b low bytes most long n few at head =
-    let here = subst (λ (c : List ℕ). IsRowsHead c most long n) at.bytes_are head in
-    record {
-      long = long;
-      count = n;
-      inside = at.inside;
-      head = record { begins = here.begins; some = here.some; few = omega (arith, here.few) };
-      first = ap (λ (c : List ℕ). take 10 (drop 16 c)) (sym at.bytes_are) ∙ at.first;
-    }
 
 -- the block that was read has the head of an inner block, and this child
 pub steps_to : {p : ℕ} (x : Contents) (limit level b : ℕ) (low : Key) (bytes : List ℕ) (l n i : ℕ) (c : Child) → l ≡ level → IsBlockAt x limit b low bytes → IsNodeHead bytes l n → i < n → take 14 (drop (16 + 14 * i) bytes) ≡ child_bytes c → ChoosesAmong bytes 14 n p i
@@ -67,3 +55,8 @@ if_ok_is (Err e) A a = tt
 pub if_ok_so : {T E : Type 0} (result : Result T E) (A B : Type 0) → IfOk result (λ x. A) → (A → B) → IfOk result (λ x. B)
 if_ok_so (Ok x) A B h so = so h
 if_ok_so (Err e) A B h so = tt
+
+-- and what follows from each answer
+pub if_ok_map : {T E : Type 0} (result : Result T E) (P Q : T → Type 0) → IfOk result P → ((x : T) → P x → Q x) → IfOk result Q
+if_ok_map (Ok x) P Q h so = so x h
+if_ok_map (Err e) P Q h so = tt

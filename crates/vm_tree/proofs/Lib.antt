@@ -5,10 +5,7 @@ pub mod Descent
 pub mod FullPaths
 pub mod Growing
 pub mod HandLemmas
-pub mod HoldingLemmas
 pub mod Leading
-pub mod LeafBeside
-pub mod LeafRows
 pub mod Looking
 pub mod OneLeft
 pub mod OverLemmas
@@ -16,14 +13,13 @@ pub mod OverParts
 pub mod PartReads
 pub mod Placing
 pub mod PutLemmas
+pub mod RecordsLeft
 pub mod RemovalLemmas
 pub mod RemoveLemmas
 pub mod Renewing
 pub mod Rising
 pub mod RootLemmas
 pub mod RootRemoval
-pub mod RowsLeft
-pub mod RowsRead
 pub mod ScanLemmas
 pub mod Splitting
 pub mod Touching

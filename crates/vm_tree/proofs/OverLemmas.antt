@@ -1,17 +1,16 @@
 -- The blocks of a tree over records at certain places: opened with their subtree, and no more than there are blocks.
-use Rattle.std.proofs.Common.{◌≡◌, ◌⊎◌, inl, inr, ℕ, zero, suc, ◌+◌, ◌-◌, ◌<◌, ◌≤◌, nat_lt, Bool, true, false, cond, List, [], ◌∷◌, ◌++◌, length, refl, sym, ap, ◌∙◌, subst, arith, length-append}
-use Rattle.std.specs.List.{AllByRecursion, list_any}
+use Rattle.std.proofs.Common.{◌≡◌, inl, inr, ℕ, zero, suc, ◌+◌, ◌-◌, ◌<◌, ◌≤◌, nat_lt, Bool, true, false, cond, List, [], ◌∷◌, ◌++◌, length, refl, ap, ◌∙◌, subst, arith, length-append}
+use Rattle.std.specs.List.{list_any}
 use Rattle.std.proofs.lemmas.Bool.{cases_lt, le-ltb, lt-ltb}
 use Rattle.vm_types.specs.declared.key.Key.{Key}
-use Rattle.vm_types.specs.Bytes.{longest}
 use Rattle.vm_types.specs.Map.{Map}
 use Rattle.vm_types.specs.Places.{place}
 use Rattle.vm_disk.specs.Disk.{Contents, block}
-use Rattle.vm_block.specs.Leaf.{BeginsWith, Record, Row}
+use Rattle.vm_block.specs.Leaf.{BeginsWith, HasRecords, Record}
 use Rattle.vm_block.specs.Node.{IsNode}
 use Rattle.vm_block.specs.declared.node.Child.{Child}
-use Rattle.vm_tree.specs.Tree.{Sizes, Children, IsData, LeafHolds, StandForAll, Subtree}
-use Rattle.vm_tree.specs.Over.{beside_over, children_over, only_if, subtree_over, top_over, tree_over}
+use Rattle.vm_tree.specs.Tree.{Sizes, Children, IsData, Subtree}
+use Rattle.vm_tree.specs.Over.{children_over, only_if, subtree_over, top_over, tree_over}
 use Rattle.vm_tree.specs.Root.{IsRooted}
 use Rattle.vm_tree.specs.Spent.{AllPass, reads_aside}
 use Rattle.vm_tree.specs.Windows.{given_of, is_full}
@@ -26,10 +25,9 @@ use Rattle.vm_tree.proofs.WindowLemmas.{given_first}
 -- block b is a leaf, and these of its blocks are over records at places that pass a test
 pub record LeafOver (sizes : Sizes) (x : Contents) (limit l b : ℕ) (rs : List Record) (bs : List ℕ) (tree : Subtree sizes x limit l b rs bs) : Type 0 where
   pub place : IsData limit b
-  pub under : List ℕ
-  pub holds : LeafHolds x limit longest (block x b) rs under
-  pub first : bs ≡ b ∷ under
-  pub over : (test : ℕ → Bool) → subtree_over test sizes x limit l b rs bs tree ≡ top_over test b rs ++ beside_over test x limit holds.rows rs under holds.stand
+  pub leaf : HasRecords (block x b) rs
+  pub first : bs ≡ b ∷ []
+  pub over : (test : ℕ → Bool) → subtree_over test sizes x limit l b rs bs tree ≡ top_over test b rs
 
 -- block b is an inner block k levels above the leaves but one
 pub record NodeOver (sizes : Sizes) (x : Contents) (limit l k b : ℕ) (rs : List Record) (bs : List ℕ) (tree : Subtree sizes x limit l b rs bs) : Type 0 where
@@ -44,7 +42,7 @@ pub record NodeOver (sizes : Sizes) (x : Contents) (limit l k b : ℕ) (rs : Lis
 module _ (sizes : Sizes) (x : Contents) (limit : ℕ) where
   pub leaf_over : (l b : ℕ) (rs : List Record) (bs : List ℕ) → l ≡ 0 → (tree : Subtree sizes x limit l b rs bs) → LeafOver sizes x limit l b rs bs tree
   unfolding Subtree subtree_over
-  leaf_over zero b rs bs e t = record { place = t.0; under = t.1; holds = t.2; first = t.4; over = λ test. refl }
+  leaf_over zero b rs bs e t = record { place = t.0; leaf = t.1; first = t.2; over = λ test. refl }
   leaf_over (suc l) b rs bs e t = absurd (omega arith)
 
   pub node_over : (l k b : ℕ) (rs : List Record) (bs : List ℕ) → l ≡ suc k → (tree : Subtree sizes x limit l b rs bs) → NodeOver sizes x limit l k b rs bs tree
@@ -60,20 +58,6 @@ module _ (sizes : Sizes) (x : Contents) (limit : ℕ) where
 only_few : (test : Bool) (bs : List ℕ) → length (only_if test bs) ≤ length bs
 only_few true bs = omega arith
 only_few false bs = omega arith
-
-beside_few : (test : ℕ → Bool) (x : Contents) (limit : ℕ) (ws : List Row) (rs : List Record) (bs : List ℕ) → (stand : StandForAll x limit ws rs bs) → length (beside_over test x limit ws rs bs stand) ≤ length bs
-beside_few test x limit [] rs bs stand = omega arith
-beside_few test x limit (w ∷ ws) rs bs stand =
-    let own = only_if (test (place stand.0.0)) stand.2 in
-    let rest = beside_over test x limit ws stand.1 stand.3 stand.5 in
-    omega (
-      arith,
-      length-append own rest,
-      only_few (test (place stand.0.0)) stand.2,
-      beside_few test x limit ws stand.1 stand.3 stand.5,
-      ap length stand.7,
-      length-append stand.2 stand.3,
-    )
 
 children_few : (T : ℕ → List Record → List ℕ → Type 0) (over : (b : ℕ) (rs : List Record) (bs : List ℕ) → T b rs bs → List ℕ)
     → ((b : ℕ) (rs : List Record) (bs : List ℕ) (t : T b rs bs) → length (over b rs bs t) ≤ length bs)
@@ -92,13 +76,7 @@ children_few T over few (c ∷ cs) rs bs t =
 subtree_few : (test : ℕ → Bool) (sizes : Sizes) (x : Contents) (limit l b : ℕ) (rs : List Record) (bs : List ℕ) → (tree : Subtree sizes x limit l b rs bs) → length (subtree_over test sizes x limit l b rs bs tree) ≤ length bs
 unfolding Subtree subtree_over
 subtree_few test sizes x limit zero b rs bs t =
-    omega (
-      arith,
-      length-append (top_over test b rs) (beside_over test x limit t.2.rows rs t.1 t.2.stand),
-      only_few (list_any (λ r. test (place r.0)) rs) (b ∷ []),
-      beside_few test x limit t.2.rows rs t.1 t.2.stand,
-      ap length t.4,
-    )
+    omega (arith, only_few (list_any (λ r. test (place r.0)) rs) (b ∷ []), ap length t.2)
 subtree_few test sizes x limit (suc l) b rs bs t =
     let T = Subtree sizes x limit l in
     let over = subtree_over test sizes x limit l in
@@ -146,7 +124,7 @@ top_pays w n level b first rs test begins more most all =
 -- the top is one of the blocks
 over_top : (test : ℕ → Bool) (sizes : Sizes) (x : Contents) (limit l b : ℕ) (rs : List Record) (bs : List ℕ) → (tree : Subtree sizes x limit l b rs bs) → length (top_over test b rs) ≤ length (subtree_over test sizes x limit l b rs bs tree)
 unfolding Subtree subtree_over
-over_top test sizes x limit zero b rs bs t = omega (arith, length-append (top_over test b rs) (beside_over test x limit t.2.rows rs t.1 t.2.stand))
+over_top test sizes x limit zero b rs bs t = omega arith
 over_top test sizes x limit (suc l) b rs bs t = omega (arith, length-append (top_over test b rs) (children_over (Subtree sizes x limit l) (subtree_over test sizes x limit l) t.1 rs t.2 t.5))
 
 -- what the first of these children costs aside
@@ -164,10 +142,10 @@ first_aside_is low first level (c ∷ cs) above lowest =
 
 module _ (sizes : Sizes) (x : Contents) (limit level b : ℕ) (rs : List Record) (bs : List ℕ) (tree : Subtree sizes x limit level b rs bs) (w : Window) (n : ℕ) (first : Key) (begins : BeginsWith first rs) (more : is_full w.most n ≡ false) (most : place first ≤ place w.high)
     (test : ℕ → Bool) (pass : AllPass test (given_of w n rs)) (start mid later : ℕ) (once : mid ≤ start + 1) where
-  pub leaf_costs : (at : LeafOver sizes x limit level b rs bs tree) → later ≤ mid + length (beside_over test x limit at.holds.rows rs at.under at.holds.stand)
+  pub leaf_costs : (at : LeafOver sizes x limit level b rs bs tree) → later ≤ mid
       → later ≤ start + (length (subtree_over test sizes x limit level b rs bs tree) + reads_aside (place w.low) level first)
   leaf_costs at few =
-      let parts = ap length (at.over test) ∙ length-append (top_over test b rs) (beside_over test x limit at.holds.rows rs at.under at.holds.stand) in
+      let parts = ap length (at.over test) in
       omega (arith, once, few, parts, top_pays w n level b first rs test begins more most pass)
 
   pub node_costs : 0 < level → (at : NodeOver sizes x limit level (level - 1) b rs bs tree)

@@ -1,14 +1,14 @@
 -- What the records of a window are of a whole map, and what reading them costs at most.
-use Rattle.std.proofs.Common.{◌≡◌, inl, inr, ℕ, zero, suc, ◌+◌, ◌<◌, ◌≤◌, List, [], ◌∷◌, Result, Ok, Err, sym, subst, arith}
+use Rattle.std.proofs.Common.{◌≡◌, inl, inr, ℕ, zero, suc, ◌≤◌, List, Result, Ok, Err, sym, subst, arith}
 use Rattle.vm_types.specs.Map.{Map}
-use Rattle.vm_types.specs.Places.{FitKeys, KeyFits, place}
+use Rattle.vm_types.specs.Places.{FitKeys, KeyFits}
 use Rattle.vm_disk.specs.Disk.{Contents}
 use Rattle.vm_block.proofs.EachLemmas.{each_so}
 use Rattle.vm_tree.specs.Answers.{Lists}
 use Rattle.vm_tree.specs.Root.{IsRooted}
 use Rattle.vm_tree.specs.Spent.{tree_aside}
-use Rattle.vm_tree.specs.Tree.{Sizes, IsWithin, Subtree}
-use Rattle.vm_types.specs.Bytes.{longest}
+use Rattle.vm_tree.specs.Tree.{Sizes, Subtree}
+use Rattle.vm_block.specs.Leaf.{RecordFits}
 use Rattle.vm_tree.specs.declared.faults.ListFault.{ListFault}
 use Rattle.vm_tree.specs.declared.faults.ListFault.TheVariants as list
 use Rattle.vm_tree.specs.declared.faults.TreeFault.TheVariants.{Device, Damaged}
@@ -27,7 +27,7 @@ lists_map (Err list.Memory) P Q is so = tt
 module _ (sizes : Sizes) (x : Contents) (limit : ℕ) (root : Root) (m : Map) (bs : List ℕ) where
   pub rooted_fits : IsRooted sizes x limit root m bs → FitKeys m
   rooted_fits (inl bare) = subst FitKeys (sym bare.empty) tt
-  rooted_fits (inr top) = each_so (IsWithin longest) (λ r. KeyFits r.0) (λ r fits. fits.0) m (subtree_fit sizes x limit root.level root.block m bs top.subtree)
+  rooted_fits (inr top) = each_so RecordFits (λ r. KeyFits r.0) (λ r fits. fits.0) m (subtree_fit sizes x limit root.level root.block m bs top.subtree)
 
   level_low : (level : ℕ) → Subtree sizes x limit level root.block m bs → level ≤ 7
   level_low zero tree = omega arith

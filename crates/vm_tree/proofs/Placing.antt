@@ -1,5 +1,5 @@
 -- Records by place: where a look-up finds one, and where one more is put.
-use Rattle.std.proofs.Common.{◌≡◌, ℕ, ◌+◌, ◌<◌, ◌≤◌, ◌==◌, nat_lt, cond, [], ◌∷◌, length, None, refl, sym, ap, ap₂, subst, Bool, ⊎_elim, arith}
+use Rattle.std.proofs.Common.{◌≡◌, ℕ, ◌+◌, ◌<◌, ◌≤◌, ◌==◌, nat_lt, cond, [], ◌∷◌, None, refl, sym, ap, ap₂, subst, Bool, ⊎_elim, arith}
 use Rattle.std.proofs.lemmas.Bool.{cases_order, eq-eqb, ne_eqb, lt-ltb, le-ltb}
 use Rattle.std.proofs.lemmas.Bool.Decides.{nat_tests}
 use Rattle.vm_types.specs.Map.{Map}
@@ -26,34 +26,8 @@ with_rises r low (x ∷ m) above rises =
     tests_are : {s t : Bool} (r x : Record) (m : Map) → nat_lt (place r.0) (place x.0) ≡ s → (place r.0 == place x.0) ≡ t → with_record r (x ∷ m) ≡ cond s (r ∷ x ∷ m) (cond t (r ∷ m) (x ∷ with_record r m))
     tests_are r x m p q = ap₂ (λ s t. cond s (r ∷ x ∷ m) (cond t (r ∷ m) (x ∷ with_record r m))) p q
 
--- there is a record at least
-pub with_some : (r : Record) (m : Map) → 0 < length (with_record r m)
-with_some r [] = omega arith
-with_some r (x ∷ m) = grind (arith, nat_tests)
-
--- one record more at most
-pub with_longest : (r : Record) (m : Map) → length (with_record r m) ≤ length m + 1
-with_longest r [] = omega arith
-with_longest r (x ∷ m) = grind (arith, nat_tests, with_longest r m)
-
--- a record of a key that is absent makes one more
-pub with_longer : (r : Record) (m : Map) → value_at (place r.0) m ≡ None → length (with_record r m) ≡ length m + 1
-with_longer r [] none = refl
-with_longer r (x ∷ m) none = grind (arith, nat_tests, with_longer r m)
-
 -- below where records rise from stands none
 pub none_below : (p low : ℕ) (m : Map) → p < low → RisesFrom low (places m) → value_at p m ≡ None
 none_below p low [] below rises = refl
 none_below p low (x ∷ m) below rises =
     grind (arith, nat_tests, none_below p (place x.0 + 1) m (omega (arith, rises.0)) rises.1, rises.0)
-
--- where one more record makes rising records longer, its key was absent
-pub absent_before : (r : Record) (low : ℕ) (m : Map) → RisesFrom low (places m) → length m < length (with_record r m) → value_at (place r.0) m ≡ None
-absent_before r low [] rises longer = refl
-absent_before r low (x ∷ m) rises longer =
-    ⊎_elim
-    (λ (e : place r.0 ≡ place x.0). absurd (grind (arith, nat_tests)))
-    (⊎_elim
-    (λ (l : place r.0 < place x.0). none_below (place r.0) (place x.0) (x ∷ m) l (omega arith, rises.1))
-    (λ (g : place x.0 < place r.0). grind (arith, nat_tests, absent_before r (place x.0 + 1) m rises.1)))
-    (cases_order (place r.0) (place x.0))

@@ -1,6 +1,5 @@
 -- Records without one: where it is taken out, and what is known of the rest.
 use Rattle.std.proofs.Common.{◌≡◌, ℕ, ◌+◌, ◌≤◌, length, ◌==◌, cond, true, false, List, [], ◌∷◌, ◌++◌, refl, ap, ◌∙◌, arith}
-use Rattle.std.specs.List.{AllByRecursion}
 use Rattle.std.proofs.lemmas.Bool.{ne_eqb}
 use Rattle.vm_types.specs.declared.key.Key.{Key}
 use Rattle.vm_types.specs.Map.{Map, without}
@@ -30,12 +29,6 @@ without_within p (x ∷ xs) ys above =
 -- a record is taken out between what is below and what is above
 pub without_between : (p : ℕ) (xs ys zs : List Record) → Below p xs → Above p zs → without_place p (xs ++ (ys ++ zs)) ≡ xs ++ (without_place p ys ++ zs)
 without_between p xs ys zs below above = without_past p xs (ys ++ zs) below ∙ ap (λ (rest : List Record). xs ++ rest) (without_within p ys zs above)
-
--- what holds of each record holds of those that are left
-pub without_each : (P : Record → Type 0) (p : ℕ) (rs : List Record) → AllByRecursion P rs → AllByRecursion P (without_place p rs)
-without_each P p [] all = tt
-without_each P p (r ∷ rs) all =
-    elim (place r.0 == p) as (λ t. AllByRecursion P (cond t rs (r ∷ without_place p rs))) [ true ↦ all.1 | false ↦ (all.0, without_each P p rs all.1) ]
 
 -- the rest rises as before
 pub without_rises : (p low : ℕ) (rs : List Record) → RisesFrom low (places rs) → RisesFrom low (places (without_place p rs))

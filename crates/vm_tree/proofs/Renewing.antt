@@ -1,16 +1,14 @@
 -- Blocks that are held now, and to be kept if they were held before a change.
-use Rattle.std.proofs.Common.{◌≡◌, ◌≢◌, ℕ, ◌==◌, ◌&&◌, cond, Bool, true, not, List, [], ◌∷◌, length, refl, sym, ap, ◌∙◌, subst, inl, inr, arith}
-use Rattle.std.specs.Prelude.{slice_index, slice_set}
+use Rattle.std.proofs.Common.{◌≡◌, ◌≢◌, ℕ, ◌==◌, ◌&&◌, cond, Bool, true, not, List, [], ◌∷◌, refl, sym, ap, ◌∙◌, subst, inl, inr}
 use Rattle.std.specs.List.{AllByRecursion}
 use Rattle.std.proofs.lemmas.Bool.{cases_Bool, cases_eq, eq-eqb, false≢true, ne_eqb}
-use Rattle.std.proofs.lemmas.List.{get_or-set_same}
 use Rattle.vm_types.specs.Map.{Map}
 use Rattle.vm_disk.specs.Disk.{Contents}
 use Rattle.vm_alloc.specs.Held.{is_held, IsHeld, HoldsMore}
 use Rattle.vm_block.proofs.EachLemmas.{each_so}
 use Rattle.vm_tree.specs.Tree.{Sizes}
 use Rattle.vm_tree.specs.Free.{is_free}
-use Rattle.vm_tree.specs.Replacement.{Lacks, IsHeldBeside, IsPathIn, IsRenewed, Replaces, long_of, path_from, path_under}
+use Rattle.vm_tree.specs.Replacement.{Lacks, IsHeldBeside, IsPathIn, IsRenewed, Replaces, path_from, path_under}
 use Rattle.vm_tree.specs.Root.{IsRootedIn}
 use Rattle.vm_tree.specs.declared.root.Root.{Root}
 use Rattle.vm_tree.proofs.Touching.{held_not_free}
@@ -64,18 +62,16 @@ renewed_beside before held path bs within all n is = record {
 pub rooted_so : (P Q : ℕ → Type 0) (sizes : Sizes) (x : Contents) (limit : ℕ) (root : Root) (m : Map) → ((n : ℕ) → P n → Q n) → IsRootedIn sizes P x limit root m → IsRootedIn sizes Q x limit root m
 rooted_so P Q sizes x limit root m so stands = record { stands_in = stands.stands_in; rooted = stands.rooted; each = each_so P Q so stands.stands_in stands.each }
 
--- the path under a root that has a block, and under one that has none where its ninth place was set to 0
+-- the path under a root that has a block, and under one that has none
 pub path_there : (root : Root) (path : List ℕ) → root.block ≢ 0 → path_under root path ≡ path_from root.level path
-path_there root path some = ap (λ t. cond t (long_of (slice_index path 8)) (path_from root.level path)) (ne_eqb root.block 0 some)
+path_there root path some = ap (λ t. cond t [] (path_from root.level path)) (ne_eqb root.block 0 some)
 
-pub path_bare : (root : Root) (path : List ℕ) → length path ≡ 9 → root.block ≡ 0 → path_under root (slice_set path 8 0) ≡ []
-path_bare root path many none =
-    let now = slice_set path 8 0 in
-    ap (λ t. cond t (long_of (slice_index now 8)) (path_from root.level now)) (eq-eqb root.block 0 none) ∙ ap long_of (get_or-set_same path 8 0 0 (omega (arith, many)))
+pub path_bare : (root : Root) (path : List ℕ) → root.block ≡ 0 → path_under root path ≡ []
+path_bare root path none = ap (λ t. cond t [] (path_from root.level path)) (eq-eqb root.block 0 none)
 
 -- no blocks are a path in any
-pub path_none : (root : Root) (path bs : List ℕ) → length path ≡ 9 → root.block ≡ 0 → IsPathIn (path_under root (slice_set path 8 0)) bs
-path_none root path bs many none n lacks = subst (Lacks n) (sym (path_bare root path many none)) tt
+pub path_none : (root : Root) (path bs : List ℕ) → root.block ≡ 0 → IsPathIn (path_under root path) bs
+path_none root path bs none n lacks = subst (Lacks n) (sym (path_bare root path none)) tt
 
 -- a path from a root's level is one under the root
 pub path_some : (root : Root) (path bs : List ℕ) → root.block ≢ 0 → IsPathIn (path_from root.level path) bs → IsPathIn (path_under root path) bs

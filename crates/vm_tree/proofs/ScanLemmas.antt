@@ -1,5 +1,5 @@
 -- Faults of a listing that are passed on.
-use Rattle.std.proofs.Common.{◌≡◌, Result, Err}
+use Rattle.std.proofs.Common.{◌≡◌, Err}
 use Rattle.vm_tree.specs.Answers.{Lists}
 use Rattle.vm_tree.specs.declared.faults.TreeFault.{TreeFault}
 use Rattle.vm_tree.specs.declared.faults.ListFault.{ListFault}

@@ -5,13 +5,14 @@ use Rattle.std.specs.List.{AllByRecursion}
 use Rattle.vm_disk.specs.Disk.{Contents, block}
 use Rattle.vm_block.specs.declared.node.Child.{Child}
 use Rattle.vm_types.specs.Places.{KeyFits, FitKeys, RisesFrom, places}
-use Rattle.vm_block.specs.Leaf.{Record}
+use Rattle.vm_block.specs.Leaf.{HasRecords, Record, RecordFits}
 use Rattle.vm_block.specs.Node.{IsNode}
+use Rattle.vm_block.proofs.FormLemmas.{leaf_or_node}
 use Rattle.vm_block.proofs.NodeLemmas.{node_one}
+use Rattle.vm_block.proofs.SpelledLemmas.{records_one}
 use Rattle.vm_block.proofs.EachLemmas.{each_front, each_back, each_join, each_so}
-use Rattle.vm_tree.specs.Tree.{Sizes, IsData, IsWithin, LeafHolds, Children, Subtree, IsTree, Stands}
-use Rattle.vm_types.specs.Bytes.{longest}
-use Rattle.vm_tree.proofs.HoldingLemmas.{holds_data, holds_in, holds_one, holds_or_node}
+use Rattle.vm_tree.specs.BlockReads.{IsLeafAt}
+use Rattle.vm_tree.specs.Tree.{Sizes, IsData, Children, Subtree, IsTree, Stands}
 
 -- # Other contents
 
@@ -30,9 +31,8 @@ pub subtree_in : (P : ℕ → Type 0) (sizes : Sizes) (x y : Contents) (limit : 
     → (l b : ℕ) (rs : List Record) (bs : List ℕ) → Subtree sizes x limit l b rs bs → AllByRecursion P bs → Subtree sizes y limit l b rs bs
 unfolding Subtree
 subtree_in P sizes x y limit same zero b rs bs t all =
-    let whole = subst (AllByRecursion P) t.4 all in
-    let holds = holds_in x limit longest P y same (block x b) rs t.1 t.2 whole.1 in
-    (t.0, t.1, subst (λ (bytes : List ℕ). LeafHolds y limit longest bytes rs t.1) (sym (same b whole.0)) holds, t.3, t.4)
+    let whole = subst (AllByRecursion P) t.2 all in
+    (t.0, subst (λ (bytes : List ℕ). HasRecords bytes rs) (sym (same b whole.0)) t.1, t.2)
 subtree_in P sizes x y limit same (suc l) b rs bs t all =
     let whole = subst (AllByRecursion P) t.6 all in (
       t.0,
@@ -71,7 +71,7 @@ children_data limit T so (c ∷ cs) rs bs t =
 
 subtree_data : (sizes : Sizes) (x : Contents) (limit l b : ℕ) (rs : List Record) (bs : List ℕ) → Subtree sizes x limit l b rs bs → AllByRecursion (IsData limit) bs
 unfolding Subtree
-subtree_data sizes x limit zero b rs bs t = subst (AllByRecursion (IsData limit)) (sym t.4) (t.0, holds_data x limit longest (block x b) rs t.1 t.2)
+subtree_data sizes x limit zero b rs bs t = subst (AllByRecursion (IsData limit)) (sym t.2) (t.0, tt)
 subtree_data sizes x limit (suc l) b rs bs t =
     subst (AllByRecursion (IsData limit)) (sym t.6) (t.0, children_data limit (Subtree sizes x limit l) (subtree_data sizes x limit l) t.1 rs t.2 t.5)
 
@@ -96,10 +96,9 @@ children_one T U so (c ∷ cs) rs qs bs ds t u =
 -- the same block is the top of one subtree
 pub subtree_one : (sizes : Sizes) (x : Contents) (limit l k b : ℕ) (rs qs : List Record) (bs ds : List ℕ) → Subtree sizes x limit l b rs bs → Subtree sizes x limit k b qs ds → (rs ≡ qs) × (bs ≡ ds)
 unfolding Subtree
-subtree_one sizes x limit zero zero b rs qs bs ds t u =
-    let both = holds_one x limit longest (block x b) rs qs t.1 u.1 t.2 u.2 in (both.0, t.4 ∙ ap (λ z. b ∷ z) both.1 ∙ sym u.4)
-subtree_one sizes x limit zero (suc k) b rs qs bs ds t u = absurd (holds_or_node x limit longest (block x b) rs t.1 (suc k) u.1 t.2 u.3)
-subtree_one sizes x limit (suc l) zero b rs qs bs ds t u = absurd (holds_or_node x limit longest (block x b) qs u.1 (suc l) t.1 u.2 t.3)
+subtree_one sizes x limit zero zero b rs qs bs ds t u = (records_one (block x b) rs qs t.1 u.1, t.2 ∙ sym u.2)
+subtree_one sizes x limit zero (suc k) b rs qs bs ds t u = absurd (leaf_or_node (block x b) rs (suc k) u.1 t.1 u.3)
+subtree_one sizes x limit (suc l) zero b rs qs bs ds t u = absurd (leaf_or_node (block x b) qs (suc l) t.1 u.1 t.3)
 subtree_one sizes x limit (suc l) (suc k) b rs qs bs ds t u =
     let node = node_one (block x b) (suc l) (suc k) t.1 u.1 t.3 u.3 in
     let below = subst (λ (cs : List Child). Children (Subtree sizes x limit l) cs rs t.2) node.1 t.5 in
@@ -114,40 +113,38 @@ tree_one sizes x limit (suc b) m n bs ds t u = subtree_one sizes x limit t.0 u.0
 
 -- # The keys of a tree
 
-children_fit : (most : ℕ) (T : ℕ → List Record → List ℕ → Type 0) → ((b : ℕ) (rs : List Record) (bs : List ℕ) → T b rs bs → AllByRecursion (IsWithin most) rs)
-    → (cs : List Child) (rs : List Record) (bs : List ℕ) → Children T cs rs bs → AllByRecursion (IsWithin most) rs
-children_fit most T so [] rs bs t = subst (AllByRecursion (IsWithin most)) (sym t.0) tt
-children_fit most T so (c ∷ cs) rs bs t =
-    subst (AllByRecursion (IsWithin most)) (sym t.7)
-    (each_join (IsWithin most) t.0 t.1 (so c.block t.0 t.2 t.4) (children_fit most T so cs t.1 t.3 t.6))
+children_fit : (T : ℕ → List Record → List ℕ → Type 0) → ((b : ℕ) (rs : List Record) (bs : List ℕ) → T b rs bs → AllByRecursion RecordFits rs)
+    → (cs : List Child) (rs : List Record) (bs : List ℕ) → Children T cs rs bs → AllByRecursion RecordFits rs
+children_fit T so [] rs bs t = subst (AllByRecursion RecordFits) (sym t.0) tt
+children_fit T so (c ∷ cs) rs bs t =
+    subst (AllByRecursion RecordFits) (sym t.7)
+    (each_join RecordFits t.0 t.1 (so c.block t.0 t.2 t.4) (children_fit T so cs t.1 t.3 t.6))
 
 -- the records of a subtree are within their limits
-pub subtree_fit : (sizes : Sizes) (x : Contents) (limit l b : ℕ) (rs : List Record) (bs : List ℕ) → Subtree sizes x limit l b rs bs → AllByRecursion (IsWithin longest) rs
+pub subtree_fit : (sizes : Sizes) (x : Contents) (limit l b : ℕ) (rs : List Record) (bs : List ℕ) → Subtree sizes x limit l b rs bs → AllByRecursion RecordFits rs
 unfolding Subtree
-subtree_fit sizes x limit zero b rs bs t = t.2.within
-subtree_fit sizes x limit (suc l) b rs bs t = children_fit longest (Subtree sizes x limit l) (subtree_fit sizes x limit l) t.1 rs t.2 t.5
+subtree_fit sizes x limit zero b rs bs t = t.1.fit
+subtree_fit sizes x limit (suc l) b rs bs t = children_fit (Subtree sizes x limit l) (subtree_fit sizes x limit l) t.1 rs t.2 t.5
 
 -- the records of a tree are within their limits
-pub tree_fit : (sizes : Sizes) (x : Contents) (limit b : ℕ) (m : List Record) (bs : List ℕ) → IsTree sizes x limit b m bs → AllByRecursion (IsWithin longest) m
+pub tree_fit : (sizes : Sizes) (x : Contents) (limit b : ℕ) (m : List Record) (bs : List ℕ) → IsTree sizes x limit b m bs → AllByRecursion RecordFits m
 unfolding IsTree
-tree_fit sizes x limit zero m bs t = subst (AllByRecursion (IsWithin longest)) (sym t.0) tt
+tree_fit sizes x limit zero m bs t = subst (AllByRecursion RecordFits) (sym t.0) tt
 tree_fit sizes x limit (suc b) m bs t = subtree_fit sizes x limit t.0 (suc b) m bs t.2
 
 -- the keys of a tree rise strictly, and have their sizes
 pub tree_rises : (sizes : Sizes) (x : Contents) (limit b : ℕ) (m : List Record) (bs : List ℕ) → IsTree sizes x limit b m bs → RisesFrom 0 (places m) × FitKeys m
 unfolding IsTree
 tree_rises sizes x limit zero m bs t = (subst (λ (rs : List Record). RisesFrom 0 (places rs)) (sym t.0) tt, subst FitKeys (sym t.0) tt)
-tree_rises sizes x limit (suc b) m bs t = (t.3, each_so (IsWithin longest) (λ r. KeyFits r.0) (λ r fits. fits.0) m (subtree_fit sizes x limit t.0 (suc b) m bs t.2))
+tree_rises sizes x limit (suc b) m bs t = (t.3, each_so RecordFits (λ r. KeyFits r.0) (λ r fits. fits.0) m (subtree_fit sizes x limit t.0 (suc b) m bs t.2))
 
 -- # Opening and closing a block of a tree
 
 -- block b is a leaf of a tree
 pub record LeafAt (sizes : Sizes) (x : Contents) (limit b : ℕ) (rs : List Record) (bs : List ℕ) : Type 0 where
   pub place : IsData limit b
-  pub under : List ℕ
-  pub holds : LeafHolds x limit longest (block x b) rs under
-  pub few : length rs ≤ sizes.leaf
-  pub first : bs ≡ b ∷ under
+  pub leaf : HasRecords (block x b) rs
+  pub first : bs ≡ b ∷ []
 
 -- block b is an inner block of a tree, l levels above its leaves but one
 pub record NodeAt (sizes : Sizes) (x : Contents) (limit l b : ℕ) (rs : List Record) (bs : List ℕ) : Type 0 where
@@ -162,12 +159,12 @@ pub record NodeAt (sizes : Sizes) (x : Contents) (limit l b : ℕ) (rs : List Re
 module _ (sizes : Sizes) (x : Contents) (limit : ℕ) where
   pub leaf_opens : (l b : ℕ) (rs : List Record) (bs : List ℕ) → l ≡ 0 → Subtree sizes x limit l b rs bs → LeafAt sizes x limit b rs bs
   unfolding Subtree
-  leaf_opens zero b rs bs e t = record { place = t.0; under = t.1; holds = t.2; few = t.3; first = t.4 }
+  leaf_opens zero b rs bs e t = record { place = t.0; leaf = t.1; first = t.2 }
   leaf_opens (suc l) b rs bs e t = absurd (omega arith)
 
   pub leaf_closes : (b : ℕ) (rs : List Record) (bs : List ℕ) → LeafAt sizes x limit b rs bs → Subtree sizes x limit 0 b rs bs
   unfolding Subtree
-  leaf_closes b rs bs at = (at.place, at.under, at.holds, at.few, at.first)
+  leaf_closes b rs bs at = (at.place, at.leaf, at.first)
 
   pub node_opens : (l k b : ℕ) (rs : List Record) (bs : List ℕ) → l ≡ suc k → Subtree sizes x limit l b rs bs → NodeAt sizes x limit k b rs bs
   unfolding Subtree
@@ -209,3 +206,8 @@ module _ (sizes : Sizes) (x : Contents) (limit : ℕ) where
   unfolding IsTree
   tree_closes zero m bs lt t = absurd (omega arith)
   tree_closes (suc b) m bs lt t = (t.level, t.low, t.subtree, t.rising)
+
+-- what is read of a leaf of a tree
+pub leaf_read : (sizes : Sizes) (x : Contents) (limit b : ℕ) (rs : List Record) (bs : List ℕ) → Subtree sizes x limit 0 b rs bs → IsLeafAt x limit b rs
+unfolding Subtree
+leaf_read sizes x limit b rs bs t = record { inside = t.0; leaf = t.1 }

@@ -1,8 +1,6 @@
 -- What the calls on trees answer.
 use Rattle.std.specs.Prelude.{◌≡◌, ◌<◌, Option, None, Some, Result, Ok, Err}
-use Rattle.vm_types.specs.declared.key.Key.{Key}
-use Rattle.vm_types.specs.Map.{Map, get}
-use Rattle.vm_types.specs.Places.{place}
+use Rattle.vm_block.specs.Leaf.{Record}
 use Rattle.vm_disk.specs.Disk.{Contents}
 use Rattle.vm_tree.specs.FullPath.{FullPath}
 use Rattle.vm_tree.specs.Tree.{Sizes}
@@ -14,11 +12,10 @@ use Rattle.vm_tree.specs.declared.faults.PutFault.TheVariants as put
 use Rattle.vm_tree.specs.declared.faults.TreeFault.{TreeFault}
 use Rattle.vm_tree.specs.declared.faults.TreeFault.TheVariants.{Device, Damaged}
 
--- the key is absent from the map, and the tree under the root has no room for one more record where it belongs
-pub record LacksRoom (sizes : Sizes) (x : Contents) (root : Root) (m : Map) (key : Key) : Type 0 where
-  pub absent : get m key ≡ None
+-- the tree under the root has no room for this record
+pub record LacksRoom (sizes : Sizes) (x : Contents) (root : Root) (r : Record) : Type 0 where
   pub some : 0 < root.block
-  pub full : FullPath sizes x (place key) root.block
+  pub full : FullPath sizes x r root.block
 
 -- what is answered on a tree: a value with P, or that the device failed
 abbrev pub OkOrDevice : {T : Type 0} → Result T TreeFault → (T → Type 0) → Type 0

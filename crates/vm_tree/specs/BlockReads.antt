@@ -1,16 +1,13 @@
 -- Blocks of a tree as they are read.
-use Rattle.std.specs.Borrow.{Bor}
-use Rattle.std.specs.Prelude.{◌≡◌, ℕ, zero, suc, ◌+◌, ◌*◌, ◌<◌, ◌≤◌, Bool, true, List, length, take, drop, Result, IfOk}
+use Rattle.std.specs.Prelude.{◌≡◌, ℕ, zero, suc, ◌+◌, ◌*◌, ◌<◌, ◌≤◌, true, List, length, take, drop, Result, IfOk}
 use Rattle.vm_types.specs.declared.key.Key.{Key}
 use Rattle.arrayvec.specs.ArrayVec.{ArrayVec}
 use Rattle.vm_disk.specs.Disk.{Contents, DiskState, block}
-use Rattle.vm_block.specs.declared.sizes.TheConstants.{MAX_ROWS, MAX_CHILDREN}
-use Rattle.vm_block.specs.Head.{IsNodeHead, IsRowsHead}
-use Rattle.vm_block.specs.Leaf.{Row, BeginsWith, HasRows, key_bytes}
-use Rattle.vm_block.specs.Long.{IsLong}
+use Rattle.vm_block.specs.declared.sizes.TheConstants.{MAX_CHILDREN}
+use Rattle.vm_block.specs.Head.{IsNodeHead}
+use Rattle.vm_block.specs.Leaf.{BeginsWith, HasRecords, Record, key_bytes}
 use Rattle.vm_block.specs.Node.{IsNode, child_bytes}
 use Rattle.vm_block.specs.declared.node.Child.{Child}
-use Rattle.vm_block.specs.declared.stored.Link.{Link}
 use Rattle.vm_tree.specs.declared.root.Root.{Root}
 use Rattle.vm_tree.specs.declared.faults.TreeFault.{TreeFault}
 use Rattle.vm_block.specs.Way.{ChoosesAmong, Lowest, Takes}
@@ -35,27 +32,27 @@ pub record IsBlockAt (x : Contents) (limit b : ℕ) (low : Key) (bytes : List �
   pub bytes_are : bytes ≡ block x b
   pub first : take 10 (drop 16 bytes) ≡ key_bytes low
 
--- this block is for data, and is a leaf of these rows
-pub record IsRowsAt (x : Contents) (limit b : ℕ) (ws : List Row) : Type 0 where
+-- this block is for data, and is a leaf of these records
+pub record IsLeafAt (x : Contents) (limit b : ℕ) (rs : List Record) : Type 0 where
   pub inside : IsData limit b
-  pub rows : HasRows (block x b) ws
-
--- these bytes, of this block, are a leaf of so many rows at most
-pub record IsLeafAt (x : Contents) (b most : ℕ) (bytes : List ℕ) : Type 0 where
-  pub rows : List Row
-  pub bytes_are : bytes ≡ block x b
-  pub leaf : HasRows bytes rows
-  pub few : length rows ≤ most
+  pub leaf : HasRecords (block x b) rs
 
 -- this block is for data, and is an inner block of this level with these children
 pub record IsNodeAt (x : Contents) (limit level b : ℕ) (cs : List Child) : Type 0 where
   pub inside : IsData limit b
   pub node : IsNode (block x b) level cs
 
--- this block is for data, and has this key and this long value
-pub record IsLongAt (x : Contents) (limit b : ℕ) (key : Key) (value : List ℕ) : Type 0 where
-  pub inside : IsData limit b
-  pub long : IsLong (block x b) key value
+-- these bytes, of this block, are a leaf
+pub record IsLeafOf (x : Contents) (b : ℕ) (bytes : List ℕ) : Type 0 where
+  pub records : List Record
+  pub bytes_are : bytes ≡ block x b
+  pub leaf : HasRecords bytes records
+
+-- these bytes are a leaf of so many records
+pub record IsLeafSize (bytes : List ℕ) (count : ℕ) : Type 0 where
+  pub records : List Record
+  pub leaf : HasRecords bytes records
+  pub many : count ≡ length records
 
 -- these bytes are an inner block of this level with so many children
 pub record IsNodeOf (bytes : List ℕ) (level count : ℕ) : Type 0 where
@@ -63,13 +60,12 @@ pub record IsNodeOf (bytes : List ℕ) (level count : ℕ) : Type 0 where
   pub node : IsNode bytes level children
   pub many : count ≡ length children
 
--- this block is for data, has the head of a leaf of rows, and begins with this key
+-- this block is for data, and is a leaf of records that begin with this key
 pub record EndsAt (x : Contents) (limit b : ℕ) (low : Key) : Type 0 where
-  pub long : Bool
-  pub count : ℕ
+  pub records : List Record
   pub inside : IsData limit b
-  pub head : IsRowsHead (block x b) MAX_ROWS long count
-  pub first : take 10 (drop 16 (block x b)) ≡ key_bytes low
+  pub leaf : HasRecords (block x b) records
+  pub begins : BeginsWith low records
 
 -- this block is for data, has the head of an inner block of this level, begins with this key, and has this child where a
 -- descent to place p goes
@@ -115,15 +111,11 @@ FindsBlock result old new limit top bytes = Finds result old new (λ x answer. I
 abbrev pub FindsNode : Result (ArrayVec Child) TreeFault → DiskState → DiskState → ℕ → ℕ → ℕ → Type 0
 FindsNode result old new limit level b = Finds result old new (λ x children. IsNodeAt x limit level b children.items)
 
--- the block has this key and the long value that is lent
-abbrev pub FindsLong : Result (Bor (List ℕ)) TreeFault → DiskState → DiskState → ℕ → Key → ℕ → Type 0
-FindsLong result old new limit key b = Finds result old new (λ x value. IsLongAt x limit b key value.now)
+-- this child's block is a leaf, and has these bytes
+abbrev pub FindsLeafBytes : {T : Type 0} → Result T TreeFault → DiskState → DiskState → Child → List ℕ → Type 0
+FindsLeafBytes result old new top bytes = Finds result old new (λ x answer. IsLeafOf x top.block bytes)
 
--- this child's block is a leaf of so many rows at most, and has these bytes
-abbrev pub FindsRows : {T : Type 0} → Result T TreeFault → DiskState → DiskState → Child → ℕ → List ℕ → Type 0
-FindsRows result old new top most bytes = Finds result old new (λ x answer. IsLeafAt x top.block most bytes)
-
--- this child's block has the head of a leaf, and begins with its key
+-- this child's block is a leaf that begins with its key
 abbrev pub FindsEnd : {T : Type 0} → Result T TreeFault → DiskState → DiskState → ℕ → Child → Type 0
 FindsEnd result old new limit top = Finds result old new (λ x answer. EndsAt x limit top.block top.low)
 
@@ -151,11 +143,11 @@ FindsPathFrom root result old new limit p =
 abbrev pub GivesData : {T : Type 0} → Result T TreeFault → DiskState → DiskState → ℕ → ℕ → List ℕ → Type 0
 GivesData result old new limit b bytes = new.honest ≡ true → IsData limit b → OkOrDevice result (λ done. bytes ≡ block old.now.contents b)
 
--- the bytes of a child's block that is a leaf of rows and begins with the child's key
-abbrev pub GivesRowsUnder : {T : Type 0} → Result T TreeFault → DiskState → DiskState → ℕ → Child → List ℕ → Type 0
-GivesRowsUnder result old new limit top bytes =
-    new.honest ≡ true → (ws : List Row) → IsRowsAt old.now.contents limit top.block ws → BeginsWith top.low ws
-    → OkOrDevice result (λ done. HasRows bytes ws)
+-- the bytes of a child's block that is a leaf and begins with the child's key
+abbrev pub GivesLeafUnder : {T : Type 0} → Result T TreeFault → DiskState → DiskState → ℕ → Child → List ℕ → Type 0
+GivesLeafUnder result old new limit top bytes =
+    new.honest ≡ true → (rs : List Record) → IsLeafAt old.now.contents limit top.block rs → BeginsWith top.low rs
+    → OkOrDevice result (λ done. HasRecords bytes rs)
 
 -- the bytes of a child's block that is an inner block and begins with the child's key
 abbrev pub GivesNodeUnder : {T : Type 0} → Result T TreeFault → DiskState → DiskState → ℕ → Child → List ℕ → Type 0
@@ -169,30 +161,18 @@ GivesWay result old new limit level top most p bytes =
     new.honest ≡ true → (cs : List Child) → IsNodeAt old.now.contents limit level top.block cs → Lowest top.low cs → length cs ≤ most
     → OkOrDevice result (λ way. IsNode bytes level cs × (way.count ≡ length cs) × Takes cs p way.index way.child)
 
--- the bytes of a child's block that is a leaf of so many rows at most and begins with the child's key
-abbrev pub GivesRowsAmong : {T : Type 0} → Result T TreeFault → DiskState → DiskState → ℕ → Child → ℕ → List ℕ → Type 0
-GivesRowsAmong result old new limit top most bytes =
-    new.honest ≡ true → (ws : List Row) → IsRowsAt old.now.contents limit top.block ws → BeginsWith top.low ws → length ws ≤ most
-    → OkOrDevice result (λ done. HasRows bytes ws)
-
 -- the children of an inner block of this level
 abbrev pub GivesNode : Result (ArrayVec Child) TreeFault → DiskState → DiskState → ℕ → ℕ → ℕ → Type 0
 GivesNode result old new limit level b =
     new.honest ≡ true → (cs : List Child) → IsNodeAt old.now.contents limit level b cs → OkOrDevice result (λ children. children.items ≡ cs)
 
--- the bytes of a leaf of rows, and how many it has
-abbrev pub ReadsRows : Result ℕ TreeFault → DiskState → DiskState → ℕ → ℕ → List ℕ → Type 0
-ReadsRows result old new limit b bytes =
-    new.honest ≡ true → (ws : List Row) → IsRowsAt old.now.contents limit b ws → OkOrDevice result (λ count. HasRows bytes ws × (count ≡ length ws))
+-- the bytes of a leaf, and how many records it has
+abbrev pub ReadsLeaf : Result ℕ TreeFault → DiskState → DiskState → ℕ → ℕ → List ℕ → Type 0
+ReadsLeaf result old new limit b bytes =
+    new.honest ≡ true → (rs : List Record) → IsLeafAt old.now.contents limit b rs → OkOrDevice result (λ count. HasRecords bytes rs × (count ≡ length rs))
 
 -- the bytes of an inner block of this level, and how many children it has
 abbrev pub ReadsNode : Result ℕ TreeFault → DiskState → DiskState → ℕ → ℕ → ℕ → List ℕ → Type 0
 ReadsNode result old new limit level b bytes =
     new.honest ≡ true → (cs : List Child) → IsNodeAt old.now.contents limit level b cs
     → OkOrDevice result (λ count. IsNode bytes level cs × (count ≡ length cs))
-
--- the long value of this key in the block that the link names, where it has as many bytes as the link says
-abbrev pub GivesLong : Result (Bor (List ℕ)) TreeFault → DiskState → DiskState → ℕ → Key → Link → Type 0
-GivesLong result old new limit key link =
-    new.honest ≡ true → (value : List ℕ) → IsLongAt old.now.contents limit link.block key value → length value ≡ link.len
-    → OkOrDevice result (λ found. found.now ≡ value)

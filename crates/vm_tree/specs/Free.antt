@@ -1,9 +1,8 @@
 -- Blocks that may be written.
-use Rattle.std.specs.Prelude.{◌≡◌, false, ℕ, ◌+◌, ◌<◌, ◌≤◌, ◌&&◌, nat_lt, if◌then◌else◌, Bool, not, List, length}
+use Rattle.std.specs.Prelude.{◌≡◌, false, ℕ, ◌+◌, ◌<◌, ◌≤◌, ◌&&◌, nat_lt, Bool, not, List, length}
 use Rattle.std.specs.List.{AllByRecursion}
 use Rattle.vm_types.specs.declared.sizes.TheConstants.{FIRST_DATA}
 use Rattle.vm_alloc.specs.Held.{is_held, IsHeld, free_count}
-use Rattle.vm_block.specs.declared.sizes.TheConstants.{MAX_SHORT}
 use Rattle.vm_block.specs.declared.node.Child.{Child}
 
 -- is this block free, one of those that are counted and not held?
@@ -19,10 +18,6 @@ pub record IsTaken (held : List Bool) (n : ℕ) : Type 0 where
 -- the blocks of these children are for data, and held now
 abbrev pub AreTaken : List Bool → List Child → Type 0
 AreTaken held cs = AllByRecursion (λ c. IsTaken held c.block) cs
-
--- how many blocks a value has for itself alone: one, where it has more than 240 bytes
-abbrev pub long_blocks : List ℕ → ℕ
-long_blocks value = if nat_lt MAX_SHORT (length value) then 1 else 0
 
 -- the lowest free blocks were taken: each block that was taken lies below each one that is still free
 abbrev pub TakesLowest : List Bool → List Bool → Type 0

@@ -1,8 +1,11 @@
--- Full paths: where a tree has no room for one more record.
-use Rattle.std.specs.Prelude.{◌≡◌, ℕ, zero, suc, ◌+◌, ◌≤◌, List, length, map, slice_index}
+-- By how many blocks a tree grows, and full paths: where it has no room for a record.
+use Rattle.std.specs.Prelude.{◌≡◌, ℕ, zero, suc, ◌+◌, ◌<◌, ◌≤◌, nat_lt, if◌then◌else◌, List, length, map, slice_index}
+use Rattle.vm_types.specs.Places.{place, with_record}
 use Rattle.vm_disk.specs.Disk.{Contents, block}
-use Rattle.vm_block.specs.Leaf.{Row, HasRows}
+use Rattle.vm_block.specs.declared.sizes.TheConstants.{LEAF_ROOM}
+use Rattle.vm_block.specs.Leaf.{HasRecords, Record, size_of}
 use Rattle.vm_block.specs.Node.{IsNode, lows}
+use Rattle.vm_block.specs.Split.{larger}
 use Rattle.vm_block.specs.Way.{IsChosen}
 use Rattle.vm_block.specs.declared.node.Child.{Child}
 use Rattle.vm_tree.specs.Tree.{Sizes}
@@ -11,13 +14,20 @@ use Rattle.vm_tree.specs.Tree.{Sizes}
 abbrev pub blocks_of : List Child → List ℕ
 blocks_of cs = map (λ c. c.block) cs
 
--- every block on the descent from b, l levels above the leaves, to place p has its greatest count
-unfoldable pub FullBelow : Sizes → Contents → ℕ → ℕ → ℕ → Type 0
-FullBelow sizes x p zero b = (ws : List Row) × HasRows (block x b) ws × (sizes.leaf ≤ length ws)
-FullBelow sizes x p (suc l) b =
-    (cs : List Child) × (i : ℕ) × IsNode (block x b) (suc l) cs × (sizes.fan ≤ length cs) × IsChosen (lows cs) p i
-    × FullBelow sizes x p l (slice_index (blocks_of cs) i)
+-- so many leaves more are needed for these records: none where they have room in one, one where a cut makes two, and else two
+abbrev pub NeedsMore : List Record → ℕ → Type 0
+NeedsMore rs zero = size_of rs ≤ LEAF_ROOM
+NeedsMore rs (suc zero) = (LEAF_ROOM < size_of rs) × (h : ℕ) × (0 < h) × (h < length rs) × (larger h rs ≤ LEAF_ROOM)
+NeedsMore rs (suc (suc zero)) = (LEAF_ROOM < size_of rs) × ((h : ℕ) → 0 < h → h < length rs → LEAF_ROOM < larger h rs)
+NeedsMore rs (suc (suc (suc n))) = ⊥
 
--- the tree under root b has its greatest number of levels, and every block on the path to place p is full
-abbrev pub FullPath : Sizes → Contents → ℕ → ℕ → Type 0
-FullPath sizes x p b = (l : ℕ) × (l + 1 ≡ sizes.levels) × FullBelow sizes x p l b
+-- with this record, block b, l levels above the leaves, becomes so many blocks more
+unfoldable pub GrowsBy : Sizes → Contents → Record → ℕ → ℕ → ℕ → Type 0
+GrowsBy sizes x r zero b more = (rs : List Record) × HasRecords (block x b) rs × NeedsMore (with_record r rs) more
+GrowsBy sizes x r (suc l) b more =
+    (cs : List Child) × (i : ℕ) × (below : ℕ) × IsNode (block x b) (suc l) cs × IsChosen (lows cs) (place r.0) i
+    × GrowsBy sizes x r l (slice_index (blocks_of cs) i) below × (more ≡ (if nat_lt sizes.fan (length cs + below) then 1 else 0))
+
+-- the tree under root b has its greatest number of levels, and with this record its root would become more than one block
+abbrev pub FullPath : Sizes → Contents → Record → ℕ → Type 0
+FullPath sizes x r b = (l : ℕ) × (more : ℕ) × (l + 1 ≡ sizes.levels) × (0 < more) × GrowsBy sizes x r l b more

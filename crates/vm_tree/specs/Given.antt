@@ -1,18 +1,14 @@
 -- What is given of the map under a root, where the disk is honest after the call.
-use Rattle.std.specs.Prelude.{◌≡◌, ℕ, true, List, ◌≤◌, ◌++◌, ◌∷◌, [], length, Bool, Option, None, Some, is_some, option_copied, Result}
+use Rattle.std.specs.Prelude.{◌≡◌, ℕ, List, ◌++◌, length, Bool, Option, is_some, option_copied, Result}
 use Rattle.std.specs.Borrow.{Bor}
 use Rattle.vm_types.specs.declared.key.Key.{Key}
 use Rattle.vm_types.specs.Map.{Map, get}
 use Rattle.vm_types.specs.Places.{RisesFrom, place, places, value_at}
 use Rattle.vm_disk.specs.Disk.{Contents, DiskState}
-use Rattle.vm_block.specs.declared.sizes.TheConstants.{MAX_SHORT}
-use Rattle.vm_block.specs.Leaf.{BeginsWith, Record, Row, link_bytes}
+use Rattle.vm_block.specs.Leaf.{BeginsWith, HasRecords, Record}
 use Rattle.vm_block.specs.declared.node.Child.{Child}
-use Rattle.vm_block.specs.declared.stored.Link.{Link}
-use Rattle.vm_tree.specs.Tree.{Sizes, IsWithin, LeafHolds, StandsFor, Subtree}
-use Rattle.vm_types.specs.Bytes.{longest}
+use Rattle.vm_tree.specs.Tree.{Sizes, Subtree}
 use Rattle.vm_tree.specs.Answers.{Lists, OkOrDevice}
-use Rattle.vm_tree.specs.BlockReads.{IsLongAt}
 use Rattle.vm_tree.specs.Root.{IfUnder, IfWhole}
 use Rattle.vm_tree.specs.Spent.{OnSubtree}
 use Rattle.vm_tree.specs.Windows.{given_of}
@@ -55,17 +51,6 @@ abbrev pub GivesLeaf : Result Child TreeFault → DiskState → DiskState → �
 GivesLeaf result old new limit level top key =
     (sizes : Sizes) → IfUnder old new sizes limit level top (λ rs bs. OkOrDevice result (IsLeafWith sizes old.now.contents limit (place key) (value_at (place key) rs)))
 
--- this is the link that was found, or none, where nothing was found but the bytes of a short value
-abbrev pub IsLinkOf : Option Link → Option (List ℕ) → Type 0
-IsLinkOf None found = (stored : List ℕ) → found ≡ Some stored → length stored ≤ MAX_SHORT
-IsLinkOf (Some link) found = found ≡ Some (link_bytes link)
-
--- the long value of this key in the block that the link names
-abbrev pub GivesLinked : Result (Option (Bor (List ℕ))) TreeFault → DiskState → DiskState → ℕ → Key → Link → Type 0
-GivesLinked result old new limit key link =
-    new.honest ≡ true → (value : List ℕ) → IsLongAt old.now.contents limit link.block key value → length value ≡ link.len
-    → OkOrDevice result (λ found. option_copied found ≡ Some value)
-
 -- this part of the map, whatever the sizes of the tree's blocks, unless the device fails or no memory is found
 abbrev pub GivesPart : Result Map ListFault → DiskState → DiskState → ℕ → Root → (Map → Map) → Type 0
 GivesPart result old new limit root part = (sizes : Sizes) → IfWhole old new sizes limit root (λ m bs. Lists result (λ records. records ≡ part m))
@@ -84,19 +69,7 @@ AddsUnder result old new limit level top w before after =
     OnSubtree old new limit level top (λ sizes x rs bs tree. Lists result (λ _. after ≡ before ++ given_of w (length before) rs))
 
 -- and of the records of a leaf of so many
-abbrev pub AddsLeaf : {T : Type 0} → Result T ListFault → DiskState → DiskState → ℕ → List ℕ → ℕ → Window → Map → Map → Type 0
-AddsLeaf result old new limit bytes count w before after =
-    new.honest ≡ true → (rs : List Record) (under : List ℕ) → LeafHolds old.now.contents limit longest bytes rs under → count ≡ length rs
+abbrev pub AddsLeaf : {T : Type 0} → Result T ListFault → List ℕ → ℕ → Window → Map → Map → Type 0
+AddsLeaf result bytes count w before after =
+    (rs : List Record) → HasRecords bytes rs → count ≡ length rs
     → Lists result (λ _. after ≡ before ++ given_of w (length before) rs)
-
--- the record for which a row stands, behind those that were there before
-abbrev pub AddsRow : {T : Type 0} → Result T ListFault → DiskState → DiskState → ℕ → Map → Map → Row → Type 0
-AddsRow result old new limit before after w =
-    new.honest ≡ true → (r : Record) (under : List ℕ) → StandsFor old.now.contents limit w r under → IsWithin longest r
-    → Lists result (λ _. after ≡ before ++ r ∷ [])
-
--- the long value of this key in the block that the link names, behind those that were there before
-abbrev pub AddsLinked : {T : Type 0} → Result T ListFault → DiskState → DiskState → ℕ → Key → Link → Map → Map → Type 0
-AddsLinked result old new limit key link before after =
-    new.honest ≡ true → (value : List ℕ) → IsLongAt old.now.contents limit link.block key value → length value ≡ link.len
-    → Lists result (λ _. after ≡ before ++ (key, value) ∷ [])

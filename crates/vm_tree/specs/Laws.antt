@@ -3,9 +3,8 @@ use Rattle.std.specs.Prelude.{◌≡◌, ℕ, List}
 use Rattle.std.specs.List.{AllByRecursion}
 use Rattle.vm_types.specs.Places.{RisesFrom, places}
 use Rattle.vm_disk.specs.Disk.{Contents, block}
-use Rattle.vm_block.specs.Leaf.{Record}
-use Rattle.vm_tree.specs.Tree.{Sizes, IsData, IsTree, IsWithin}
-use Rattle.vm_types.specs.Bytes.{longest}
+use Rattle.vm_block.specs.Leaf.{Record, RecordFits}
+use Rattle.vm_tree.specs.Tree.{Sizes, IsData, IsTree}
 
 -- under one root lies one map, in one list of blocks
 abbrev pub RootsHaveOneMap : Type 0
@@ -23,7 +22,7 @@ TreesStandInData =
 abbrev pub TreesRise : Type 0
 TreesRise =
     (sizes : Sizes) (x : Contents) (limit b : ℕ) (m : List Record) (bs : List ℕ) →
-    IsTree sizes x limit b m bs → RisesFrom 0 (places m) × AllByRecursion (IsWithin longest) m
+    IsTree sizes x limit b m bs → RisesFrom 0 (places m) × AllByRecursion RecordFits m
 
 -- contents that agree on the blocks of a tree have the same tree
 abbrev pub TreesLieInTheirBlocks : Type 0

@@ -11,7 +11,6 @@ pub mod Paths
 pub mod Insertion
 pub mod Removal
 pub mod Root
-pub mod Rows
 pub mod Spent
 pub mod Answers
 pub mod BlockReads

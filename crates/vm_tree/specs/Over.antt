@@ -5,9 +5,9 @@ use Rattle.std.proofs.Common.{inl, inr}
 use Rattle.vm_types.specs.Map.{Map}
 use Rattle.vm_types.specs.Places.{place, value_at}
 use Rattle.vm_disk.specs.Disk.{Contents, DiskState}
-use Rattle.vm_block.specs.Leaf.{Record, Row}
+use Rattle.vm_block.specs.Leaf.{Record}
 use Rattle.vm_block.specs.declared.node.Child.{Child}
-use Rattle.vm_tree.specs.Tree.{Sizes, Children, StandForAll, Subtree}
+use Rattle.vm_tree.specs.Tree.{Sizes, Children, Subtree}
 use Rattle.vm_tree.specs.Root.{IsRooted}
 use Rattle.vm_tree.specs.declared.root.Root.{Root}
 
@@ -19,21 +19,16 @@ only_if test bs = if test then bs else []
 abbrev pub top_over : (ℕ → Bool) → ℕ → List Record → List ℕ
 top_over test b rs = only_if (list_any (λ r. test (place r.0)) rs) (b ∷ [])
 
--- of the blocks beside the rows of a leaf those with the value of such a record
-abbrev pub beside_over : (ℕ → Bool) → (x : Contents) (limit : ℕ) (ws : List Row) (rs : List Record) (bs : List ℕ) → StandForAll x limit ws rs bs → List ℕ
-beside_over test x limit [] rs bs stand = []
-beside_over test x limit (w ∷ ws) rs bs stand = only_if (test (place stand.0.0)) stand.2 ++ beside_over test x limit ws stand.1 stand.3 stand.5
-
 -- the blocks under children, where `over` tells those under one of them
 abbrev pub children_over : (T : ℕ → List Record → List ℕ → Type 0) → ((b : ℕ) (rs : List Record) (bs : List ℕ) → T b rs bs → List ℕ)
     → (cs : List Child) (rs : List Record) (bs : List ℕ) → Children T cs rs bs → List ℕ
 children_over T over [] rs bs t = []
 children_over T over (c ∷ cs) rs bs t = over c.block t.0 t.2 t.4 ++ children_over T over cs t.1 t.3 t.6
 
--- the blocks of a subtree that have a record under them at a place that passes the test, and those with the value of such a record
+-- the blocks of a subtree that have a record under them at a place that passes the test
 unfoldable pub subtree_over : (ℕ → Bool) → (sizes : Sizes) (x : Contents) (limit l b : ℕ) (rs : List Record) (bs : List ℕ) → Subtree sizes x limit l b rs bs → List ℕ
 unfolding Subtree
-subtree_over test sizes x limit zero b rs bs t = top_over test b rs ++ beside_over test x limit t.2.rows rs t.1 t.2.stand
+subtree_over test sizes x limit zero b rs bs t = top_over test b rs
 subtree_over test sizes x limit (suc l) b rs bs t =
     top_over test b rs ++ children_over (Subtree sizes x limit l) (subtree_over test sizes x limit l) t.1 rs t.2 t.5
 

@@ -9,7 +9,7 @@ use Rattle.vm_disk.specs.Disk.{Contents, DiskState, block}
 use Rattle.vm_alloc.specs.Held.{HoldsMore, IsHeld, is_held}
 use Rattle.vm_block.specs.Changed.{leave_out, without_place}
 use Rattle.vm_block.specs.Head.{IsNodeHead}
-use Rattle.vm_block.specs.Leaf.{HasRows, Record, Row}
+use Rattle.vm_block.specs.Leaf.{HasRecords, Record}
 use Rattle.vm_block.specs.Node.{ChildFits, IsNode, child_bytes}
 use Rattle.vm_block.specs.declared.node.Child.{Child}
 use Rattle.vm_tree.specs.Tree.{Sizes, IsData, Children, Subtree}
@@ -108,12 +108,12 @@ Empties result = IsOkAnd result (λ rest. IsSomeAnd rest (λ root. root.block �
 abbrev pub KeepsRoot : Result (Option Root) TreeFault → List Bool → List Bool → Type 0
 KeepsRoot result held later = IsOkAnd result (λ rest. IsSomeAnd rest (WasThere held later))
 
--- from block b, so many levels above the leaves, down to a leaf of one row each block has one child
+-- from block b, so many levels above the leaves, down to a leaf of one record each block has one child
 unfoldable pub HasOne : Contents → ℕ → ℕ → Type 0
-HasOne x zero b = (w : Row) × HasRows (block x b) (w ∷ [])
+HasOne x zero b = (r : Record) × HasRecords (block x b) (r ∷ [])
 HasOne x (suc l) b = (child : Child) × IsNodeHead (block x b) (suc l) 1 × (take 14 (drop 16 (block x b)) ≡ child_bytes child) × HasOne x l child.block
 
--- where `when` holds, and the disk is honest, this block had one row under it before the call
+-- where `when` holds, and the disk is honest, this block had one record under it before the call
 abbrev pub HadOneIf : Type 0 → DiskState → DiskState → ℕ → ℕ → Type 0
 HadOneIf when old new level b = new.honest ≡ true → when → HasOne old.now.contents level b
 
@@ -125,32 +125,32 @@ LeavesOut result way bytes =
 -- the root that is answered has all that lies under a child of this level
 abbrev pub NarrowsTo : Result Root TreeFault → ℕ → DiskState → DiskState → ℕ → ℕ → Child → Type 0
 NarrowsTo result fan old new limit level top =
-    new.honest ≡ true → (leaf levels : ℕ) (rs : List Record) (bs : List ℕ)
-    → Children (Subtree (sizes_of leaf fan levels) old.now.contents limit level) (top ∷ []) rs bs
-    → OkOrDevice result (λ root. Narrows (sizes_of leaf fan levels) old.now.contents limit top root rs bs)
+    new.honest ≡ true → (levels : ℕ) (rs : List Record) (bs : List ℕ)
+    → Children (Subtree (sizes_of fan levels) old.now.contents limit level) (top ∷ []) rs bs
+    → OkOrDevice result (λ root. Narrows (sizes_of fan levels) old.now.contents limit top root rs bs)
 
 -- what is left of an inner block of this level with these children lies under a root, in blocks that are held now, and to be kept if they
 -- were held before
 abbrev pub LeavesRest : Result Left TreeFault → ℕ → ℕ → List Child → List Bool → List Bool → DiskState → DiskState → Type 0
 LeavesRest result fan level cs held later old new =
-    new.honest ≡ true → (leaf levels : ℕ) (rs : List Record) (bs : List ℕ) → RisesFrom 0 (places rs) → AllByRecursion ChildFits cs
-    → Children (Subtree (sizes_of leaf fan levels) old.now.contents (length held) (level - 1)) cs rs bs
+    new.honest ≡ true → (levels : ℕ) (rs : List Record) (bs : List ℕ) → RisesFrom 0 (places rs) → AllByRecursion ChildFits cs
+    → Children (Subtree (sizes_of fan levels) old.now.contents (length held) (level - 1)) cs rs bs
     → IsLeft result rs (λ root. (before : List Bool) (keep : ℕ → Bool) → HoldsMore before held → AllByRecursion (IsRenewed before held keep) bs
-    → Made (IsRenewed before later keep) (sizes_of leaf fan levels) new.now.contents (length held) root.level (child_of root ∷ []) rs)
+    → Made (IsRenewed before later keep) (sizes_of fan levels) new.now.contents (length held) root.level (child_of root ∷ []) rs)
 
--- the records of a leaf are left without the one at place p, under a root in blocks that replace those of this path
-abbrev pub RemovesFromLeaf : Result Left TreeFault → ℕ → List Bool → List Bool → DiskState → DiskState → Child → ℕ → List ℕ → Type 0
-RemovesFromLeaf result leaf held later old new top p path =
-    (fan levels : ℕ) → IfUnder old new (sizes_of leaf fan levels) (length held) 0 top (λ rs bs. RemovesBelow result p rs
-    (λ root. Replaces held later path bs
-    (λ P. Made P (sizes_of leaf fan levels) new.now.contents (length held) root.level (child_of root ∷ []) (without_place p rs))))
+-- the records of a leaf are left without the one at place p, under a root in a block that replaces the leaf's
+abbrev pub RemovesFromLeaf : Result Left TreeFault → List Bool → List Bool → DiskState → DiskState → Child → ℕ → Type 0
+RemovesFromLeaf result held later old new top p =
+    (sizes : Sizes) → IfUnder old new sizes (length held) 0 top (λ rs bs. RemovesBelow result p rs
+    (λ root. Replaces held later (top.block ∷ []) bs
+    (λ P. Made P sizes new.now.contents (length held) root.level (child_of root ∷ []) (without_place p rs))))
 
 -- the records under a child are left without the one at place p, under a root in blocks that replace those of this path
-abbrev pub RemovesUnder : Result Left TreeFault → ℕ → ℕ → List Bool → List Bool → DiskState → DiskState → ℕ → Child → ℕ → List ℕ → Type 0
-RemovesUnder result leaf fan held later old new level top p path =
-    (levels : ℕ) → IfUnder old new (sizes_of leaf fan levels) (length held) level top (λ rs bs. RemovesBelow result p rs
+abbrev pub RemovesUnder : Result Left TreeFault → ℕ → List Bool → List Bool → DiskState → DiskState → ℕ → Child → ℕ → List ℕ → Type 0
+RemovesUnder result fan held later old new level top p path =
+    (levels : ℕ) → IfUnder old new (sizes_of fan levels) (length held) level top (λ rs bs. RemovesBelow result p rs
     (λ root. Replaces held later (path_from level path) bs
-    (λ P. Made P (sizes_of leaf fan levels) new.now.contents (length held) root.level (child_of root ∷ []) (without_place p rs))))
+    (λ P. Made P (sizes_of fan levels) new.now.contents (length held) root.level (child_of root ∷ []) (without_place p rs))))
 
 -- the answer is None just where the key is absent, and else a root, unless the device fails; and where the blocks of the tree are held,
 -- the root has the map without the key, in blocks that are none of this path

@@ -1,5 +1,5 @@
 -- Blocks that a change replaces, and blocks that it keeps.
-use Rattle.std.specs.Prelude.{◌≡◌, ◌≢◌, ℕ, ◌+◌, ◌<◌, ◌≤◌, ◌==◌, Bool, true, List, [], ◌∷◌, ◌++◌, take, slice_index, slice_set, if◌then◌else◌}
+use Rattle.std.specs.Prelude.{◌≡◌, ◌≢◌, ℕ, ◌+◌, ◌<◌, ◌≤◌, ◌==◌, Bool, true, List, [], take, slice_index, slice_set, if◌then◌else◌}
 use Rattle.std.specs.List.{AllByRecursion}
 use Rattle.vm_alloc.specs.Held.{IsHeld}
 use Rattle.vm_tree.specs.declared.root.Root.{Root}
@@ -12,17 +12,13 @@ Lacks b cs = AllByRecursion (λ c. c ≢ b) cs
 abbrev pub Apart : List ℕ → List ℕ → Type 0
 Apart own others = AllByRecursion (λ b. Lacks b others) own
 
--- the block of a long value, where the number is not 0
-abbrev pub long_of : ℕ → List ℕ
-long_of n = if n == 0 then [] else n ∷ []
-
--- the block of the long value that the ninth place of a path tells, if there is one, and the path's blocks from the leaf up to this level
+-- a path's blocks from the leaf up to this level
 abbrev pub path_from : ℕ → List ℕ → List ℕ
-path_from level path = long_of (slice_index path 8) ++ take (level + 1) path
+path_from level path = take (level + 1) path
 
 -- the same up to this root, under which no block of a path is where it is the empty map
 abbrev pub path_under : Root → List ℕ → List ℕ
-path_under root path = if root.block == 0 then long_of (slice_index path 8) else path_from root.level path
+path_under root path = if root.block == 0 then [] else path_from root.level path
 
 -- held now, and to be kept, if it was held before
 pub record IsRenewed (before held : List Bool) (keep : ℕ → Bool) (n : ℕ) : Type 0 where

@@ -4,21 +4,19 @@ use Rattle.std.specs.List.{AllByRecursion}
 use Rattle.vm_types.specs.Map.{Map}
 use Rattle.vm_types.specs.Places.{RisesFrom, places}
 use Rattle.vm_disk.specs.Disk.{Contents, DiskState}
-use Rattle.vm_block.specs.declared.sizes.TheConstants.{MAX_ROWS, MAX_CHILDREN}
+use Rattle.vm_block.specs.declared.sizes.TheConstants.{MAX_CHILDREN}
 use Rattle.vm_block.specs.Leaf.{Record, BeginsWith}
 use Rattle.vm_block.specs.declared.node.Child.{Child}
 use Rattle.vm_tree.specs.Tree.{Sizes, Subtree}
 use Rattle.vm_tree.specs.declared.root.Root.{Root}
 
--- trees with leaves of so many records, inner blocks of so many children, and so many levels
-abbrev pub sizes_of : ℕ → ℕ → ℕ → Sizes
-sizes_of leaf fan levels = record { leaf = leaf; fan = fan; levels = levels }
+-- trees with inner blocks of so many children, and so many levels
+abbrev pub sizes_of : ℕ → ℕ → Sizes
+sizes_of fan levels = record { fan = fan; levels = levels }
 
--- sizes that trees may have
-pub record AreSizes (leaf fan levels : ℕ) : Type 0 where
-  pub leaf_least : 2 ≤ leaf
-  pub leaf_most : leaf ≤ MAX_ROWS
-  pub fan_least : 2 ≤ fan
+-- sizes that trees may have: a leaf may become three
+pub record AreSizes (fan levels : ℕ) : Type 0 where
+  pub fan_least : 3 ≤ fan
   pub fan_most : fan ≤ MAX_CHILDREN
   pub levels_least : 1 ≤ levels
   pub levels_most : levels ≤ 8

@@ -3,14 +3,13 @@ use Rattle.std.specs.Prelude.{◌≡◌, ℕ, ◌+◌, ◌≤◌, nat_lt, true, 
 use Rattle.std.specs.List.{AllByRecursion}
 use Rattle.std.proofs.Common.{inl, inr}
 use Rattle.vm_types.specs.declared.key.Key.{Key}
-use Rattle.vm_types.specs.Bytes.{longest}
 use Rattle.vm_types.specs.Map.{Map}
 use Rattle.vm_types.specs.Places.{RisesFrom, place, places}
 use Rattle.vm_disk.specs.Disk.{Contents, DiskState}
-use Rattle.vm_block.specs.Leaf.{BeginsWith, Record, Row}
+use Rattle.vm_block.specs.Leaf.{BeginsWith, Record}
 use Rattle.vm_block.specs.declared.node.Child.{Child}
-use Rattle.vm_tree.specs.Tree.{Sizes, LeafHolds, StandsFor, Subtree}
-use Rattle.vm_tree.specs.Over.{beside_over, subtree_over, tree_over}
+use Rattle.vm_tree.specs.Tree.{Sizes, Subtree}
+use Rattle.vm_tree.specs.Over.{subtree_over, tree_over}
 use Rattle.vm_tree.specs.Root.{IsRooted}
 use Rattle.vm_tree.specs.Windows.{given_of, is_full}
 use Rattle.vm_tree.specs.declared.root.Root.{Root}
@@ -39,17 +38,6 @@ reads_aside low level first = if nat_lt (place first) low then level + 1 else 0
 abbrev pub tree_aside : ℕ → (sizes : Sizes) (x : Contents) (limit : ℕ) (root : Root) (m : Map) (bs : List ℕ) → IsRooted sizes x limit root m bs → ℕ
 tree_aside low sizes x limit root m bs (inl bare) = 0
 tree_aside low sizes x limit root m bs (inr top) = reads_aside low root.level root.low
-
--- one read for each block beside a row
-abbrev pub ReadsRow : DiskState → DiskState → ℕ → Row → Type 0
-ReadsRow old new limit w =
-    new.honest ≡ true → (x : Contents) → old.now.contents ≡ x → (r : Record) (own : List ℕ) → StandsFor x limit w r own → new.reads ≤ old.reads + length own
-
--- no more reads than there are blocks beside the rows of a leaf for the records that are given, whatever test they pass
-abbrev pub ReadsBeside : DiskState → DiskState → ℕ → List ℕ → ℕ → Window → ℕ → Type 0
-ReadsBeside old new limit bytes count w n =
-    new.honest ≡ true → (x : Contents) → old.now.contents ≡ x → (rs : List Record) (under : List ℕ) → (holds : LeafHolds x limit longest bytes rs under) → count ≡ length rs
-    → (test : ℕ → Bool) → AllPass test (given_of w n rs) → new.reads ≤ old.reads + length (beside_over test x limit holds.rows rs under holds.stand)
 
 -- where some may be given, no more reads than there are blocks under a child over the records that are, and those aside
 abbrev pub ReadsUnder : DiskState → DiskState → ℕ → ℕ → Child → Window → ℕ → Type 0

@@ -1,16 +1,20 @@
 //! Reading the blocks of a tree from a disk, and the descent to a key.
-ghost use Rattle.std.specs.Prelude.{◌≡◌, ◌≢◌, ◌↔◌, ◌≤◌, length, IsTrue, IfOk};
+ghost use Rattle.std.specs.Prelude.{◌≡◌, ◌≢◌, ◌↔◌, ◌≤◌, List, length, IsTrue, IfOk};
 ghost use Rattle.vm_types.specs.Places.{place};
 ghost use Rattle.vm_block.specs.Head.{IsNodeHead};
-ghost use Rattle.vm_block.specs.Told.{IsRowsSize};
+ghost use Rattle.vm_block.specs.Leaf.{BeginsWith, HasRecords, Record};
+ghost use Rattle.vm_block.specs.Look.{IfRecords};
 ghost use Rattle.vm_tree.specs.Tree.{IsData};
 ghost use Rattle.vm_tree.specs.Calls.{OnlyLooks};
 ghost use Rattle.vm_tree.specs.Spent.{ReadsAtMost};
-ghost use Rattle.vm_tree.specs.BlockReads.{FindsBlock, FindsData, FindsNode, FindsStep, GivesData, GivesNode, GivesNodeUnder, GivesRowsUnder, GivesWay, IsCount, IsNodeOf, IsWayAmong, ReadsNode, ReadsOne, ReadsRows};
+ghost use Rattle.vm_tree.specs.BlockReads.{FindsBlock, FindsData, FindsEnd, FindsLeafBytes, FindsNode, FindsStep, GivesData, GivesLeafUnder, GivesNode, GivesNodeUnder, GivesWay, IsCount, IsLeafSize, IsNodeOf, IsWayAmong, ReadsLeaf, ReadsNode, ReadsOne};
 
 use crate::faults::TreeFault;
 use arrayvec::ArrayVec;
-use vm_block::{Child, MAX_CHILDREN, Way, find_child, lowest_key, node_size, read_node, rows_size};
+use vm_block::{
+    Child, MAX_CHILDREN, MAX_RECORDS, Way, find_child, is_leaf, lowest_key, node_size, read_node,
+    records_len,
+};
 use vm_disk::{Disk, Need};
 use vm_types::{Block, BlockNumber, FIRST_DATA, Key};
 
@@ -70,7 +74,8 @@ pub(crate) fn load_block<D: Disk>(disk: &mut D, blocks: u32, top: Child) -> Resu
     ensures reads { ReadsAtMost 1 (D.state disk.old) (D.state disk.new) }
     ensures found { FindsBlock result (D.state disk.old) (D.state disk.new)
         blocks top (D.hand disk.new) }
-    ensures rows { GivesRowsUnder result (D.state disk.old) (D.state disk.new)
+    ensures begins { IfOk result (λ _. IfRecords (D.hand disk.new) (BeginsWith top.low)) }
+    ensures leaf { GivesLeafUnder result (D.state disk.old) (D.state disk.new)
         blocks top (D.hand disk.new) }
     ensures node { GivesNodeUnder result (D.state disk.old) (D.state disk.new)
         blocks top (D.hand disk.new) }
@@ -80,6 +85,25 @@ pub(crate) fn load_block<D: Disk>(disk: &mut D, blocks: u32, top: Child) -> Resu
         return Err(TreeFault::Damaged(top.block));
     }
     Ok(())
+}
+
+/// Loads this child's block, which must be a leaf.
+pub(crate) fn load_leaf<D: Disk>(disk: &mut D, blocks: u32, top: Child) -> Result<(), TreeFault>
+    requires { blocks ≤ (D.state disk.old).blocks }
+    ensures looks { OnlyLooks result (D.state disk.old) (D.state disk.new) }
+    ensures reads { ReadsAtMost 1 (D.state disk.old) (D.state disk.new) }
+    ensures leaf { IfOk result (λ _. (rs : List Record) × HasRecords (D.hand disk.new) rs) }
+    ensures found { FindsLeafBytes result (D.state disk.old) (D.state disk.new) top (D.hand disk.new) }
+    ensures end { FindsEnd result (D.state disk.old) (D.state disk.new) blocks top }
+    ensures only { GivesLeafUnder result (D.state disk.old) (D.state disk.new)
+        blocks top (D.hand disk.new) }
+{
+    load_block(disk, blocks, top)?;
+    if is_leaf(disk.at_hand()) {
+        Ok(())
+    } else {
+        Err(TreeFault::Damaged(top.block))
+    }
 }
 
 /// Loads this child's block, which must be an inner block of this level with at most MOST children,
@@ -133,8 +157,8 @@ pub fn node_at<D: Disk>(
     }
 }
 
-/// Reads a leaf into these bytes, and returns how many rows it has, short and long.
-pub fn rows_into<D: Disk>(
+/// Reads a leaf into these bytes, and returns how many records it has.
+pub fn leaf_into<D: Disk>(
     disk: &mut D,
     blocks: u32,
     block: BlockNumber,
@@ -143,14 +167,16 @@ pub fn rows_into<D: Disk>(
     requires { blocks ≤ (D.state disk.old).blocks }
     ensures looks { OnlyLooks result (D.state disk.old) (D.state disk.new) }
     ensures once { ReadsOne blocks block (D.state disk.old).reads (D.state disk.new).reads }
-    ensures count { IfOk result (IsRowsSize bytes.new) }
+    ensures count { IfOk result (λ count. count ≤ MAX_RECORDS) }
+    ensures leaf { IfOk result (IsLeafSize bytes.new) }
     ensures found { FindsData result (D.state disk.old) (D.state disk.new) blocks block bytes.new }
-    ensures only { ReadsRows result (D.state disk.old) (D.state disk.new) blocks block bytes.new }
+    ensures only { ReadsLeaf result (D.state disk.old) (D.state disk.new) blocks block bytes.new }
 {
     data_at(disk, blocks, block, bytes)?;
-    match rows_size(bytes) {
-        Some(count) => Ok(count),
-        None => Err(TreeFault::Damaged(block)),
+    if is_leaf(bytes) {
+        Ok(records_len(bytes))
+    } else {
+        Err(TreeFault::Damaged(block))
     }
 }
 

@@ -1,12 +1,12 @@
 //! Copying blocks of a tree into free blocks.
-ghost use Rattle.std.specs.Prelude.{◌≡◌, ◌≢◌, ◌↔◌, ◌+◌, ◌<◌, ◌≤◌, true, length, IfOk};
+ghost use Rattle.std.specs.Prelude.{◌≡◌, ◌≢◌, ◌+◌, ◌<◌, ◌≤◌, nat_lt, if◌then◌else◌, true, length, IfOk};
 ghost use Rattle.vm_alloc.specs.Held.{free_count};
 ghost use Rattle.vm_block.specs.Node.{node_bytes};
 ghost use Rattle.vm_tree.specs.Answers.{OkOrDevice};
 ghost use Rattle.vm_tree.specs.Calls.{WritesFree};
 ghost use Rattle.vm_tree.specs.Spent.{ReadsAtMost};
 ghost use Rattle.vm_tree.specs.Free.{IsTaken, AreTaken, TakesAtMost, is_free};
-ghost use Rattle.vm_tree.specs.Splits.{HasWritten, IfOne, MakesNode, MakesNodes, WritesBytes, WritesLeaf, WritesNode, children_of, is_split};
+ghost use Rattle.vm_tree.specs.Splits.{HasWritten, IfOne, MakesNode, MakesNodes, WritesBytes, WritesLeaf, WritesNode, children_of, extra};
 
 use crate::faults::TreeFault;
 use vm_alloc::Held;
@@ -14,11 +14,12 @@ use vm_block::{Child, MAX_CHILDREN, lowest_key, write_node};
 use vm_disk::Disk;
 use vm_types::Block;
 
-/// What a block was copied as: one block, or two if it was split.
+/// What a block was copied as: one block, or two if it was split. A leaf may become three.
 #[derive(Clone, Copy, Debug)]
 pub(crate) enum Copied {
     One(Child),
     Two(Child, Child),
+    Three(Child, Child, Child),
 }
 
 /// Allocates the lowest free block and writes it.
@@ -61,7 +62,7 @@ pub(crate) fn write_bytes<D: Disk>(
     ensures taken { TakesAtMost 1 held.old held.new }
     ensures free { IfOk result (λ child. is_free held.old child.block ≡ true) }
     ensures written { WritesBytes result (D.state disk.new) bytes.now }
-    ensures leaf { WritesLeaf result held.old held.new (D.state disk.old) (D.state disk.new) bytes.now }
+    ensures leaf { WritesLeaf result held.old held.new (D.state disk.new) bytes.now }
     ensures node { WritesNode result held.old held.new (D.state disk.old) (D.state disk.new) bytes.now }
 {
     let low = lowest_key(bytes);
@@ -106,13 +107,13 @@ pub(crate) fn write_nodes<D: Disk, const FAN: usize>(
     requires least { 2 ≤ FAN }
     requires most { FAN ≤ MAX_CHILDREN }
     requires some { 0 < length children.now }
-    requires few { length children.now ≤ FAN + 1 }
+    requires few { length children.now ≤ FAN + 2 }
     requires room { 0 < free_count held.old }
     requires room_two { FAN < length children.now → 2 ≤ free_count held.old }
     ensures writes { WritesFree result held.old held.new (D.state disk.old) (D.state disk.new) }
     ensures reads { ReadsAtMost 0 (D.state disk.old) (D.state disk.new) }
     ensures device { OkOrDevice result (λ copied. AreTaken held.new (children_of copied)) }
-    ensures split { IfOk result (λ copied. (is_split copied ≡ true) ↔ (FAN < length children.now)) }
+    ensures grows { IfOk result (λ copied. extra copied ≡ (if nat_lt FAN (length children.now) then 1 else 0)) }
     ensures one { length children.now ≤ FAN → TakesAtMost 1 held.old held.new }
     ensures single { IfOne result (TakesAtMost 1 held.old held.new) }
     ensures taken { TakesAtMost 2 held.old held.new }

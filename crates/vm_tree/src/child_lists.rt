@@ -14,10 +14,10 @@ pub(crate) fn push_all<T: Copy, const CAP: usize>(items: &[T], into: &mut ArrayV
 }
 
 /// The children with these in place of child `i`.
-pub(crate) fn spliced(children: &[Child], i: usize, now: &[Child]) -> ArrayVec<Child, 257>
+pub(crate) fn spliced(children: &[Child], i: usize, now: &[Child]) -> ArrayVec<Child, 258>
     requires few { length children.now ≤ MAX_CHILDREN }
     requires within { i < length children.now }
-    requires room { length now.now ≤ 2 }
+    requires room { length now.now ≤ 3 }
     ensures { result.items ≡ take i children.now ++ (now.now ++ drop (i + 1) children.now) }
 {
     let mut changed = ArrayVec::new();

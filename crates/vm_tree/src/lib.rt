@@ -6,15 +6,14 @@
 //! bytes than before. Which map lies under a root, and in which blocks of a disk, is defined here
 //! (`specs/Tree.antt`).
 //!
-//! A descent works on the bytes of blocks. It compares the head and the first key of each block
-//! with what its parent says, before any block is taken. A block that differs is refused and never
-//! copied. A change of one child is made in the bytes. `get`, `has` and `put` decode no block
-//! except a full inner block that splits, and `scan` decodes no leaf. A long value has a block of
-//! its own. `get` and `scan` read it after its leaf, through the link in the leaf; `has` reads
-//! none. A part or a page of a map is read by the walk of `scan`. It enters no child that has
+//! A descent works on the bytes of blocks. It compares the head and the first key of each inner
+//! block with what its parent says, and tests the whole form of a leaf, before any block is taken.
+//! A block that differs is refused and never copied. A change of one child is made in the bytes.
+//! `get`, `has` and `put` decode no block except a full inner block that splits, and `scan` decodes
+//! no leaf. A part or a page of a map is read by the walk of `scan`. It enters no child that has
 //! nothing of it, except one at each level: the one before its first record. The walks of the
-//! crates above read single blocks with `data_at`, `load_data`, `node_into` and `long_at`, and
-//! `scan` with `rows_into` and `node_at`. A data block takes one read, and any other block none.
+//! crates above read single blocks with `data_at`, `load_data`, `node_into`, and `scan` with
+//! `leaf_into` and `node_at`. A data block takes one read, and any other block none.
 #![tactic(auto)]
 
 mod block_reads;
@@ -23,19 +22,16 @@ mod child_lists;
 mod faults;
 mod insertion;
 mod laws;
-mod long;
-mod long_links;
 mod lookup;
 mod ranges;
 mod removal;
 mod root;
 mod window;
 
-pub use block_reads::{data_at, is_data, load_data, node_at, node_into, rows_into};
+pub use block_reads::{data_at, is_data, leaf_into, load_data, node_at, node_into};
 pub use faults::{ListFault, PutFault, TreeFault};
 pub use insertion::put;
 pub use laws::one_tree;
-pub use long::long_at;
 pub use lookup::{get, has};
 pub use ranges::{scan, scan_from, scan_part};
 pub use removal::remove;

@@ -1,57 +1,18 @@
 //! The value of a key, and whether it has one.
-ghost use Rattle.std.specs.Prelude.{◌≡◌, ◌≢◌, ◌+◌, ◌≤◌, ℕ, Bool, length, IfOk, IfSome};
+ghost use Rattle.std.specs.Prelude.{◌≡◌, ◌≢◌, ◌+◌, ◌≤◌, length, IfOk, IfSome};
 ghost use Rattle.vm_types.specs.Bytes.{longest};
-ghost use Rattle.vm_types.specs.Places.{place, value_at};
-ghost use Rattle.vm_block.specs.Head.{IsRowsHead};
-ghost use Rattle.vm_block.specs.Leaf.{LinkFits};
-ghost use Rattle.vm_block.specs.Told.{IfHasRows};
+ghost use Rattle.vm_types.specs.Places.{place};
 ghost use Rattle.vm_tree.specs.Calls.{OnlyLooks};
-ghost use Rattle.vm_tree.specs.Given.{GivesLeaf, GivesLinked, GivesValue, GivesValueUnder, IsLinkOf, TellsRecord, TellsRecordUnder};
+ghost use Rattle.vm_tree.specs.Given.{GivesLeaf, GivesValue, GivesValueUnder, TellsRecord, TellsRecordUnder};
 ghost use Rattle.vm_tree.specs.BlockReads.{FindsEnd, FindsLeaf, FindsPathFrom};
 ghost use Rattle.vm_tree.specs.Spent.{ReadsAtMost};
 
-use crate::block_reads::{load_block, load_way};
+use crate::block_reads::{load_leaf, load_way};
 use crate::faults::TreeFault;
-use crate::long::long_at;
 use crate::root::Root;
-use vm_block::{Child, Link, MAX_ROWS, Stored, find_row, is_long_leaf};
+use vm_block::{Child, Look, find_record, record_value};
 use vm_disk::Disk;
 use vm_types::{BLOCK_SIZE, Block, Key};
-
-/// The value that a row of a leaf links to, read into these bytes.
-fn get_long<'a, D: Disk>(
-    disk: &mut D,
-    blocks: u32,
-    key: Key,
-    link: Link,
-    bytes: &'a mut Block,
-) -> Result<Option<&'a [u8]>, TreeFault>
-    requires { blocks ≤ (D.state disk.old).blocks }
-    ensures looks { OnlyLooks result (D.state disk.old) (D.state disk.new) }
-    ensures short { IfOk result (λ value. IfSome value (λ found. length found.now ≤ longest)) }
-    ensures reads { ReadsAtMost 1 (D.state disk.old) (D.state disk.new) }
-    ensures value { GivesLinked result (D.state disk.old) (D.state disk.new) blocks key link }
-{
-    let value = long_at(disk, blocks, key, link, bytes)?;
-    Ok(Some(value))
-}
-
-/// The link to the key's value in a leaf. None if the leaf has the value itself, or has none.
-pub(crate) fn long_link(bytes: &Block, key: Key) -> Option<Link>
-    ensures fits { IfSome result LinkFits }
-    ensures headed { IfSome result (λ link. (long : Bool) × (n : ℕ) × IsRowsHead bytes.now MAX_ROWS long n) }
-    ensures only { IfHasRows bytes.now (λ ws. IsLinkOf result (value_at (place key) ws)) }
-{
-    if !is_long_leaf(bytes) {
-        return None;
-    }
-    match find_row(bytes, key) {
-        Some(Some(Stored::Long(link))) => Some(link),
-        Some(Some(Stored::Short(_))) => None,
-        Some(None) => None,
-        None => None,
-    }
-}
 
 /// The same bytes, at the start of this buffer.
 fn copied<'a>(value: &[u8], room: &'a mut Block) -> &'a [u8]
@@ -74,19 +35,15 @@ fn get_in_leaf<'a, D: Disk>(
     requires { blocks ≤ (D.state disk.old).blocks }
     ensures looks { OnlyLooks result (D.state disk.old) (D.state disk.new) }
     ensures short { IfOk result (λ value. IfSome value (λ found. length found.now ≤ longest)) }
-    ensures reads { ReadsAtMost 2 (D.state disk.old) (D.state disk.new) }
+    ensures reads { ReadsAtMost 1 (D.state disk.old) (D.state disk.new) }
     ensures path { FindsEnd result (D.state disk.old) (D.state disk.new) blocks top }
     ensures value { GivesValueUnder result (D.state disk.old) (D.state disk.new) blocks top key }
 {
-    load_block(disk, blocks, top)?;
-    if let Some(link) = long_link(disk.at_hand(), key) {
-        return get_long(disk, blocks, key, link, bytes);
-    }
-    match find_row(disk.at_hand(), key) {
-        Some(Some(Stored::Short(value))) => Ok(Some(copied(value, bytes))),
-        Some(Some(Stored::Long(_))) => Err(TreeFault::Damaged(top.block)),
-        Some(None) => Ok(None),
-        None => Err(TreeFault::Damaged(top.block)),
+    load_leaf(disk, blocks, top)?;
+    let leaf = disk.at_hand();
+    match find_record(leaf, key) {
+        Look::Found(index) => Ok(Some(copied(record_value(leaf, index), bytes))),
+        Look::Missing(_) => Ok(None),
     }
 }
 
@@ -98,11 +55,10 @@ fn has_in_leaf<D: Disk>(disk: &mut D, blocks: u32, top: Child, key: Key) -> Resu
     ensures path { FindsEnd result (D.state disk.old) (D.state disk.new) blocks top }
     ensures found { TellsRecordUnder result (D.state disk.old) (D.state disk.new) blocks top key }
 {
-    load_block(disk, blocks, top)?;
-    match find_row(disk.at_hand(), key) {
-        Some(Some(_)) => Ok(true),
-        Some(None) => Ok(false),
-        None => Err(TreeFault::Damaged(top.block)),
+    load_leaf(disk, blocks, top)?;
+    match find_record(disk.at_hand(), key) {
+        Look::Found(_) => Ok(true),
+        Look::Missing(_) => Ok(false),
     }
 }
 
@@ -129,8 +85,7 @@ fn leaf_of<D: Disk>(
 }
 
 /// The value of a key in the map under a root, in these bytes. The blocks on the path are loaded
-/// and looked at in place, and only a short value is copied out of them. The block of a long value
-/// is read into the bytes.
+/// and looked at in place, and only the value is copied out of them.
 pub fn get<'a, D: Disk>(
     disk: &mut D,
     blocks: u32,
@@ -142,19 +97,18 @@ pub fn get<'a, D: Disk>(
     ensures looks { OnlyLooks result (D.state disk.old) (D.state disk.new) }
     ensures short { IfOk result (λ value. IfSome value (λ found. length found.now ≤ longest)) }
 
-    // A value, or its absence, is returned only if each block on the path has the head of its level
-    // and begins with the key that its parent gives it, the first one with the lowest key of the
-    // root.
+    // A value, or its absence, is returned only if each inner block on the path has the head of its
+    // level, the last block is a leaf, and each begins with the key that its parent gives it, the
+    // first one with the lowest key of the root.
     ensures path { FindsPathFrom root result (D.state disk.old) (D.state disk.new) blocks (place key) }
 
     // On a tree it is the value in its map, whatever the sizes of its blocks, unless the device
     // fails.
     ensures value { GivesValue result (D.state disk.old) (D.state disk.new) blocks root key }
 
-    // Whatever the answer, it reads at most one block per level and that of a long value, and no more
-    // than nine.
-    ensures reads { ReadsAtMost (root.level + 2) (D.state disk.old) (D.state disk.new) }
-    ensures most { ReadsAtMost 9 (D.state disk.old) (D.state disk.new) }
+    // Whatever the answer, it reads at most one block per level, and no more than eight.
+    ensures reads { ReadsAtMost (root.level + 1) (D.state disk.old) (D.state disk.new) }
+    ensures most { ReadsAtMost 8 (D.state disk.old) (D.state disk.new) }
 {
     if root.block == 0 {
         return Ok(None);
@@ -167,7 +121,7 @@ pub fn get<'a, D: Disk>(
     get_in_leaf(disk, blocks, leaf, key, bytes)
 }
 
-/// Whether the map under a root has a record of the key. The block of a long value is not read.
+/// Whether the map under a root has a record of the key.
 pub fn has<D: Disk>(disk: &mut D, blocks: u32, root: Root, key: Key) -> Result<bool, TreeFault>
     requires { blocks ≤ (D.state disk.old).blocks }
     ensures looks { OnlyLooks result (D.state disk.old) (D.state disk.new) }

@@ -1,102 +1,39 @@
 //! Records of a map in order: all of them, or those of a part.
-ghost use Rattle.std.specs.Prelude.{◌≡◌, ◌≢◌, ◌<◌, ◌≤◌, ◌+◌, [], ◌∷◌, ◌++◌, length};
-ghost use Rattle.vm_types.specs.Bytes.{longest};
+ghost use Rattle.std.specs.Prelude.{◌≡◌, ◌≢◌, ◌≤◌, List, length};
 ghost use Rattle.vm_types.specs.Parts.{from, part};
 ghost use Rattle.vm_types.specs.Places.{place};
-ghost use Rattle.vm_block.specs.Told.{IfLeafRowAt};
-ghost use Rattle.vm_tree.specs.Answers.{Lists};
+ghost use Rattle.vm_block.specs.Leaf.{HasRecords, Record};
 ghost use Rattle.vm_tree.specs.Calls.{OnlyLists};
-ghost use Rattle.vm_tree.specs.Given.{AddsLeaf, AddsLinked, AddsRow, AddsUnder, GivesMap, GivesPart, GivesWindow};
+ghost use Rattle.vm_tree.specs.Given.{AddsLeaf, AddsUnder, GivesMap, GivesPart, GivesWindow};
 ghost use Rattle.vm_tree.specs.Over.{ReadsOver, ReadsTree, is_between, stands_at};
-ghost use Rattle.vm_tree.specs.Spent.{ReadsBeside, ReadsRow, ReadsUnder, ReadsWindow};
+ghost use Rattle.vm_tree.specs.Spent.{ReadsUnder, ReadsWindow};
 
-use crate::block_reads::{node_at, rows_into};
+use crate::block_reads::{leaf_into, node_at};
 use crate::faults::{ListFault, TreeFault};
-use crate::long::long_at;
 use crate::root::Root;
 use crate::window::Window;
 use std::alloc::Global;
-use vm_block::{Child, Link, MAX_ROWS, Stored, record_key, stored_at};
+use vm_block::{Child, MAX_RECORDS, record_key, record_value};
 use vm_disk::Disk;
-use vm_types::{Block, BlockNumber, Key, Records};
+use vm_types::{Block, Key, Records};
 
-/// Adds a record. If memory cannot be allocated, nothing changes.
-fn push_value(key: Key, value: &[u8], into: &mut Records) -> Result<(), ListFault>
-    requires { length value.now ≤ longest }
-    ensures looks { result ≢ Err (ListFault.Tree TreeFault.Device) }
-    ensures added { Lists result (λ _. into.new ≡ into.old ++ (key, value.now) ∷ []) }
-{
-    into.push(key, value)?;
-    Ok(())
-}
-
-/// Adds the record with the long value that a row of a leaf links to. Kept out of line so that
-/// callers do not carry a second 4 KiB buffer on their stack.
-#[inline(never)]
-fn push_long<D: Disk>(
-    disk: &mut D,
-    blocks: u32,
-    key: Key,
-    link: Link,
-    into: &mut Records,
-) -> Result<(), ListFault>
-    requires { blocks ≤ (D.state disk.old).blocks }
-    ensures looks { OnlyLists result (D.state disk.old) (D.state disk.new) }
-    ensures once { (D.state disk.new).reads ≤ (D.state disk.old).reads + 1 }
-    ensures added { AddsLinked result (D.state disk.old) (D.state disk.new)
-        blocks key link into.old into.new }
-{
-    let mut bytes = [0; 4096];
-    let value = long_at(disk, blocks, key, link, &mut bytes)?;
-    push_value(key, value, into)
-}
-
-/// Adds the record of row `i` of this leaf. A short value is copied straight from the leaf's bytes.
-fn push_row<D: Disk>(
-    disk: &mut D,
-    blocks: u32,
-    leaf: BlockNumber,
-    bytes: &Block,
-    i: usize,
-    into: &mut Records,
-) -> Result<(), ListFault>
-    requires inside { blocks ≤ (D.state disk.old).blocks }
-    requires few { i < MAX_ROWS }
-    ensures looks { OnlyLists result (D.state disk.old) (D.state disk.new) }
-    ensures added { IfLeafRowAt bytes.now i
-        (AddsRow result (D.state disk.old) (D.state disk.new) blocks into.old into.new) }
-    ensures bound { IfLeafRowAt bytes.now i
-        (ReadsRow (D.state disk.old) (D.state disk.new) blocks) }
-{
-    let key = record_key(bytes, i);
-    match stored_at(bytes, i) {
-        Some(Stored::Short(value)) => push_value(key, value, into),
-        Some(Stored::Long(link)) => push_long(disk, blocks, key, link, into),
-        None => Err(ListFault::Tree(TreeFault::Damaged(leaf))),
-    }
-}
-
-/// Adds what is asked for of the records in the first `count` rows of this leaf.
-fn push_rows<D: Disk>(
-    disk: &mut D,
-    blocks: u32,
-    leaf: BlockNumber,
+/// Adds what is asked for of the first `count` records of this leaf. Values are copied straight from
+/// the leaf's bytes.
+fn push_records(
     bytes: &Block,
     count: usize,
     window: Window,
     into: &mut Records,
 ) -> Result<(), ListFault>
-    requires inside { blocks ≤ (D.state disk.old).blocks }
-    requires few { count ≤ MAX_ROWS }
-    ensures looks { OnlyLists result (D.state disk.old) (D.state disk.new) }
-    ensures added { AddsLeaf result (D.state disk.old) (D.state disk.new)
-        blocks bytes.now count window into.old into.new }
-    ensures bound { ReadsBeside (D.state disk.old) (D.state disk.new)
-        blocks bytes.now count window (length into.old) }
+    requires few { count ≤ MAX_RECORDS }
+    requires leaf { (rs : List Record) × HasRecords bytes.now rs × (count ≡ length rs) }
+    ensures looks { (fault : TreeFault) → result ≢ Err (ListFault.Tree fault) }
+    ensures added { AddsLeaf result bytes.now count window into.old into.new }
 {
     for i in 0..count {
-        if window.gives(record_key(bytes, i), into.len()) {
-            push_row(disk, blocks, leaf, bytes, i, into)?;
+        let key = record_key(bytes, i);
+        if window.gives(key, into.len()) {
+            into.push(key, record_value(bytes, i))?;
         }
     }
     Ok(())
@@ -118,8 +55,8 @@ fn scan_leaf<D: Disk>(
         blocks 0 top window (length into.old) }
 {
     let mut bytes = [0; 4096];
-    let count = rows_into(disk, blocks, top.block, &mut bytes)?;
-    push_rows(disk, blocks, top.block, &bytes, count, window, into)
+    let count = leaf_into(disk, blocks, top.block, &mut bytes)?;
+    push_records(&bytes, count, window, into)
 }
 
 /// Adds what is asked for of the records under a child, which is the top of `level` levels above

@@ -1,31 +1,28 @@
 //! Removing a record.
-ghost use Rattle.std.specs.Prelude.{◌≡◌, ◌≢◌, ◌+◌, ◌-◌, ◌<◌, ◌≤◌, true, false, [], ◌∷◌, ◌++◌, None, length, IfOk, IfSome};
+ghost use Rattle.std.specs.Prelude.{◌≡◌, ◌≢◌, ◌+◌, ◌-◌, ◌<◌, ◌≤◌, true, false, None, length, IfOk, IfSome};
 ghost use Rattle.vm_types.specs.Places.{KeyFits, place};
 ghost use Rattle.vm_alloc.specs.Held.{free_count};
 ghost use Rattle.vm_tree.specs.Calls.{OnlyLooks, LooksIf, LooksIfDamaged, WritesFree};
 ghost use Rattle.vm_tree.specs.Spent.{ReadsAtMost};
 ghost use Rattle.vm_tree.specs.Free.{TakesAtMost};
 ghost use Rattle.vm_tree.specs.Splits.{IsWide};
-ghost use Rattle.vm_tree.specs.Paths.{NamesLong, NamesPath, NamesPathUnder};
-ghost use Rattle.vm_tree.specs.BlockReads.{FindsEnd, FindsPath, FindsPathFrom, FindsRows, GivesRowsAmong};
+ghost use Rattle.vm_tree.specs.Paths.{NamesPath, NamesPathUnder};
+ghost use Rattle.vm_tree.specs.BlockReads.{FindsPath, FindsPathFrom};
 ghost use Rattle.vm_tree.specs.Removal.{Empties, HadOneIf, IsRootAmong, KeepsRoot, LeavesData, LeavesOut, LeavesRest, LeavesWide, LooksIfNothing, LooksIfOld, LooksIfSame, NarrowsTo, RemovesFrom, RemovesFromLeaf, RemovesUnder, TakesForLeft, child_of, level_of};
-ghost use Rattle.vm_tree.specs.Replacement.{KeepsAbove, long_of};
+ghost use Rattle.vm_tree.specs.Replacement.{KeepsAbove};
 ghost use Rattle.vm_tree.specs.Root.{AreSizes, sizes_of};
 ghost use Rattle.vm_tree.specs.Tree.{IsData};
 
-use crate::block_reads::{is_data, load_block, load_way};
+use crate::block_reads::{is_data, load_leaf, load_way};
 use crate::block_writes::{write_bytes, write_node_block};
 use crate::child_lists::spliced;
 use crate::faults::TreeFault;
-use crate::long_links::linked;
 use crate::root::{Root, root_at};
 use arrayvec::ArrayVec;
 use vm_alloc::Held;
-use vm_block::{
-    Child, MAX_CHILDREN, MAX_ROWS, Taken, Way, read_node, remove_row, rows_size, set_child,
-};
+use vm_block::{Child, MAX_CHILDREN, Taken, Way, read_node, remove_record, set_child};
 use vm_disk::Disk;
-use vm_types::{Block, BlockNumber, Key};
+use vm_types::{Block, Key};
 
 /// What is left of a block without a record.
 #[derive(Clone, Copy, Debug)]
@@ -49,7 +46,7 @@ fn child_of(root: Root) -> Child
 }
 
 /// The children of an inner block of these bytes without the one that the descent took.
-fn without_child(bytes: &Block, way: Way) -> Option<ArrayVec<Child, 257>>
+fn without_child(bytes: &Block, way: Way) -> Option<ArrayVec<Child, 258>>
     requires within { way.index < way.count }
     requires few { way.count ≤ MAX_CHILDREN }
     ensures count { IfSome result (λ rest. length rest.items + 1 ≡ way.count) }
@@ -63,38 +60,14 @@ fn without_child(bytes: &Block, way: Way) -> Option<ArrayVec<Child, 257>>
     }
 }
 
-/// Loads this child's block, which must be a leaf of at most MOST rows.
-fn load_rows<D: Disk, const MOST: usize>(
-    disk: &mut D,
-    blocks: u32,
-    top: Child,
-) -> Result<(), TreeFault>
-    requires { blocks ≤ (D.state disk.old).blocks }
-    ensures looks { OnlyLooks result (D.state disk.old) (D.state disk.new) }
-    ensures reads { ReadsAtMost 1 (D.state disk.old) (D.state disk.new) }
-    ensures end { FindsEnd result (D.state disk.old) (D.state disk.new) blocks top }
-    ensures found { FindsRows result (D.state disk.old) (D.state disk.new) top MOST (D.hand disk.new) }
-    ensures only { GivesRowsAmong result (D.state disk.old) (D.state disk.new)
-        blocks top MOST (D.hand disk.new) }
-{
-    load_block(disk, blocks, top)?;
-    match rows_size(disk.at_hand()) {
-        Some(count) if count <= MOST => Ok(()),
-        _ => Err(TreeFault::Damaged(top.block)),
-    }
-}
-
-/// Removes the key's row from a leaf. The block of a long value is neither read nor written. On
-/// return `long` is that block, or 0 if there is none.
-fn remove_from_leaf<D: Disk, const LEAF: usize>(
+/// Removes the key's record from a leaf.
+fn remove_from_leaf<D: Disk>(
     disk: &mut D,
     held: &mut Held,
     top: Child,
     key: Key,
-    long: &mut BlockNumber,
 ) -> Result<Left, TreeFault>
     requires inside { length held.old ≤ (D.state disk.old).blocks }
-    requires most { LEAF ≤ MAX_ROWS }
     requires free { 1 ≤ free_count held.old }
     ensures writes { WritesFree result held.old held.new (D.state disk.old) (D.state disk.new) }
     ensures reads { ReadsAtMost 1 (D.state disk.old) (D.state disk.new) }
@@ -107,22 +80,18 @@ fn remove_from_leaf<D: Disk, const LEAF: usize>(
     ensures last { HadOneIf (result ≡ Ok Left.Nothing) (D.state disk.old) (D.state disk.new) 0 top.block }
     ensures looks { LooksIfDamaged result held.old held.new (D.state disk.old) (D.state disk.new) }
     ensures path { FindsPath result (D.state disk.old) (D.state disk.new) (length held.old) (place key) 0 top }
-    ensures remove { RemovesFromLeaf result LEAF held.old held.new
-        (D.state disk.old) (D.state disk.new) top (place key) (long_of long.new ++ (top.block ∷ [])) }
-    ensures path_in { NamesLong result LEAF (D.state disk.old) (D.state disk.new)
-        (length held.old) top long.new }
+    ensures remove { RemovesFromLeaf result held.old held.new
+        (D.state disk.old) (D.state disk.new) top (place key) }
 {
-    load_rows::<D, LEAF>(disk, held.blocks(), top)?;
+    load_leaf(disk, held.blocks(), top)?;
     let mut bytes = *disk.at_hand();
-    *long = linked(&bytes, key);
-    match remove_row(&mut bytes, LEAF, key) {
+    match remove_record(&mut bytes, key) {
         Taken::Out => {
             let leaf = write_bytes(disk, held, &bytes)?;
             Ok(Left::Rest(root_at(leaf, 0)))
         }
         Taken::Last => Ok(Left::Nothing),
         Taken::Absent => Ok(Left::Same),
-        Taken::NoLeaf => Err(TreeFault::Damaged(top.block)),
     }
 }
 
@@ -200,19 +169,17 @@ fn write_rest<D: Disk, const FAN: usize>(
 }
 
 /// Removes the key's record from what lies under a block of this level. A root that would have one
-/// child is not written. On return `path[l]` is the replaced block at level `l`, and `path[8]` that
-/// of the long value.
-fn remove_below<D: Disk, const LEAF: usize, const FAN: usize>(
+/// child is not written. On return `path[l]` is the replaced block at level `l`.
+fn remove_below<D: Disk, const FAN: usize>(
     disk: &mut D,
     held: &mut Held,
     level: u8,
     top: Child,
     is_root: bool,
     key: Key,
-    path: &mut [u32; 9],
+    path: &mut [u32; 8],
 ) -> Result<Left, TreeFault>
     requires inside { length held.old ≤ (D.state disk.old).blocks }
-    requires leaf_most { LEAF ≤ MAX_ROWS }
     requires fan_most { FAN ≤ MAX_CHILDREN }
     requires low { level ≤ 7 }
     requires free { level + 1 ≤ free_count held.old }
@@ -232,21 +199,21 @@ fn remove_below<D: Disk, const LEAF: usize, const FAN: usize>(
     ensures last { HadOneIf (result ≡ Ok Left.Nothing) (D.state disk.old) (D.state disk.new) level top.block }
     ensures looks { LooksIfDamaged result held.old held.new (D.state disk.old) (D.state disk.new) }
     ensures path { FindsPath result (D.state disk.old) (D.state disk.new) (length held.old) (place key) level top }
-    ensures remove { RemovesUnder result LEAF FAN held.old held.new
+    ensures remove { RemovesUnder result FAN held.old held.new
         (D.state disk.old) (D.state disk.new) level top (place key) path.new }
     ensures path_size { length path.new ≡ length path.old }
     ensures path_above { KeepsAbove level top.block path.old path.new }
-    ensures path_in { NamesPathUnder result LEAF FAN (D.state disk.old) (D.state disk.new)
+    ensures path_in { NamesPathUnder result FAN (D.state disk.old) (D.state disk.new)
         (length held.old) level top path.new }
 {
     path[usize::from(level)] = top.block;
     if level == 0 {
-        return remove_from_leaf::<D, LEAF>(disk, held, top, key, &mut path[8]);
+        return remove_from_leaf(disk, held, top, key);
     }
     let way = load_way::<D, FAN>(disk, held.blocks(), level, top, key)?;
     let mut bytes = *disk.at_hand();
     let alone = is_root && way.count == 1;
-    let left = remove_below::<D, LEAF, FAN>(disk, held, level - 1, way.child, alone, key, path)?;
+    let left = remove_below::<D, FAN>(disk, held, level - 1, way.child, alone, key, path)?;
     match left {
         Left::Same => Ok(Left::Same),
         Left::Nothing => match without_child(&bytes, way) {
@@ -266,16 +233,15 @@ fn remove_below<D: Disk, const LEAF: usize, const FAN: usize>(
 
 /// Removes the record of a key by copying its root-to-leaf path into free blocks, and returns the
 /// new root, or None if the key is absent. Requires 16 free blocks. On return `path[l]` is the old
-/// block at level `l`, and `path[8]` that of the long value that is removed, or 0. No block of the
-/// new tree is one of them.
-pub fn remove<D: Disk, const LEAF: usize, const FAN: usize, const LEVELS: usize>(
+/// block at level `l`. No block of the new tree is one of them.
+pub fn remove<D: Disk, const FAN: usize, const LEVELS: usize>(
     disk: &mut D,
     held: &mut Held,
     root: Root,
     key: Key,
-    path: &mut [u32; 9],
+    path: &mut [u32; 8],
 ) -> Result<Option<Root>, TreeFault>
-    requires sizes { AreSizes LEAF FAN LEVELS }
+    requires sizes { AreSizes FAN LEVELS }
     requires inside { length held.old ≤ (D.state disk.old).blocks }
     requires room { 16 ≤ free_count held.old }
     ensures level { IfOk result (λ rest. IfSome rest (λ r. r.level < LEVELS)) }
@@ -318,26 +284,25 @@ pub fn remove<D: Disk, const LEAF: usize, const FAN: usize, const LEVELS: usize>
     // A damaged block is found before any block is taken or written.
     ensures looks { LooksIfDamaged result held.old held.new (D.state disk.old) (D.state disk.new) }
 
-    // What is left, or that the key is absent, is returned only if each block on the path has the
-    // head of its level and begins with the key that its parent gives it, the first one with the
-    // lowest key of the old root.
+    // What is left, or that the key is absent, is returned only if each inner block on the path has
+    // the head of its level, the last block is a leaf, and each begins with the key that its parent
+    // gives it, the first one with the lowest key of the old root.
     ensures path { FindsPathFrom root result (D.state disk.old) (D.state disk.new) (length held.old) (place key) }
 
     // On a tree the answer is None exactly if the key is absent, and otherwise a root, unless the
     // device fails. If the blocks of the tree are held, the root has the map without the key, in
     // blocks that are not on the old path.
-    ensures remove { RemovesFrom result (sizes_of LEAF FAN LEVELS) held.old held.new
+    ensures remove { RemovesFrom result (sizes_of FAN LEVELS) held.old held.new
         (D.state disk.old) (D.state disk.new) root key path.new }
 
     // On a tree the new root is a leaf, or has at least two children.
     ensures wide { IfOk result (λ rest. IfSome rest (IsWide (D.state disk.new))) }
 
     // The path consists of blocks of the old tree.
-    ensures path_in { NamesPath result (sizes_of LEAF FAN LEVELS)
+    ensures path_in { NamesPath result (sizes_of FAN LEVELS)
         (D.state disk.old) (D.state disk.new) (length held.old) root path.new }
 {
     if root.block == 0 {
-        path[8] = 0;
         return Ok(None);
     }
     if usize::from(root.level) >= LEVELS {
@@ -347,7 +312,7 @@ pub fn remove<D: Disk, const LEAF: usize, const FAN: usize, const LEVELS: usize>
         low: root.low,
         block: root.block,
     };
-    let left = remove_below::<D, LEAF, FAN>(disk, held, root.level, top, true, key, path)?;
+    let left = remove_below::<D, FAN>(disk, held, root.level, top, true, key, path)?;
     match left {
         Left::Same => Ok(None),
         Left::Nothing => Ok(Some(Root::default())),

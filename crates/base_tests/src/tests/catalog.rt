@@ -2,7 +2,7 @@
 use std::alloc::Global;
 use std::process::Abort;
 use std::test::Fail;
-use vm_block::{Entry, Kind, SlotFormat, SlotName, write_header};
+use vm_block::{Entry, Kind, SlotName, write_header};
 use vm_catalog::{LoadFault, Slot, load, publish, select_slot, slot_in_use, write_slot};
 use vm_disk::{DeviceFault, Disk, FuseDisk, MemDisk};
 use vm_types::{Block, MAX_VERSIONS, Name};
@@ -45,7 +45,7 @@ fn put<D: Disk>(disk: &mut D, in_use: SlotName, entries: &[Entry]) -> Result<(),
     if disk.blocks() < 34 || entries.len() > MAX_VERSIONS {
         return Err(DeviceFault);
     }
-    publish(disk, in_use, SlotFormat::One, 64, entries)
+    publish(disk, in_use, 64, entries)
 }
 
 fn put_alone<D: Disk>(
@@ -56,7 +56,7 @@ fn put_alone<D: Disk>(
     if disk.blocks() < 34 || entries.len() > MAX_VERSIONS {
         return Err(DeviceFault);
     }
-    write_slot(disk, slot_name, SlotFormat::One, 64, entries)
+    write_slot(disk, slot_name, 64, entries)
 }
 
 fn get<D: Disk>(alloc: Global, disk: &mut D, slot_name: SlotName) -> Result<Slot, LoadFault> {
@@ -115,7 +115,6 @@ fn stands_after(
 fn expect_loaded<R: AllocGlobal + Abort>(rt: &R, disk: &mut FuseDisk<MemDisk>, entries: &[Entry]) {
     match get(rt.alloc(), disk, SlotName::B) {
         Ok(slot) => {
-            assert_eq!(rt; slot.format, SlotFormat::One);
             assert_eq!(rt; slot.blocks, 64);
             assert_eq!(rt; slot.entries.as_slice(), entries);
             assert!(rt; slot.entries.capacity() >= 511);
@@ -156,7 +155,7 @@ fn slot_b_has_the_bytes_of_one_entry(rt: HostRuntime) -> Result<(), Fail> {
     let mut disk = MemDisk::new(rt.alloc(), 64)?;
     put(&mut disk, SlotName::A, &[top().ok_or("top")?])?;
     let mut wanted = [0; 4096];
-    wanted[..16].copy_from_slice(b"SLOT\x01\0\0\0\x40\0\0\0\x01\0\0\0");
+    wanted[..16].copy_from_slice(b"SLOT\x03\0\0\0\x40\0\0\0\x01\0\0\0");
     wanted[128..133].copy_from_slice(b"\x41\x03top");
     wanted[195] = 0x22;
     assert!(rt; bytes_of(&mut disk, 18)? == wanted);
@@ -203,10 +202,12 @@ fn damaged_slots_are_refused(rt: HostRuntime) -> Result<(), Fail> {
         // No entries, and one more than a slot holds.
         (&one, 2, 12, 0, false),
         (&forty, 2, 13, 2, false),
-        // Formats: 0 and 3 do not exist, and 2 does.
+        // Format 3 is the only one.
         (&one, 2, 4, 0, false),
-        (&one, 2, 4, 3, false),
-        (&forty, 2, 4, 2, true),
+        (&one, 2, 4, 1, false),
+        (&forty, 2, 4, 2, false),
+        (&one, 2, 4, 4, false),
+        (&one, 2, 4, 3, true),
         // A byte of the head that has to be zero, and an invalid tag in the second block.
         (&one, 2, 16, 1, false),
         (&forty, 3, 128, b'B', false),

@@ -1,18 +1,27 @@
 //! Header and selector, byte for byte.
 use super::spelled::is_block;
-use vm_block::{SlotName, is_header, read_selector, write_header, write_selector};
+use vm_block::{
+    SlotName, is_earlier_header, is_header, read_selector, write_header, write_selector,
+};
 
 #[test]
 fn header_is_spelled_and_read(rt: HostRuntime) {
     let mut block = [7; 4096];
     write_header(&mut block);
-    assert!(rt; is_block(&block, b"ALTSTORE\x01\0\0\0\0\x10\0\0"));
+    assert!(rt; is_block(&block, b"ALTSTORE\x03\0\0\0\0\x10\0\0"));
     assert!(rt; is_header(&block));
     block[4095] = 1;
     assert!(rt; !is_header(&block), "a byte behind it");
+    block[8] = 1;
+    assert!(rt; !is_earlier_header(&block), "a byte behind an earlier one");
+    block[8] = 3;
     block[4095] = 0;
-    block[8] = 2;
-    assert!(rt; !is_header(&block), "another number");
+    assert!(rt; is_header(&block) && !is_earlier_header(&block));
+    for (number, is_earlier) in [(0, false), (1, true), (2, true), (4, false)] {
+        block[8] = number;
+        assert!(rt; !is_header(&block), "format {number}");
+        assert!(rt; is_earlier_header(&block) == is_earlier, "format {number}");
+    }
 }
 
 #[test]

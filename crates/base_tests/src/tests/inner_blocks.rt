@@ -2,8 +2,8 @@
 use super::spelled::{is_block, key};
 use std::process::Abort;
 use vm_block::{
-    Child, Way, child_at, divide_child, find_child, lowest_key, node_size, read_leaf, read_node,
-    rows_size, set_child, write_node,
+    Child, Way, child_at, divide_child, divide_in_three, find_child, is_leaf, lowest_key,
+    node_size, read_node, records_len, set_child, write_node,
 };
 use vm_types::Block;
 
@@ -31,9 +31,9 @@ fn inner_block_is_spelled_and_read(rt: HostRuntime) {
         b"NODE\x01\0\0\0\x02\0\0\0\0\0\0\0\x01\0\x01\0\0\0\0\0\0\0\x23\0\0\0\x01\0\x0a\0\0\0\0\0\0\0\x24";
     assert!(rt; is_block(&block, due));
     assert!(rt; has(&block, 1, &children));
-    assert!(rt; read_leaf(&block).is_none());
+    assert!(rt; !is_leaf(&block));
     assert!(rt; node_size(&block) == Some((1, 2)));
-    assert!(rt; rows_size(&block).is_none());
+    assert!(rt; records_len(&block) == 0);
     assert!(rt; child_at(&block, 1) == child(1, 10, 36));
 }
 
@@ -147,5 +147,40 @@ fn last_of_255_children_becomes_two(rt: HostRuntime) {
     children[255] = new;
     write_node(1, &children, &mut written);
     divide_child(&mut block, 255, 254, old, new);
+    assert!(rt; block == written);
+}
+
+#[test]
+fn child_becomes_three_where_it_stands(rt: HostRuntime) {
+    let old = child(1, 5, 35);
+    let left = child(1, 4, 99);
+    let middle = child(1, 6, 101);
+    let right = child(1, 7, 100);
+    for (index, wanted) in [
+        (0, [left, middle, right, old, old]),
+        (1, [old, left, middle, right, old]),
+        (2, [old, old, left, middle, right]),
+    ] {
+        let mut block = [0; 4096];
+        let mut written = [7; 4096];
+        write_node(7, &[old, old, old], &mut block);
+        write_node(7, &wanted, &mut written);
+        divide_in_three(&mut block, 3, index, left, middle, right);
+        assert!(rt; block == written);
+    }
+}
+
+#[test]
+fn last_of_254_children_becomes_three(rt: HostRuntime) {
+    let old = child(1, 5, 35);
+    let (middle, right) = (child(1, 6, 100), child(1, 7, 101));
+    let mut children = [old; 256];
+    let mut block = [0; 4096];
+    let mut written = [7; 4096];
+    write_node(1, &children[..254], &mut block);
+    children[254] = middle;
+    children[255] = right;
+    write_node(1, &children, &mut written);
+    divide_in_three(&mut block, 254, 253, old, middle, right);
     assert!(rt; block == written);
 }

@@ -1,39 +1,22 @@
 //! The head of a slot and its entries, byte for byte, and bytes that are not one.
 use super::spelled::name;
 use std::process::Abort;
-use vm_block::{
-    Entry, Kind, SlotFormat, SlotHead, read_entry, read_slot_head, write_entry, write_slot_head,
-};
+use vm_block::{Entry, Kind, SlotHead, read_entry, read_slot_head, write_entry, write_slot_head};
 
-/// The head of a slot of format 1 with one entry, in a store of 64 blocks.
+/// The head of a slot with one entry, in a store of 64 blocks.
 const HEAD: SlotHead = SlotHead {
-    format: SlotFormat::One,
     blocks: 64,
     entries: 1,
 };
 
 #[test]
 fn head_of_a_slot_is_spelled_and_read(rt: HostRuntime) {
-    for (name, format, front) in [
-        (
-            "format 1",
-            SlotFormat::One,
-            b"SLOT\x01\0\0\0\x40\0\0\0\x01\0\0\0",
-        ),
-        (
-            "format 2",
-            SlotFormat::Two,
-            b"SLOT\x02\0\0\0\x40\0\0\0\x01\0\0\0",
-        ),
-    ] {
-        let head = SlotHead { format, ..HEAD };
-        let mut bytes = [7; 128];
-        write_slot_head(head, &mut bytes);
-        let mut due = [0; 128];
-        due[..16].copy_from_slice(front);
-        assert!(rt; bytes == due, "{name}");
-        assert_eq!(rt; read_slot_head(&bytes), Some(head), "{name}");
-    }
+    let mut bytes = [7; 128];
+    write_slot_head(HEAD, &mut bytes);
+    let mut due = [0; 128];
+    due[..16].copy_from_slice(b"SLOT\x03\0\0\0\x40\0\0\0\x01\0\0\0");
+    assert!(rt; bytes == due);
+    assert_eq!(rt; read_slot_head(&bytes), Some(HEAD));
 }
 
 /// Whether the head of a slot is no longer one with this byte at this offset.
@@ -49,13 +32,14 @@ fn head_is_refused_with(at: usize, byte: u8) -> bool {
 
 #[test]
 fn bytes_that_are_no_head_are_refused(rt: HostRuntime) {
-    assert!(rt; !head_is_refused_with(4, 2), "format 2");
     assert!(rt; !head_is_refused_with(13, 1), "257 entries");
     for (at, byte, why) in [
         (0, b'L', "other letters"),
         (4, 0, "format 0"),
-        (4, 3, "format 3"),
-        (5, 1, "format 257"),
+        (4, 1, "format 1"),
+        (4, 2, "format 2"),
+        (4, 4, "format 4"),
+        (5, 1, "format 259"),
         (8, 63, "too few blocks"),
         (10, 16, "too many blocks"),
         (12, 0, "no entry"),

@@ -155,8 +155,7 @@ fn disk_of(alloc: Global, commands: &[Command]) -> Result<MemDisk, Wrong> {
     Ok(disk)
 }
 
-/// A disk of one record. A short value is in block 34; a long one is in block 34 with its leaf in
-/// block 35.
+/// A disk of one record, in block 34.
 fn one_record(alloc: Global, value: &[u8]) -> Result<MemDisk, Wrong> {
     let one = Command::Put {
         alt: top(),
@@ -193,15 +192,16 @@ fn try_bytes(
     Ok(bench.stores)
 }
 
-/// A disk of seventeen records, with the root in block 38 over leaves in 36 and 37. Blocks 39 to
-/// 47, 34 and 35 hold the leaf as it was with 6 to 16 records: a Checkpoint and an Uncheck after
-/// each Put end its series, so that no block is forgotten.
+/// A disk of seventeen records, with the root in block 38 over leaves in 36 and 37, of which the
+/// second has the last record. Blocks 39 to 47, 34 and 35 hold the leaf as it was with 6 to 16
+/// records: a Checkpoint and an Uncheck after each Put end its series, so that no block is
+/// forgotten.
 fn two_levels(alloc: Global) -> Result<MemDisk, Wrong> {
     let mut commands = Vec::new(alloc);
     let (alt, saved) = (top(), name(b"saved"));
     for number in 1..18 {
         for command in [
-            put(b"top", number, b"v"),
+            put(b"top", number, &[b'v'; 240]),
             Command::Checkpoint { alt, name: saved },
             Command::Uncheck { alt, name: saved },
         ] {
@@ -240,15 +240,16 @@ fn try_words(
 /// A short value.
 const DUCT: &[u8] = b"duct";
 
-/// A long value.
+/// A longer value.
 const LONG: &[u8] = &[0x61; 300];
 
 /// The value of a record, a block, what each of its bytes is set to, up to which one, and how many
 /// of the disks are then a store.
-const BYTES: [(&[u8], u32, u8, usize, u32); 12] = [
+const BYTES: [(&[u8], u32, u8, usize, u32); 10] = [
     // A byte that is zero stays so: all but 10 of the header, 13 of the slot and 12 of the leaf. Of
     // those, the root may be none, and the table, the number and the letters of the value may be
-    // others. Every selector names a slot, and what follows the entry in its slot is ignored.
+    // others. The value may end later, as far as there are zeros. Every selector names a slot, and
+    // what follows the entry in its slot is ignored.
     (DUCT, 0, 0, 4096, 4096 - 10),
     (DUCT, 0, 0xFF, 4096, 0),
     (DUCT, 1, 0, 4096, 4096),
@@ -256,30 +257,28 @@ const BYTES: [(&[u8], u32, u8, usize, u32); 12] = [
     (DUCT, 18, 0, 4096, 4096 - 13 + 1),
     (DUCT, 18, 0xFF, 4096, 4096 - 256),
     (DUCT, 34, 0, 4096, 4096 - 12 + 6),
-    (DUCT, 34, 0xFF, 4096, 2 + 8 + 4),
-    // The same for the first bytes of the blocks of a value of 300 bytes. The letters, the length
-    // and the key of its block have only one valid form, and so does each byte of its leaf. The
-    // bytes of the value may be others.
-    (LONG, 34, 0, 512, 512 - 8),
-    (LONG, 34, 0xFF, 512, 300),
-    (LONG, 35, 0, 512, 512 - 10),
-    (LONG, 35, 0xFF, 512, 0),
+    (DUCT, 34, 0xFF, 4096, 2 + 8 + 1 + 4),
+    // The same for the first bytes of a leaf of a value of 300 bytes. It may end after 511, and not
+    // after 256 or 44.
+    (LONG, 34, 0, 512, 512 - 4 - 1 - 2),
+    (LONG, 34, 0xFF, 512, 2 + 8 + 1 + 300),
 ];
 
-/// Whether the disk has one long value instead of seventeen records, a block of it, from which byte
-/// on and up to which one it is set to numbers, and how many of the disks are then a store.
-const WORDS: [(bool, u32, usize, usize, u32); 6] = [
+/// Whether the disk has one record instead of seventeen, a block of it, from which byte on and up to
+/// which one it is set to numbers, and how many of the disks are then a store.
+const WORDS: [(bool, u32, usize, usize, u32); 7] = [
     // The root of `top` may be none or each block from 34 to 47. The first child may be each leaf
-    // that begins with the first record and has at most nine, and the second one is the only leaf
-    // that begins with the tenth.
+    // that begins with the first record, and the second one is the only leaf that begins with the
+    // last.
     (false, 18, 128 + 67, 128 + 68, 15),
-    (false, 38, 16 + 10, 16 + 11, 5),
+    (false, 38, 16 + 10, 16 + 11, 12),
     (false, 38, 30 + 10, 30 + 11, 1),
-    // In the store of one long value, the root may be none or its leaf, and the link names the only
-    // block with its key. Of the formats, only the second has it.
+    // In the store of one record, the root may be none or its leaf. Of the formats there is one. A
+    // leaf of one record has one entry.
     (true, 18, 128 + 67, 128 + 68, 2),
-    (true, 35, 16 + 12, 16 + 13, 1),
     (true, 18, 4, 5, 1),
+    (true, 0, 8, 9, 1),
+    (true, 34, 8, 9, 1),
 ];
 
 #[test]
@@ -289,8 +288,8 @@ fn each_byte_is_read_or_ignored(rt: HostRuntime) -> Result<(), Fail> {
         let found = try_bytes(rt.alloc(), value, n, byte, to, &mut place);
         assert_eq!(rt; found, Ok(stores), "block {n}, byte {byte}, at {place:?}");
     }
-    for (is_long, n, from, to, stores) in WORDS {
-        let disk = if is_long {
+    for (is_alone, n, from, to, stores) in WORDS {
+        let disk = if is_alone {
             one_record(rt.alloc(), LONG)?
         } else {
             two_levels(rt.alloc())?

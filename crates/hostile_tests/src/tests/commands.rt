@@ -14,16 +14,19 @@ pub enum Script {
     Grown,
 }
 
-/// The long value of the run. It has a block of its own.
-pub const LONG: &'static [u8] = &[b'd'; 300];
+/// The greatest value of the run. Beside it, its leaf has room for a short one.
+pub const GREAT: &'static [u8] = &[b'd'; 4000];
+
+/// The last value of the run. The leaf of the greatest one has no room for it.
+pub const LAST: &'static [u8] = &[b'e'; 100];
 
 /// How many device calls `format`, `open` and the commands make if the store does not grow. The
-/// Merge reads the long value, and puts the record of `x` into the leaf of `top`, which has it. The
-/// Remove goes on with the series of the Put before it, and reads its leaf once.
-const CALLS: u32 = 7 + 4 + 1 + 2 + 4 + 3 + 7 + 4 + 2 + 2 + 4;
+/// Merge puts the record of `x` into the leaf of `top`. The last Put writes two leaves and a root
+/// above them. The Remove goes on with its series, and reads and writes its leaf and the root once.
+const CALLS: u32 = 7 + 4 + 1 + 2 + 4 + 2 + 6 + 4 + 4 + 4 + 4;
 
 /// How many of these are writes or syncs.
-const WRITES_AND_SYNCS: u32 = 6 + 1 + 1 + 1 + 4 + 2 + 1 + 4 + 1 + 1 + 4;
+const WRITES_AND_SYNCS: u32 = 6 + 1 + 1 + 1 + 4 + 1 + 1 + 4 + 3 + 2 + 4;
 
 /// The key of this number in table 1.
 pub(super) fn key(number: u64) -> Key {
@@ -58,11 +61,11 @@ fn posted(alloc: Global, n: u32) -> Command {
         },
         2 => put(b"x", 1, b"b"),
         3 => Command::Checkpoint { alt: x, name: c },
-        5 => put(b"top", 2, LONG),
+        5 => put(b"top", 2, GREAT),
         6 => merge(alloc),
         7 => Command::Post { alt: x },
         8 => Command::Uncheck { alt: x, name: c },
-        10 => put(b"top", 3, b"e"),
+        10 => put(b"top", 3, LAST),
         11 => Command::Remove {
             alt: top(),
             key: key(1),

@@ -4,8 +4,8 @@ mod rows;
 
 use super::BLOCKS;
 use super::image::Image;
-use pieces::{disk_of, set_block, set_bytes};
-use rows::{LONG_ROWS, ROWS};
+use pieces::{disk_of, set_block};
+use rows::{LEAF_ROWS, ROWS};
 use std::alloc::Global;
 use std::test::Fail;
 use testkit::Wrong;
@@ -56,18 +56,13 @@ fn format_on(
 
 #[test]
 fn each_damage_is_named(rt: HostRuntime) -> Result<(), Fail> {
-    // In a slot of either format.
     for (row, (pieces, due)) in ROWS.iter().enumerate() {
-        for format in [1, 2] {
-            let mut disk = disk_of(rt.alloc(), pieces)?;
-            set_bytes(&mut disk, 2, 4, &[format])?;
-            let found = free_on(rt.alloc(), disk);
-            assert_eq!(rt; found, *due, "row {row}, format {format}");
-        }
-    }
-    for (row, (pieces, due)) in LONG_ROWS.iter().enumerate() {
         let found = free_on(rt.alloc(), disk_of(rt.alloc(), pieces)?);
-        assert_eq!(rt; found, *due, "row {row} of long values");
+        assert_eq!(rt; found, *due, "row {row}");
+    }
+    for (row, (pieces, due)) in LEAF_ROWS.iter().enumerate() {
+        let found = free_on(rt.alloc(), disk_of(rt.alloc(), pieces)?);
+        assert_eq!(rt; found, *due, "row {row} of leaves");
     }
     Ok(())
 }

@@ -11,18 +11,8 @@ const FIRST_DATA: u32 = 34;
 /// The length of a name, its bytes, and zero bytes after it.
 type Label = [u8; 33];
 
-/// The maximum length in bytes of a value that is stored in its leaf.
-const MAX_SHORT: usize = 240;
-
 /// The maximum length of a value in bytes.
-const MAX_LONG: usize = 4000;
-
-/// The entries of a slot, and whether its format has long values.
-#[derive(Drop)]
-struct Slot {
-    entries: Vec<Found>,
-    has_long: bool,
-}
+const LONGEST: usize = 4000;
 
 /// An entry of a slot.
 #[derive(Clone, Copy)]
@@ -120,98 +110,43 @@ fn have_keys(bytes: &Block, count: usize, width: usize, part: Part) -> bool {
     true
 }
 
-/// How many bytes the value of the record of this number in a leaf has.
-fn length_of(bytes: &Block, i: usize) -> usize {
-    number(bytes, i.wrapping_mul(252).wrapping_add(26), 2) as usize
-}
-
-/// Whether one of the `count` records of a leaf has a long value.
-fn has_long(bytes: &Block, count: usize) -> bool {
-    for i in 0..count {
-        if length_of(bytes, i) > MAX_SHORT {
-            return true;
-        }
-    }
-    false
-}
-
-/// Whether the bytes are a block of a tree of this level, with this many records or children.
+/// Whether the bytes are the head of a block of a tree of this level, with keys for this many
+/// records or children.
 fn is_framed(bytes: &Block, level: u32, count: usize, part: Part) -> bool {
     let (letters, most, width): (&[u8], usize, usize) = if level > 0 {
         (b"NODE", 256, 14)
-    } else if count <= 16 && has_long(bytes, count) {
-        (b"LEF2", 16, 252)
     } else {
-        (b"LEAF", 16, 252)
+        (b"LEF3", 340, 12)
     };
     starts_with(bytes, letters)
         && word(bytes, 4) == level
         && count >= 1
         && count <= most
         && word(bytes, 12) == 0
-        && are_zero(bytes, count.wrapping_mul(width).wrapping_add(16), 4096)
         && have_keys(bytes, count, width, part)
 }
 
-/// The short value of this many bytes at an offset.
-fn short_at(bytes: &Block, at: usize, length: usize) -> Option<Value> {
-    let end = at.wrapping_add(length);
-    if !are_zero(bytes, end, at.wrapping_add(MAX_SHORT)) {
-        return None;
-    }
-    Value::new(bytes.get(at..end)?)
-}
-
-/// The value of this many bytes that has a block of its own, under this key.
-fn long_in(bytes: &Block, key: Key, length: usize) -> Option<Value> {
-    let end = length.wrapping_add(26);
-    let is_long = starts_with(bytes, b"LONG\0\0\0\0")
-        && word(bytes, 8) as usize == length
-        && word(bytes, 12) == 0
-        && key_at(bytes, 16) == key
-        && are_zero(bytes, end, 4096);
-    if !is_long {
-        return None;
-    }
-    Value::new(bytes.get(26..end)?)
-}
-
-/// Reads the long value of this many bytes whose block number is at an offset.
-fn read_long(
-    image: &Image,
-    bytes: &Block,
-    at: usize,
-    key: Key,
-    length: usize,
-    content: &mut Content,
-) -> Option<Value> {
-    let block = word(bytes, at);
-    let is_whole = are_zero(bytes, at.wrapping_add(4), at.wrapping_add(MAX_SHORT));
-    if !is_whole || block < FIRST_DATA || block >= BLOCKS || length > MAX_LONG {
-        return None;
-    }
-    let value = long_in(&image.block(block), key, length)?;
-    add_block(&mut content.blocks, block)?;
-    Some(value)
-}
-
-/// Adds the records of a leaf, and the blocks of its long values.
-fn read_records(image: &Image, bytes: &Block, count: usize, content: &mut Content) -> Option<()> {
+/// Adds the records of a leaf. Each entry says where its value ends, counted from the end of the
+/// entries, and behind the last value all bytes are zero.
+fn read_records(bytes: &Block, count: usize, content: &mut Content) -> Option<()> {
+    let values = count.wrapping_mul(12).wrapping_add(16);
+    let mut from = values;
     for i in 0..count {
-        let at = i.wrapping_mul(252).wrapping_add(16);
-        let (key, length) = (key_at(bytes, at), length_of(bytes, i));
-        let start = at.wrapping_add(12);
-        let value = if length > MAX_SHORT {
-            read_long(image, bytes, start, key, length, content)?
-        } else {
-            short_at(bytes, start, length)?
-        };
-        content.records.push((key, value)).ok()?;
+        let at = i.wrapping_mul(12).wrapping_add(16);
+        let end = number(bytes, at.wrapping_add(10), 2) as usize;
+        let to = values.wrapping_add(end);
+        if to < from || to.wrapping_sub(from) > LONGEST {
+            return None;
+        }
+        let value = Value::new(bytes.get(from..to)?)?;
+        content.records.push((key_at(bytes, at), value)).ok()?;
+        from = to;
     }
-    Some(())
+    are_zero(bytes, from, 4096).then_some(())
 }
 
 /// Adds the children of an inner block. Each one's keys lie below the lowest one of the next.
+/// Behind them all bytes are zero.
 fn read_children(
     bytes: &Block,
     count: usize,
@@ -232,7 +167,7 @@ fn read_children(
         };
         parts.push(part).ok()?;
     }
-    Some(())
+    are_zero(bytes, count.wrapping_mul(14).wrapping_add(16), 4096).then_some(())
 }
 
 fn add_block(blocks: &mut Vec<u32>, block: u32) -> Option<()> {
@@ -246,7 +181,6 @@ fn add_block(blocks: &mut Vec<u32>, block: u32) -> Option<()> {
 fn read_level(
     alloc: Global,
     image: &Image,
-    allows_long: bool,
     level: u32,
     parts: &[Part],
     content: &mut Content,
@@ -258,12 +192,12 @@ fn read_level(
         }
         let bytes = image.block(part.block);
         let count = word(&bytes, 8) as usize;
-        if !is_framed(&bytes, level, count, *part) || !allows_long && starts_with(&bytes, b"LEF2") {
+        if !is_framed(&bytes, level, count, *part) {
             return None;
         }
         add_block(&mut content.blocks, part.block)?;
         if level == 0 {
-            read_records(image, &bytes, count, content)?;
+            read_records(&bytes, count, content)?;
         } else {
             read_children(&bytes, count, part.above, &mut below)?;
         }
@@ -272,13 +206,7 @@ fn read_level(
 }
 
 /// Reads the tree under a root. Its records become those of the content.
-fn read_tree(
-    alloc: Global,
-    image: &Image,
-    allows_long: bool,
-    root: u32,
-    content: &mut Content,
-) -> Option<()> {
+fn read_tree(alloc: Global, image: &Image, root: u32, content: &mut Content) -> Option<()> {
     content.records.clear();
     if root == 0 {
         return Some(());
@@ -293,7 +221,7 @@ fn read_tree(
     parts.push(Part { block, low, above }).ok()?;
     for depth in 0..=levels {
         let level = levels.saturating_sub(depth);
-        parts = read_level(alloc, image, allows_long, level, &parts, content)?;
+        parts = read_level(alloc, image, level, &parts, content)?;
     }
     Some(())
 }
@@ -362,16 +290,13 @@ fn fits(found: Found, before: &[Found]) -> bool {
     }
 }
 
-/// The slot in use.
-fn read_slot(alloc: Global, image: &Image) -> Option<Slot> {
+/// The entries of the slot in use.
+fn read_slot(alloc: Global, image: &Image) -> Option<Vec<Found>> {
     let odd = byte(&image.block(1), 0) % 2 == 1;
     let first: u32 = if odd { 18 } else { 2 };
     let head = image.block(first);
     let count = word(&head, 12);
-    let format = word(&head, 4);
-    let is_head = starts_with(&head, b"SLOT")
-        && matches!(format, 1 | 2)
-        && are_zero(&head, 16, 128);
+    let is_head = starts_with(&head, b"SLOT\x03\0\0\0") && are_zero(&head, 16, 128);
     if !is_head || word(&head, 8) != BLOCKS || count == 0 || count > 511 {
         return None;
     }
@@ -384,12 +309,11 @@ fn read_slot(alloc: Global, image: &Image) -> Option<Slot> {
         }
         entries.push(found).ok()?;
     }
-    let has_long = format == 2;
-    Some(Slot { entries, has_long })
+    Some(entries)
 }
 
 fn is_header(bytes: &Block) -> bool {
-    starts_with(bytes, b"ALTSTORE\x01\0\0\0\0\x10\0\0") && are_zero(bytes, 16, 4096)
+    starts_with(bytes, b"ALTSTORE\x03\0\0\0\0\x10\0\0") && are_zero(bytes, 16, 4096)
 }
 
 /// What the store of a disk holds, if there is one with as many blocks as the disk.
@@ -401,10 +325,9 @@ pub(super) fn read_store(alloc: Global, image: &Image) -> Option<Content> {
         blocks: Vec::new(alloc),
         records: Vec::new(alloc),
     };
-    let Slot { entries, has_long } = read_slot(alloc, image)?;
-    for entry in entries.iter().rev() {
-        read_tree(alloc, image, has_long, entry.base, &mut content)?;
-        read_tree(alloc, image, has_long, entry.current, &mut content)?;
+    for entry in read_slot(alloc, image)?.iter().rev() {
+        read_tree(alloc, image, entry.base, &mut content)?;
+        read_tree(alloc, image, entry.current, &mut content)?;
     }
     Some(content)
 }

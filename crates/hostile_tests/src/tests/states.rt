@@ -1,5 +1,5 @@
 //! What a list of commands commits, and whether a store shows it.
-use super::commands::{LONG, Script, key, merge, put};
+use super::commands::{GREAT, LAST, Script, key, merge, put};
 use super::{BLOCKS, GROWN_BLOCKS, name};
 use std::alloc::Global;
 use testkit::{Wrong, top};
@@ -42,9 +42,9 @@ const FIRST: Map = &[(1, b"a")];
 
 const CHANGED: Map = &[(1, b"b")];
 
-const POSTED: Map = &[(1, b"b"), (2, LONG)];
+const POSTED: Map = &[(1, b"b"), (2, GREAT)];
 
-const LAST: Map = &[(2, LONG), (3, b"e")];
+const ENDED: Map = &[(2, GREAT), (3, LAST)];
 
 const OWN: Own = Own {
     current: CHANGED,
@@ -64,8 +64,8 @@ fn committed_by(script: Script, commands: u32) -> State {
     let (top, own, free): (Map, Option<Own>, u32) = match commands {
         _ if commands < first => (EMPTY, None, 30),
         _ if commands < second => (FIRST, Some(OWN), 28),
-        _ if commands < last => (POSTED, Some(SAME), 28),
-        _ => (LAST, Some(SAME), 27),
+        _ if commands < last => (POSTED, Some(SAME), 29),
+        _ => (ENDED, Some(SAME), 26),
     };
     match script {
         Script::Grown if commands >= second => State {

@@ -122,14 +122,14 @@ impl Dice {
         Value::new(&bytes[..len]).unwrap_or_default()
     }
 
-    /// The length of a value in bytes: mostly short, one time out of ten long, and now and then as
-    /// long as possible.
+    /// The length of a value in bytes: mostly short, one time out of four up to half a block, and
+    /// now and then as long as possible.
     fn length(&mut self) -> usize
         ensures { result ≤ 4000 }
     {
         match self.below(100) {
-            0 => Value::MAX_LEN,
-            1..=10 => 241 + self.below(360) as usize,
+            0..=3 => Value::MAX_LEN,
+            4..=28 => 241 + self.below(1800) as usize,
             _ => 16 + self.below(225) as usize,
         }
     }

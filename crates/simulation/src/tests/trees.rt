@@ -1,31 +1,29 @@
 //! The blocks that maps are in, as a plain list of nodes: a change copies the nodes of one path and
 //! leaves all others as they are. A node represents a block, and two maps share the nodes that they
-//! both reach. A long value has a node of its own.
+//! both reach. Of a value only its length is known here.
 use std::alloc::{AllocError, Global};
 use vm_types::Key;
 
 /// The node of the empty map, which is in no block.
 pub const EMPTY: usize = 0;
 
-/// The maximum number of records in a leaf.
-const RECORDS: usize = 16;
+/// How many bytes the records of a leaf may take: each has twelve, and its value.
+const ROOM: usize = 4080;
 
 /// The maximum number of children of an inner node.
 const CHILDREN: usize = 256;
 
-/// The maximum length in bytes of a value that is stored in its leaf.
-const SHORT: usize = 240;
-
-/// A record of a leaf, or a child of an inner node with the lowest key under it. The child of a
-/// record is the node of its long value, or that of the empty map if its value is short.
+/// A record of a leaf, with the length of its value, or a child of an inner node with the lowest
+/// key under it. A record has the node of the empty map.
 #[derive(Clone, Copy)]
 struct Row {
     low: Key,
     child: usize,
+    len: usize,
 }
 
 /// A leaf has level 0, and the children of an inner node are one level below it. The rows are in
-/// key order. The node of a long value has none.
+/// key order.
 #[derive(Drop)]
 struct Node {
     level: u32,
@@ -39,7 +37,7 @@ pub struct Trees {
     nodes: Vec<Node>,
 }
 
-/// A key is put, with the node of its long value, or removed.
+/// A key is put, with a value of this length, or removed.
 #[derive(Clone, Copy, PartialEq, Eq)]
 enum Change {
     Put(usize),
@@ -69,11 +67,12 @@ fn without(alloc: Global, rows: &[Row], key: Key) -> Result<Vec<Row>, AllocError
     Ok(others)
 }
 
-/// The rows of a leaf with a key, and the node of its long value.
-fn with(alloc: Global, rows: &[Row], key: Key, long: usize) -> Result<Vec<Row>, AllocError> {
+/// The rows of a leaf with a key, whose value has `len` bytes.
+fn with(alloc: Global, rows: &[Row], key: Key, len: usize) -> Result<Vec<Row>, AllocError> {
     let record = Row {
         low: key,
-        child: long,
+        child: EMPTY,
+        len,
     };
     let mut all = Vec::new(alloc);
     let mut is_in = false;
@@ -90,6 +89,60 @@ fn with(alloc: Global, rows: &[Row], key: Key, long: usize) -> Result<Vec<Row>, 
         all.push(record)?;
     }
     Ok(all)
+}
+
+/// How many bytes of a leaf these records take.
+fn size(rows: &[Row]) -> usize {
+    let mut size: usize = 0;
+    for row in rows {
+        size = size.saturating_add(row.len).saturating_add(12);
+    }
+    size
+}
+
+/// How many bytes the larger of two leaves takes, of which the first has `cut` of these records.
+fn larger(rows: &[Row], cut: usize) -> usize {
+    let cut = cut.min(rows.len());
+    size(&rows[..cut]).max(size(&rows[cut..]))
+}
+
+/// How many of these records the first of two leaves gets, so that the larger one is as small as
+/// it can be.
+fn best_cut(rows: &[Row]) -> usize {
+    let mut best = 1;
+    for cut in 2..rows.len() {
+        if larger(rows, cut) < larger(rows, best) {
+            best = cut;
+        }
+    }
+    best
+}
+
+/// Where the first and the second of the leaves end that these records are in, after one of this
+/// key was put among them. If there is one leaf, both are at the end, and if there are two, the
+/// second is. A new record behind all others is alone. If no cut makes two leaves, the record is
+/// alone between the others.
+fn ends(rows: &[Row], key: Key, is_new: bool) -> (usize, usize) {
+    let all = rows.len();
+    if size(rows) <= ROOM {
+        return (all, all);
+    }
+    let mut at: usize = 0;
+    for row in rows {
+        if row.low < key {
+            at = at.saturating_add(1);
+        }
+    }
+    let behind = at.saturating_add(1);
+    if is_new && behind == all {
+        return (at, all);
+    }
+    let cut = best_cut(rows);
+    if larger(rows, cut) <= ROOM {
+        (cut, all)
+    } else {
+        (at, behind)
+    }
 }
 
 /// The rows of an inner node with others in place of one.
@@ -189,23 +242,25 @@ impl Trees {
         let row = Row {
             low: first.low,
             child: self.nodes.len(),
+            len: 0,
         };
         let rows = Vec::from_slice(self.alloc, rows)?;
         self.nodes.push(Node { level, rows })?;
         Ok(Some(row))
     }
 
-    /// New nodes with these rows, and the rows that name them: no node for no rows, and two nodes
-    /// for more rows than fit in one. The left one has as many rows as the right one, or one more.
-    fn add_all(&mut self, level: u32, rows: &[Row]) -> Result<Vec<Row>, AllocError> {
-        let room = if level == 0 { RECORDS } else { CHILDREN };
-        let half = if rows.len() > room {
-            rows.len() - rows.len() / 2
-        } else {
-            rows.len()
-        };
+    /// New nodes with these rows, and the rows that name them: one node for the rows up to the
+    /// first end, one for those up to the second, and one for the others, where there are any.
+    fn add_parts(
+        &mut self,
+        level: u32,
+        rows: &[Row],
+        ends: (usize, usize),
+    ) -> Result<Vec<Row>, AllocError> {
+        let second = ends.1.min(rows.len());
+        let first = ends.0.min(second);
         let mut names = Vec::new(self.alloc);
-        for part in [&rows[..half], &rows[half..]] {
+        for part in [&rows[..first], &rows[first..second], &rows[second..]] {
             if let Some(row) = self.add(level, part)? {
                 names.push(row)?;
             }
@@ -213,47 +268,65 @@ impl Trees {
         Ok(names)
     }
 
+    /// The same for an inner node: two for more children than fit in one. The left one has as many
+    /// as the right one, or one more.
+    fn add_inner(&mut self, level: u32, rows: &[Row]) -> Result<Vec<Row>, AllocError> {
+        let half = if rows.len() > CHILDREN {
+            rows.len() - rows.len() / 2
+        } else {
+            rows.len()
+        };
+        self.add_parts(level, rows, (half, rows.len()))
+    }
+
+    /// The same for a leaf with a change.
+    fn add_leaves(
+        &mut self,
+        node: usize,
+        key: Key,
+        change: Change,
+    ) -> Result<Vec<Row>, AllocError> {
+        let old = self.rows(node);
+        match change {
+            Change::Put(len) => {
+                let is_new = without(self.alloc, old, key)?.len() == old.len();
+                let rows = with(self.alloc, old, key, len)?;
+                self.add_parts(0, &rows, ends(&rows, key, is_new))
+            }
+            Change::Remove => {
+                let rows = without(self.alloc, old, key)?;
+                self.add_parts(0, &rows, (rows.len(), rows.len()))
+            }
+        }
+    }
+
     /// Copies the nodes of a path with a change of the leaf. Returns the rows that name the copies
-    /// of the root: none, one or two.
+    /// of the root: up to three.
     fn copy_path(&mut self, root: usize, key: Key, change: Change) -> Result<Vec<Row>, AllocError> {
         let path = self.path(root, key)?;
         let mut names = Vec::new(self.alloc);
         for node in path.iter().rev() {
             let level = self.level(*node);
+            if level == 0 {
+                names = self.add_leaves(*node, key, change)?;
+                continue;
+            }
             let old = self.rows(*node);
-            let rows = match change {
-                _ if level > 0 => with_others(self.alloc, old, place_of(old, key), &names)?,
-                Change::Put(long) => with(self.alloc, old, key, long)?,
-                Change::Remove => without(self.alloc, old, key)?,
-            };
-            names = self.add_all(level, &rows)?;
+            let rows = with_others(self.alloc, old, place_of(old, key), &names)?;
+            names = self.add_inner(level, &rows)?;
         }
         Ok(names)
     }
 
-    /// A new node for a value, if it is long, and otherwise that of the empty map.
-    fn add_value(&mut self, len: usize) -> Result<usize, AllocError> {
-        if len <= SHORT {
-            return Ok(EMPTY);
-        }
-        let node = self.nodes.len();
-        self.nodes.push(Node {
-            level: 0,
-            rows: Vec::new(self.alloc),
-        })?;
-        Ok(node)
-    }
-
     /// The root of the map with one more key, whose value has `len` bytes. The nodes of the path
-    /// are copied, and a long value has a new node, even if the key is there. If the root splits in
-    /// two, a new root is put above both.
+    /// are copied, even if the key is there. If the root becomes two or three, a new root is put
+    /// above them.
     pub(super) fn put(&mut self, root: usize, key: Key, len: usize) -> Result<usize, AllocError> {
         let level = self.level(root).saturating_add(1);
-        let long = self.add_value(len)?;
-        let names = self.copy_path(root, key, Change::Put(long))?;
+        let names = self.copy_path(root, key, Change::Put(len))?;
         let name = match names.as_slice() {
             [one] => Some(*one),
-            both => self.add(level, both)?,
+            several => self.add(level, several)?,
         };
         Ok(child_of(name))
     }

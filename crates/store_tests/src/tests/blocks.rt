@@ -1,5 +1,5 @@
 //! The blocks of a disk in memory, looked at and changed by the steps of a script.
-use super::words::{Wrong, byte, many_of, number};
+use super::words::{Wrong, byte, number};
 use std::alloc::Global;
 use vm_disk::{Disk, MemDisk};
 use vm_types::Block;
@@ -57,32 +57,47 @@ pub(super) fn cut(alloc: Global, mut disk: MemDisk, blocks: u32) -> Result<MemDi
     Ok(shorter)
 }
 
-/// Appends the bytes of a run to a text, as `61*300` if this many are of one kind.
-fn push_run(text: &mut String, run: &[u8]) -> Result<(), Wrong> {
-    if let Some(byte) = many_of(run) {
-        write!(text, "{byte:02X}*{}", run.len())?;
-        return Ok(());
+/// How many bytes there are up to the first one of another kind.
+fn alike(bytes: &[u8], kind: u8) -> usize {
+    let mut count: usize = 0;
+    for byte in bytes {
+        if *byte != kind {
+            return count;
+        }
+        count = count.saturating_add(1);
     }
-    for byte in run {
-        write!(text, "{byte:02X}")?;
-    }
-    Ok(())
+    count
 }
 
-/// The nonzero bytes, each run after the offset of its first byte.
+/// The nonzero bytes, each run after the offset of its first byte. A hundred or more of one kind
+/// are a run of their own, as in `28:61*300`.
 fn bytes_text(alloc: Global, bytes: &Block) -> Result<String, Wrong> {
     let mut text = String::new(alloc);
     if bytes[0] != 0 && *bytes == [bytes[0]; 4096] {
         write!(text, "all={:02X}", bytes[0])?;
         return Ok(text);
     }
-    let mut at: usize = 0;
-    for run in bytes.split(|byte| *byte == 0) {
-        if !run.is_empty() {
-            write!(text, " {at}:")?;
-            push_run(&mut text, run)?;
+    let mut in_run = false;
+    let mut passed: usize = 0;
+    for at in 0..4096 {
+        if at < passed {
+            continue;
         }
-        at = at.saturating_add(run.len()).saturating_add(1);
+        let byte = bytes[at];
+        let count = alike(&bytes[at..], byte);
+        if byte != 0 && count < 100 {
+            if !in_run {
+                write!(text, " {at}:")?;
+            }
+            write!(text, "{byte:02X}")?;
+            in_run = true;
+            continue;
+        }
+        if byte != 0 {
+            write!(text, " {at}:{byte:02X}*{count}")?;
+        }
+        in_run = false;
+        passed = at.saturating_add(count);
     }
     Ok(text)
 }

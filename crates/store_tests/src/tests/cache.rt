@@ -7,12 +7,15 @@ use vm_types::{Command, Key, Name, Refusal, Value};
 
 type Cached = CachedDisk<FuseDisk<MemDisk>>;
 
+/// A leaf has room for sixteen values of this length.
+const VALUE: [u8; 240] = [b'v'; 240];
+
 /// A cache with room for all blocks that are in use.
 fn cached(alloc: Global, disk: MemDisk) -> Result<Cached, Refusal> {
     CachedDisk::new(alloc, FuseDisk::stop(disk, 1000, [0; 4096]), 16).map_err(|_| Refusal::Memory)
 }
 
-/// The disk of a store with an inner block and two leaves.
+/// The disk of a store with an inner block and two leaves, of which the second one has one record.
 fn seventeen(alloc: Global, top: &Name) -> Result<MemDisk, Refusal> {
     let disk = MemDisk::new(alloc, 64).map_err(|_| Refusal::Memory)?;
     let disk = format(disk, 64).map_err(|refused| refused.1)?;
@@ -23,10 +26,10 @@ fn seventeen(alloc: Global, top: &Name) -> Result<MemDisk, Refusal> {
             table: 1,
             number: 1,
         },
-        b"v",
+        &VALUE,
     );
     for number in 2..18 {
-        done = done.and(store.put(top, Key { table: 1, number }, b"v"));
+        done = done.and(store.put(top, Key { table: 1, number }, &VALUE));
     }
     done = done.and(store.apply(&Command::Commit));
     let disk = store.close();
@@ -46,7 +49,7 @@ fn calls(alloc: Global, gets: &[u64]) -> Result<Option<u32>, Refusal> {
     let mut found = true;
     for &number in gets {
         let value = store.get(&top, Key { table: 1, number });
-        found = found && value == Ok(Value::new(b"v"));
+        found = found && value == Ok(Value::new(&VALUE));
     }
     let calls = store.close().into_inner().calls();
     Ok(found.then_some(calls))

@@ -19,12 +19,12 @@ const ON_BOTH: &[Row] = &[
         blocks -> 96
         free -> 59
         alts -> top spur<top
-        get spur 1:17 -> v
+        get spur 1:17 -> 76*240
         changes spur -> none
         put spur 1:17 w
         commit
-        get top 1:17 -> v
-        get_at spur@ 1:17 -> v",
+        get top 1:17 -> 76*240
+        get_at spur@ 1:17 -> 76*240",
     ),
     // The copy names slot A: block 34 is the leaf, as on the disk of the source, whose slot is B.
     (
@@ -36,7 +36,7 @@ const ON_BOTH: &[Row] = &[
         copy 64 80
         written -> 0 2 34
         block 1 -> none
-        block 2 -> 0:534C4F5402 8:40 12:01 128:4103746F70 195:22
+        block 2 -> 0:534C4F5403 8:40 12:01 128:4103746F70 195:22
         open
         blocks -> 64
         free -> 29

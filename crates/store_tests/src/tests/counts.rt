@@ -174,22 +174,21 @@ fn remove_in_a_series_reads_a_path_of_two_levels_once(rt: HostRuntime) {
         ("", "calls -> 13"),
         ("remove top 1:16", "calls -> 17"),
         ("put top 1:1 w", "calls -> 15"),
-        ("get top 1:16 -> v", "calls -> 15"),
+        ("get top 1:16 -> 76*240", "calls -> 15"),
     ] {
         let row = [SEVENTEEN, "open", first, "remove top 1:17", "close", calls];
         in_memory(&rt, &row);
     }
 }
 
-/// The leaves have nine records each, except the last one, which has eight. With 257 leaves there
-/// are two blocks above them, and the root. An opening reads these 260 blocks, and makes four more
-/// calls.
+/// The leaves have three records each. With 257 leaves there are two blocks above them, and the
+/// root. An opening reads these 260 blocks, and makes four more calls.
 #[test]
 fn remove_in_a_series_reads_a_path_of_three_levels_once(rt: HostRuntime) -> Result<(), Fail> {
     let made = "
         format 2048
         open
-        puts top 1:1 2312 v
+        puts top 1:1 771 76*1300
         commit
         close
         anew
@@ -213,13 +212,14 @@ fn remove_in_a_series_reads_a_path_of_three_levels_once(rt: HostRuntime) -> Resu
 /// not read to compare them.
 #[test]
 fn each_block_is_read_and_written_once(rt: HostRuntime) {
-    let list = "list top -> 1:1=v 1:2=v 1:3=v 1:4=v 1:5=v 1:6=v 1:7=v 1:8=v 1:9=v 1:10=v 1:11=v \
-        1:12=v 1:13=v 1:14=v 1:15=v 1:16=v 1:17=v";
+    let list = "list top -> 1:1=76*240 1:2=76*240 1:3=76*240 1:4=76*240 1:5=76*240 1:6=76*240 \
+        1:7=76*240 1:8=76*240 1:9=76*240 1:10=76*240 1:11=76*240 1:12=76*240 1:13=76*240 \
+        1:14=76*240 1:15=76*240 1:16=76*240 1:17=76*240";
     let due = [
         ("", "calls -> 7"),
-        ("get top 1:17 -> v", "calls -> 9"),
+        ("get top 1:17 -> 76*240", "calls -> 9"),
         (list, "calls -> 10"),
-        ("put top 1:17 v", "calls -> 11"),
+        ("put top 1:17 76*240", "calls -> 11"),
         ("remove top 1:17", "calls -> 13"),
         ("reclaim", "calls -> 8"),
         ("changes spur -> none", "calls -> 7"),

@@ -27,7 +27,7 @@ fn torn_selector_that_is_odd_shows_the_new_entries(rt: HostRuntime) {
         commit
         close
         block 1 -> none
-        block 2 -> 0:534C4F5402 8:40 12:01 128:4103746F70 195:22
+        block 2 -> 0:534C4F5403 8:40 12:01 128:4103746F70 195:22
         anew
         open
         get top 7:1 -> duct";

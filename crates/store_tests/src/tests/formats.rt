@@ -1,16 +1,16 @@
 //! What the blocks of a store hold, and what formatting refuses.
 use super::script::{DUCT, Row, each_on_both, on_both};
 
-/// `ALTSTORE`, one and the block size; the selector of slot B; both slots, which begin with `SLOT`,
-/// two and 64 blocks, with the entry of `top`, whose root is none in slot A and block 34 in slot B;
+/// `ALTSTORE`, three and the block size; the selector of slot B; both slots, which begin with `SLOT`,
+/// three and 64 blocks, with the entry of `top`, whose root is none in slot A and block 34 in slot B;
 /// and a leaf of the record 7:1, `duct`.
 const BLOCKS: &str = "
     written -> 0 1 2 18 34
-    block 0 -> 0:414C5453544F524501 13:10
+    block 0 -> 0:414C5453544F524503 13:10
     block 1 -> 0:01
-    block 2 -> 0:534C4F5402 8:40 12:01 128:4103746F70
-    block 18 -> 0:534C4F5402 8:40 12:01 128:4103746F70 195:22
-    block 34 -> 0:4C454146 8:01 16:07 18:01 26:04 28:64756374";
+    block 2 -> 0:534C4F5403 8:40 12:01 128:4103746F70
+    block 18 -> 0:534C4F5403 8:40 12:01 128:4103746F70 195:22
+    block 34 -> 0:4C454633 8:01 16:07 18:01 26:04 28:64756374";
 
 const ON_BOTH: &[Row] = &[
     (
@@ -37,7 +37,7 @@ const ON_BOTH: &[Row] = &[
         commit
         close
         block 1 -> none
-        block 2 -> 0:534C4F5402 8:40 12:01 128:4103746F70 195:22
+        block 2 -> 0:534C4F5403 8:40 12:01 128:4103746F70 195:22
         anew
         open
         get top 7:1 -> duct",

@@ -116,10 +116,10 @@ const USED: &[RoomRow] = &[
         grow 80
         commit
         close
-        block 0 -> 0:414C5453544F524501 13:10
+        block 0 -> 0:414C5453544F524503 13:10
         block 1 -> none
-        block 2 -> 0:534C4F5402 8:50 12:01 128:4103746F70 195:22
-        block 18 -> 0:534C4F5402 8:40 12:01 128:4103746F70 195:22",
+        block 2 -> 0:534C4F5403 8:50 12:01 128:4103746F70 195:22
+        block 18 -> 0:534C4F5403 8:40 12:01 128:4103746F70 195:22",
     ),
     // The checkpoints keep blocks 34 to 73, and the last two Puts take 74 and 75.
     (
@@ -136,7 +136,7 @@ const USED: &[RoomRow] = &[
         free -> 21
         commit
         close
-        block 75 -> 0:4C454146 8:02 16:01 18:01 26:01 28:76 268:01 270:02 278:01 280:78
+        block 75 -> 0:4C454633 8:02 16:01 18:01 26:01 28:01 30:02 38:02 40:7678
         crash all=41
         open
         blocks -> 96

@@ -2,7 +2,7 @@
 use super::script::{DUCT, Row, each_in_memory, each_on_both, from_disk};
 use std::alloc::Global;
 use std::test::Fail;
-use vm_block::{Entry, Kind, SlotFormat, SlotName};
+use vm_block::{Entry, Kind, SlotName};
 use vm_catalog::write_slot;
 use vm_disk::{Disk, MemDisk};
 use vm_store::{format, open};
@@ -33,6 +33,48 @@ const ON_BOTH: &[Row] = &[
         open -> error 19 NotAStore",
     ),
     ("blank disk is no store", "", "open -> error 19 NotAStore"),
+    (
+        "store of an earlier format is none",
+        DUCT,
+        "
+        set 0 8:01
+        open -> error 19 NotAStore
+        set 0 8:02
+        open -> error 19 NotAStore
+        set 0 8:04
+        open -> error 19 NotAStore
+        set 0 8:03
+        open
+        get top 7:1 -> duct",
+    ),
+    (
+        "slot of an earlier format is damage",
+        DUCT,
+        "
+        set 18 4:01
+        open -> error 18 Damaged 18
+        set 18 4:02
+        open -> error 18 Damaged 18
+        set 18 4:04
+        open -> error 18 Damaged 18
+        set 18 4:03
+        open
+        get top 7:1 -> duct",
+    ),
+    (
+        "leaf of an earlier form is damage",
+        DUCT,
+        "
+        set 34 0:4C454146
+        open -> error 18 Damaged 34
+        set 34 0:4C454632
+        open -> error 18 Damaged 34
+        set 34 0:4C4F4E47
+        open -> error 18 Damaged 34
+        set 34 0:4C454633
+        open
+        get top 7:1 -> duct",
+    ),
 ];
 
 const IN_MEMORY: &[Row] = &[
@@ -103,7 +145,7 @@ fn disk_of(
     let mut disk = duct_disk(alloc)?;
     let entries = entries(alternative, checkpoint).ok_or("no name")?;
     if disk.blocks() >= 34 {
-        write_slot(&mut disk, SlotName::B, SlotFormat::Two, 64, &entries)?;
+        write_slot(&mut disk, SlotName::B, 64, &entries)?;
     }
     Ok(disk)
 }
@@ -142,13 +184,8 @@ fn slot_with_a_name_twice_is_damage(rt: HostRuntime) -> Result<(), Fail> {
     let mut disk = duct_disk(rt.alloc())?;
     let all = entries((34, 34), (0, 0)).ok_or("no name")?;
     if disk.blocks() >= 34 {
-        write_slot(
-            &mut disk,
-            SlotName::B,
-            SlotFormat::Two,
-            64,
-            &[all[0], all[1], all[1]],
-        )?;
+        let twice = [all[0], all[1], all[1]];
+        write_slot(&mut disk, SlotName::B, 64, &twice)?;
     }
     from_disk(&rt, disk, &["open -> error 18 Damaged 18"]);
     Ok(())

@@ -206,7 +206,7 @@ const GROWN: &[RoomRow] = &[
         commit
         close
         dirty -> none
-        block 64 -> 0:4C454146 8:01 16:01 18:01 26:01 28:77
+        block 64 -> 0:4C454633 8:01 16:01 18:01 26:01 28:77
         crash all=41
         open
         blocks -> 96

@@ -73,13 +73,14 @@ pub(super) const DUCT: &str = "
     close
     anew";
 
-/// A closed store in which `top` has seventeen records, and `spur` under it the same map. Opening
-/// it makes seven device calls.
+/// A closed store in which `top` has seventeen records of 240 bytes in two leaves, of eight and of
+/// nine, and `spur` under it the same map. Opening it makes seven device calls.
 pub(super) const SEVENTEEN: &str = "
     format 64
     anew
     open
-    puts top 1:1 17 v
+    puts top 1:2 16 76*240
+    put top 1:1 76*240
     new spur top
     commit
     close

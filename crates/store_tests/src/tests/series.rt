@@ -24,7 +24,7 @@ const LOAD_AND_MERGE: &[Row] = &[
         "
         format 256
         open
-        puts top 1:1 20 v
+        puts top 1:1 20 76*240
         free -> 197
         reclaim
         free -> 219
@@ -63,7 +63,7 @@ const MARKINGS: &[Row] = &[
         "
         format 64
         open
-        puts top 1:1 17 v
+        puts top 1:1 17 76*240
         free -> 24
         close
         forgotten -> 34 35 39 40 41 42 43 44 45 46 47",

@@ -3,14 +3,15 @@ use super::script::{DUCT, NEW, Row, SEVENTEEN, each_in_256_blocks, each_in_memor
 
 const ON_BOTH: &[Row] = &[
     ("new store of 64 blocks has 30 free", NEW, "free -> 30"),
-    // The seventeenth record splits the leaf: two leaves and a root are written. The Remove of the
-    // eleventh record marks, and that of the tenth leaves nine records, which are the first leaf:
-    // it writes no block.
+    // The seventeenth record splits the leaf in eight and nine: two leaves and a root are written.
+    // Each Remove writes a leaf and a root, and that of the eleventh record marks. That of the
+    // ninth leaves the first leaf alone: it writes no block.
     (
         "leaf is split and takes the place of the root again",
         NEW,
         "
-        puts top 1:1 17 v
+        puts top 1:2 16 76*240
+        put top 1:1 76*240
         free -> 24
         reclaim
         free -> 27
@@ -22,25 +23,15 @@ const ON_BOTH: &[Row] = &[
         remove top 1:12
         remove top 1:11
         remove top 1:10
-        free -> 25
+        remove top 1:9
+        free -> 23
         reclaim
         free -> 29
-        get top 1:1 -> v
-        get top 1:2 -> v
-        get top 1:3 -> v
-        get top 1:4 -> v
-        get top 1:5 -> v
-        get top 1:6 -> v
-        get top 1:7 -> v
-        get top 1:8 -> v
-        get top 1:9 -> v
+        get top 1:1 -> 76*240
+        get top 1:2 -> 76*240
+        get top 1:8 -> 76*240
+        get top 1:9 -> ~
         get top 1:10 -> ~
-        get top 1:11 -> ~
-        get top 1:12 -> ~
-        get top 1:13 -> ~
-        get top 1:14 -> ~
-        get top 1:15 -> ~
-        get top 1:16 -> ~
         get top 1:17 -> ~",
     ),
     // There are 30 data blocks. Each of the 14 checkpoints keeps one, so 16 are spare for the next
@@ -238,16 +229,19 @@ const MERGES_IN_256_BLOCKS: &[Row] = &[
         format 256
         open
         new a top
-        puts top 1:1 9 v
-        puts a 2:1 8 v
+        puts top 1:1 9 76*240
+        puts a 2:1 8 76*240
         free -> 205
         merge a -> ok 9
         free -> 195
-        list a -> 1:1=v 1:2=v 1:3=v 1:4=v 1:5=v 1:6=v 1:7=v 1:8=v 1:9=v \
-            2:1=v 2:2=v 2:3=v 2:4=v 2:5=v 2:6=v 2:7=v 2:8=v
+        list a -> 1:1=76*240 1:2=76*240 1:3=76*240 1:4=76*240 1:5=76*240 1:6=76*240 1:7=76*240 \
+            1:8=76*240 1:9=76*240 \
+            2:1=76*240 2:2=76*240 2:3=76*240 2:4=76*240 2:5=76*240 2:6=76*240 2:7=76*240 2:8=76*240
         post a
-        list top -> 1:1=v 1:2=v 1:3=v 1:4=v 1:5=v 1:6=v 1:7=v 1:8=v 1:9=v \
-            2:1=v 2:2=v 2:3=v 2:4=v 2:5=v 2:6=v 2:7=v 2:8=v",
+        list top -> 1:1=76*240 1:2=76*240 1:3=76*240 1:4=76*240 1:5=76*240 1:6=76*240 1:7=76*240 \
+            1:8=76*240 1:9=76*240 \
+            2:1=76*240 2:2=76*240 2:3=76*240 2:4=76*240 2:5=76*240 2:6=76*240 2:7=76*240 \
+            2:8=76*240",
     ),
     // Three records of `a` stay. The map of `top` has two leaves under a root, so each of the three
     // changes writes two blocks.
@@ -257,7 +251,7 @@ const MERGES_IN_256_BLOCKS: &[Row] = &[
         "
         format 256
         open
-        puts top 1:1 20 v
+        puts top 1:1 20 76*240
         new a top
         put top 1:10 t
         remove top 1:5
@@ -271,15 +265,21 @@ const MERGES_IN_256_BLOCKS: &[Row] = &[
         conflicts a -> none
         merge a -> ok 5
         free -> 175
-        list a -> 1:1=v 1:2=t 1:3=m 1:4=v 1:6=v 1:7=v 1:8=v 1:9=v 1:10=t 1:11=v 1:13=v \
-            1:14=v 1:15=v 1:16=v 1:17=v 1:18=v 1:19=v 1:20=t 1:21=t 1:30=m
-        list top -> 1:1=v 1:2=t 1:3=v 1:4=v 1:6=v 1:7=v 1:8=v 1:9=v 1:10=t 1:11=v 1:12=v \
-            1:13=v 1:14=v 1:15=v 1:16=v 1:17=v 1:18=v 1:19=v 1:20=t 1:21=t
-        changes a -> 1:3=v/m 1:12=v/~ 1:30=~/m
+        list a -> 1:1=76*240 1:2=t 1:3=m 1:4=76*240 1:6=76*240 1:7=76*240 1:8=76*240 1:9=76*240 \
+            1:10=t 1:11=76*240 1:13=76*240 \
+            1:14=76*240 1:15=76*240 1:16=76*240 1:17=76*240 1:18=76*240 1:19=76*240 1:20=t 1:21=t \
+            1:30=m
+        list top -> 1:1=76*240 1:2=t 1:3=76*240 1:4=76*240 1:6=76*240 1:7=76*240 1:8=76*240 \
+            1:9=76*240 1:10=t 1:11=76*240 1:12=76*240 \
+            1:13=76*240 1:14=76*240 1:15=76*240 1:16=76*240 1:17=76*240 1:18=76*240 1:19=76*240 \
+            1:20=t 1:21=t
+        changes a -> 1:3=76*240/m 1:12=76*240/~ 1:30=~/m
         merge a -> ok 0
         post a
-        list top -> 1:1=v 1:2=t 1:3=m 1:4=v 1:6=v 1:7=v 1:8=v 1:9=v 1:10=t 1:11=v 1:13=v \
-            1:14=v 1:15=v 1:16=v 1:17=v 1:18=v 1:19=v 1:20=t 1:21=t 1:30=m
+        list top -> 1:1=76*240 1:2=t 1:3=m 1:4=76*240 1:6=76*240 1:7=76*240 1:8=76*240 1:9=76*240 \
+            1:10=t 1:11=76*240 1:13=76*240 \
+            1:14=76*240 1:15=76*240 1:16=76*240 1:17=76*240 1:18=76*240 1:19=76*240 1:20=t 1:21=t \
+            1:30=m
         free -> 175
         changes a -> none",
     ),

@@ -1,15 +1,15 @@
 //! The answers to the steps of a row.
 use super::bench::Bench;
-use super::blocks::{bytes_of, bytes_text, child_at, count_in, letters_text, write_words};
+use super::blocks::{bytes_of, bytes_text, child_at, count_in, write_words};
 use super::changes::{begin, change};
 use super::copies::moved;
 use super::walked_differences::{compared, differed, differed_within, root_of, yes_or_no};
 use super::walks::{add_root, marked, verified};
-use super::words::{Wrong, add_stored, add_value, key, level, link, long, number};
+use super::words::{Wrong, add_value, key, level, long, number};
 use std::alloc::Global;
-use vm_block::read_leaf;
+use vm_block::{record_key, record_value};
 use vm_disk::Disk;
-use vm_tree::{data_at, get, is_data, long_at, node_at, rows_into, scan, scan_from, scan_part};
+use vm_tree::{data_at, get, has, is_data, leaf_into, node_at, scan, scan_from, scan_part};
 use vm_types::{Records, Refusal};
 
 /// The value of a key, or `~`.
@@ -22,6 +22,13 @@ fn got(alloc: Global, bench: &mut Bench, number: u64) -> Result<String, Wrong> {
         None => text.push_str("~")?,
     }
     Ok(text)
+}
+
+/// Whether a key has a value.
+fn had(alloc: Global, bench: &mut Bench, number: u64) -> Result<String, Wrong> {
+    let blocks = bench.disk.blocks();
+    let is_so = has(&mut bench.disk, blocks, bench.root, key(number))?;
+    Ok(String::from_str(alloc, yes_or_no(is_so))?)
 }
 
 fn records_text(alloc: Global, records: &Records) -> Result<String, Wrong> {
@@ -54,31 +61,16 @@ fn page_text(alloc: Global, bench: &mut Bench, low: u64, count: u32) -> Result<S
     records_text(alloc, &records)
 }
 
-/// The rows of a leaf, each with its value or the link to it.
+/// The records of a leaf.
 fn leaf_text(alloc: Global, bench: &mut Bench, block: u32) -> Result<String, Wrong> {
     let blocks = bench.disk.blocks();
     let mut bytes = [1; 4096];
-    let count = rows_into(&mut bench.disk, blocks, block, &mut bytes)?;
-    let rows = read_leaf(&bytes).ok_or(Wrong::Unreadable)?;
-    if rows.len() != count {
-        return Err(Wrong::Unreadable);
-    }
+    let count = leaf_into(&mut bench.disk, blocks, block, &mut bytes)?;
     let mut text = String::new(alloc);
-    for (key, stored) in rows.as_slice() {
-        write!(text, " {}=", key.number)?;
-        add_stored(&mut text, *stored)?;
+    for i in 0..count.min(340) {
+        write!(text, " {}=", record_key(&bytes, i).number)?;
+        add_value(&mut text, record_value(&bytes, i))?;
     }
-    Ok(text)
-}
-
-/// The long value of a key that a link leads to.
-fn long_text(alloc: Global, bench: &mut Bench, n: u64, word: &str) -> Result<String, Wrong> {
-    let link = link(word)?.ok_or(Wrong::Unreadable)?;
-    let blocks = bench.disk.blocks();
-    let mut bytes = [1; 4096];
-    let value = long_at(&mut bench.disk, blocks, key(n), link, &mut bytes)?;
-    let mut text = String::new(alloc);
-    add_value(&mut text, value)?;
     Ok(text)
 }
 
@@ -123,7 +115,7 @@ fn leaf_counts(alloc: Global, bench: &mut Bench) -> Result<String, Wrong> {
 fn dirty_blocks(alloc: Global, bench: &Bench) -> Result<String, Wrong> {
     let mut text = String::new(alloc);
     for n in 0..bench.disk.blocks() {
-        if bench.disk.inner().inner().is_dirty(n) {
+        if bench.disk.inner().is_dirty(n) {
             write!(text, " {n}")?;
         }
     }
@@ -165,7 +157,6 @@ fn taken(alloc: Global, bench: &mut Bench) -> Result<String, Wrong> {
 fn look(alloc: Global, bench: &mut Bench, words: &[&str]) -> Result<String, Wrong> {
     match words {
         ["bytes", n] => bytes_text(alloc, &bytes_of(&mut bench.disk, number(n)?)?),
-        ["letters", n] => letters_text(alloc, &bytes_of(&mut bench.disk, number(n)?)?),
         ["count", n] => {
             let count = count_in(&mut bench.disk, number(n)?)?;
             Ok(format!(in alloc; "{count}")?)
@@ -175,7 +166,6 @@ fn look(alloc: Global, bench: &mut Bench, words: &[&str]) -> Result<String, Wron
         ["dirty"] => dirty_blocks(alloc, bench),
         ["data", n] => data_text(alloc, bench, number(n)?),
         ["leaf", n] => leaf_text(alloc, bench, number(n)?),
-        ["long", n, link] => long_text(alloc, bench, long(n)?, link),
         ["node", above, n] => node_text(alloc, bench, level(above)?, number(n)?),
         _ => Err(Wrong::Unreadable),
     }
@@ -185,6 +175,7 @@ fn look(alloc: Global, bench: &mut Bench, words: &[&str]) -> Result<String, Wron
 fn ask(alloc: Global, bench: &mut Bench, words: &[&str]) -> Result<String, Wrong> {
     match words {
         ["get", number] => got(alloc, bench, long(number)?),
+        ["has", number] => had(alloc, bench, long(number)?),
         ["list"] => listed(alloc, bench),
         ["part", low, high] => part_text(alloc, bench, long(low)?, long(high)?),
         ["next", low, count] => page_text(alloc, bench, long(low)?, number(count)?),
@@ -198,8 +189,7 @@ fn ask(alloc: Global, bench: &mut Bench, words: &[&str]) -> Result<String, Wrong
         ["free"] => Ok(format!(in alloc; "{}", bench.held.free_count())?),
         ["take"] => taken(alloc, bench),
         ["mark", roots @ ..] => marked(alloc, bench, roots),
-        ["verify", numbers @ ..] => verified(alloc, bench, true, numbers),
-        ["strict", numbers @ ..] => verified(alloc, bench, false, numbers),
+        ["verify", numbers @ ..] => verified(alloc, bench, numbers),
         ["move", blocks, first, second] => moved(alloc, bench, number(blocks)?, [first, second]),
         ["differ", first, second] => differed(alloc, bench, first, second, true),
         ["within", first, second, low, high] => {

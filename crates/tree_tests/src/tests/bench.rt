@@ -3,33 +3,29 @@ use super::words::Wrong;
 use std::alloc::Global;
 use std::mem;
 use vm_alloc::{Held, Marks};
-use vm_check::NotedDisk;
 use vm_disk::{FuseDisk, MemDisk};
 use vm_tree::Root;
 
 /// More device calls than any row makes.
 const NEVER: u32 = 1_000_000;
 
-/// A disk in memory that counts device calls, may fail one, and notes which leaves have no long
-/// value.
-pub(super) type Device = NotedDisk<FuseDisk<MemDisk>>;
+/// A disk in memory that counts device calls, and may fail one.
+pub(super) type Device = FuseDisk<MemDisk>;
 
-/// The sizes of trees in the rows: records of a leaf, children of an inner block, levels.
+/// The sizes of trees in the rows: children of an inner block, and levels.
 #[derive(Clone, Copy)]
 pub(super) enum Sizes {
-    /// 16, 256 and 8, as in the store.
+    /// 256 and 8, as in the store.
     Store,
-    /// 2, 2 and 8.
-    DeepTwos,
-    /// 3, 4 and 8.
+    /// 3 and 8.
     DeepThrees,
-    /// 3, 3 and 2.
+    /// 4 and 8.
+    DeepFours,
+    /// 4 and 2.
+    Fours,
+    /// 3 and 2.
     Threes,
-    /// 2, 2 and 2.
-    Twos,
-    /// 3, 2 and 2.
-    Pairs,
-    /// 3, 3 and 1.
+    /// 3 and 1.
     Flat,
 }
 
@@ -42,9 +38,8 @@ pub(super) struct Bench {
     /// The roots that were kept as `a`, `b` and `c`, and how many blocks were free then.
     pub(super) kept: [Root; 3],
     pub(super) free: u32,
-    /// The blocks that the last put or remove replaced, each at its level, and the one of a long
-    /// value.
-    pub(super) path: [u32; 9],
+    /// The blocks that the last put or remove replaced, each at its level.
+    pub(super) path: [u32; 8],
     pub(super) sizes: Sizes,
     /// How many device calls there had been when they were last asked for.
     pub(super) seen: u32,
@@ -57,16 +52,14 @@ impl Bench {
             return Err(Wrong::Unreadable);
         }
         let disk = MemDisk::new(alloc, blocks)?;
-        let mut disk = NotedDisk::new(FuseDisk::once(disk, NEVER, [0; 4096]));
-        disk.reserve(alloc, blocks)?;
         Ok(Bench {
-            disk,
+            disk: FuseDisk::once(disk, NEVER, [0; 4096]),
             held: Held::new(alloc, blocks)?,
             marks: Marks::new(alloc, blocks)?,
             root: Root::default(),
             kept: [Root::default(); 3],
             free: 0,
-            path: [0; 9],
+            path: [0; 8],
             sizes: Sizes::Store,
             seen: 0,
         })
@@ -74,7 +67,7 @@ impl Bench {
 
     /// How many device calls were made.
     pub(super) fn calls(&self) -> u32 {
-        self.disk.inner().calls()
+        self.disk.calls()
     }
 
     /// How many were made since they were last asked for.
@@ -84,15 +77,14 @@ impl Bench {
         calls.saturating_sub(before)
     }
 
-    /// Makes the disk fail once, after this many device calls from now. Its notes are gone.
+    /// Makes the disk fail once, after this many device calls from now.
     pub(super) fn fail_after(&mut self, alloc: Global, passes: u32) -> Result<(), Wrong> {
         if passes > NEVER {
             return Err(Wrong::Unreadable);
         }
         let blank = FuseDisk::once(MemDisk::new(alloc, 64)?, NEVER, [0; 4096]);
-        let disk = mem::replace(&mut self.disk, NotedDisk::new(blank));
-        let inner = disk.into_inner().into_inner();
-        self.disk = NotedDisk::new(FuseDisk::once(inner, passes, [0; 4096]));
+        let disk = mem::replace(&mut self.disk, blank);
+        self.disk = FuseDisk::once(disk.into_inner(), passes, [0; 4096]);
         self.seen = 0;
         Ok(())
     }

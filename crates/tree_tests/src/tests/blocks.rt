@@ -1,14 +1,12 @@
 //! The blocks of a disk, written and looked at by the steps of a row.
-ghost use Rattle.vm_block.specs.Leaf.{StoredFits};
-
-use super::words::{Wrong, byte, child, key, level, long, number, stored, value};
+use super::words::{Wrong, byte, child, key, level, long, number, value};
 use arrayvec::ArrayVec;
 use std::alloc::Global;
 use vm_block::{
-    Child, Placed, Stored, put_row, read_leaf, read_node, write_leaf, write_long, write_node,
+    Child, Placed, first_record, is_leaf, put_record, read_node, records_len, write_node,
 };
 use vm_disk::Disk;
-use vm_types::{Block, Key, Refusal};
+use vm_types::{Block, Refusal, Value};
 
 pub(super) fn bytes_of<D: Disk>(disk: &mut D, n: u32) -> Result<Block, Wrong> {
     let mut bytes = [0; 4096];
@@ -27,46 +25,42 @@ fn write_block<D: Disk>(disk: &mut D, n: u32, bytes: &Block) -> Result<(), Wrong
     Ok(())
 }
 
-/// Puts a row into a leaf that has room for it.
-fn add_row(bytes: &mut Block, key: Key, stored: Stored<'_>) -> Result<(), Wrong>
-    requires { StoredFits stored }
-{
-    match put_row(bytes, 16, key, stored) {
+/// Puts a record into a leaf that has room for it.
+fn add_record(bytes: &mut Block, number: u64, value: &Value) -> Result<(), Wrong> {
+    match put_record(bytes, key(number), value.as_bytes()) {
         Placed::Put => Ok(()),
-        _ => Err(Wrong::Unreadable),
+        Placed::TooBig => Err(Wrong::Unreadable),
     }
 }
 
-/// A leaf of these keys, each with this value or link.
+/// A leaf of these keys, each with this value.
 fn leaf(given: &str, numbers: &[&str]) -> Result<Block, Wrong> {
     let (first, others) = numbers.split_first().ok_or(Wrong::Unreadable)?;
-    let given = stored(given)?;
-    let mut bytes = [0; 4096];
-    write_leaf(&[(key(long(first)?), given)], &mut bytes);
-    for word in others {
-        add_row(&mut bytes, key(long(word)?), given)?;
-    }
-    Ok(bytes)
-}
-
-/// A leaf of these keys, each with a value or link of its own.
-fn rows(words: &[&str]) -> Result<Block, Wrong> {
-    let (first, others) = words.split_first().ok_or(Wrong::Unreadable)?;
-    let (number, given) = first.split_once('=').ok_or(Wrong::Unreadable)?;
-    let mut bytes = [0; 4096];
-    write_leaf(&[(key(long(number)?), stored(given)?)], &mut bytes);
-    for word in others {
-        let (number, given) = word.split_once('=').ok_or(Wrong::Unreadable)?;
-        add_row(&mut bytes, key(long(number)?), stored(given)?)?;
-    }
-    Ok(bytes)
-}
-
-/// The block of this key and its long value.
-fn long_value(number: &str, given: &str) -> Result<Block, Wrong> {
     let given = value(given)?;
     let mut bytes = [0; 4096];
-    write_long(key(long(number)?), given.as_bytes(), &mut bytes);
+    first_record(key(long(first)?), given.as_bytes(), &mut bytes);
+    for word in others {
+        add_record(&mut bytes, long(word)?, &given)?;
+    }
+    Ok(bytes)
+}
+
+/// The number and the value of a record, as in `1=v`.
+fn record(word: &str) -> Result<(u64, Value), Wrong> {
+    let (number, given) = word.split_once('=').ok_or(Wrong::Unreadable)?;
+    Ok((long(number)?, value(given)?))
+}
+
+/// A leaf of these keys, each with a value of its own.
+fn records(words: &[&str]) -> Result<Block, Wrong> {
+    let (first, others) = words.split_first().ok_or(Wrong::Unreadable)?;
+    let (number, given) = record(first)?;
+    let mut bytes = [0; 4096];
+    first_record(key(number), given.as_bytes(), &mut bytes);
+    for word in others {
+        let (number, given) = record(word)?;
+        add_record(&mut bytes, number, &given)?;
+    }
     Ok(bytes)
 }
 
@@ -120,8 +114,7 @@ fn set_run(bytes: &mut Block, run: &str) -> Result<(), Wrong> {
 pub(super) fn write_words<D: Disk>(disk: &mut D, words: &[&str]) -> Result<bool, Wrong> {
     let (n, bytes) = match words {
         ["write", "leaf", n, given, numbers @ ..] => (n, leaf(given, numbers)?),
-        ["write", "rows", n, words @ ..] => (n, rows(words)?),
-        ["write", "long", n, number, given] => (n, long_value(number, given)?),
+        ["write", "records", n, words @ ..] => (n, records(words)?),
         ["write", "node", n, above, children @ ..] => (n, node(above, children)?),
         ["write", "fan", n, count] => (n, fan(number(count)?)?),
         ["write", "all", n, fill] => (n, [byte(fill)?; 4096]),
@@ -153,17 +146,11 @@ pub(super) fn bytes_text(alloc: Global, bytes: &Block) -> Result<String, Wrong> 
     Ok(text)
 }
 
-/// The letters that a block begins with.
-pub(super) fn letters_text(alloc: Global, bytes: &Block) -> Result<String, Wrong> {
-    let letters = str::from_utf8(&bytes[..4])?;
-    Ok(String::from_str(alloc, letters)?)
-}
-
-/// How many rows a leaf has, or children an inner block.
+/// How many records a leaf has, or children an inner block.
 pub(super) fn count_in<D: Disk>(disk: &mut D, n: u32) -> Result<usize, Wrong> {
     let bytes = bytes_of(disk, n)?;
-    if let Some(rows) = read_leaf(&bytes) {
-        return Ok(rows.len());
+    if is_leaf(&bytes) {
+        return Ok(records_len(&bytes));
     }
     match read_node(&bytes) {
         Some(node) => Ok(node.children.len()),

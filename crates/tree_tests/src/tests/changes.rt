@@ -10,18 +10,18 @@ use vm_disk::Disk;
 use vm_tree::{Root, put, remove};
 use vm_types::Value;
 
-fn put_in<const LEAF: usize, const FAN: usize, const LEVELS: usize>(
+fn put_in<const FAN: usize, const LEVELS: usize>(
     bench: &mut Bench,
     number: u64,
     value: &Value,
 ) -> Result<(), Wrong>
-    requires { AreSizes LEAF FAN LEVELS }
+    requires { AreSizes FAN LEVELS }
 {
     if bench.held.free_count() < 16 || bench.held.blocks() > bench.disk.blocks() {
         return Err(Wrong::Unreadable);
     }
-    bench.path = [0; 9];
-    bench.root = put::<Device, LEAF, FAN, LEVELS>(
+    bench.path = [0; 8];
+    bench.root = put::<Device, FAN, LEVELS>(
         &mut bench.disk,
         &mut bench.held,
         bench.root,
@@ -34,11 +34,12 @@ fn put_in<const LEAF: usize, const FAN: usize, const LEVELS: usize>(
 
 fn put_sized(bench: &mut Bench, number: u64, value: &Value) -> Result<(), Wrong> {
     match bench.sizes {
-        Sizes::Store => put_in::<16, 256, 8>(bench, number, value),
-        Sizes::Threes => put_in::<3, 3, 2>(bench, number, value),
-        Sizes::DeepTwos => put_in::<2, 2, 8>(bench, number, value),
-        Sizes::DeepThrees => put_in::<3, 4, 8>(bench, number, value),
-        _ => Err(Wrong::Unreadable),
+        Sizes::Store => put_in::<256, 8>(bench, number, value),
+        Sizes::DeepThrees => put_in::<3, 8>(bench, number, value),
+        Sizes::DeepFours => put_in::<4, 8>(bench, number, value),
+        Sizes::Fours => put_in::<4, 2>(bench, number, value),
+        Sizes::Threes => put_in::<3, 2>(bench, number, value),
+        Sizes::Flat => put_in::<3, 1>(bench, number, value),
     }
 }
 
@@ -64,17 +65,17 @@ fn put_all(
 }
 
 /// The root without the record, if it was there.
-fn removed<const LEAF: usize, const FAN: usize, const LEVELS: usize>(
+fn removed<const FAN: usize, const LEVELS: usize>(
     bench: &mut Bench,
     number: u64,
 ) -> Result<Option<Root>, Wrong>
-    requires { AreSizes LEAF FAN LEVELS }
+    requires { AreSizes FAN LEVELS }
 {
     if bench.held.free_count() < 16 || bench.held.blocks() > bench.disk.blocks() {
         return Err(Wrong::Unreadable);
     }
-    bench.path = [0; 9];
-    let root = remove::<Device, LEAF, FAN, LEVELS>(
+    bench.path = [0; 8];
+    let root = remove::<Device, FAN, LEVELS>(
         &mut bench.disk,
         &mut bench.held,
         bench.root,
@@ -86,8 +87,8 @@ fn removed<const LEAF: usize, const FAN: usize, const LEVELS: usize>(
 
 fn remove_sized(bench: &mut Bench, number: u64) -> Result<bool, Wrong> {
     let removed = match bench.sizes {
-        Sizes::Store => removed::<16, 256, 8>(bench, number)?,
-        Sizes::Threes => removed::<3, 3, 2>(bench, number)?,
+        Sizes::Store => removed::<256, 8>(bench, number)?,
+        Sizes::Threes => removed::<3, 2>(bench, number)?,
         _ => return Err(Wrong::Unreadable),
     };
     match removed {
@@ -115,12 +116,11 @@ fn let_go(bench: &mut Bench) -> Result<(), Wrong> {
 
 fn sizes(words: &[&str]) -> Result<Sizes, Wrong> {
     match words {
-        ["3", "3", "2"] => Ok(Sizes::Threes),
-        ["2", "2", "8"] => Ok(Sizes::DeepTwos),
-        ["3", "4", "8"] => Ok(Sizes::DeepThrees),
-        ["2", "2", "2"] => Ok(Sizes::Twos),
-        ["3", "2", "2"] => Ok(Sizes::Pairs),
-        ["3", "3", "1"] => Ok(Sizes::Flat),
+        ["3", "8"] => Ok(Sizes::DeepThrees),
+        ["4", "8"] => Ok(Sizes::DeepFours),
+        ["4", "2"] => Ok(Sizes::Fours),
+        ["3", "2"] => Ok(Sizes::Threes),
+        ["3", "1"] => Ok(Sizes::Flat),
         _ => Err(Wrong::Unreadable),
     }
 }

@@ -56,14 +56,16 @@ pub(super) fn moved(
     Ok(text)
 }
 
-/// Block 37 has 2=w, and block 36 has 2=v, each beside one long value in block 34.
+/// Block 38 has 2=w, and block 36 has 2=v. Both are the second leaf beside block 34.
 const SHARED: &str = "
     new 64
-    put 1 300*a
-    put 2 v
-    put 2 w
-    leaf 36 -> 1=300@34 2=v
-    leaf 37 -> 1=300@34 2=w";
+    put 1 4000*a
+    put 2 300*v
+    root -> 37.1.1
+    put 2 300*w
+    root -> 39.1.1
+    node 1 37 -> 1:35 2:36
+    node 1 39 -> 1:35 2:38";
 
 const ROWS: [Row; 9] = [
     (
@@ -86,25 +88,30 @@ const ROWS: [Row; 9] = [
         &[
             SEVENTEEN,
             "
-        node 1 37 -> 1:35 10:36
+        node 1 37 -> 1:35 9:36
         move 100 37.1.1 none -> 36.1.1 none by 3
-        node 1 36 -> 1:34 10:35
+        node 1 36 -> 1:34 9:35
         top 36.1.1
-        list -> 1=v 2=v 3=v 4=v 5=v 6=v 7=v 8=v 9=v 10=v 11=v 12=v 13=v 14=v 15=v 16=v 17=v
+        list -> 1=240*v 2=240*v 3=240*v 4=240*v 5=240*v 6=240*v 7=240*v 8=240*v 9=240*v 10=240*v 11=240*v 12=240*v 13=240*v 14=240*v 15=240*v 16=240*v 17=240*v
         dirty -> 34 35 36",
         ],
     ),
     (
-        "writes a long value before the leaf that links to it",
+        "copies values of any length",
         &[
-            SHARED,
             "
-        put 1 4000*b
-        leaf 39 -> 1=4000@38 2=w
-        move 64 39.0.1 none -> 35.0.1 none by 2
-        leaf 35 -> 1=4000@34 2=w
-        long 1 4000@34 -> 4000*b
-        dirty -> 34 35",
+        new 64
+        put 1 ''
+        put 3 3500*c
+        put 2 4000*b
+        put 4 241*d
+        root -> 40.1.1
+        move 64 40.1.1 none -> 36.1.1 none by 3
+        node 1 36 -> 1:34 3:35
+        leaf 34 -> 1= 2=4000*b
+        leaf 35 -> 3=3500*c 4=241*d
+        dirty -> 34 35 36
+        verify 36 -> 36.1.1 marks 34 35 36 by 3",
         ],
     ),
     (
@@ -112,22 +119,26 @@ const ROWS: [Row; 9] = [
         &[
             SHARED,
             "
-        move 64 37.0.1 36.0.1 -> 35.0.1 36.0.1 by 3
-        leaf 35 -> 1=300@34 2=w
-        leaf 36 -> 1=300@34 2=v
-        dirty -> 34 35 36",
+        move 64 39.1.1 37.1.1 -> 36.1.1 38.1.1 by 5
+        node 1 36 -> 1:34 2:35
+        node 1 38 -> 1:34 2:37
+        leaf 34 -> 1=4000*a
+        leaf 35 -> 2=300*w
+        leaf 37 -> 2=300*v
+        dirty -> 34 35 36 37 38",
         ],
     ),
     (
         "gives one root one copy",
-        &[SHARED, "move 64 37.0.1 37.0.1 -> 35.0.1 35.0.1 by 2"],
+        &[SHARED, "move 64 39.1.1 39.1.1 -> 36.1.1 36.1.1 by 3"],
     ),
     (
+        // 30 leaves of thirteen records, one of ten, and the root.
         "ends where no block is left",
         &[
             "
         new 1024
-        puts 1 400 v
+        puts 1 400 300*v
         keep a
         move 64 a none -> error Full",
         ],
@@ -138,7 +149,8 @@ const ROWS: [Row; 9] = [
             "
         new 64
         write node 34 1 1:34
-        write rows 35 1=300@35
+        write records 35 1=300*a
+        set 35 0:4C454632
         move 64 34.1.1 none -> error Damaged 34
         move 64 35.0.1 none -> error Damaged 35
         move 64 64.0.1 none -> error Damaged 64
@@ -151,7 +163,7 @@ const ROWS: [Row; 9] = [
     ),
     (
         "answers that the device failed",
-        &[SHARED, "once 1\nmove 64 37.0.1 none -> error Device"],
+        &[SHARED, "once 1\nmove 64 39.1.1 none -> error Device"],
     ),
 ];
 

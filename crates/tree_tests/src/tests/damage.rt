@@ -20,7 +20,7 @@ const ROOT_IS_REFUSED: &str = "
     dirty -> none
     free -> 25";
 
-const ROWS: [Row; 17] = [
+const ROWS: [Row; 23] = [
     (
         "a leaf with the letters of an inner block",
         &[SEVENTEEN, "set 36 0:4E4F4445", LEAF_IS_REFUSED],
@@ -30,12 +30,12 @@ const ROWS: [Row; 17] = [
         &[SEVENTEEN, "set 36 4:01000000", LEAF_IS_REFUSED],
     ),
     (
-        "a leaf without rows",
+        "a leaf without records",
         &[SEVENTEEN, "set 36 8:00000000", LEAF_IS_REFUSED],
     ),
     (
-        "a leaf of 17 rows",
-        &[SEVENTEEN, "set 36 8:11000000", LEAF_IS_REFUSED],
+        "a leaf of 341 records",
+        &[SEVENTEEN, "set 36 8:55010000", LEAF_IS_REFUSED],
     ),
     (
         "a leaf with a byte of the head",
@@ -46,8 +46,33 @@ const ROWS: [Row; 17] = [
         &[SEVENTEEN, "set 36 16:01000B00", LEAF_IS_REFUSED],
     ),
     (
+        "a leaf of an earlier form",
+        &[SEVENTEEN, "set 36 0:4C454146", LEAF_IS_REFUSED],
+    ),
+    (
+        "a leaf with a record more",
+        &[SEVENTEEN, "set 36 8:0A000000", LEAF_IS_REFUSED],
+    ),
+    (
+        "a leaf with a record fewer",
+        &[SEVENTEEN, "set 36 8:08000000", LEAF_IS_REFUSED],
+    ),
+    (
+        // The second value ends behind the third.
+        "a leaf with ends that fall",
+        &[SEVENTEEN, "set 36 38:D102", LEAF_IS_REFUSED],
+    ),
+    (
+        "a leaf with keys that fall",
+        &[SEVENTEEN, "set 36 30:08", LEAF_IS_REFUSED],
+    ),
+    (
+        "a leaf with a byte behind the values",
+        &[SEVENTEEN, "set 36 4095:01", LEAF_IS_REFUSED],
+    ),
+    (
         "a root with the letters of a leaf",
-        &[SEVENTEEN, "set 37 0:4C454146", ROOT_IS_REFUSED],
+        &[SEVENTEEN, "set 37 0:4C454633", ROOT_IS_REFUSED],
     ),
     (
         "a root of level 0",
@@ -73,14 +98,14 @@ const ROWS: [Row; 17] = [
         "a root with another first key",
         &[SEVENTEEN, "set 37 16:01000000", ROOT_IS_REFUSED],
     ),
-    ("as it was", &[SEVENTEEN, "get 10 -> v"]),
+    ("as it was", &[SEVENTEEN, "get 10 -> 240*v"]),
     (
         "a block that is none of the tree in the place of a leaf",
         &[
             SEVENTEEN,
             "write all 36 07",
             "
-            get 9 -> v
+            get 8 -> 240*v
             get 10 -> error Damaged 36
             put 10 v -> error Damaged 36
             remove 10 -> error Damaged 36
@@ -94,7 +119,7 @@ const ROWS: [Row; 17] = [
     (
         // The leaf as it was before record 10 came, and after it had gone.
         "the leaf without record 10 in its place",
-        &[SEVENTEEN, "write leaf 36 v 11 12", LEAF_IS_REFUSED],
+        &[SEVENTEEN, "write leaf 36 240*v 11 12", LEAF_IS_REFUSED],
     ),
 ];
 

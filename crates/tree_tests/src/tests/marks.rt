@@ -8,7 +8,7 @@ const TWO_LEAVES: &str = "
     write leaf 36 '' 2
     write node 34 1 1:35 2:36";
 
-const ROWS: [Row; 4] = [
+const ROWS: [Row; 5] = [
     (
         // Neither the leaves nor a marked block is read.
         "marks what lies under roots, and reads no block twice",
@@ -22,6 +22,20 @@ const ROWS: [Row; 4] = [
     (
         "marks no more than the roots reach",
         &[TWO_LEAVES, "mark 36.0.2 -> marks 36 by 0"],
+    ),
+    (
+        // Sixteen records of 252 bytes are in block 34, and then the second value grows.
+        "reads no leaf, whatever the lengths of its values",
+        &[
+            "
+        new 128
+        puts 1 16 240*v
+        put 2 4000*w
+        leaves -> 1 1 14
+        root -> 53.1.1
+        once 1000
+        mark 53.1.1 -> marks 50 51 52 53 by 1",
+        ],
     ),
     (
         "ends on blocks that are no tree",

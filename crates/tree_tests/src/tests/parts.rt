@@ -2,17 +2,20 @@
 //! that they read.
 use super::script::{Row, SEVENTEEN, plays_rows};
 
-/// A leaf whose first and last of three records have long values.
+/// Three leaves, of which the first and the last have one great value each.
 const LONG_ENDS: &str = "
-    put 1 300*a
-    put 2 v
-    put 3 300*c";
+    put 1 4000*a
+    put 2 300*b
+    put 3 300*c
+    put 4 4000*d
+    leaves -> 1 2 1";
 
 /// Leaves of one or two records, at many levels.
 const DEEP: &str = "
     new 1024
-    sizes 2 2 8
-    puts 1 40 v";
+    sizes 3 8
+    puts 1 40 1900*v
+    level -> 4";
 
 const ROWS: [Row; 9] = [
     (
@@ -59,23 +62,23 @@ const ROWS: [Row; 9] = [
         ],
     ),
     (
-        // Leaves of 1 to 9 and of 10 to 17, and the root.
+        // Leaves of 1 to 8 and of 9 to 17, and the root.
         "reads no leaf beside the part but the one before it",
         &[
             SEVENTEEN,
             "
-        list -> 1=v 2=v 3=v 4=v 5=v 6=v 7=v 8=v 9=v 10=v 11=v 12=v 13=v 14=v 15=v 16=v 17=v
-        part 8 9 -> 8=v 9=v
-        part 10 11 -> 10=v 11=v
-        part 9 10 -> 9=v 10=v
+        list -> 1=240*v 2=240*v 3=240*v 4=240*v 5=240*v 6=240*v 7=240*v 8=240*v 9=240*v 10=240*v 11=240*v 12=240*v 13=240*v 14=240*v 15=240*v 16=240*v 17=240*v
+        part 7 8 -> 7=240*v 8=240*v
+        part 9 10 -> 9=240*v 10=240*v
+        part 8 9 -> 8=240*v 9=240*v
         part 18 20 -> none
         part 12 11 -> none
         fresh
-        part 8 9 -> 8=v 9=v
+        part 7 8 -> 7=240*v 8=240*v
         calls -> 2
-        part 10 11 -> 10=v 11=v
+        part 9 10 -> 9=240*v 10=240*v
         calls -> 2
-        part 9 10 -> 9=v 10=v
+        part 8 9 -> 8=240*v 9=240*v
         calls -> 3
         part 18 20 -> none
         calls -> 2
@@ -83,7 +86,7 @@ const ROWS: [Row; 9] = [
         calls -> 0
         part 12 11 -> none
         calls -> 2
-        part 0 99 -> 1=v 2=v 3=v 4=v 5=v 6=v 7=v 8=v 9=v 10=v 11=v 12=v 13=v 14=v 15=v 16=v 17=v
+        part 0 99 -> 1=240*v 2=240*v 3=240*v 4=240*v 5=240*v 6=240*v 7=240*v 8=240*v 9=240*v 10=240*v 11=240*v 12=240*v 13=240*v 14=240*v 15=240*v 16=240*v 17=240*v
         calls -> 3",
         ],
     ),
@@ -93,42 +96,45 @@ const ROWS: [Row; 9] = [
             SEVENTEEN,
             "
         fresh
-        next 9 1 -> 9=v
+        next 8 1 -> 8=240*v
         calls -> 2
-        next 8 2 -> 8=v 9=v
+        next 7 2 -> 7=240*v 8=240*v
         calls -> 2
-        next 8 3 -> 8=v 9=v 10=v
+        next 7 3 -> 7=240*v 8=240*v 9=240*v
         calls -> 3
-        next 10 1 -> 10=v
+        next 9 1 -> 9=240*v
         calls -> 2
         next 5 0 -> none
         calls -> 0
-        next 17 9 -> 17=v
+        next 17 9 -> 17=240*v
         calls -> 2
         next 18 9 -> none
         calls -> 2",
         ],
     ),
     (
-        "long values at both ends are read inside the part alone",
+        // The root and the leaves of the part.
+        "great values at both ends are read inside the part alone",
         &[
             LONG_ENDS,
             "
         fresh
-        part 1 3 -> 1=300*a 2=v 3=300*c
+        part 1 4 -> 1=4000*a 2=300*b 3=300*c 4=4000*d
+        calls -> 4
+        part 2 3 -> 2=300*b 3=300*c
+        calls -> 2
+        part 1 2 -> 1=4000*a 2=300*b
         calls -> 3
-        part 2 2 -> 2=v
-        calls -> 1
-        part 1 2 -> 1=300*a 2=v
+        part 3 4 -> 3=300*c 4=4000*d
+        calls -> 3
+        next 1 1 -> 1=4000*a
         calls -> 2
-        part 2 3 -> 2=v 3=300*c
+        next 2 1 -> 2=300*b
         calls -> 2
-        next 1 1 -> 1=300*a
-        calls -> 2
-        next 2 1 -> 2=v
-        calls -> 1
         next 3 1 -> 3=300*c
-        calls -> 2",
+        calls -> 2
+        next 3 2 -> 3=300*c 4=4000*d
+        calls -> 3",
         ],
     ),
     (
@@ -137,9 +143,9 @@ const ROWS: [Row; 9] = [
         &[
             DEEP,
             "
-        part 20 23 -> 20=v 21=v 22=v 23=v
-        next 39 9 -> 39=v 40=v
-        next 1 3 -> 1=v 2=v 3=v
+        part 20 23 -> 20=1900*v 21=1900*v 22=1900*v 23=1900*v
+        next 39 9 -> 39=1900*v 40=1900*v
+        next 1 3 -> 1=1900*v 2=1900*v 3=1900*v
         part 41 99 -> none
         part 0 0 -> none",
         ],
@@ -150,12 +156,12 @@ const ROWS: [Row; 9] = [
             SEVENTEEN,
             "
         write all 36 07
-        part 1 9 -> 1=v 2=v 3=v 4=v 5=v 6=v 7=v 8=v 9=v
-        next 8 2 -> 8=v 9=v
-        part 9 10 -> error Damaged 36
-        next 8 3 -> error Damaged 36
+        part 1 8 -> 1=240*v 2=240*v 3=240*v 4=240*v 5=240*v 6=240*v 7=240*v 8=240*v
+        next 7 2 -> 7=240*v 8=240*v
+        part 8 9 -> error Damaged 36
+        next 7 3 -> error Damaged 36
         write all 37 07
-        part 1 9 -> error Damaged 37
+        part 1 8 -> error Damaged 37
         part 0 0 -> none
         next 1 0 -> none",
         ],
@@ -166,11 +172,11 @@ const ROWS: [Row; 9] = [
             SEVENTEEN,
             "
         once 1
-        part 8 9 -> error Device
-        part 8 9 -> 8=v 9=v
+        part 7 8 -> error Device
+        part 7 8 -> 7=240*v 8=240*v
         once 2
-        next 9 2 -> error Device
-        next 9 2 -> 9=v 10=v",
+        next 8 2 -> error Device
+        next 8 2 -> 8=240*v 9=240*v",
         ],
     ),
 ];

@@ -4,7 +4,7 @@
 //! finds none of those.
 use super::script::{FOREIGN, Row, SEVENTEEN, plays_rows};
 
-const ROWS: [Row; 4] = [
+const ROWS: [Row; 5] = [
     (
         "replaces the one leaf",
         &[
@@ -54,7 +54,7 @@ const ROWS: [Row; 4] = [
             FOREIGN,
             "
         write fan 35 256
-        put 1 w
+        put 1 240*w
         path -> 34 35
         root -> 40.2.0
         put 1 x
@@ -67,19 +67,40 @@ const ROWS: [Row; 4] = [
         ],
     ),
     (
+        // The leaf is replaced by three. The blocks of the change are 16 at the most, and four
+        // here.
+        "replaces one leaf by three and a root",
+        &[
+            "
+        put 1 1300*a
+        put 2 1300*b
+        put 3 1300*c
+        keep a
+        put 2 4000*b
+        spent -> 4
+        path -> 36
+        mark 40.1.1 -> marks 37 38 39 40 by 1
+        keep a
+        put 2 3999*b
+        spent -> 2
+        path -> 38 40
+        root -> 42.1.1",
+        ],
+    ),
+    (
         // The leaf that becomes the root was beside the path.
         "names the path alone where one child is left",
         &[
             "
         new 256
-        sizes 3 3 2
-        puts 1 4 v
+        sizes 3 2
+        puts 1 4 1300*v
         remove 1
         root -> 41.1.2
-        remove 2
-        path -> 40 41
-        root -> 38.0.3
-        mark 38.0.3 -> marks 38 by 0",
+        remove 4
+        path -> 38 41
+        root -> 40.0.2
+        mark 40.0.2 -> marks 40 by 0",
         ],
     ),
 ];

@@ -1,4 +1,4 @@
-//! A hundred thousand random changes of a tree, at the sizes of the store and at small ones.
+//! Over a hundred thousand random changes of trees, at the sizes of the store and at small ones.
 ghost use Rattle.vm_tree.specs.Root.{AreSizes};
 
 use arrayvec::ArrayVec;
@@ -8,8 +8,8 @@ use std::alloc::{AllocError, Global};
 use std::collections::BTreeMap;
 use std::test::Fail;
 use vm_alloc::{Held, Marks};
-use vm_block::{Child, Stored, is_long_leaf, read_leaf, read_node};
-use vm_check::{NotedDisk, mark};
+use vm_block::{Child, read_node};
+use vm_check::mark;
 use vm_disk::{DeviceFault, Disk, MemDisk};
 use vm_tree::{ListFault, PutFault, Root, TreeFault, get, put, remove, scan, scan_from, scan_part};
 use vm_types::{Block, FIRST_DATA, Key, Refusal, Value};
@@ -20,12 +20,12 @@ const BLOCKS: u32 = 16_384;
 const NEEDED: u32 = 17;
 
 /// The lengths in bytes of one in eight values.
-const LENGTHS: [usize; 6] = [0, 1, 240, 241, 300, 4000];
+const LENGTHS: [usize; 6] = [0, 1, 240, 241, 2000, 4000];
 
-const CHANGES: u32 = 100_000;
+const CHANGES: u32 = 40_000;
 
 /// How many changes are made with more puts than removes, and then again with fewer.
-const SEASON: u32 = 10_000;
+const SEASON: u32 = 5_000;
 
 /// What went wrong.
 #[derive(Clone, Copy, Debug, PartialEq, Eq)]
@@ -36,7 +36,8 @@ enum Wrong {
     Tree(Refusal),
     /// The disk, the held blocks and the marks do not have one size.
     Sizes,
-    /// A put found no room for an existing key, or took a block before it found no room.
+    /// A put found no room for a value that is not longer than the key's, or took a block before it
+    /// found no room.
     Deep(u64),
     /// A remove found a record that is not there, or missed one that is.
     Removed(u64),
@@ -83,7 +84,7 @@ impl From<ListFault> for Wrong {
 /// A tree on its own disk, and the sorted map that it must agree with.
 #[derive(Drop)]
 struct Pair {
-    disk: NotedDisk<MemDisk>,
+    disk: MemDisk,
     held: Held,
     marks: Marks,
     root: Root,
@@ -91,6 +92,8 @@ struct Pair {
     dice: Xoshiro256PlusPlus,
     /// How many keys there are.
     keys: u64,
+    /// How many bytes seven of eight values have at the most.
+    usual: usize,
     markings: u32,
     deeps: u32,
     /// The highest level that the root has had.
@@ -101,7 +104,7 @@ fn key(number: u64) -> Key {
     Key { table: 1, number }
 }
 
-fn bytes_at(disk: &mut NotedDisk<MemDisk>, block: u32) -> Result<Block, Wrong> {
+fn bytes_at(disk: &mut MemDisk, block: u32) -> Result<Block, Wrong> {
     let mut bytes = [0; 4096];
     if block >= disk.blocks() {
         return Err(Wrong::Sizes);
@@ -111,7 +114,7 @@ fn bytes_at(disk: &mut NotedDisk<MemDisk>, block: u32) -> Result<Block, Wrong> {
 }
 
 /// The children of an inner block.
-fn children_at(disk: &mut NotedDisk<MemDisk>, block: u32) -> Result<ArrayVec<Child, 256>, Wrong> {
+fn children_at(disk: &mut MemDisk, block: u32) -> Result<ArrayVec<Child, 256>, Wrong> {
     let bytes = bytes_at(disk, block)?;
     match read_node(&bytes) {
         Some(node) => Ok(node.children),
@@ -119,37 +122,13 @@ fn children_at(disk: &mut NotedDisk<MemDisk>, block: u32) -> Result<ArrayVec<Chi
     }
 }
 
-/// The blocks of the long values of a leaf. Each must be held.
-fn count_long(disk: &mut NotedDisk<MemDisk>, held: &Held, block: u32) -> Result<u32, Wrong> {
-    let bytes = bytes_at(disk, block)?;
-    if !is_long_leaf(&bytes) {
-        return Ok(0);
-    }
-    let rows = read_leaf(&bytes).ok_or(Wrong::Tree(Refusal::Damaged(block)))?;
-    let mut count: u32 = 0;
-    for (_, stored) in rows.as_slice() {
-        if let Stored::Long(link) = stored {
-            if link.block >= held.blocks() || !held.is_held(link.block) {
-                return Err(Wrong::Free(link.block));
-            }
-            count = count.saturating_add(1);
-        }
-    }
-    Ok(count)
-}
-
 /// How many blocks there are from this one of this level down. Each must be held.
-fn count_under(
-    disk: &mut NotedDisk<MemDisk>,
-    held: &Held,
-    level: u8,
-    block: u32,
-) -> Result<u32, Wrong> {
+fn count_under(disk: &mut MemDisk, held: &Held, level: u8, block: u32) -> Result<u32, Wrong> {
     if block >= held.blocks() || !held.is_held(block) {
         return Err(Wrong::Free(block));
     }
     if level == 0 {
-        return Ok(count_long(disk, held, block)?.saturating_add(1));
+        return Ok(1);
     }
     let mut count: u32 = 1;
     for child in children_at(disk, block)?.as_slice() {
@@ -160,17 +139,16 @@ fn count_under(
 }
 
 impl Pair {
-    fn new(alloc: Global, seed: u64, keys: u64) -> Result<Pair, AllocError> {
-        let mut disk = NotedDisk::new(MemDisk::new(alloc, BLOCKS)?);
-        disk.reserve(alloc, BLOCKS)?;
+    fn new(alloc: Global, seed: u64, keys: u64, usual: usize) -> Result<Pair, AllocError> {
         Ok(Pair {
-            disk,
+            disk: MemDisk::new(alloc, BLOCKS)?,
             held: Held::new(alloc, BLOCKS)?,
             marks: Marks::new(alloc, BLOCKS)?,
             root: Root::default(),
             plain: BTreeMap::new(alloc),
             dice: Xoshiro256PlusPlus::seed_from_u64(seed),
             keys,
+            usual: usual.min(Value::MAX_LEN),
             markings: 0,
             deeps: 0,
             top: 0,
@@ -212,14 +190,14 @@ impl Pair {
         self.dice.next_u64() % self.keys.max(1)
     }
 
-    /// The length of a value in bytes: one time in eight a short or a long one at a limit, and
-    /// otherwise up to 240.
+    /// The length of a value in bytes: one time in eight one of the list, and otherwise any up to
+    /// the usual ones.
     fn length(&mut self) -> usize {
         let roll = self.dice.next_u32() as usize;
         if roll % 8 == 0 {
             LENGTHS[roll / 8 % LENGTHS.len()]
         } else {
-            roll / 8 % 241
+            roll / 8 % (self.usual.min(Value::MAX_LEN) + 1)
         }
     }
 
@@ -230,12 +208,12 @@ impl Pair {
         value.to_vec(alloc)
     }
 
-    fn put<const LEAF: usize, const FAN: usize, const LEVELS: usize>(
+    fn put<const FAN: usize, const LEVELS: usize>(
         &mut self,
         number: u64,
         value: Vec<u8>,
     ) -> Result<(), Wrong>
-        requires { AreSizes LEAF FAN LEVELS }
+        requires { AreSizes FAN LEVELS }
     {
         let free = self.held.free_count();
         if free < NEEDED || self.held.blocks() > self.disk.blocks() {
@@ -244,13 +222,13 @@ impl Pair {
         if value.len() > Value::MAX_LEN {
             return Err(Wrong::Sizes);
         }
-        let changed = put::<NotedDisk<MemDisk>, LEAF, FAN, LEVELS>(
+        let changed = put::<MemDisk, FAN, LEVELS>(
             &mut self.disk,
             &mut self.held,
             self.root,
             key(number),
             value.as_slice(),
-            &mut [0; 9],
+            &mut [0; 8],
         );
         match changed {
             Ok(root) => {
@@ -263,7 +241,11 @@ impl Pair {
             }
             Err(PutFault::Deep) => {
                 self.deeps = self.deeps.saturating_add(1);
-                if self.held.free_count() != free || self.plain.contains_key(&number) {
+                let is_longer = match self.plain.get(&number) {
+                    Some(before) => before.len() < value.len(),
+                    None => true,
+                };
+                if self.held.free_count() != free || !is_longer {
                     return Err(Wrong::Deep(number));
                 }
                 Ok(())
@@ -272,21 +254,18 @@ impl Pair {
         }
     }
 
-    fn remove<const LEAF: usize, const FAN: usize, const LEVELS: usize>(
-        &mut self,
-        number: u64,
-    ) -> Result<(), Wrong>
-        requires { AreSizes LEAF FAN LEVELS }
+    fn remove<const FAN: usize, const LEVELS: usize>(&mut self, number: u64) -> Result<(), Wrong>
+        requires { AreSizes FAN LEVELS }
     {
         if self.held.free_count() < NEEDED || self.held.blocks() > self.disk.blocks() {
             return Err(Wrong::Sizes);
         }
-        let removed = remove::<NotedDisk<MemDisk>, LEAF, FAN, LEVELS>(
+        let removed = remove::<MemDisk, FAN, LEVELS>(
             &mut self.disk,
             &mut self.held,
             self.root,
             key(number),
-            &mut [0; 9],
+            &mut [0; 8],
         )?;
         if self.plain.remove(&number).is_some() != removed.is_some() {
             return Err(Wrong::Removed(number));
@@ -369,11 +348,8 @@ impl Pair {
     }
 
     /// Makes the changes, and compares after each thousand.
-    fn run<const LEAF: usize, const FAN: usize, const LEVELS: usize>(
-        &mut self,
-        alloc: Global,
-    ) -> Result<(), Wrong>
-        requires { AreSizes LEAF FAN LEVELS }
+    fn run<const FAN: usize, const LEVELS: usize>(&mut self, alloc: Global) -> Result<(), Wrong>
+        requires { AreSizes FAN LEVELS }
     {
         for change in 0..CHANGES {
             self.let_go()?;
@@ -381,9 +357,9 @@ impl Pair {
             let number = self.number();
             if self.dice.next_u32() % 4 < puts {
                 let value = self.value(alloc)?;
-                self.put::<LEAF, FAN, LEVELS>(number, value)?;
+                self.put::<FAN, LEVELS>(number, value)?;
             } else {
-                self.remove::<LEAF, FAN, LEVELS>(number)?;
+                self.remove::<FAN, LEVELS>(number)?;
             }
             if change % 1000 == 999 {
                 self.compare(alloc, change)?;
@@ -395,8 +371,8 @@ impl Pair {
 
 #[test]
 fn agrees_at_the_sizes_of_the_store(rt: HostRuntime) -> Result<(), Fail> {
-    let mut pair = Pair::new(rt.alloc(), 1, 16_384)?;
-    pair.run::<16, 256, 8>(rt.alloc())?;
+    let mut pair = Pair::new(rt.alloc(), 1, 16_384, 240)?;
+    pair.run::<256, 8>(rt.alloc())?;
     let is_so = pair.markings > 0 && pair.top == 2 && pair.deeps == 0;
     assert!(rt;
         is_so,
@@ -408,8 +384,8 @@ fn agrees_at_the_sizes_of_the_store(rt: HostRuntime) -> Result<(), Fail> {
 
 #[test]
 fn agrees_where_small_blocks_make_a_tree_deep(rt: HostRuntime) -> Result<(), Fail> {
-    let mut pair = Pair::new(rt.alloc(), 2, 4_096)?;
-    pair.run::<3, 3, 8>(rt.alloc())?;
+    let mut pair = Pair::new(rt.alloc(), 2, 4_096, 2_000)?;
+    pair.run::<3, 8>(rt.alloc())?;
     let is_so = pair.markings > 0 && pair.top == 7 && pair.deeps > 0;
     assert!(rt;
         is_so,
@@ -420,9 +396,9 @@ fn agrees_where_small_blocks_make_a_tree_deep(rt: HostRuntime) -> Result<(), Fai
 }
 
 #[test]
-fn agrees_with_few_keys_in_blocks_of_four(rt: HostRuntime) -> Result<(), Fail> {
-    let mut pair = Pair::new(rt.alloc(), 3, 512)?;
-    pair.run::<4, 4, 8>(rt.alloc())?;
+fn agrees_with_few_keys_of_any_length(rt: HostRuntime) -> Result<(), Fail> {
+    let mut pair = Pair::new(rt.alloc(), 3, 512, 4_000)?;
+    pair.run::<4, 8>(rt.alloc())?;
     let is_so = pair.markings > 0 && pair.deeps == 0;
     assert!(rt;
         is_so,

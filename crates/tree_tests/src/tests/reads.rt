@@ -7,8 +7,8 @@ const ROWS: [Row; 2] = [
         &[
             SEVENTEEN,
             "
-        node 1 37 -> 1:35 10:36
-        leaf 36 -> 10=v 11=v 12=v 13=v 14=v 15=v 16=v 17=v
+        node 1 37 -> 1:35 9:36
+        leaf 36 -> 9=240*v 10=240*v 11=240*v 12=240*v 13=240*v 14=240*v 15=240*v 16=240*v 17=240*v
         node 2 37 -> error Damaged 37
         node 1 36 -> error Damaged 36
         leaf 37 -> error Damaged 37",

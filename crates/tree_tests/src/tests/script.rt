@@ -3,18 +3,17 @@
 //! A line is a step, and after ` -> ` comes its answer, which is `ok` if the line gives none. A
 //! fault is `error` and its name, as in `error Damaged 36`. A line that begins with `#` is a
 //! comment. Keys are those of table 1, by number. `''` is the empty value, `300*a` is 300 times the
-//! letter a, and `~` is no value. `none` is an empty list, or the root of the empty map. `300@34`
-//! is a link to a value of 300 bytes in block 34.
+//! letter a, and `~` is no value. `none` is an empty list, or the root of the empty map.
 //!
 //! | Step | Answer |
 //! |---|---|
 //! | `new 64` | `ok`: an empty map on a blank disk of this many blocks, with the store's sizes |
-//! | `sizes 3 3 2` | `ok`: from here on leaves, inner blocks and levels have these sizes |
+//! | `sizes 3 2` | `ok`: from here on an inner block has at most 3 children, and a tree 2 levels |
 //! | `once 1` | `ok`: the disk fails the second device call after this |
 //! | `put 5 v`, `puts 1 15 v` | `ok`: a record; fifteen from the key 1 on, if all of them are answered so |
 //! | `falls 40 15 v` | `ok`: fifteen from the key 40 down |
 //! | `remove 5` | `ok`, or `none` if there is no such record |
-//! | `get 5` | `v` |
+//! | `get 5`, `has 5` | `v`; `yes` |
 //! | `list` | `1=v 2=v` |
 //! | `part 1 9` | `1=v 2=v`: the records from one number to another |
 //! | `next 1 2` | `1=v 2=v`: the first records from a number on, at most this many |
@@ -36,23 +35,19 @@
 //! |---|---|
 //! | `mark 34.1.1 none` | `marks 34 35 by 1`: what is marked after a marking from these, and its device calls |
 //! | `verify 34 0` | `34.1.1 none marks 34 35 by 2`: what is found under these numbers |
-//! | `strict 34 0` | the same, with no leaf with a long value allowed |
 //! | `move 64 37.1.1 none` | `36.1.1 none by 3`: what lies under two roots is copied to a blank disk of this many blocks, which is the disk from here on: the roots of the copies, and the device calls of the source |
-//! | `leaf 36`, `node 1 37` | `10=v 11=300@34`, `1:35 10:36`: what the readers of single blocks give |
-//! | `long 1 300@34` | `300*a`: the long value of a key that a link leads to |
+//! | `leaf 36`, `node 1 37` | `10=v 11=300*a`, `1:35 10:36`: what the readers of single blocks give |
 //! | `data 34` | the bytes of a data block, as for `bytes` |
 //!
 //! | Step | Answer |
 //! |---|---|
 //! | `write leaf 34 v 1 2` | `ok`: a leaf of these keys with one value is written into the block |
-//! | `write rows 34 1=v 2=300@35` | the same for a leaf whose rows have values or links of their own |
-//! | `write long 35 2 300*a` | the same for the block of a key's long value |
+//! | `write records 34 1=v 2=300*a` | the same for a leaf of records with values of their own |
 //! | `write node 34 1 1:35 2:36` | the same for an inner block of level 1 |
 //! | `write fan 35 256` | the same with this many children: 0:34, 32:34, 64:34 and so on |
 //! | `write all 36 07`, `copy 36 35` | the same for one byte, and for the bytes of another block |
 //! | `set 36 0:4E4F` | `ok`: these bytes of the block, from this offset on |
 //! | `bytes 37` | `0:4E4F444501 8:02`: its nonzero bytes, from these offsets on |
-//! | `letters 35` | `LEF2`: the letters that it begins with |
 //! | `count 35` | `9`: its records or children |
 //! | `child 38 2` | `32:34`: its third child |
 //! | `leaves` | `2 2 3`: the records of each leaf under a root of level 1 |
@@ -64,19 +59,20 @@ use super::words::Wrong;
 use std::alloc::Global;
 use std::process::Abort;
 
-/// Sixteen records in block 34, with block 48 also held, and then the seventeenth: leaves in blocks
-/// 35 and 36, and the root in 37.
+/// Sixteen records in block 34, with block 48 also held, and then one before them, for which the
+/// leaf has no room: leaves of 1 to 8 and of 9 to 17 in blocks 35 and 36, and the root in 37.
 pub(super) const SEVENTEEN: &str = "
     new 64
-    puts 1 15 v
+    puts 2 15 240*v
     let go
-    puts 16 2 v";
+    put 17 240*v
+    put 1 240*v";
 
-/// A leaf of every second number up to 30 in block 34, and block 35 for an inner block over it.
-/// Both are held.
+/// A full leaf of every second number up to 30 in block 34, and block 35 for an inner block over
+/// it. Both are held.
 pub(super) const FOREIGN: &str = "
     new 64
-    write leaf 34 v 0 2 4 6 8 10 12 14 16 18 20 22 24 26 28 30
+    write leaf 34 240*v 0 2 4 6 8 10 12 14 16 18 20 22 24 26 28 30
     take -> 34
     take -> 35
     top 35.1.0

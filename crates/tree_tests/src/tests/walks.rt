@@ -51,46 +51,36 @@ pub(super) fn marked(alloc: Global, bench: &mut Bench, words: &[&str]) -> Result
     Ok(text)
 }
 
-fn found<const LEAF: usize, const FAN: usize, const LEVELS: usize>(
+fn found<const FAN: usize, const LEVELS: usize>(
     alloc: Global,
     bench: &mut Bench,
-    long: bool,
     numbers: &[u32],
 ) -> Result<(Vec<Root>, Marks), Wrong>
-    requires { AreSizes LEAF FAN LEVELS }
+    requires { AreSizes FAN LEVELS }
 {
     let blocks = bench.held.blocks();
     if blocks > bench.disk.blocks() {
         return Err(Wrong::Unreadable);
     }
-    let found = verify::<Device, LEAF, FAN, LEVELS>(alloc, &mut bench.disk, blocks, long, numbers)?;
-    Ok(found)
+    Ok(verify::<Device, FAN, LEVELS>(alloc, &mut bench.disk, blocks, numbers)?)
 }
 
 fn found_sized(
     alloc: Global,
     bench: &mut Bench,
-    long: bool,
     numbers: &[u32],
 ) -> Result<(Vec<Root>, Marks), Wrong> {
     match bench.sizes {
-        Sizes::Store => found::<16, 256, 8>(alloc, bench, long, numbers),
-        Sizes::Threes => found::<3, 3, 2>(alloc, bench, long, numbers),
-        Sizes::Twos => found::<2, 2, 2>(alloc, bench, long, numbers),
-        Sizes::Pairs => found::<3, 2, 2>(alloc, bench, long, numbers),
-        Sizes::Flat => found::<3, 3, 1>(alloc, bench, long, numbers),
-        Sizes::DeepTwos | Sizes::DeepThrees => Err(Wrong::Unreadable),
+        Sizes::Store => found::<256, 8>(alloc, bench, numbers),
+        Sizes::Fours => found::<4, 2>(alloc, bench, numbers),
+        Sizes::Threes => found::<3, 2>(alloc, bench, numbers),
+        Sizes::Flat => found::<3, 1>(alloc, bench, numbers),
+        Sizes::DeepThrees | Sizes::DeepFours => Err(Wrong::Unreadable),
     }
 }
 
-/// The answer to the walk of the trees under these numbers. `long` says whether leaves with long
-/// values are allowed.
-pub(super) fn verified(
-    alloc: Global,
-    bench: &mut Bench,
-    long: bool,
-    words: &[&str],
-) -> Result<String, Wrong> {
+/// The answer to the walk of the trees under these numbers.
+pub(super) fn verified(alloc: Global, bench: &mut Bench, words: &[&str]) -> Result<String, Wrong> {
     let mut numbers = Vec::new(alloc);
     for word in words {
         let n = number(word)?;
@@ -99,7 +89,7 @@ pub(super) fn verified(
         }
     }
     let before = bench.calls();
-    let (roots, marks) = found_sized(alloc, bench, long, &numbers)?;
+    let (roots, marks) = found_sized(alloc, bench, &numbers)?;
     let calls = bench.calls().saturating_sub(before);
     let mut text = String::new(alloc);
     for root in &roots {

@@ -1,11 +1,8 @@
 //! What the words of a row mean.
-ghost use Rattle.std.specs.Prelude.{IfOk, IfSome};
-ghost use Rattle.vm_block.specs.Leaf.{LinkFits, StoredFits};
-
 use std::alloc::AllocError;
 use std::num::ParseIntError;
 use std::str::Utf8Error;
-use vm_block::{Child, Link, Stored};
+use vm_block::Child;
 use vm_disk::DeviceFault;
 use vm_tree::{ListFault, PutFault, Root, TreeFault};
 use vm_types::{Key, Refusal, Value};
@@ -118,46 +115,6 @@ pub(super) fn add_value(text: &mut String, value: &[u8]) -> Result<(), Wrong> {
     }
     write!(text, "{}*{}", value.len(), char::from(first))?;
     Ok(())
-}
-
-/// A link to this many bytes in a block, as in `300@35`, if the word is one.
-pub(super) fn link(word: &str) -> Result<Option<Link>, Wrong>
-    ensures { IfOk result (λ link. IfSome link LinkFits) }
-{
-    let Some((len, block)) = word.split_once('@') else {
-        return Ok(None);
-    };
-    let len = len.parse::<u16>()?;
-    if len <= 240 || len > 4000 {
-        return Err(Wrong::Unreadable);
-    }
-    let block = number(block)?;
-    Ok(Some(Link { len, block }))
-}
-
-/// What a leaf has of a value: a link, or the bytes of a short one.
-pub(super) fn stored(word: &str) -> Result<Stored<'_>, Wrong>
-    ensures { IfOk result StoredFits }
-{
-    if let Some(link) = link(word)? {
-        return Ok(Stored::Long(link));
-    }
-    let bytes = bytes_of(word);
-    if bytes.len() > 240 {
-        return Err(Wrong::Unreadable);
-    }
-    Ok(Stored::Short(bytes))
-}
-
-/// Appends what a leaf has of a value to a text.
-pub(super) fn add_stored(text: &mut String, stored: Stored<'_>) -> Result<(), Wrong> {
-    match stored {
-        Stored::Short(value) => add_value(text, value),
-        Stored::Long(link) => {
-            write!(text, "{}@{}", link.len, link.block)?;
-            Ok(())
-        }
-    }
 }
 
 /// The lowest key and the block of a child, as in `10:36`.

@@ -1,11 +1,11 @@
 //! The texts of help. In a session, a line after `> ` is the input's, and those below it are the
 //! answer.
 
-/// The program's version, the format number in the slots of its files, and what `rt version` says
-/// of the toolchain that it is proved and built with.
+/// The program's version, the format number of its files, and what `rt version` says of the
+/// toolchain that it is proved and built with.
 pub const VERSION: &str = "\
 0.1.0
-file format 2
+file format 3
 proved with rattle-kit-13f logic dac8208d650f15bf";
 
 /// What the program is.
@@ -65,9 +65,9 @@ are 4 GiB. A file may start small: the lines grow BLOCKS and then commit make it
 larger, and no line makes it smaller. How many blocks a store needs:
 
   - 34 blocks are the store's own.
-  - A block holds at most 16 records, and 9 to 11 as they usually come: a
-    million records take 90,000 to 112,000 blocks. A value of more than 240
-    bytes takes one more.
+  - A block has room for 4,080 bytes of records: 12 and its value for each. A
+    million records of 200 bytes take 53,000 blocks if they come by rising keys,
+    and 78,000 in random order.
   - Versions share what they have in common: a changed record takes the blocks
     of one path through its tree, from one to eight.
   - Keep a tenth of the blocks spare. Where fewer than 17 are, each change is
@@ -102,8 +102,9 @@ written. When to use it:
   - after a restore
 
 A refusal is printed as by altctl run: 18 Damaged BLOCK names the block at which
-something wrong was found, 19 NotAStore says that the file is no store. The free
-blocks are those that a run has free at its beginning.
+something wrong was found, 19 NotAStore says that the file is no store. If it is
+one of an earlier format, a second line says so. The free blocks are those that
+a run has free at its beginning.
 
 A session:
 

@@ -10,12 +10,13 @@ ghost use Rattle.vm_cli.specs.Runs.{DuplicatesIn};
 ghost use Rattle.vm_cli.specs.Words.Wanted.{copy as copy_wanted};
 
 use crate::answers::text::Text;
+use crate::program::opening::{open_store, unopened};
 use crate::program::place::Place;
 use crate::program::{Exit, no_file, refused, say, unless_fault};
 use std::alloc::{AllocError, Global};
 use std::io::Write;
 use vm_disk::Disk;
-use vm_store::{Store, open};
+use vm_store::Store;
 use vm_types::Refusal;
 
 /// The number of blocks of a copy, and how many of them are in use.
@@ -64,12 +65,12 @@ fn copy_disk<P: Place, W: Write, F: Write>(
     ensures copied { TakesCopy P.D.Disk P.state P.denied P.to_write place.old place.new disk result to.now blocks
         (W.contents output.old) (W.contents output.new) (F.contents errors.old) (F.contents errors.new) }
 {
-    match open(alloc, disk) {
+    match open_store(alloc, disk) {
         Ok(mut store) => {
             let exit = copy_store(alloc, &mut store, to, blocks, place, output, errors);
             (exit, store.close())
         }
-        Err((disk, refusal)) => (refused(&refusal, errors), disk),
+        Err((disk, why)) => (unopened(&why, errors), disk),
     }
 }
 

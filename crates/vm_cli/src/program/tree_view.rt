@@ -10,13 +10,14 @@ ghost use Rattle.vm_cli.specs.Talk.{Passes};
 ghost use Rattle.vm_cli.specs.Words.Wanted.{draw as draw_wanted};
 
 use crate::program::branches::draw;
+use crate::program::opening::{open_store, unopened};
 use crate::program::place::Place;
 use crate::program::tree_lines::survey;
 use crate::program::{Exit, no_file, refused, say, unless_fault};
 use std::alloc::Global;
 use std::io::Write;
 use vm_disk::Disk;
-use vm_store::{Store, open};
+use vm_store::Store;
 use vm_types::Refusal;
 
 /// Opens the store in a file read only, and draws the tree of its alternatives.
@@ -55,7 +56,7 @@ fn show_disk<D: Disk, W: Write, F: Write>(
         → TellsTree D.Disk W.contents disk result output.old output.new
         ⊎ TellsRefusal D.Disk F.contents disk result errors.old errors.new }
 {
-    match open(alloc, disk) {
+    match open_store(alloc, disk) {
         Ok(mut store) => {
             let drawn = draw_store(alloc, &mut store);
             let disk = store.close();
@@ -64,7 +65,7 @@ fn show_disk<D: Disk, W: Write, F: Write>(
                 Err(refusal) => (refused(&refusal, errors), disk),
             }
         }
-        Err((disk, refusal)) => (refused(&refusal, errors), disk),
+        Err((disk, why)) => (unopened(&why, errors), disk),
     }
 }
 

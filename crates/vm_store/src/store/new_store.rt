@@ -8,7 +8,7 @@ ghost use Rattle.vm_store.specs.NewStore.{ComesBack, Formats, FormatsAtMost, Had
 ghost use Rattle.vm_store.specs.Refused.{SyncsAtMost, SyncsUnless};
 ghost use Rattle.vm_store.specs.Shown.{ShowsNothing};
 
-use vm_block::{Entry, Kind, SlotFormat, SlotName, is_header, write_header};
+use vm_block::{Entry, Kind, SlotName, is_header, write_header};
 use vm_catalog::{select_slot, write_slot};
 use vm_disk::{DeviceFault, Disk};
 use vm_types::{MAX_BLOCKS, MIN_BLOCKS, Name, Refusal};
@@ -55,7 +55,7 @@ fn lay_out<D: Disk>(disk: &mut D, blocks: u32, entries: &[Entry]) -> Result<(), 
     ensures moments { WithoutHeader (D.state disk.old) (D.state disk.new) (Leaves ShowsNothing) }
     ensures laid { LaysOut (D.state disk.old) (D.state disk.new) result blocks entries.now }
 {
-    let Ok(()) = write_slot(disk, SlotName::A, SlotFormat::Two, blocks, entries) else {
+    let Ok(()) = write_slot(disk, SlotName::A, blocks, entries) else {
         return Err(DeviceFault);
     };
     let Ok(()) = select_slot(disk, SlotName::A) else {

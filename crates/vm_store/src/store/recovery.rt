@@ -4,7 +4,6 @@ ghost use Rattle.vm_disk.specs.Disk.{Goes};
 ghost use Rattle.vm_disk.specs.Moments.{OnlyReads};
 ghost use Rattle.vm_block.specs.Slot.{SlotFits};
 ghost use Rattle.vm_catalog.specs.Calls.{LoadsHeld};
-ghost use Rattle.vm_check.specs.Noted.{inner_of};
 ghost use Rattle.vm_store.specs.Refused.{SyncsAtMost, SyncsUnless, IsRefused};
 ghost use Rattle.vm_store.specs.Recovery.{FindsSlot, IsTwice, OpensAs, PartsHold, ReadsMaps, RefusesFor, RefusesMaps, RefusesNothing, RefusesSlot, disk_in};
 ghost use Rattle.vm_store.specs.Store.{has_failed};
@@ -13,12 +12,12 @@ ghost use Rattle.vm_store.specs.Versions.{numbers_of, versions_of};
 use super::Store;
 use super::parts::Parts;
 use crate::versions::Versions;
-use crate::{FAN, LEAF, LEVELS};
+use crate::{FAN, LEVELS};
 use std::alloc::Global;
 use vm_alloc::{Baseline, Held};
 use vm_block::{Entry, SlotName};
 use vm_catalog::{LoadFault, Slot, first_block, load, slot_in_use};
-use vm_check::{NotedDisk, verify};
+use vm_check::verify;
 use vm_disk::Disk;
 use vm_tree::Root;
 use vm_types::{MAX_VERSIONS, MIN_BLOCKS, Refusal};
@@ -103,40 +102,29 @@ fn versions_twice(alloc: Global, entries: &[Entry], roots: &[Root]) -> Option<(V
 /// Reads the maps of a slot, allocates what a store needs, and holds the blocks that are reached.
 fn read_maps<D: Disk>(
     alloc: Global,
-    disk: &mut NotedDisk<D>,
+    disk: &mut D,
     slot_name: SlotName,
     slot: Slot,
 ) -> Result<Parts, Refusal>
-    requires inside { slot.blocks ≤ (D.state (inner_of disk.old)).blocks }
+    requires inside { slot.blocks ≤ (D.state disk.old).blocks }
     requires fits { SlotFits slot.blocks slot.entries.items }
     requires reserved { MAX_VERSIONS ≤ vec_capacity slot.entries }
-    ensures any { Goes (result ≡ Err Refusal.Device) (D.state (inner_of disk.old)) (D.state (inner_of disk.new)) }
-    ensures reads { (D.state (inner_of disk.new)).honest ≡ true
-        → OnlyReads (D.state (inner_of disk.old)) (D.state (inner_of disk.new)) }
-    ensures inside { IfOk result (λ parts. parts.blocks ≤ (D.state (inner_of disk.old)).blocks) }
-    ensures holds { ReadsMaps (D.state (inner_of disk.old)) (D.state (inner_of disk.new)) result slot_name slot }
-    ensures refused { RefusesMaps (D.state (inner_of disk.old)) (D.state (inner_of disk.new)) result slot_name slot }
+    ensures any { Goes (result ≡ Err Refusal.Device) (D.state disk.old) (D.state disk.new) }
+    ensures reads { (D.state disk.new).honest ≡ true
+        → OnlyReads (D.state disk.old) (D.state disk.new) }
+    ensures inside { IfOk result (λ parts. parts.blocks ≤ (D.state disk.old).blocks) }
+    ensures holds { ReadsMaps (D.state disk.old) (D.state disk.new) result slot_name slot }
+    ensures refused { RefusesMaps (D.state disk.old) (D.state disk.new) result slot_name slot }
 {
-    let Slot {
-        format,
-        blocks,
-        entries,
-    } = slot;
-    let (Some(numbers), Ok(mut held), Ok(before), Ok(())) = (
+    let Slot { blocks, entries } = slot;
+    let (Some(numbers), Ok(mut held), Ok(before)) = (
         root_numbers(alloc, &entries),
         Held::new(alloc, blocks),
         Baseline::new(alloc, blocks),
-        disk.reserve(alloc, blocks),
     ) else {
         return Err(Refusal::Memory);
     };
-    let (roots, marks) = verify::<NotedDisk<D>, LEAF, FAN, LEVELS>(
-        alloc,
-        disk,
-        blocks,
-        format.has_long(),
-        &numbers,
-    )?;
+    let (roots, marks) = verify::<D, FAN, LEVELS>(alloc, disk, blocks, &numbers)?;
     held.replace(&marks);
     let Some((committed, working)) = versions_twice(alloc, &entries, &roots) else {
         return Err(Refusal::Memory);
@@ -157,15 +145,15 @@ fn read_maps<D: Disk>(
 }
 
 /// Everything that is known of the store on a disk.
-fn find_store<D: Disk>(alloc: Global, disk: &mut NotedDisk<D>) -> Result<Parts, Refusal>
-    ensures any { Goes (result ≡ Err Refusal.Device) (D.state (inner_of disk.old)) (D.state (inner_of disk.new)) }
-    ensures inside { IfOk result (λ parts. parts.blocks ≤ (D.state (inner_of disk.old)).blocks) }
-    ensures moments { SyncsAtMost (D.state (inner_of disk.old)) (D.state (inner_of disk.new)) }
-    ensures synced { SyncsUnless (result ≡ Err Refusal.Device) (D.state (inner_of disk.old)) (D.state (inner_of disk.new)) }
-    ensures holds { (D.state (inner_of disk.new)).honest ≡ true
-        → IfOk result (PartsHold (D.state (inner_of disk.new)).now) }
-    ensures refused { (D.state (inner_of disk.new)).honest ≡ true
-        → IfErr result (IsRefused (D.state (inner_of disk.old)).now.contents) }
+fn find_store<D: Disk>(alloc: Global, disk: &mut D) -> Result<Parts, Refusal>
+    ensures any { Goes (result ≡ Err Refusal.Device) (D.state disk.old) (D.state disk.new) }
+    ensures inside { IfOk result (λ parts. parts.blocks ≤ (D.state disk.old).blocks) }
+    ensures moments { SyncsAtMost (D.state disk.old) (D.state disk.new) }
+    ensures synced { SyncsUnless (result ≡ Err Refusal.Device) (D.state disk.old) (D.state disk.new) }
+    ensures holds { (D.state disk.new).honest ≡ true
+        → IfOk result (PartsHold (D.state disk.new).now) }
+    ensures refused { (D.state disk.new).honest ≡ true
+        → IfErr result (IsRefused (D.state disk.old).now.contents) }
 {
     let slot_name = find_slot(disk)?;
     let slot = load_slot(alloc, disk, slot_name)?;
@@ -174,7 +162,7 @@ fn find_store<D: Disk>(alloc: Global, disk: &mut NotedDisk<D>) -> Result<Parts, 
 
 /// Opens the store on a disk, as it was last committed. It syncs first; after that it only reads.
 /// On refusal, the disk comes back with the refusal.
-pub fn open<D: Disk>(alloc: Global, disk: D) -> Result<Store<D>, (D, Refusal)>
+pub fn open<D: Disk>(alloc: Global, mut disk: D) -> Result<Store<D>, (D, Refusal)>
     // On any disk.
     ensures any { Goes (IsErrAnd result
         (λ e. e.1 ≡ Refusal.Device)) (D.state disk) (D.state (disk_in result)) }
@@ -195,7 +183,6 @@ pub fn open<D: Disk>(alloc: Global, disk: D) -> Result<Store<D>, (D, Refusal)>
     ensures synced { SyncsUnless (IsErrAnd result
         (λ e. e.1 ≡ Refusal.Device)) (D.state disk) (D.state (disk_in result)) }
 {
-    let mut disk = NotedDisk::new(disk);
     match find_store(alloc, &mut disk) {
         Ok(parts) => Ok(Store {
             disk,
@@ -203,6 +190,6 @@ pub fn open<D: Disk>(alloc: Global, disk: D) -> Result<Store<D>, (D, Refusal)>
             parts,
             failed: false,
         }),
-        Err(refusal) => Err((disk.into_inner(), refusal)),
+        Err(refusal) => Err((disk, refusal)),
     }
 }

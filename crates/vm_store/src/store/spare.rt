@@ -5,7 +5,6 @@ ghost use Rattle.vm_disk.specs.Disk.{Goes};
 ghost use Rattle.vm_disk.specs.Moments.{OnlyReads};
 ghost use Rattle.vm_tree.specs.Answers.{OkOrDevice};
 ghost use Rattle.vm_check.specs.Marks.{IsClosed, MarksMore};
-ghost use Rattle.vm_check.specs.Noted.{inner_of};
 ghost use Rattle.vm_store.specs.Answers.{IsEarly};
 ghost use Rattle.vm_store.specs.Marks.{AreReached};
 ghost use Rattle.vm_store.specs.Rest.{spare_of};
@@ -13,7 +12,7 @@ ghost use Rattle.vm_store.specs.Rest.{spare_of};
 use super::Store;
 use crate::version::Version;
 use vm_alloc::Marks;
-use vm_check::{NotedDisk, mark};
+use vm_check::mark;
 use vm_disk::Disk;
 use vm_tree::TreeFault;
 use vm_types::Refusal;
@@ -23,25 +22,25 @@ const BLOCKS_A_CHANGE: u32 = 17;
 
 /// Marks all blocks under the trees of the versions, without memory.
 fn mark_versions<D: Disk>(
-    disk: &mut NotedDisk<D>,
+    disk: &mut D,
     versions: &[Version],
     marks: &mut Marks,
 ) -> Result<(), TreeFault>
-    requires { length marks.old ≤ (D.state (inner_of disk.old)).blocks }
-    ensures any { Goes (result ≡ Err TreeFault.Device) (D.state (inner_of disk.old)) (D.state (inner_of disk.new)) }
+    requires { length marks.old ≤ (D.state disk.old).blocks }
+    ensures any { Goes (result ≡ Err TreeFault.Device) (D.state disk.old) (D.state disk.new) }
     ensures many { length marks.new ≡ length marks.old }
-    ensures reads { (D.state (inner_of disk.new)).honest ≡ true
-        → OnlyReads (D.state (inner_of disk.old)) (D.state (inner_of disk.new)) }
+    ensures reads { (D.state disk.new).honest ≡ true
+        → OnlyReads (D.state disk.old) (D.state disk.new) }
 
     // On trees the marks grow by exactly the blocks of the versions.
-    ensures marked { (D.state (inner_of disk.new)).honest ≡ true → (bs : List ℕ)
-        → AreReached (D.state (inner_of disk.old)).now.contents (length marks.old) versions.now bs
-        → IsClosed (D.state (inner_of disk.old)).now.contents marks.old
+    ensures marked { (D.state disk.new).honest ≡ true → (bs : List ℕ)
+        → AreReached (D.state disk.old).now.contents (length marks.old) versions.now bs
+        → IsClosed (D.state disk.old).now.contents marks.old
         → OkOrDevice result (λ _. MarksMore bs marks.old marks.new) }
-    ensures closed { (D.state (inner_of disk.new)).honest ≡ true → (bs : List ℕ)
-        → AreReached (D.state (inner_of disk.old)).now.contents (length marks.old) versions.now bs
-        → IsClosed (D.state (inner_of disk.old)).now.contents marks.old
-        → OnOk result (IsClosed (D.state (inner_of disk.old)).now.contents marks.new) }
+    ensures closed { (D.state disk.new).honest ≡ true → (bs : List ℕ)
+        → AreReached (D.state disk.old).now.contents (length marks.old) versions.now bs
+        → IsClosed (D.state disk.old).now.contents marks.old
+        → OnOk result (IsClosed (D.state disk.old).now.contents marks.new) }
 {
     for version in versions {
         mark(disk, &[version.current, version.base], marks)?;

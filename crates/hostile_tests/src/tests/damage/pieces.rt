@@ -2,7 +2,7 @@
 use crate::tests::{BLOCKS, name};
 use std::alloc::Global;
 use testkit::Wrong;
-use vm_block::{Child, Entry, Kind, SlotFormat, SlotName, write_header, write_node};
+use vm_block::{Child, Entry, Kind, SlotName, write_header, write_node};
 use vm_catalog::write_slot;
 use vm_disk::{Disk, MemDisk};
 use vm_types::{Block, Key};
@@ -10,9 +10,8 @@ use vm_types::{Block, Key};
 /// An alternative: its name, its parent, and its current and its base root.
 pub type Line = (&'static [u8], &'static [u8], u32, u32);
 
-/// A row of a leaf: its key in table 1, how many bytes its value has, and the first four bytes that
-/// it stores: those of a short value, or the block number of a long one.
-pub type Row = (u64, u16, u32);
+/// An entry of a leaf: its key in table 1, and where its value ends among the values.
+pub type Bound = (u64, u16);
 
 /// What is written on a disk.
 #[derive(Clone, Copy)]
@@ -23,10 +22,10 @@ pub enum Piece {
     Word(u32, usize, u32),
     /// A leaf of keys of table 1, with empty values.
     Leaf(u32, &'static [u64]),
-    /// A leaf with these letters and rows.
-    Rows(u32, &'static [u8], &'static [Row]),
-    /// The block of a long value: its key in table 1, and how many bytes it has.
-    Long(u32, u64, u16),
+    /// A leaf with these entries, and as many values as the last one says. Each byte is an `a`.
+    Bounds(u32, &'static [Bound]),
+    /// A leaf of the keys from 1 to this one, with empty values.
+    Empties(u32, u64),
     /// An inner block of a level: of each child the lowest key, in table 1, and the block.
     Node(u32, u8, &'static [(u64, u32)]),
     /// The entries of slot A, after `top` with root 34.
@@ -35,11 +34,7 @@ pub enum Piece {
     Children(usize),
 }
 
-use Piece::{Byte, Children, Leaf, Long, Node, Rows, Slot, Word};
-
-pub const LEAF: &'static [u8] = b"LEAF";
-
-pub const LEF2: &'static [u8] = b"LEF2";
+use Piece::{Bounds, Byte, Children, Empties, Leaf, Node, Slot, Word};
 
 pub(super) fn set_block(disk: &mut MemDisk, n: u32, bytes: &Block) -> Result<(), Wrong> {
     if n >= disk.blocks() {
@@ -50,7 +45,7 @@ pub(super) fn set_block(disk: &mut MemDisk, n: u32, bytes: &Block) -> Result<(),
 }
 
 /// Sets bytes of a block.
-pub(super) fn set_bytes(disk: &mut MemDisk, n: u32, at: usize, bytes: &[u8]) -> Result<(), Wrong> {
+fn set_bytes(disk: &mut MemDisk, n: u32, at: usize, bytes: &[u8]) -> Result<(), Wrong> {
     let mut block = [0; 4096];
     if n < disk.blocks() {
         disk.read(n, &mut block)?;
@@ -67,39 +62,43 @@ fn lay(block: &mut Block, at: usize, bytes: &[u8]) {
 }
 
 /// Writes a leaf, spelled by hand.
-fn put_rows(disk: &mut MemDisk, n: u32, letters: &[u8], rows: &[Row]) -> Result<(), Wrong> {
+fn put_bounds(disk: &mut MemDisk, n: u32, bounds: &[Bound]) -> Result<(), Wrong> {
     let mut block = [0; 4096];
-    lay(&mut block, 0, letters);
-    lay(&mut block, 8, &[u8::try_from(rows.len()).unwrap_or(0xFF)]);
-    for (i, (number, length, start)) in rows.iter().enumerate() {
-        let at = i.wrapping_mul(252).wrapping_add(16);
+    let count = bounds.len().min(341);
+    lay(&mut block, 0, b"LEF3");
+    lay(&mut block, 8, &(count as u16).to_le_bytes());
+    let mut last = 0;
+    for (i, (number, end)) in bounds.iter().enumerate() {
+        let at = i.wrapping_mul(12).wrapping_add(16);
         lay(&mut block, at, &[1]);
         lay(&mut block, at.wrapping_add(2), &number.to_le_bytes());
-        lay(&mut block, at.wrapping_add(10), &length.to_le_bytes());
-        lay(&mut block, at.wrapping_add(12), &start.to_le_bytes());
+        lay(&mut block, at.wrapping_add(10), &end.to_le_bytes());
+        last = *end;
+    }
+    for place in block
+        .iter_mut()
+        .skip(16 + 12 * count)
+        .take(usize::from(last))
+    {
+        *place = b'a';
     }
     set_block(disk, n, &block)
 }
 
 fn put_leaf(alloc: Global, disk: &mut MemDisk, n: u32, numbers: &[u64]) -> Result<(), Wrong> {
-    let mut rows = Vec::new(alloc);
+    let mut bounds = Vec::new(alloc);
     for number in numbers {
-        rows.push((*number, 0, 0))?;
+        bounds.push((*number, 0))?;
     }
-    put_rows(disk, n, LEAF, &rows)
+    put_bounds(disk, n, &bounds)
 }
 
-/// Writes the block of a long value, spelled by hand. Each of its bytes is an `a`.
-fn put_long(disk: &mut MemDisk, n: u32, number: u64, length: u16) -> Result<(), Wrong> {
-    let mut block = [0; 4096];
-    lay(&mut block, 0, b"LONG");
-    lay(&mut block, 8, &length.to_le_bytes());
-    lay(&mut block, 16, &[1]);
-    lay(&mut block, 18, &number.to_le_bytes());
-    for place in block.iter_mut().skip(26).take(usize::from(length)) {
-        *place = b'a';
+fn put_empties(alloc: Global, disk: &mut MemDisk, n: u32, last: u64) -> Result<(), Wrong> {
+    let mut numbers = Vec::new(alloc);
+    for number in 0..last {
+        numbers.push(number.wrapping_add(1))?;
     }
-    set_block(disk, n, &block)
+    put_leaf(alloc, disk, n, &numbers)
 }
 
 fn put_node(
@@ -139,10 +138,10 @@ fn entry(line: Line) -> Entry {
     }
 }
 
-/// Writes slot A in the first format.
+/// Writes slot A.
 fn write_entries(disk: &mut MemDisk, entries: &[Entry]) -> Result<(), Wrong> {
     if entries.len() <= 511 && disk.blocks() >= 34 {
-        write_slot(disk, SlotName::A, SlotFormat::One, BLOCKS, entries)?;
+        write_slot(disk, SlotName::A, BLOCKS, entries)?;
     }
     Ok(())
 }
@@ -178,8 +177,8 @@ fn put_piece(alloc: Global, disk: &mut MemDisk, piece: Piece) -> Result<(), Wron
         Byte(n, at, byte) => set_bytes(disk, n, at, &[byte]),
         Word(n, at, word) => set_bytes(disk, n, at, &word.to_le_bytes()),
         Leaf(n, numbers) => put_leaf(alloc, disk, n, numbers),
-        Rows(n, letters, rows) => put_rows(disk, n, letters, rows),
-        Long(n, number, length) => put_long(disk, n, number, length),
+        Bounds(n, bounds) => put_bounds(disk, n, bounds),
+        Empties(n, last) => put_empties(alloc, disk, n, last),
         Node(n, level, children) => put_node(alloc, disk, n, level, children),
         Slot(lines) => put_slot(alloc, disk, lines),
         Children(count) => put_children(alloc, disk, count),

@@ -1,27 +1,19 @@
-use Rattle.std.proofs.Common.{◌≡◌, refl, sym, ◌∙◌}
+use Rattle.std.proofs.Common.{refl, sym, ◌∙◌}
 use Rattle.std.proofs.lemmas.Bool.{false≢true}
 use Rattle.vm_block.proofs.Pieces.{told_apart}
-use Rattle.vm_block.proofs.SlotLemmas.{format_read, head_read, head_fits, head_again}
+use Rattle.vm_block.proofs.SlotLemmas.{head_read, head_fits, head_again}
 use Rattle.vm_block.proofs.slot.read_slot_head.Goals as goal
 
-pub returns-in_default-clause-only : goal.returns-in_default-clause-only
-returns-in_default-clause-only c = λ format limit n head.
-    let read = c.in_default.ensures format (format_read c.args.bytes.now format limit n c.read_u32.result _ head c.read_u32.ensures refl) in
-    cc read
-
 pub returns-then-not-fits-clause-only : goal.returns-then-not-fits-clause-only
-returns-then-not-fits-clause-only c = λ format limit n head.
-    let same = head_read c.args.bytes.now format limit n c.read_u32-2.result c.read_u32-3.result _ _ head c.read_u32-2.ensures c.read_u32-3.ensures refl refl in
-    false≢true (sym c.if-not-fits.true ∙ c.fits.ensures.1 (head_fits limit n c.read_u32-2.result c.read_u32-3.result head.fits same))
+returns-then-not-fits-clause-only c = λ limit n head.
+    let same = head_read c.args.bytes.now limit n c.read_u32.result c.read_u32-2.result _ _ head c.read_u32.ensures c.read_u32-2.ensures refl refl in
+    false≢true (sym c.if-not-fits.true ∙ c.fits.ensures.1 (head_fits limit n c.read_u32.result c.read_u32-2.result head.fits same))
 
 pub returns-then-eq-clause-only : goal.returns-then-eq-clause-only
-returns-then-eq-clause-only c = λ format limit n head.
-    let same_format : c.in-Some.format ≡ format = cc (c.in-Some.ensures format (format_read c.args.bytes.now format limit n c.read_u32.result _ head c.read_u32.ensures refl)) in
-    let same = head_read c.args.bytes.now format limit n c.read_u32-2.result c.read_u32-3.result _ _ head c.read_u32-2.ensures c.read_u32-3.ensures refl refl in
-    (same_format, same.0, same.1)
+returns-then-eq-clause-only c = λ limit n head.
+    head_read c.args.bytes.now limit n c.read_u32.result c.read_u32-2.result _ _ head c.read_u32.ensures c.read_u32-2.ensures refl refl
 
 pub returns-else-eq-clause-only : goal.returns-else-eq-clause-only
-returns-else-eq-clause-only c = λ format limit n head.
-    let same_format : c.in-Some.format ≡ format = cc (c.in-Some.ensures format (format_read c.args.bytes.now format limit n c.read_u32.result _ head c.read_u32.ensures refl)) in
-    let same = head_read c.args.bytes.now format limit n c.read_u32-2.result c.read_u32-3.result _ _ head c.read_u32-2.ensures c.read_u32-3.ensures refl refl in
-    told_apart _ _ c.eq.result c.eq.ensures c.if-eq.false (head_again c.args.bytes.now c.write_slot_head.new.out format c.in-Some.format limit n c.read_u32-2.result c.read_u32-3.result head same_format same c.write_slot_head.ensures)
+returns-else-eq-clause-only c = λ limit n head.
+    let same = head_read c.args.bytes.now limit n c.read_u32.result c.read_u32-2.result _ _ head c.read_u32.ensures c.read_u32-2.ensures refl refl in
+    told_apart _ _ c.eq.result c.eq.ensures c.if-eq.false (head_again c.args.bytes.now c.write_slot_head.new.out limit n c.read_u32.result c.read_u32-2.result head same c.write_slot_head.ensures)

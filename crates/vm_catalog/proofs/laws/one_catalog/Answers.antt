@@ -9,6 +9,6 @@ pub returns : goal.returns
 returns c = record {
   slot = slot_one;
   named = names_one;
-  frame = λ x y format limit es same names. names_in x y (selected x) format limit es same refl names;
+  frame = λ x y limit es same names. names_in x y (selected x) limit es same refl names;
   written = written_slot;
 }

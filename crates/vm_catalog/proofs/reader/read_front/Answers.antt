@@ -10,7 +10,7 @@ read_slot_head-requires c =
     length-take-le 128 c.args.block.now (omega (arith, c.requires.whole))
 
 pub returns-clause-only : goal.returns-clause-only
-returns-clause-only c format limit n head each =
-    let same = (c.in_ok-head.ensures.only format limit n head).2 in
+returns-clause-only c limit n head each =
+    let same = (c.in_ok-head.ensures.only limit n head).1 in
     let all : c.read_entries.result ≡ true = c.read_entries.ensures.only (λ i lt. each i (omega (arith, same, c.min-count.ensures))) in
     rw (c.then_some.ensures, all) refl

@@ -18,13 +18,13 @@ returns-then-not-read_entries-clause-reads g c honest =
     reads_then _ _ _ (so_far.reads (c.read.ensures.any.earlier honest)) (read_once _ _ _ _ _ (c.read.ensures.honest honest))
 
 pub returns-then-not-read_entries-clause-only : goal.returns-then-not-read_entries-clause-only
-returns-then-not-read_entries-clause-only g c honest format limit es slot damaged =
+returns-then-not-read_entries-clause-only g c honest limit es slot damaged =
     let so_far = c.loop-index.invariant in
     let old = g.D.Disk.state c.args.disk.now in
     let place : c.first_block-first.result + c.loop-index.index ≡ slot_at c.args.slot_name + c.loop-index.index = ap (λ (n : ℕ). n + c.loop-index.index) c.first_block-first.ensures in
     let bytes : c.read.new.into ≡ block old.now.contents (slot_at c.args.slot_name + c.loop-index.index) =
     (c.in-Ok.ensures.honest honest).bytes_are ∙ ap (λ (m : Medium). block m.contents (c.first_block-first.result + c.loop-index.index)) (same_medium _ _ (so_far.reads (c.in-Ok.ensures.any.earlier honest))) ∙ ap (block old.now.contents) place in
-    let each = other_is old.now.contents c.args.slot_name format limit es c.args.head.format c.args.head.blocks c.args.head.entries c.loop-index.index c.min-count.result c.read.new.into _ slot so_far.fits (so_far.found (c.in-Ok.ensures.any.earlier honest)) c.loop-index.auto.index (omega (arith, c.used_blocks-index-end.ensures)) (omega (arith, c.min-count.ensures, c.len.ensures, c.loop-index.entries.ok.0)) bytes in
+    let each = other_is old.now.contents c.args.slot_name limit es c.args.head.blocks c.args.head.entries c.loop-index.index c.min-count.result c.read.new.into _ slot so_far.fits (so_far.found (c.in-Ok.ensures.any.earlier honest)) c.loop-index.auto.index (omega (arith, c.used_blocks-index-end.ensures)) (omega (arith, c.min-count.ensures, c.len.ensures, c.loop-index.entries.ok.0)) bytes in
     absurd (false≢true (sym c.if-not-read_entries.true ∙ c.read_entries.ensures.only each))
 
 pub loop-index-preserved : goal.loop-index-preserved
@@ -45,5 +45,5 @@ loop-index-preserved g c =
       found = λ honest.
           let bytes : c.read.new.into ≡ block old.now.contents (slot_at c.args.slot_name + c.loop-index.index) =
           (c.in-Ok.ensures.honest honest).bytes_are ∙ ap (λ (m : Medium). block m.contents (c.first_block-first.result + c.loop-index.index)) (same_medium _ _ (so_far.reads (c.in-Ok.ensures.any.earlier honest))) ∙ ap (block old.now.contents) place in
-          other_begins old.now.contents (slot_at c.args.slot_name) _ _ _ c.loop-index.index c.min-count.result c.read.new.into _ _ so_far.fits inside (so_far.found (c.in-Ok.ensures.any.earlier honest)) bytes c.read.array_long c.if-not-read_entries.ensures.found;
+          other_begins old.now.contents (slot_at c.args.slot_name) _ _ c.loop-index.index c.min-count.result c.read.new.into _ _ so_far.fits inside (so_far.found (c.in-Ok.ensures.any.earlier honest)) bytes c.read.array_long c.if-not-read_entries.ensures.found;
     }

@@ -16,5 +16,5 @@ invariant-loop-index g l =
       reads : now.honest ≡ true → OnlyReads old now;
       room : vec_capacity l.entries ≡ vec_capacity l.fn.entries;
       fits : FitsSoFar l.head.blocks l.head.entries l.index l.entries.items;
-      found : now.honest ≡ true → BeginsSlot (blocks_from old.now.contents (slot_at l.fn.slot_name) l.index) l.head.format l.head.blocks l.head.entries l.entries.items;
+      found : now.honest ≡ true → BeginsSlot (blocks_from old.now.contents (slot_at l.fn.slot_name) l.index) l.head.blocks l.head.entries l.entries.items;
     }

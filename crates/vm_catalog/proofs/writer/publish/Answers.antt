@@ -8,74 +8,74 @@ use Rattle.vm_catalog.proofs.writer.publish.Goals as goal
 
 -- up to the writes of the slot
 pub returns-in_err-write_slot-clause-moments : goal.returns-in_err-write_slot-clause-moments
-returns-in_err-write_slot-clause-moments g c honest was limit es rest fits =
+returns-in_err-write_slot-clause-moments g c honest limit es rest fits =
     let old = g.D.Disk.state c.args.disk.now in
-    weaken _ _ _ _ (before_selector c.args.in_use old.now was limit es c.args.format c.args.blocks c.args.entries.now rest fits) (touches_other _ _ (used_blocks (length c.args.entries.now)) c.other-free.ensures (c.write_slot.ensures.moments honest))
+    weaken _ _ _ _ (before_selector c.args.in_use old.now limit es c.args.blocks c.args.entries.now rest fits) (touches_other _ _ (used_blocks (length c.args.entries.now)) c.other-free.ensures (c.write_slot.ensures.moments honest))
 
 pub returns-in_err-write_slot-clause-any_moment : goal.returns-in_err-write_slot-clause-any_moment
-returns-in_err-write_slot-clause-any_moment g c honest was limit es rest fits =
-    weaken _ _ _ _ (left_by_publish _ _ _ _ _ _ _ _) (returns-in_err-write_slot-clause-moments g c honest was limit es rest fits)
+returns-in_err-write_slot-clause-any_moment g c honest limit es rest fits =
+    weaken _ _ _ _ (left_by_publish _ _ _ _ _ _) (returns-in_err-write_slot-clause-moments g c honest limit es rest fits)
 
 -- up to the first sync
 pub returns-in_err-sync-clause-moments : goal.returns-in_err-sync-clause-moments
-returns-in_err-sync-clause-moments g c honest was limit es rest fits =
+returns-in_err-sync-clause-moments g c honest limit es rest fits =
     let old = g.D.Disk.state c.args.disk.now in
-    let before = before_selector c.args.in_use old.now was limit es c.args.format c.args.blocks c.args.entries.now rest fits in
+    let before = before_selector c.args.in_use old.now limit es c.args.blocks c.args.entries.now rest fits in
     let writes = touches_other _ _ (used_blocks (length c.args.entries.now)) c.other-free.ensures (c.write_slot.ensures.moments (c.sync.ensures.any.earlier honest)) in
     weaken _ _ _ _ before (sync_on _ _ _ _ _ writes (c.sync.ensures.honest honest))
 
 pub returns-in_err-sync-clause-any_moment : goal.returns-in_err-sync-clause-any_moment
-returns-in_err-sync-clause-any_moment g c honest was limit es rest fits =
-    weaken _ _ _ _ (left_by_publish _ _ _ _ _ _ _ _) (returns-in_err-sync-clause-moments g c honest was limit es rest fits)
+returns-in_err-sync-clause-any_moment g c honest limit es rest fits =
+    weaken _ _ _ _ (left_by_publish _ _ _ _ _ _) (returns-in_err-sync-clause-moments g c honest limit es rest fits)
 
 -- up to the write of the selector
 pub returns-in_err-select_slot-clause-moments : goal.returns-in_err-select_slot-clause-moments
-returns-in_err-select_slot-clause-moments g c honest was limit es rest fits =
+returns-in_err-select_slot-clause-moments g c honest limit es rest fits =
     let old = g.D.Disk.state c.args.disk.now in
-    let before = before_selector c.args.in_use old.now was limit es c.args.format c.args.blocks c.args.entries.now rest fits in
+    let before = before_selector c.args.in_use old.now limit es c.args.blocks c.args.entries.now rest fits in
     let sync = c.sync.ensures.honest (c.select_slot.ensures.any.earlier honest) in
     let synced = c.in_ok-sync.ensures.honest (c.select_slot.ensures.any.earlier honest) in
     let slot = sync_on _ _ _ _ _ (touches_other _ _ (used_blocks (length c.args.entries.now)) c.other-free.ensures (c.write_slot.ensures.moments (c.sync.ensures.any.earlier (c.select_slot.ensures.any.earlier honest)))) sync in
-    let ready = ready_by c.args.in_use old.now was limit es c.args.format c.args.blocks c.args.entries.now rest fits _ _ (at_end _ _ _ slot) synced.synced sync.same (in_other_slot _ (used_blocks (length c.args.entries.now)) c.other-free.ensures (c.in_ok-write_slot.ensures.written (c.sync.ensures.any.earlier (c.select_slot.ensures.any.earlier honest)))) in
+    let ready = ready_by c.args.in_use old.now limit es c.args.blocks c.args.entries.now rest fits _ _ (at_end _ _ _ slot) synced.synced sync.same (in_other_slot _ (used_blocks (length c.args.entries.now)) c.other-free.ensures (c.in_ok-write_slot.ensures.written (c.sync.ensures.any.earlier (c.select_slot.ensures.any.earlier honest)))) in
     let turn = c.select_slot.ensures.honest honest in
     goes_on _ _ _ _ (weaken _ _ _ _ before slot) turn.time
-    (at_selector c.args.in_use old.now was limit es c.args.format c.args.blocks c.args.entries.now rest fits _ _ ready turn.dirty turn.count turn.sure turn.others turn.others_dirty)
+    (at_selector c.args.in_use old.now limit es c.args.blocks c.args.entries.now rest fits _ _ ready turn.dirty turn.count turn.sure turn.others turn.others_dirty)
 
 pub returns-in_err-select_slot-clause-any_moment : goal.returns-in_err-select_slot-clause-any_moment
-returns-in_err-select_slot-clause-any_moment g c honest was limit es rest fits =
-    weaken _ _ _ _ (left_by_publish _ _ _ _ _ _ _ _) (returns-in_err-select_slot-clause-moments g c honest was limit es rest fits)
+returns-in_err-select_slot-clause-any_moment g c honest limit es rest fits =
+    weaken _ _ _ _ (left_by_publish _ _ _ _ _ _) (returns-in_err-select_slot-clause-moments g c honest limit es rest fits)
 
 -- the last sync
 pub returns-clause-moments : goal.returns-clause-moments
-returns-clause-moments g c honest was limit es rest fits =
+returns-clause-moments g c honest limit es rest fits =
     let old = g.D.Disk.state c.args.disk.now in
-    let before = before_selector c.args.in_use old.now was limit es c.args.format c.args.blocks c.args.entries.now rest fits in
+    let before = before_selector c.args.in_use old.now limit es c.args.blocks c.args.entries.now rest fits in
     let sync = c.sync.ensures.honest (c.select_slot.ensures.any.earlier (c.sync-2.ensures.any.earlier honest)) in
     let synced = c.in_ok-sync.ensures.honest (c.select_slot.ensures.any.earlier (c.sync-2.ensures.any.earlier honest)) in
     let slot = sync_on _ _ _ _ _ (touches_other _ _ (used_blocks (length c.args.entries.now)) c.other-free.ensures (c.write_slot.ensures.moments (c.sync.ensures.any.earlier (c.select_slot.ensures.any.earlier (c.sync-2.ensures.any.earlier honest))))) sync in
-    let ready = ready_by c.args.in_use old.now was limit es c.args.format c.args.blocks c.args.entries.now rest fits _ _ (at_end _ _ _ slot) synced.synced sync.same (in_other_slot _ (used_blocks (length c.args.entries.now)) c.other-free.ensures (c.in_ok-write_slot.ensures.written (c.sync.ensures.any.earlier (c.select_slot.ensures.any.earlier (c.sync-2.ensures.any.earlier honest))))) in
+    let ready = ready_by c.args.in_use old.now limit es c.args.blocks c.args.entries.now rest fits _ _ (at_end _ _ _ slot) synced.synced sync.same (in_other_slot _ (used_blocks (length c.args.entries.now)) c.other-free.ensures (c.in_ok-write_slot.ensures.written (c.sync.ensures.any.earlier (c.select_slot.ensures.any.earlier (c.sync-2.ensures.any.earlier honest))))) in
     let turn = c.select_slot.ensures.honest (c.sync-2.ensures.any.earlier honest) in
     let turned = c.in_ok-select_slot.ensures.honest (c.sync-2.ensures.any.earlier honest) in
-    let safe = at_selector c.args.in_use old.now was limit es c.args.format c.args.blocks c.args.entries.now rest fits _ _ ready turn.dirty turn.count turn.sure turn.others turn.others_dirty in
+    let safe = at_selector c.args.in_use old.now limit es c.args.blocks c.args.entries.now rest fits _ _ ready turn.dirty turn.count turn.sure turn.others turn.others_dirty in
     let last = c.sync-2.ensures.honest honest in
     goes_on _ _ _ _ (goes_on _ _ _ _ (weaken _ _ _ _ before slot) turn.time safe) last.time
-    (ends_safely c.args.in_use old.now was limit es c.args.format c.args.blocks c.args.entries.now rest fits _ _ _ _ (record { is_ready = ready; chosen = turned.written ∙ ap selector_bytes c.other-free.ensures; count = turn.count; others = turn.others }) safe last)
+    (ends_safely c.args.in_use old.now limit es c.args.blocks c.args.entries.now rest fits _ _ _ _ (record { is_ready = ready; chosen = turned.written ∙ ap selector_bytes c.other-free.ensures; count = turn.count; others = turn.others }) safe last)
 
 pub returns-clause-any_moment : goal.returns-clause-any_moment
-returns-clause-any_moment g c honest was limit es rest fits =
-    weaken _ _ _ _ (left_by_publish _ _ _ _ _ _ _ _) (returns-clause-moments g c honest was limit es rest fits)
+returns-clause-any_moment g c honest limit es rest fits =
+    weaken _ _ _ _ (left_by_publish _ _ _ _ _ _) (returns-clause-moments g c honest limit es rest fits)
 
 pub returns-clause-done : goal.returns-clause-done
-returns-clause-done g c honest was limit es rest fits =
+returns-clause-done g c honest limit es rest fits =
     let old = g.D.Disk.state c.args.disk.now in
     let sync = c.sync.ensures.honest (c.select_slot.ensures.any.earlier (c.sync-2.ensures.any.earlier honest)) in
     let synced = c.in_ok-sync.ensures.honest (c.select_slot.ensures.any.earlier (c.sync-2.ensures.any.earlier honest)) in
     let slot = sync_on _ _ _ _ _ (touches_other _ _ (used_blocks (length c.args.entries.now)) c.other-free.ensures (c.write_slot.ensures.moments (c.sync.ensures.any.earlier (c.select_slot.ensures.any.earlier (c.sync-2.ensures.any.earlier honest))))) sync in
-    let ready = ready_by c.args.in_use old.now was limit es c.args.format c.args.blocks c.args.entries.now rest fits _ _ (at_end _ _ _ slot) synced.synced sync.same (in_other_slot _ (used_blocks (length c.args.entries.now)) c.other-free.ensures (c.in_ok-write_slot.ensures.written (c.sync.ensures.any.earlier (c.select_slot.ensures.any.earlier (c.sync-2.ensures.any.earlier honest))))) in
+    let ready = ready_by c.args.in_use old.now limit es c.args.blocks c.args.entries.now rest fits _ _ (at_end _ _ _ slot) synced.synced sync.same (in_other_slot _ (used_blocks (length c.args.entries.now)) c.other-free.ensures (c.in_ok-write_slot.ensures.written (c.sync.ensures.any.earlier (c.select_slot.ensures.any.earlier (c.sync-2.ensures.any.earlier honest))))) in
     let turn = c.select_slot.ensures.honest (c.sync-2.ensures.any.earlier honest) in
     let turned = c.in_ok-select_slot.ensures.honest (c.sync-2.ensures.any.earlier honest) in
     let last = c.sync-2.ensures.honest honest in
-    ends_published c.args.in_use old.now was limit es c.args.format c.args.blocks c.args.entries.now rest fits _ _ _ _ (record { is_ready = ready; chosen = turned.written ∙ ap selector_bytes c.other-free.ensures; count = turn.count; others = turn.others }) last
+    ends_published c.args.in_use old.now limit es c.args.blocks c.args.entries.now rest fits _ _ _ _ (record { is_ready = ready; chosen = turned.written ∙ ap selector_bytes c.other-free.ensures; count = turn.count; others = turn.others }) last
 
 -- the other slot and the selector alone are touched
 pub returns-in_err-write_slot-clause-touched : goal.returns-in_err-write_slot-clause-touched
@@ -104,4 +104,4 @@ returns-clause-written g c honest =
     let sync = c.sync.ensures.honest before in
     let slot = in_other_slot _ (used_blocks (length c.args.entries.now)) c.other-free.ensures (c.in_ok-write_slot.ensures.written (c.sync.ensures.any.earlier before)) in
     let selector = c.select_slot.ensures.honest turned in
-    stays_written _ _ _ _ _ _ _ _ slot (λ n other. selector.others n other ∙ ap (λ x. block x n) sync.same) ((c.in_ok-select_slot.ensures.honest turned).written ∙ ap selector_bytes c.other-free.ensures) (c.sync-2.ensures.honest honest).same
+    stays_written _ _ _ _ _ _ _ slot (λ n other. selector.others n other ∙ ap (λ x. block x n) sync.same) ((c.in_ok-select_slot.ensures.honest turned).written ∙ ap selector_bytes c.other-free.ensures) (c.sync-2.ensures.honest honest).same

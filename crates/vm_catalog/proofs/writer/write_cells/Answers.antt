@@ -7,9 +7,9 @@ use Rattle.vm_catalog.proofs.writer.write_cells.Goals as goal
 
 pub loop-i-preserved : goal.loop-i-preserved
 loop-i-preserved c =
-    let all = cells c.args.format c.args.blocks c.args.entries.now in
+    let all = cells c.args.blocks c.args.entries.now in
     row_more (drop c.args.first all) c.loop-i.i _ _ c.loop-i.out _ _ c.loop-i.invariant
-    (omega (arith, length-cells c.args.format c.args.blocks c.args.entries.now, length-drop c.args.first all))
+    (omega (arith, length-cells c.args.blocks c.args.entries.now, length-drop c.args.first all))
     (sym (get_or-drop c.args.first all c.loop-i.i [])) (omega arith) refl c.write_cell.auto.out c.write_cell.ensures
 
 pub returns : goal.returns

@@ -5,4 +5,4 @@ use Rattle.vm_catalog.proofs.writer.write_cells.Given as goal
 
 -- the cells so far stand first, and the rest is as it was
 abbrev pub invariant-loop-i : goal.invariant-loop-i
-invariant-loop-i l = IsRow (drop l.first (cells l.format l.blocks l.entries)) l.i l.out l.fn.out
+invariant-loop-i l = IsRow (drop l.first (cells l.blocks l.entries)) l.i l.out l.fn.out

@@ -13,6 +13,6 @@ invariant-loop-index g l =
       blocks : now.blocks ≡ old.blocks;
       earlier : now.honest ≡ true → old.honest ≡ true;
       rising : old.failures ≤ now.failures;
-      written : now.honest ≡ true → blocks_from now.now.contents (slot_at l.fn.slot_name) l.index ≡ take l.index (slot_blocks l.format l.blocks l.entries);
+      written : now.honest ≡ true → blocks_from now.now.contents (slot_at l.fn.slot_name) l.index ≡ take l.index (slot_blocks l.blocks l.entries);
       moments : now.honest ≡ true → Throughout old now (TouchesOnly (region (slot_at l.fn.slot_name) (used_blocks (length l.entries))) old.now);
     }

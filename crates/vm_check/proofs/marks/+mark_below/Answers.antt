@@ -1,12 +1,15 @@
-use Rattle.std.proofs.Common.{◌<◌, List, length, inl, sym, subst, ◌∙◌, arith, rules}
+use Rattle.std.proofs.Common.{◌<◌, ℕ, List, length, inl, sym, subst, ◌∙◌, arith, rules}
 use Rattle.std.proofs.lemmas.Bool.{false≢true}
 use Rattle.vm_disk.proofs.MomentLemmas.{same_medium}
 use Rattle.vm_alloc.proofs.HeldLemmas.{holds_more_then, taken_holds_more}
 use Rattle.vm_alloc.specs.Held.{HoldsMore}
+use Rattle.vm_block.specs.Node.{IsNode}
 use Rattle.vm_tree.proofs.Descent.{subtree_top, node_read}
+use Rattle.vm_tree.proofs.TreeLemmas.{leaf_opens}
 use Rattle.vm_tree.proofs.Looking.{looks_on, looks_so, passed_on}
-use Rattle.vm_check.specs.Marks.{MarksMore}
-use Rattle.vm_check.proofs.MarkLemmas.{IsBelow, top_within, same_more, under_marked, set_less, same_children, node_start, node_marked, node_fault, child_more}
+use Rattle.vm_check.specs.Marks.{MarksMore, MarksOnly}
+use Rattle.vm_check.proofs.InnerLemmas.{inner_less, inner_still, inner_then, node_inner}
+use Rattle.vm_check.proofs.MarkLemmas.{IsBelow, leaf_marked, ok_fine, top_within, same_more, under_marked, set_less, same_children, node_start, node_marked, node_fault, child_more}
 use Rattle.vm_check.proofs.OnlyLemmas.{only_set, only_top, only_all, child_sound, child_only_more, child_only_fault}
 use Rattle.vm_check.proofs.marks.+mark_below.Goals as goal
 
@@ -37,6 +40,10 @@ mark_node-loop-i-init g t c =
       since = λ honest. honest;
       many = grows.same_length ∙ c.requires.fit.bits;
       once = omega (arith, c.node_into.ensures.once.most, less);
+      inner = λ honest.
+          let form = c.in_ok-count.ensures.count in
+          let letters = node_inner _ c.args.level form.children (subst (λ (bytes : List ℕ). IsNode bytes c.args.level form.children) (c.in_ok-count.ensures.found honest).bytes_are form.node) in
+          omega (arith, c.node_into.ensures.once.most, inner_less _ _ _ c.args.block c.set.ensures (omega (arith, inside.1, c.requires.fit.bits)) (λ is. false≢true (sym c.if-is_set.false ∙ c.is_set.ensures.1 is)) letters);
       growing = grows;
       marked = λ honest sizes cs node count bs none closed. subst (λ (ds : List _). MarksMore ds c.set.new.self c.set.new.self) (sym none) (same_more _ c.set.new.self tt);
       only = λ honest sizes cs node count bs none n is. inl is;
@@ -63,6 +70,7 @@ mark_node-loop-i-preserved g t c =
       since = λ honest. so_far.since (any.earlier honest);
       many = grows.same_length ∙ so_far.many;
       once = omega (arith, c.mark_below.ensures.once, so_far.once);
+      inner = λ honest. inner_then _ _ _ _ _ _ _ _ (same_medium _ _ (so_far.looks.reads (any.earlier honest))) (so_far.inner (any.earlier honest)) (c.in_ok-mark_below.ensures.inner honest);
       growing = holds_more_then _ _ _ so_far.growing grows;
       marked = λ honest sizes cs node count.
           let lt : c.loop-i.i < length cs = omega (arith, c.loop-i-test.true, count) in
@@ -129,3 +137,21 @@ mark_node-returns-clause-only g t c honest sizes rs bs tree =
 
 pub mark_node-returns-in_err-mark_below-clause-looks : goal.mark_node-returns-in_err-mark_below-clause-looks
 mark_node-returns-in_err-mark_below-clause-looks g t c = looks_on c.loop-i.invariant.looks c.mark_below.ensures.looks (search rules)
+
+pub mark_below-returns-then-level-eq0-clause-inner : goal.mark_below-returns-then-level-eq0-clause-inner
+mark_below-returns-then-level-eq0-clause-inner g t c honest = inner_still c.mark_leaf.result _ _ c.args.marks.now c.mark_leaf.new.marks c.mark_leaf.ensures.growing
+
+pub mark_below-returns-then-level-eq0-clause-marked : goal.mark_below-returns-then-level-eq0-clause-marked
+mark_below-returns-then-level-eq0-clause-marked g t c honest sizes rs bs tree closed =
+    let at = leaf_opens sizes _ _ _ _ rs bs c.if-level-eq0.true tree in
+    leaf_marked c.mark_leaf.result c.args.block bs c.args.marks.now c.mark_leaf.new.marks at.first (c.mark_leaf.ensures.sound at.place) c.mark_leaf.ensures.growing c.mark_leaf.ensures.marked c.mark_leaf.ensures.only
+
+pub mark_below-returns-then-level-eq0-clause-sound : goal.mark_below-returns-then-level-eq0-clause-sound
+mark_below-returns-then-level-eq0-clause-sound g t c honest sizes rs bs tree =
+    let at = leaf_opens sizes _ _ _ _ rs bs c.if-level-eq0.true tree in
+    ok_fine c.mark_leaf.result (c.mark_leaf.ensures.sound at.place)
+
+pub mark_below-returns-then-level-eq0-clause-only : goal.mark_below-returns-then-level-eq0-clause-only
+mark_below-returns-then-level-eq0-clause-only g t c honest sizes rs bs tree =
+    let at = leaf_opens sizes _ _ _ _ rs bs c.if-level-eq0.true tree in
+    subst (λ (ds : List ℕ). MarksOnly ds c.args.marks.now c.mark_leaf.new.marks) (sym at.first) c.mark_leaf.ensures.only

@@ -3,6 +3,7 @@ use Rattle.vm_disk.proofs.MomentLemmas.{same_medium}
 use Rattle.vm_alloc.proofs.HeldLemmas.{holds_same, holds_more_then}
 use Rattle.vm_tree.proofs.Looking.{looks_none, looks_on, passed_on}
 use Rattle.vm_check.specs.Marks.{IsUnder, MarksMore}
+use Rattle.vm_check.proofs.InnerLemmas.{inner_then}
 use Rattle.vm_check.proofs.MarkLemmas.{same_more}
 use Rattle.vm_check.proofs.RootLemmas.{in_blocks, root_more, root_fault, roots_marked, roots_closed}
 use Rattle.vm_check.proofs.OnlyLemmas.{only_all, root_sound, root_only_more, root_only_fault}
@@ -13,6 +14,7 @@ loop-root-init g c = record {
   looks = looks_none _ (λ is. cc);
   many = sym c.blocks-blocks.ensures.count;
   once = omega arith;
+  inner = λ honest. omega arith;
   growing = holds_same c.args.marks.now;
   marked = λ honest sizes bs none closed. subst (λ (ds : List _). MarksMore ds c.args.marks.now c.args.marks.now) (sym none) (same_more _ c.args.marks.now tt);
   only = λ honest sizes bs none n is. inl is;
@@ -32,6 +34,7 @@ loop-root-preserved g c =
       looks = looks_on so_far.looks c.mark_root.ensures.looks (λ is. cc);
       many = grows.same_length ∙ so_far.many;
       once = omega (arith, c.mark_root.ensures.once, so_far.once);
+      inner = λ honest. inner_then _ _ _ _ _ _ _ _ (same_medium _ _ (so_far.looks.reads (c.mark_root.ensures.looks.goes.earlier honest))) (so_far.inner (c.mark_root.ensures.looks.goes.earlier honest)) (c.in_ok-mark_root.ensures.inner honest);
       growing = holds_more_then _ _ _ so_far.growing grows;
       marked = λ honest sizes. root_more sizes _ _ _ _ _ _ _ _ _ (same_medium _ _ (so_far.looks.reads (c.mark_root.ensures.looks.goes.earlier honest))) c.loop-root-test.true (so_far.marked (c.mark_root.ensures.looks.goes.earlier honest) sizes)
           (λ ds. c.in_ok-mark_root.ensures.marked honest sizes ds);

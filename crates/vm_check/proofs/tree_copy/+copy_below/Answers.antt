@@ -1,4 +1,4 @@
-use Rattle.std.proofs.Common.{◌≡◌, ◌-◌, ◌<◌, ◌≤◌, ◌++◌, ℕ, List, length, drop, get_or, inl, inr, refl, sym, ap, subst, ◌∙◌, arith}
+use Rattle.std.proofs.Common.{◌≡◌, ◌-◌, ◌<◌, ◌≤◌, ◌++◌, ℕ, List, length, drop, get_or, inr, refl, sym, ap, subst, ◌∙◌, arith}
 use Rattle.std.proofs.lemmas.Bool.{false≢true}
 use Rattle.vm_disk.specs.Disk.{block}
 use Rattle.vm_alloc.specs.Marks.{IsMarked}
@@ -130,7 +130,7 @@ copy_node-returns-clause-copied g t c source target so_far =
     let nodes = c.in_ok-copy_children.ensures.copied c.args.level form.children form.node form.many source (c.put_copy.ensures.puts.goes.earlier target) (copied_in same _ c.args.limit c.args.numbers.now so_far) in
     let inside : c.args.block < count_of c.copy_children.new.numbers = omega (arith, (c.is_data.ensures.0 c.if-not-is_data.false).1, c.requires.fit.known, c.in_ok-copy_children.ensures.step.numbers.same_count) in
     copies_block _ _ _ _ _ _ _ _ c.put_copy.result inside (copied_back same _ c.args.limit c.copy_children.new.numbers nodes.0) (c.put_copy.ensures.put target)
-    (inr (inl (subst (λ (bytes : List _). NodeCopied c.copy_children.new.numbers bytes c.copy_children.new.bytes) found.bytes_are nodes.1)))
+    (inr (subst (λ (bytes : List _). NodeCopied c.copy_children.new.numbers bytes c.copy_children.new.bytes) found.bytes_are nodes.1))
 
 pub copy_node-returns-clause-only : goal.copy_node-returns-clause-only
 copy_node-returns-clause-only g t c source =
@@ -141,7 +141,7 @@ copy_node-returns-clause-only g t c source =
     let node = subst (λ (bytes : List _). IsNode bytes c.args.level form.children) found.bytes_are form.node in
     let here : c.args.level ≤ c.args.level = omega arith in
     only_after _ c.args.numbers.now c.copy_children.new.numbers c.put_copy.new.numbers c.put_copy.result (ups_up same (c.args.level - 1) c.args.level c.args.numbers.now c.copy_children.new.numbers (omega arith) (c.in_ok-copy_children.ensures.only source))
-    (only_put (λ n. IsUpTo c.args.level (block (g.S.Disk.state c.args.source.now).now.contents n)) _ _ _ _ _ _ c.put_copy.result c.put_copy.ensures.puts (inr (inr (c.args.level, form.children, here, node))))
+    (only_put (λ n. IsUpTo c.args.level (block (g.S.Disk.state c.args.source.now).now.contents n)) _ _ _ _ _ _ c.put_copy.result c.put_copy.ensures.puts (inr (c.args.level, form.children, here, node)))
 
 pub copy_node-returns-clause-sound : goal.copy_node-returns-clause-sound
 copy_node-returns-clause-sound g t c source sizes rs bs tree b is =

@@ -25,7 +25,7 @@ invariant-visit_children-loop-i g l =
       many : length l.marks ≡ l.blocks;
       once : now.reads + unmarked l.marks ≡ old.reads + unmarked l.fn.marks;
       growing : HoldsMore l.fn.marks l.marks;
-      found : now.honest ≡ true → (levels above : ℕ) (cs : List Child) → IsNode l.bytes above cs → length cs ≡ l.count → Known l.long (sizes_of g.row.LEAF g.row.FAN levels) old.now.contents l.blocks l.level l.fn.marks l.initial.spans
-          → VisitedAll l.long (sizes_of g.row.LEAF g.row.FAN levels) old.now.contents l.blocks l.level (take l.i cs) l.high l.fn.marks l.initial.spans l.marks l.spans;
+      found : now.honest ≡ true → (levels above : ℕ) (cs : List Child) → IsNode l.bytes above cs → length cs ≡ l.count → Known (sizes_of g.row.FAN levels) old.now.contents l.blocks l.level l.fn.marks l.initial.spans
+          → VisitedAll (sizes_of g.row.FAN levels) old.now.contents l.blocks l.level (take l.i cs) l.high l.fn.marks l.initial.spans l.marks l.spans;
       below : (above : ℕ) (cs : List Child) → IsNode l.bytes above cs → length cs ≡ l.count → 0 < l.i → l.i < length cs → place l.high < slice_index_or (lows cs) l.i 0;
     }

@@ -23,7 +23,7 @@ pub returns-in_err-root-clause-only : goal.returns-in_err-root-clause-only
 returns-in_err-root-clause-only g c honest trees =
     let so_far = c.loop-number.invariant in
     rw (passed_on _ c.from_residual.ensures.1) (device_lists _ _
-    (number_fault _ _ _ _ _ _ _ _ _ _ (same_medium _ _ (so_far.looks.reads (c.in_err-root.ensures.looks.goes.earlier honest))) c.loop-number-test.true (so_far.found (c.in_err-root.ensures.looks.goes.earlier honest)) trees (λ known m bs tree suit. c.in_err-root.ensures.only honest known m bs tree suit)))
+    (number_fault _ _ _ _ _ _ _ _ _ _ (same_medium _ _ (so_far.looks.reads (c.in_err-root.ensures.looks.goes.earlier honest))) c.loop-number-test.true (so_far.found (c.in_err-root.ensures.looks.goes.earlier honest)) trees (λ known m bs tree. c.in_err-root.ensures.only honest known m bs tree)))
 
 pub loop-number-preserved : goal.loop-number-preserved
 loop-number-preserved g c =

@@ -16,5 +16,5 @@ invariant-loop-number g l =
       room : length l.spans ≡ l.blocks;
       once : now.reads + unmarked l.marks + 34 ≡ old.reads + l.blocks;
       named : map (λ (r : Root). r.block) l.roots.items ≡ take l.number-index l.numbers;
-      found : now.honest ≡ true → FoundSoFar (sizes_of g.row.LEAF g.row.FAN g.row.LEVELS) old.now.contents l.blocks l.long (take l.number-index l.numbers) l.roots.items l.marks l.spans;
+      found : now.honest ≡ true → FoundSoFar (sizes_of g.row.FAN g.row.LEVELS) old.now.contents l.blocks (take l.number-index l.numbers) l.roots.items l.marks l.spans;
     }

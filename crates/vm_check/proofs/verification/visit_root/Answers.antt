@@ -8,9 +8,9 @@ pub returns-then-number-eq0-clause-found : goal.returns-then-number-eq0-clause-f
 returns-then-number-eq0-clause-found g c honest known = bare_visited _ _ _ c.default.result c.args.number _ _ (c.default.ensures.0 ∙ sym c.if-number-eq0.true) c.if-number-eq0.true known
 
 pub returns-in_err-span-clause-only : goal.returns-in_err-span-clause-only
-returns-in_err-span-clause-only g c honest known m bs tree suit =
+returns-in_err-span-clause-only g c honest known m bs tree =
     let at = tree_opens _ _ _ c.args.number m bs (omega (arith, c.if-number-eq0.false)) tree in
-    rw (passed_on _ c.from_residual.ensures.1) (c.in_err-span.ensures.only honest g.row.LEVELS at.level m bs known (omega arith) (omega (arith, at.low)) at.subtree at.rising suit)
+    rw (passed_on _ c.from_residual.ensures.1) (c.in_err-span.ensures.only honest g.row.LEVELS at.level m bs known (omega arith) (omega (arith, at.low)) at.subtree at.rising)
 
 pub returns-clause-found : goal.returns-clause-found
 returns-clause-found g c honest known =

@@ -3,7 +3,6 @@ use Rattle.vm_types.specs.State.{opened}
 use Rattle.vm_store.specs.Growth.{Grows}
 use Rattle.vm_store.specs.Shown.{new_store}
 use Rattle.vm_store.specs.Store.{disk_of}
-use Rattle.vm_cli.proofs.PassLemmas.{goes_any}
 use Rattle.vm_cli.proofs.SessionLemmas.{may_end, session_kept}
 use Rattle.vm_cli.proofs.program.answer_lines.Goals as goal
 
@@ -18,17 +17,17 @@ returns-in-Ok-clause-served g c =
       first = first;
       last = last;
       served = c.serve-served.result;
-      found = goes_any _ _ _ c.in-Ok.ensures.any;
+      found = c.in-Ok.ensures.opened.goes;
       goes = subst (λ d. Grows ⊥ (g.D.Disk.state (disk_of first)) (g.D.Disk.state d)) (sym given) goes;
-      well = c.in-Ok.ensures.well;
-      opens = λ honest. c.in-Ok.ensures.opened honest;
+      well = c.in-Ok.ensures.opened.well;
+      opens = c.in-Ok.ensures.opened.opens;
       serves = c.serve-served.ensures.answers;
       reads = c.serve-served.ensures.reads;
       ends = c.end_of.ensures;
       given_back = given;
       shown = c.close.ensures.shown;
       left = c.close.ensures.crash;
-      kept = session_kept old first last (λ honest. c.in-Ok.ensures.opened honest) (λ honest. c.in-Ok.ensures.moments honest) c.in-Ok.ensures.well goes
+      kept = session_kept old first last c.in-Ok.ensures.opened.opens c.in-Ok.ensures.opened.moments c.in-Ok.ensures.opened.well goes
           c.args.manner c.serve-served.result _ _ _ c.serve-served.ensures.answers c.close.result given;
     })
 

@@ -37,7 +37,7 @@ returns-clause-files g c honest =
               back = c.check_disk-exit.result.1;
               held = held.0;
               lent = lent;
-              refusal = refused.0;
+              why = refused.0;
               refused = refused.1;
               told = refused.2;
             });

@@ -5,8 +5,8 @@ use Rattle.vm_disk.specs.Disk.{Goes}
 use Rattle.vm_disk.specs.Moments.{Throughout}
 use Rattle.vm_disk.proofs.GoesLemmas.{goes_at}
 use Rattle.vm_store.specs.Refused.{IsAtMostSynced, IsRefused}
+use Rattle.vm_cli.specs.declared.program.opening.NoStore.TheVariants.{Refused}
 use Rattle.vm_cli.proofs.CountingLemmas.{counted_shown, is_err, is_ok}
-use Rattle.vm_cli.proofs.PassLemmas.{goes_any}
 use Rattle.vm_cli.proofs.program.check_disk.Goals as goal
 
 pub returns-in-Ok-counts-clause-told : goal.returns-in-Ok-counts-clause-told
@@ -20,13 +20,13 @@ returns-in-Ok-counts-clause-told g c =
       counts.checkpoints,
       counts.free,
       record {
-        goes = subst (λ d. Goes ⊥ old (g.D.Disk.state d)) (sym c.close-disk.ensures.disk) (goes_any _ _ _ c.in-Ok.ensures.any);
+        goes = subst (λ d. Goes ⊥ old (g.D.Disk.state d)) (sym c.close-disk.ensures.disk) c.in-Ok.ensures.opened.goes;
         counted = λ honest.
-            let opens = c.in-Ok.ensures.opened (there honest) in
-            let synced = c.in-Ok.ensures.synced (there honest) (λ e. e) in
-            let said = is_ok _ c.count-counts.result _ c.in-Ok-counts.is (c.count-counts.ensures.counted c.in-Ok.ensures.well (opened opens.seen) opens.holds) in
+            let opens = c.in-Ok.ensures.opened.opens (there honest) in
+            let synced = c.in-Ok.ensures.opened.synced (there honest) in
+            let said = is_ok _ c.count-counts.result _ c.in-Ok-counts.is (c.count-counts.ensures.counted c.in-Ok.ensures.opened.well (opened opens.seen) opens.holds) in
             counted_shown g.D.Disk _ store synced.same opens counts said;
-        moments = λ honest. subst (λ d. Throughout old (g.D.Disk.state d) (IsAtMostSynced old.now)) (sym c.close-disk.ensures.disk) (c.in-Ok.ensures.moments (there honest));
+        moments = λ honest. subst (λ d. Throughout old (g.D.Disk.state d) (IsAtMostSynced old.now)) (sym c.close-disk.ensures.disk) (c.in-Ok.ensures.opened.moments (there honest));
       },
       c.counted.ensures,
     )
@@ -36,16 +36,20 @@ returns-in-Err-counts-clause-told g c =
     let old = g.D.Disk.state c.args.disk in
     let refusal = c.in-Err-counts.refusal in
     let there = λ (honest : (g.D.Disk.state c.close-disk.result).honest ≡ true). subst (λ d. (g.D.Disk.state d).honest ≡ true) c.close-disk.ensures.disk honest in
-    let never : refusal ≢ Device = λ is. c.count-counts.ensures.never c.in-Ok.ensures.well (c.in-Err-counts.is ∙ ap Err is) in
+    let never : refusal ≢ Device = λ is. c.count-counts.ensures.never c.in-Ok.ensures.opened.well (c.in-Err-counts.is ∙ ap Err is) in
     inr (
-      refusal,
+      Refused refusal,
       record {
-        goes = subst (λ d. Goes (refusal ≡ Device) old (g.D.Disk.state d)) (sym c.close-disk.ensures.disk) (goes_at _ _ _ _ c.in-Ok.ensures.any (λ is. absurd (never is)));
+        goes = subst (λ d. Goes (refusal ≡ Device) old (g.D.Disk.state d)) (sym c.close-disk.ensures.disk) (goes_at _ _ _ _ c.in-Ok.ensures.opened.goes (λ is. absurd (never is)));
         why = λ honest.
-            let opens = c.in-Ok.ensures.opened (there honest) in
-            let memory = is_err _ c.count-counts.result _ c.in-Err-counts.is (c.count-counts.ensures.refused c.in-Ok.ensures.well (opened opens.seen) opens.holds) in
+            let opens = c.in-Ok.ensures.opened.opens (there honest) in
+            let memory = is_err _ c.count-counts.result _ c.in-Err-counts.is (c.count-counts.ensures.refused c.in-Ok.ensures.opened.well (opened opens.seen) opens.holds) in
             subst (IsRefused old.now.contents) (sym memory) tt;
-        moments = λ honest. subst (λ d. Throughout old (g.D.Disk.state d) (IsAtMostSynced old.now)) (sym c.close-disk.ensures.disk) (c.in-Ok.ensures.moments (there honest));
+        earlier = λ honest is.
+            let opens = c.in-Ok.ensures.opened.opens (there honest) in
+            let memory = is_err _ c.count-counts.result _ c.in-Err-counts.is (c.count-counts.ensures.refused c.in-Ok.ensures.opened.well (opened opens.seen) opens.holds) in
+            cc (is, memory);
+        moments = λ honest. subst (λ d. Throughout old (g.D.Disk.state d) (IsAtMostSynced old.now)) (sym c.close-disk.ensures.disk) (c.in-Ok.ensures.opened.moments (there honest));
       },
       c.refused.ensures,
     )
@@ -54,3 +58,6 @@ pub returns-in-Ok-counts-clause-ends : goal.returns-in-Ok-counts-clause-ends
 returns-in-Ok-counts-clause-ends g c =
     let counts = c.in-Ok-counts.counts in
     inl (refl, (counts.alternatives, counts.checkpoints, counts.free, c.counted.ensures))
+
+pub returns-in-Err-counts-clause-ends : goal.returns-in-Err-counts-clause-ends
+returns-in-Err-counts-clause-ends g c = inr (refl, (Refused c.in-Err-counts.refusal, c.refused.ensures))

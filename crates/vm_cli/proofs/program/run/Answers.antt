@@ -43,7 +43,7 @@ returns-clause-files g c honest =
               back = c.answer_lines_in_memory-exit.result.1;
               held = held.0;
               lent = lent;
-              refusal = refused.0;
+              why = refused.0;
               refused = itself;
               told = refused.2;
             });

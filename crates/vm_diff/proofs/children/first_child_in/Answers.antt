@@ -1,6 +1,6 @@
-use Rattle.std.proofs.Common.{◌≡◌, ◌+◌, ◌<◌, ap, sym, arith}
+use Rattle.std.proofs.Common.{◌+◌, ap, arith}
 use Rattle.vm_types.specs.Places.{place}
-use Rattle.vm_block.specs.Row.{child_of, node_row}
+use Rattle.vm_block.specs.Row.{node_row}
 use Rattle.vm_block.specs.declared.node.Child.{Child}
 use Rattle.vm_block.proofs.RowLemmas.{row_child}
 use Rattle.vm_diff.proofs.children.first_child_in.Goals as goal

@@ -1,4 +1,4 @@
-use Rattle.std.proofs.Common.{ℕ, ◌<◌, ◌≤◌}
+use Rattle.std.proofs.Common.{◌<◌, ◌≤◌}
 use Rattle.vm_types.specs.Places.{place}
 use Rattle.vm_block.specs.Row.{child_of, node_row}
 use Rattle.vm_diff.proofs.children.first_child_in.Given as goal

@@ -1,4 +1,4 @@
-use Rattle.std.proofs.Common.{◌≡◌, ◌∙◌, ◌≤◌, arith}
+use Rattle.std.proofs.Common.{◌∙◌}
 use Rattle.vm_tree.proofs.PartReads.{lists_map}
 use Rattle.vm_diff.proofs.CompareLemmas.{whole_diff, whole_reads}
 use Rattle.vm_diff.proofs.comparison.changed.Goals as goal

@@ -1,4 +1,4 @@
-use Rattle.std.proofs.Common.{◌≤◌, arith}
+use Rattle.std.proofs.Common.{arith}
 use Rattle.vm_types.specs.Places.{place}
 use Rattle.vm_tree.proofs.PartReads.{few_aside}
 use Rattle.vm_diff.proofs.comparison.changed_part.Goals as goal

@@ -1,4 +1,4 @@
-use Rattle.std.proofs.Common.{◌≡◌, ◌∙◌, ◌≤◌, [], refl, sym, arith}
+use Rattle.std.proofs.Common.{◌∙◌, refl, sym}
 use Rattle.vm_tree.proofs.Descent.{ok_map}
 use Rattle.vm_diff.proofs.CompareLemmas.{one_root, whole_diff, whole_reads}
 use Rattle.vm_diff.proofs.comparison.same.Goals as goal

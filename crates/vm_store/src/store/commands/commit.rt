@@ -3,7 +3,6 @@ ghost use Rattle.std.specs.Prelude.{◌≡◌, ◌⊎◌, OnErr};
 
 use crate::store::Store;
 use crate::versions::write_entries;
-use vm_block::SlotFormat;
 use vm_catalog::publish;
 use vm_disk::Disk;
 use vm_types::{Answer, Command, Refusal};
@@ -26,7 +25,6 @@ impl<D: Disk> Store<D> {
         match publish(
             &mut self.disk,
             self.parts.slot_name,
-            SlotFormat::Two,
             self.parts.blocks,
             &self.parts.entries,
         ) {

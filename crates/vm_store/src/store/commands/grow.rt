@@ -37,9 +37,6 @@ impl<D: Disk> Store<D> {
         let Ok(before) = Baseline::new(self.alloc, blocks) else {
             return Err(Refusal::Memory);
         };
-        let Ok(()) = self.disk.reserve(self.alloc, blocks) else {
-            return Err(Refusal::Memory);
-        };
         self.lengthen(blocks)?;
         self.parts.grow_to(blocks, held, marks, before);
         self.parts.series = None;

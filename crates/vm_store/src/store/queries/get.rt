@@ -38,8 +38,8 @@ impl<D: Disk> Store<D> {
         ensures no_memory { result ≢ Err Refusal.Memory }
         ensures short { IfOk result (λ value. IfSome value (λ bytes. length bytes.now ≤ longest)) }
 
-        // Whatever the store holds, it makes at most nine reads.
-        ensures bound { reads_of self.new ≤ reads_of self.old + 9 }
+        // Whatever the store holds, it makes at most eight reads.
+        ensures bound { reads_of self.new ≤ reads_of self.old + 8 }
     {
         self.ready()?;
         let root = self.parts.working.root_at(at)?;
@@ -59,8 +59,8 @@ impl<D: Disk> Store<D> {
         ensures no_memory { result ≢ Err Refusal.Memory }
         ensures short { IfOk result (λ value. IfSome value (λ bytes. length bytes.now ≤ longest)) }
 
-        // Whatever the store holds, it makes at most nine reads.
-        ensures bound { reads_of self.new ≤ reads_of self.old + 9 }
+        // Whatever the store holds, it makes at most eight reads.
+        ensures bound { reads_of self.new ≤ reads_of self.old + 8 }
     {
         let current = At {
             alt: *alt,
@@ -75,8 +75,8 @@ impl<D: Disk> Store<D> {
             (λ s. IsDueOrDevice result (value_at s.working at.now key)) }
         ensures no_memory { result ≢ Err Refusal.Memory }
 
-        // Whatever the store holds, it makes at most nine reads.
-        ensures bound { reads_of self.new ≤ reads_of self.old + 9 }
+        // Whatever the store holds, it makes at most eight reads.
+        ensures bound { reads_of self.new ≤ reads_of self.old + 8 }
     {
         let mut room = [0; 4096];
         let value = self.look_at(at, key, &mut room)?;
@@ -89,8 +89,8 @@ impl<D: Disk> Store<D> {
             (λ s. IsDueOrDevice result (value_in s.working alt.now key)) }
         ensures no_memory { result ≢ Err Refusal.Memory }
 
-        // Whatever the store holds, it makes at most nine reads.
-        ensures bound { reads_of self.new ≤ reads_of self.old + 9 }
+        // Whatever the store holds, it makes at most eight reads.
+        ensures bound { reads_of self.new ≤ reads_of self.old + 8 }
     {
         let current = At {
             alt: *alt,

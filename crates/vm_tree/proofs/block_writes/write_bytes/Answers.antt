@@ -9,13 +9,13 @@ use Rattle.vm_tree.proofs.Touching.{held_kept}
 use Rattle.vm_tree.proofs.block_writes.write_bytes.Goals as goal
 
 pub returns-clause-leaf : goal.returns-clause-leaf
-returns-clause-leaf g c honest before keep more sizes rs leaf few =
+returns-clause-leaf g c honest before keep more sizes rs leaf =
     let taken = c.in_ok-block.ensures.device in
     let n = c.in_ok-block.block in
     let inside : n < length c.args.held.now = omega (arith, taken.inside, c.write_free.ensures.writes.still.same_length) in
-    leaf_made (IsRenewed before c.args.held.now keep) (IsRenewed before c.write_free.new.held keep) sizes _ _ _ (λ k is. held_kept c.args.held.now _ _ (c.write_free.ensures.writes.moments honest) k is.now) (renewed_more before _ _ keep c.write_free.ensures.writes.still)
-    n c.lowest_key-low.result c.args.bytes.now rs leaf few (taken.above, inside) (omega (arith, inside, c.requires.inside, g.met.D.Disk.small c.args.disk.now)) (renewed_free before c.args.held.now c.write_free.new.held keep n more c.in_ok-block.ensures.free taken.held_now)
-    (c.in_ok-block.ensures.written honest) c.lowest_key-low.ensures.fits (c.lowest_key-low.ensures.rows leaf.holds.rows leaf.holds.leaf)
+    leaf_made (IsRenewed before c.write_free.new.held keep) sizes _ _
+    n c.lowest_key-low.result c.args.bytes.now rs leaf (taken.above, inside) (omega (arith, inside, c.requires.inside, g.met.D.Disk.small c.args.disk.now)) (renewed_free before c.args.held.now c.write_free.new.held keep n more c.in_ok-block.ensures.free taken.held_now)
+    (c.in_ok-block.ensures.written honest) c.lowest_key-low.ensures.fits (c.lowest_key-low.ensures.leaf rs leaf)
 
 pub returns-clause-node : goal.returns-clause-node
 returns-clause-node g c honest before keep more sizes level cs rs spelled above low some few fan rises made =

@@ -1,40 +1,41 @@
-use Rattle.std.proofs.Common.{◌≡◌, ◌∙◌, ℕ, List, [], ◌+◌, ◌≤◌, ◌<◌, Err, true, length, take, ap, sym, subst, refl, inl, inr, arith, rules}
-use Rattle.std.specs.Prelude.{slice_set}
+use Rattle.std.proofs.Common.{◌≡◌, ℕ, List, [], ◌∷◌, ◌+◌, ◌≤◌, ◌<◌, length, take, ap, sym, subst, inl, inr, arith, rules}
 use Rattle.std.specs.List.{AllByRecursion}
-use Rattle.std.proofs.lemmas.Bool.{false≢true, ltb-false, ltb-true}
 use Rattle.vm_types.specs.Map.{Map, with_value}
-use Rattle.vm_types.specs.Places.{place, with_record}
+use Rattle.vm_types.specs.Places.{with_record}
 use Rattle.vm_alloc.specs.Held.{IsHeld}
+use Rattle.vm_block.specs.Leaf.{Record}
 use Rattle.vm_block.specs.Node.{node_bytes, node_head}
 use Rattle.vm_tree.specs.Answers.{LacksRoom}
-use Rattle.vm_tree.specs.Splits.{Made, Splits, children_of, is_split}
+use Rattle.vm_tree.specs.FullPath.{GrowsBy}
+use Rattle.vm_tree.specs.Splits.{Made, children_of, extra}
 use Rattle.vm_tree.specs.Replacement.{IsHeldBeside, IsRenewed, Lacks, path_from, path_under}
 use Rattle.vm_tree.specs.declared.root.Root.{Root}
 use Rattle.vm_tree.specs.Root.{IsRootedIn, sizes_of}
 use Rattle.vm_tree.proofs.Looking.{looks_as, passed_on, writes_on}
 use Rattle.vm_tree.proofs.Descent.{subtree_top}
-use Rattle.vm_tree.proofs.PutLemmas.{not_split}
+use Rattle.vm_tree.proofs.FullPaths.{grows_few}
 use Rattle.vm_tree.proofs.RemoveLemmas.{two_children}
 use Rattle.vm_tree.proofs.Renewing.{lacks, path_bare, path_none, path_some, path_there, renewed_beside, replaces_whole, rooted_so}
-use Rattle.vm_tree.proofs.RootRemoval.{rooted_top, value_there}
-use Rattle.vm_tree.proofs.RootLemmas.{splits_lacks, root_one, root_two, device_puts, fault_puts}
+use Rattle.vm_tree.proofs.RootRemoval.{rooted_top}
+use Rattle.vm_tree.proofs.RootLemmas.{grows_lacks, root_one, root_more, device_puts, fault_puts}
 use Rattle.vm_tree.proofs.insertion.put.Goals as goal
+use Rattle.vm_tree.proofs.insertion.put.Goals.{then-from-2, else-from-2}
 
 pub returns-then-root-eq0-clause-put : goal.returns-then-root-eq0-clause-put
 returns-then-root-eq0-clause-put g c honest m bs (inl bare) =
-    let sizes = sizes_of g.row.LEAF g.row.FAN g.row.LEVELS in
+    let sizes = sizes_of g.row.FAN g.row.LEVELS in
     let before = c.args.held.now in
     let held = c.put_first.new.held in
     let x = (g.D.Disk.state c.put_first.new.disk).now.contents in
     let limit = length before in
-    let path = path_under c.args.root (slice_set c.args.path.now 8 0) in
-    let none = path_bare c.args.root c.args.path.now c.told-path c.if-root-eq0.true in
-    let made = c.in_ok-put_first.ensures.put honest (lacks path) sizes (omega (arith, c.requires.sizes.leaf_least)) (omega (arith, c.requires.sizes.levels_least)) in
+    let path = path_under c.args.root c.args.path.now in
+    let none = path_bare c.args.root c.args.path.now c.if-root-eq0.true in
+    let made = c.in_ok-put_first.ensures.put honest (lacks path) sizes (omega (arith, c.requires.sizes.levels_least)) in
     let R : (ℕ → Type 0) → Map → Root → Type 0 = λ P n r. IsRootedIn sizes P x limit r (with_value n c.args.key c.args.value.now) in
     let root = c.in_ok-put_first.field-0 in
     let now = rooted_so (IsRenewed before held (lacks path)) (IsHeldBeside held path) sizes x limit root (with_value [] c.args.key c.args.value.now) (λ n is. record { now = is.now; lacks = subst (Lacks n) (sym none) tt }) made in (
       λ all. subst (λ (n : Map). R (IsHeldBeside held path) n root) (sym bare.empty) now,
-      λ (lacks : LacksRoom sizes _ c.args.root m c.args.key). omega (arith, lacks.some, c.if-root-eq0.true),
+      λ (lacks : LacksRoom sizes _ c.args.root (c.args.key, c.args.value.now)). omega (arith, lacks.some, c.if-root-eq0.true),
     )
 returns-then-root-eq0-clause-put g c honest m bs (inr top) =
     let inside = subtree_top _ _ _ _ _ m bs top.subtree in absurd (omega (arith, c.if-root-eq0.true, inside.0))
@@ -46,18 +47,17 @@ returns-in_err-put_first-clause-put g c honest m bs rooted =
 pub returns-in-One-clause-put : goal.returns-in-One-clause-put
 returns-in-One-clause-put g c honest m bs (inl bare) = absurd (c.if-root-eq0.false bare.none)
 returns-in-One-clause-put g c honest m bs (inr top) =
-    let sizes = sizes_of g.row.LEAF g.row.FAN g.row.LEVELS in
+    let sizes = sizes_of g.row.FAN g.row.LEVELS in
     let before = c.args.held.now in
     let held = c.put_below.new.held in
     let limit = length before in
     let after = (g.D.Disk.state c.put_below.new.disk).now.contents in
     let down = path_from c.args.root.level c.put_below.new.path in
-    let path = path_under c.args.root c.put_below.new.path in
     let there = path_there c.args.root c.put_below.new.path c.if-root-eq0.false in
     let got = c.in_ok-copied.ensures.put g.row.LEVELS honest m bs top.subtree top.lowest top.rising in
     let within = c.in_ok-copied.ensures.path_in g.row.LEVELS honest m bs top.subtree top.lowest top.rising in
     let P = IsRenewed before held (lacks down) in
-    let done = root_one sizes _ limit c.args.root m bs c.args.key c.put_below.ensures.fits top P after c.args.value.now c.in_ok-copied.copied c.in-One.top (AllByRecursion (IsHeld before) bs)
+    let done = root_one sizes _ limit c.args.root m bs c.args.key c.args.value.now c.put_below.ensures.fits top P after c.in_ok-copied.copied 0 c.in-One.top (AllByRecursion (IsHeld before) bs)
     c.in-One.is (λ all. replaces_whole before held down bs (λ Q. Made Q sizes after limit c.args.root.level (children_of c.in_ok-copied.copied) (with_record (c.args.key, c.args.value.now) m)) got.0 all, got.1) in (
       λ all.
           let now = rooted_so P (IsHeldBeside held down) sizes after limit _ (with_value m c.args.key c.args.value.now) (renewed_beside before held down bs within all) (done.0 all) in
@@ -69,7 +69,7 @@ returns-in-One-clause-put g c honest m bs (inr top) =
 pub returns-in_ok-top-in-Two-clause-put : goal.returns-in_ok-top-in-Two-clause-put
 returns-in_ok-top-in-Two-clause-put g c honest m bs (inl bare) = absurd (c.if-root-eq0.false bare.none)
 returns-in_ok-top-in-Two-clause-put g c honest m bs (inr top) =
-    let sizes = sizes_of g.row.LEAF g.row.FAN g.row.LEVELS in
+    let sizes = sizes_of g.row.FAN g.row.LEVELS in
     let before = c.args.held.now in
     let between = c.put_below.new.held in
     let held = c.write_node_block.new.held in
@@ -82,16 +82,17 @@ returns-in_ok-top-in-Two-clause-put g c honest m bs (inr top) =
     let earlier = c.in_ok-top-in-Two.ensures.writes.goes.earlier honest in
     let got = c.in_ok-copied.ensures.put g.row.LEVELS earlier m bs top.subtree top.lowest top.rising in
     let within = c.in_ok-copied.ensures.path_in g.row.LEVELS earlier m bs top.subtree top.lowest top.rising in
-    let room = λ (is : is_split c.in_ok-copied.copied ≡ true). let less = ltb-true (c.from-2.result + 1) g.row.LEVELS (c.in_ok-copied.ensures.split is) in
-    let low : level + 1 < g.row.LEVELS = omega (arith, less, c.from-2.ensures) in low in
-    let few : level + 1 ≤ 7 = omega (arith, room (ap is_split c.in-Two.is), c.requires.sizes.levels_most) in
+    let more = ap extra c.in-Two.is in
+    let some : 0 < c.if-from-2.room = omega (arith, more, c.in_ok-copied.ensures.room) in
+    let low : level + 1 < g.row.LEVELS = elim c.if-from-2.branch [ then-from-2 w ↦ omega (arith, w.if-from-2.true, c.from-2.ensures) | else-from-2 w ↦ absurd (omega (arith, some, w.room-is)) ] in
+    let few : level + 1 ≤ 7 = omega (arith, low, c.requires.sizes.levels_most) in
     let P = IsRenewed before between (lacks down) in
     let Q = IsRenewed before held (lacks down) in
-    let done = root_two sizes _ limit c.args.root m bs c.args.key c.put_below.ensures.fits top P Q mid after (length between)
-    c.args.value.now c.in_ok-copied.copied c.in-Two.left c.in-Two.right c.in_ok-top-in-Two.top (AllByRecursion (IsHeld before) bs)
-    c.in-Two.is c.in_ok-copied.ensures.writes.still.same_length room
+    let done = root_more sizes _ limit c.args.root m bs c.args.key c.args.value.now c.put_below.ensures.fits top P Q mid after (length between)
+    c.in_ok-copied.copied 0 (c.in-Two.left ∷ c.in-Two.right ∷ []) c.in_ok-top-in-Two.top (AllByRecursion (IsHeld before) bs)
+    (ap children_of c.in-Two.is) c.in_ok-copied.ensures.writes.still.same_length low
     (λ all. replaces_whole before between down bs (λ R. Made R sizes mid limit level (children_of c.in_ok-copied.copied) (with_record (c.args.key, c.args.value.now) m)) got.0 all, got.1)
-    (λ rs rising made. c.in_ok-top-in-Two.ensures.made honest before (lacks down) c.in_ok-copied.ensures.writes.still sizes rs (omega arith) few c.requires.sizes.fan_least rising made) in (
+    (λ rs rising made. c.in_ok-top-in-Two.ensures.made honest before (lacks down) c.in_ok-copied.ensures.writes.still sizes rs (omega arith) few (omega (arith, c.requires.sizes.fan_least)) rising made) in (
       λ all.
           let now = rooted_so Q (IsHeldBeside held down) sizes after limit _ (with_value m c.args.key c.args.value.now) (renewed_beside before held down bs within all) (done.0 all) in
           subst (λ (bs : List ℕ). IsRootedIn sizes (IsHeldBeside held bs) after limit c.root_at-in-Two.result (with_value m c.args.key c.args.value.now)) (sym there)
@@ -99,16 +100,52 @@ returns-in_ok-top-in-Two-clause-put g c honest m bs (inr top) =
       done.1,
     )
 
+pub returns-in_ok-top-in-Three-clause-put : goal.returns-in_ok-top-in-Three-clause-put
+returns-in_ok-top-in-Three-clause-put g c honest m bs (inl bare) = absurd (c.if-root-eq0.false bare.none)
+returns-in_ok-top-in-Three-clause-put g c honest m bs (inr top) =
+    let sizes = sizes_of g.row.FAN g.row.LEVELS in
+    let before = c.args.held.now in
+    let between = c.put_below.new.held in
+    let held = c.write_node_block-in-Three.new.held in
+    let limit = length before in
+    let mid = (g.D.Disk.state c.put_below.new.disk).now.contents in
+    let after = (g.D.Disk.state c.write_node_block-in-Three.new.disk).now.contents in
+    let level = c.args.root.level in
+    let down = path_from level c.put_below.new.path in
+    let there = path_there c.args.root c.put_below.new.path c.if-root-eq0.false in
+    let earlier = c.in_ok-top-in-Three.ensures.writes.goes.earlier honest in
+    let got = c.in_ok-copied.ensures.put g.row.LEVELS earlier m bs top.subtree top.lowest top.rising in
+    let within = c.in_ok-copied.ensures.path_in g.row.LEVELS earlier m bs top.subtree top.lowest top.rising in
+    let more = ap extra c.in-Three.is in
+    let some : 0 < c.if-from-2.room = omega (arith, more, c.in_ok-copied.ensures.room) in
+    let low : level + 1 < g.row.LEVELS = elim c.if-from-2.branch [ then-from-2 w ↦ omega (arith, w.if-from-2.true, c.from-2.ensures) | else-from-2 w ↦ absurd (omega (arith, some, w.room-is)) ] in
+    let few : level + 1 ≤ 7 = omega (arith, low, c.requires.sizes.levels_most) in
+    let P = IsRenewed before between (lacks down) in
+    let Q = IsRenewed before held (lacks down) in
+    let done = root_more sizes _ limit c.args.root m bs c.args.key c.args.value.now c.put_below.ensures.fits top P Q mid after (length between)
+    c.in_ok-copied.copied 0 (c.in-Three.left ∷ c.in-Three.middle ∷ c.in-Three.right ∷ []) c.in_ok-top-in-Three.top (AllByRecursion (IsHeld before) bs)
+    (ap children_of c.in-Three.is) c.in_ok-copied.ensures.writes.still.same_length low
+    (λ all. replaces_whole before between down bs (λ R. Made R sizes mid limit level (children_of c.in_ok-copied.copied) (with_record (c.args.key, c.args.value.now) m)) got.0 all, got.1)
+    (λ rs rising made. c.in_ok-top-in-Three.ensures.made honest before (lacks down) c.in_ok-copied.ensures.writes.still sizes rs (omega arith) few (omega (arith, c.requires.sizes.fan_least)) rising made) in (
+      λ all.
+          let now = rooted_so Q (IsHeldBeside held down) sizes after limit _ (with_value m c.args.key c.args.value.now) (renewed_beside before held down bs within all) (done.0 all) in
+          subst (λ (bs : List ℕ). IsRootedIn sizes (IsHeldBeside held bs) after limit c.root_at-in-Three.result (with_value m c.args.key c.args.value.now)) (sym there)
+          (subst (λ (r : Root). IsRootedIn sizes (IsHeldBeside held down) after limit r (with_value m c.args.key c.args.value.now)) (sym c.root_at-in-Three.ensures) now),
+      done.1,
+    )
+
 pub returns-in_err-copied-clause-put : goal.returns-in_err-copied-clause-put
 returns-in_err-copied-clause-put g c honest m bs (inl bare) = absurd (c.if-root-eq0.false bare.none)
 returns-in_err-copied-clause-put g c honest m bs (inr top) =
-    let sizes = sizes_of g.row.LEAF g.row.FAN g.row.LEVELS in
+    let sizes = sizes_of g.row.FAN g.row.LEVELS in
+    let r : Record = (c.args.key, c.args.value.now) in
     let x = (g.D.Disk.state c.args.disk.now).now.contents in
-    rw (passed_on _ c.from_residual-in_err-copied.ensures.1) (fault_puts _ (Splits sizes x (place c.args.key) c.args.root.level c.args.root.block m) (LacksRoom sizes x c.args.root m c.args.key) _ _
+    rw (passed_on _ c.from_residual-in_err-copied.ensures.1) (fault_puts _ c.if-from-2.room (GrowsBy sizes x r c.args.root.level c.args.root.block) (LacksRoom sizes x c.args.root r) _ _
     (c.in_err-copied.ensures.put g.row.LEVELS honest m bs top.subtree top.lowest top.rising)
-    (λ is splits.
-    let none = ltb-false (c.from-2.result + 1) g.row.LEVELS (c.in_err-copied.ensures.full (ap Err is)) in
-    splits_lacks sizes x _ c.args.root m bs c.args.key c.put_below.ensures.fits top (omega (arith, none, c.from-2.ensures, top.level)) splits))
+    (λ is more over grows.
+    let few = grows_few sizes x r c.args.root.level c.args.root.block more grows in
+    let greatest : c.args.root.level + 1 ≡ g.row.LEVELS = elim c.if-from-2.branch [ then-from-2 w ↦ absurd (omega (arith, over, few, w.room-is)) | else-from-2 w ↦ omega (arith, w.if-from-2.false, c.from-2.ensures, top.level) ] in
+    grows_lacks sizes x (length c.args.held.now) c.args.root m bs c.args.key c.args.value.now c.put_below.ensures.fits top greatest more (omega (arith, over)) grows))
 
 pub returns-then-root-eq0-clause-path : goal.returns-then-root-eq0-clause-path
 returns-then-root-eq0-clause-path g c honest = λ some. absurd (omega (arith, some, c.if-root-eq0.true))
@@ -118,19 +155,22 @@ returns-then-root-eq0-clause-replaced g c honest m bs rooted there = omega (arit
 
 pub returns-in-One-clause-replaced : goal.returns-in-One-clause-replaced
 returns-in-One-clause-replaced g c honest m bs (inl bare) there = absurd (c.if-root-eq0.false bare.none)
-returns-in-One-clause-replaced g c honest m bs (inr top) there =
-    let value = value_there _ _ _ c.args.root m bs c.args.key (place c.args.key) refl c.put_below.ensures.fits top in
-    c.in_ok-copied.ensures.replaced g.row.LEVELS honest m bs top.subtree top.lowest top.rising (λ none. there (sym value ∙ none))
+returns-in-One-clause-replaced g c honest m bs (inr top) there = (c.in_ok-copied.ensures.replaced g.row.LEVELS honest m bs top.subtree top.lowest top.rising there).1
 
 pub returns-in_ok-top-in-Two-clause-replaced : goal.returns-in_ok-top-in-Two-clause-replaced
 returns-in_ok-top-in-Two-clause-replaced g c honest m bs (inl bare) there = absurd (c.if-root-eq0.false bare.none)
 returns-in_ok-top-in-Two-clause-replaced g c honest m bs (inr top) there =
-    let value = value_there _ _ _ c.args.root m bs c.args.key (place c.args.key) refl c.put_below.ensures.fits top in
-    let one = not_split c.in_ok-copied.copied _ _ (place c.args.key) c.args.root.level c.args.root.block m (c.in_ok-copied.ensures.put g.row.LEVELS (c.write_node_block.ensures.writes.goes.earlier honest) m bs top.subtree top.lowest top.rising).1.0 (λ none. there (sym value ∙ none)) in
-    absurd (false≢true (sym one ∙ ap is_split c.in-Two.is))
+    let one = (c.in_ok-copied.ensures.replaced g.row.LEVELS (c.in_ok-top-in-Two.ensures.writes.goes.earlier honest) m bs top.subtree top.lowest top.rising there).0 in
+    absurd (omega (arith, one, ap extra c.in-Two.is))
+
+pub returns-in_ok-top-in-Three-clause-replaced : goal.returns-in_ok-top-in-Three-clause-replaced
+returns-in_ok-top-in-Three-clause-replaced g c honest m bs (inl bare) there = absurd (c.if-root-eq0.false bare.none)
+returns-in_ok-top-in-Three-clause-replaced g c honest m bs (inr top) there =
+    let one = (c.in_ok-copied.ensures.replaced g.row.LEVELS (c.in_ok-top-in-Three.ensures.writes.goes.earlier honest) m bs top.subtree top.lowest top.rising there).0 in
+    absurd (omega (arith, one, ap extra c.in-Three.is))
 
 pub returns-then-root-eq0-clause-path_in : goal.returns-then-root-eq0-clause-path_in
-returns-then-root-eq0-clause-path_in g c honest m bs rooted = path_none c.args.root c.args.path.now bs c.told-path c.if-root-eq0.true
+returns-then-root-eq0-clause-path_in g c honest m bs rooted = path_none c.args.root c.args.path.now bs c.if-root-eq0.true
 
 pub returns-in-One-clause-path_in : goal.returns-in-One-clause-path_in
 returns-in-One-clause-path_in g c honest m bs rooted =
@@ -148,6 +188,27 @@ returns-in_ok-top-in-Two-clause-writes g c = writes_on c.in_ok-copied.ensures.wr
 pub returns-in_err-top-in-Two-clause-writes : goal.returns-in_err-top-in-Two-clause-writes
 returns-in_err-top-in-Two-clause-writes g c = writes_on c.in_ok-copied.ensures.writes c.in_err-top-in-Two.ensures.writes (search rules)
 
+pub returns-in_ok-top-in-Two-clause-wide : goal.returns-in_ok-top-in-Two-clause-wide
+unfolding node_bytes node_head
+returns-in_ok-top-in-Two-clause-wide g c higher honest up k cs node =
+    two_children {l = c.args.root.level + 1} {n = 2} (ap (take 16) (c.in_ok-top-in-Two.ensures.written honest)) (omega (arith, c.if-from.false, c.from.ensures, c.requires.sizes.levels_most)) (omega arith) (omega arith) (rw c.root_at-in-Two.ensures at node)
+
+pub returns-in_ok-top-in-Three-clause-path_in : goal.returns-in_ok-top-in-Three-clause-path_in
+returns-in_ok-top-in-Three-clause-path_in g c honest m bs rooted =
+    let top = rooted_top _ _ _ c.args.root m bs rooted c.if-root-eq0.false in
+    path_some c.args.root c.put_below.new.path bs c.if-root-eq0.false (c.in_ok-copied.ensures.path_in g.row.LEVELS (c.in_ok-top-in-Three.ensures.writes.goes.earlier honest) m bs top.subtree top.lowest top.rising)
+
+pub returns-in_ok-top-in-Three-clause-writes : goal.returns-in_ok-top-in-Three-clause-writes
+returns-in_ok-top-in-Three-clause-writes g c = writes_on c.in_ok-copied.ensures.writes c.in_ok-top-in-Three.ensures.writes (λ is. cc)
+
+pub returns-in_err-top-in-Three-clause-writes : goal.returns-in_err-top-in-Three-clause-writes
+returns-in_err-top-in-Three-clause-writes g c = writes_on c.in_ok-copied.ensures.writes c.in_err-top-in-Three.ensures.writes (search rules)
+
+pub returns-in_ok-top-in-Three-clause-wide : goal.returns-in_ok-top-in-Three-clause-wide
+unfolding node_bytes node_head
+returns-in_ok-top-in-Three-clause-wide g c higher honest up k cs node =
+    two_children {l = c.args.root.level + 1} {n = 3} (ap (take 16) (c.in_ok-top-in-Three.ensures.written honest)) (omega (arith, c.if-from.false, c.from.ensures, c.requires.sizes.levels_most)) (omega arith) (omega arith) (rw c.root_at-in-Three.ensures at node)
+
 pub returns-in_err-copied-clause-deep : goal.returns-in_err-copied-clause-deep
 returns-in_err-copied-clause-deep g c = looks_as c.in_err-copied.ensures.deep (search rules)
 
@@ -159,8 +220,3 @@ put_first-requires-clause-short g c = omega (arith, c.requires.short)
 
 pub put_below-requires-clause-short : goal.put_below-requires-clause-short
 put_below-requires-clause-short g c = omega (arith, c.requires.short)
-
-pub returns-in_ok-top-in-Two-clause-wide : goal.returns-in_ok-top-in-Two-clause-wide
-unfolding node_bytes node_head
-returns-in_ok-top-in-Two-clause-wide g c higher honest up k cs node =
-    two_children {l = c.args.root.level + 1} {n = 2} (ap (take 16) (c.in_ok-top-in-Two.ensures.written honest)) (omega (arith, c.if-from.false, c.from.ensures, c.requires.sizes.levels_most)) (omega arith) (omega arith) (rw c.root_at-in-Two.ensures at node)

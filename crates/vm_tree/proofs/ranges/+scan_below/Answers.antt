@@ -1,8 +1,7 @@
-use Rattle.std.proofs.Common.{◌≡◌, ◌∙◌, ◌++◌, ◌-◌, ◌<◌, ℕ, suc, List, Err, length, refl, sym, ap, subst, arith, rules}
+use Rattle.std.proofs.Common.{◌≡◌, ◌∙◌, ◌-◌, suc, length, refl, sym, ap, subst, arith, rules}
 use Rattle.vm_disk.specs.Disk.{Contents, Medium, block}
 use Rattle.vm_disk.proofs.MomentLemmas.{same_medium}
 use Rattle.vm_block.specs.Node.{IsNode}
-use Rattle.vm_block.specs.declared.node.Child.{Child}
 use Rattle.vm_tree.specs.Given.{AddsUnder}
 use Rattle.vm_tree.specs.Spent.{ReadsUnder}
 use Rattle.vm_tree.specs.Windows.{GivesNone, MayGive}

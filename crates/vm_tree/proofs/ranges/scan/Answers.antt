@@ -1,5 +1,4 @@
-use Rattle.std.proofs.Common.{◌≡◌, ◌∙◌, ℕ, ◌≤◌, ◌+◌, true, Bool, List, [], ◌∷◌, length, refl, arith}
-use Rattle.vm_types.specs.Map.{Map}
+use Rattle.std.proofs.Common.{◌∙◌, ℕ, true, Bool, List, [], ◌∷◌, refl, arith}
 use Rattle.vm_block.specs.Leaf.{Record}
 use Rattle.vm_tree.specs.Spent.{AllPass}
 use Rattle.vm_tree.proofs.OverLemmas.{tree_few}

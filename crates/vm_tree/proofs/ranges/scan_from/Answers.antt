@@ -1,7 +1,6 @@
-use Rattle.std.proofs.Common.{◌≡◌, ◌∙◌, ℕ, ◌-◌, ◌≤◌, List, take, ap, sym, subst, arith}
-use Rattle.vm_types.specs.Map.{Map}
+use Rattle.std.proofs.Common.{◌∙◌, sym, subst, arith}
 use Rattle.vm_types.specs.Parts.{from}
-use Rattle.vm_types.specs.Places.{FitKeys, place}
+use Rattle.vm_types.specs.Places.{place}
 use Rattle.vm_tree.specs.Over.{stands_at}
 use Rattle.vm_tree.specs.Spent.{AllPass}
 use Rattle.vm_tree.proofs.PartReads.{few_aside, lists_map, rooted_fits}

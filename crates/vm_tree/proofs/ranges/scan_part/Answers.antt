@@ -1,4 +1,4 @@
-use Rattle.std.proofs.Common.{◌≡◌, ℕ, ◌≤◌, arith}
+use Rattle.std.proofs.Common.{arith}
 use Rattle.vm_types.specs.Places.{place}
 use Rattle.vm_tree.specs.Over.{is_between}
 use Rattle.vm_tree.proofs.PartReads.{few_aside}

@@ -1,4 +1,4 @@
-use Rattle.std.proofs.Common.{◌∙◌, ◌≡◌, ◌++◌, ◌<◌, ◌≤◌, false, List, inl, inr, refl, sym, ap, subst, arith, length}
+use Rattle.std.proofs.Common.{◌∙◌, ◌≡◌, ◌++◌, false, inl, inr, refl, sym, ap, subst, arith, length}
 use Rattle.vm_types.specs.Map.{Map}
 use Rattle.vm_tree.specs.Spent.{AllPass}
 use Rattle.vm_tree.specs.Windows.{given_of, is_full}

@@ -25,7 +25,7 @@ use Rattle.vm_tree.proofs.HandLemmas.{hand_node}
 use Rattle.vm_tree.proofs.Beside.{keeps_above, node_path, path_alone, path_grown, path_leaf}
 use Rattle.vm_tree.proofs.Looking.{looks_free, looks_if, looks_if_on, looks_never, looks_write, passed_on, writes_on}
 use Rattle.vm_tree.proofs.Descent.{node_read}
-use Rattle.vm_tree.proofs.Leading.{leads_on, if_ok_is, if_ok_so}
+use Rattle.vm_tree.proofs.Leading.{leads_on, if_ok_is}
 use Rattle.vm_tree.proofs.OneLeft.{one_child_on}
 use Rattle.vm_tree.proofs.PutLemmas.{only_one, replaced_length}
 use Rattle.vm_tree.proofs.RemoveLemmas.{rests_removes, none_there, fault_there, node_rest, two_children, only_there, others_left}
@@ -36,7 +36,7 @@ use Rattle.vm_tree.proofs.removal.+remove_below.Goals.{then-is_root, else-is_roo
 
 pub returns-then-level-eq0-clause-remove : goal.returns-then-level-eq0-clause-remove
 returns-then-level-eq0-clause-remove g t c levels honest rs bs tree begins rises =
-    let sizes = sizes_of g.row.LEAF g.row.FAN levels in
+    let sizes = sizes_of g.row.FAN levels in
     let p = place c.args.key in
     let limit = length c.args.held.now in
     let b = c.args.top.block in
@@ -45,11 +45,11 @@ returns-then-level-eq0-clause-remove g t c levels honest rs bs tree begins rises
     let later = c.remove_from_leaf.new.held in
     let y = (g.D.Disk.state c.remove_from_leaf.new.disk).now.contents in
     let Leaves : List ℕ → Type 0 = λ ns. RemovesBelow c.remove_from_leaf.result p rs (λ root. Replaces c.args.held.now later ns bs (λ P. Made P sizes y limit root.level (child_of root ∷ []) (without_place p rs))) in
-    subst Leaves (sym (path_alone c.args.path.now c.args.level c.from.result b c.remove_from_leaf.new.long c.told-path none c.from.ensures)) (c.remove_from_leaf.ensures.remove g.row.FAN levels honest rs bs there begins rises)
+    subst Leaves (sym (path_alone c.args.path.now c.args.level c.from.result b c.told-path none c.from.ensures)) (c.remove_from_leaf.ensures.remove sizes honest rs bs there begins rises)
 
 pub returns-then-alone-clause-remove : goal.returns-then-alone-clause-remove
 returns-then-alone-clause-remove g t c levels honest rs bs tree begins rises =
-    let sizes = sizes_of g.row.LEAF g.row.FAN levels in
+    let sizes = sizes_of g.row.FAN levels in
     let old = (g.D.Disk.state c.args.disk.now).now in
     let p = place c.args.key in
     let limit = length c.args.held.now in
@@ -78,7 +78,7 @@ returns-then-alone-clause-remove g t c levels honest rs bs tree begins rises =
 
 pub returns-in-Same-clause-remove : goal.returns-in-Same-clause-remove
 returns-in-Same-clause-remove g t c levels honest rs bs tree begins rises =
-    let sizes = sizes_of g.row.LEAF g.row.FAN levels in
+    let sizes = sizes_of g.row.FAN levels in
     let old = (g.D.Disk.state c.args.disk.now).now in
     let p = place c.args.key in
     let limit = length c.args.held.now in
@@ -102,7 +102,7 @@ returns-in-Same-clause-remove g t c levels honest rs bs tree begins rises =
 
 pub returns-in-Some-clause-remove : goal.returns-in-Some-clause-remove
 returns-in-Some-clause-remove g t c levels honest rs bs tree begins rises =
-    let sizes = sizes_of g.row.LEAF g.row.FAN levels in
+    let sizes = sizes_of g.row.FAN levels in
     let old = (g.D.Disk.state c.args.disk.now).now in
     let p = place c.args.key in
     let limit = length c.args.held.now in
@@ -139,11 +139,11 @@ returns-in-Some-clause-remove g t c levels honest rs bs tree begins rises =
     (λ root. (first : List Bool) (keep : ℕ → Bool) → HoldsMore first between → AllByRecursion (IsRenewed first between keep) o.kept → M (length between) root (IsRenewed first later keep))
     (λ root. Replaces before later path bs (M limit root))
     (λ root made keep all keeps. subst (λ n. M n root (IsRenewed before later keep)) (ap length kept) (made before keep more (each_so (IsRenewed before before keep) (IsRenewed before between keep) (renewed_more before before between keep more) o.kept (o.renewed keep all keeps)))) o.there
-    (c.write_rest.ensures.rest honest g.row.LEAF levels (without_place p rs) o.kept o.rising o.fit there)
+    (c.write_rest.ensures.rest honest levels (without_place p rs) o.kept o.rising o.fit there)
 
 pub returns-in-None-clause-remove : goal.returns-in-None-clause-remove
 returns-in-None-clause-remove g t c levels honest rs bs tree begins rises =
-    let sizes = sizes_of g.row.LEAF g.row.FAN levels in
+    let sizes = sizes_of g.row.FAN levels in
     let old = (g.D.Disk.state c.args.disk.now).now in
     let limit = length c.args.held.now in
     let l = c.args.level in
@@ -156,7 +156,7 @@ returns-in-None-clause-remove g t c levels honest rs bs tree begins rises =
 
 pub returns-in_ok-node-in-Rest-clause-remove : goal.returns-in_ok-node-in-Rest-clause-remove
 returns-in_ok-node-in-Rest-clause-remove g t c levels honest rs bs tree begins rises =
-    let sizes = sizes_of g.row.LEAF g.row.FAN levels in
+    let sizes = sizes_of g.row.FAN levels in
     let old = (g.D.Disk.state c.args.disk.now).now in
     let p = place c.args.key in
     let limit = length c.args.held.now in
@@ -204,7 +204,7 @@ returns-in_ok-node-in-Rest-clause-remove g t c levels honest rs bs tree begins r
 
 pub returns-in_err-left-clause-remove : goal.returns-in_err-left-clause-remove
 returns-in_err-left-clause-remove g t c levels honest rs bs tree begins rises =
-    let sizes = sizes_of g.row.LEAF g.row.FAN levels in
+    let sizes = sizes_of g.row.FAN levels in
     let old = (g.D.Disk.state c.args.disk.now).now in
     let p = place c.args.key in
     let limit = length c.args.held.now in
@@ -224,24 +224,21 @@ returns-in_err-left-clause-remove g t c levels honest rs bs tree begins rises =
 
 pub returns-in_err-way-clause-remove : goal.returns-in_err-way-clause-remove
 returns-in_err-way-clause-remove g t c levels honest rs bs tree begins rises =
-    let sizes = sizes_of g.row.LEAF g.row.FAN levels in
+    let sizes = sizes_of g.row.FAN levels in
     let there = subst (λ n. Subtree sizes (g.D.Disk.state c.args.disk.now).now.contents n c.args.level c.args.top.block rs bs) (sym c.blocks-2.ensures.count) tree in
     let at = node_read sizes _ _ _ _ rs bs (omega (arith, c.if-level-eq0.false)) there in
     rw (passed_on _ c.from_residual.ensures.1) (c.in_err-way.ensures.only honest at.0 at.1 (at.3 c.args.top.low begins) at.2)
 
 pub returns-then-level-eq0-clause-path_in : goal.returns-then-level-eq0-clause-path_in
 returns-then-level-eq0-clause-path_in g t c levels honest rs bs tree begins rises =
-    let sizes = sizes_of g.row.LEAF g.row.FAN levels in
+    let sizes = sizes_of g.row.FAN levels in
     let x = (g.D.Disk.state c.args.disk.now).now.contents in
-    let limit = length c.args.held.now in
-    let b = c.args.top.block in
-    let there = subst (λ l. Subtree sizes x limit l b rs bs) c.if-level-eq0.true tree in
-    if_ok_so c.remove_from_leaf.result _ _ (c.remove_from_leaf.ensures.path_in g.row.FAN levels honest rs bs there begins rises)
-    (path_leaf sizes x limit c.args.level c.from.result b c.remove_from_leaf.new.long rs bs c.args.path.now c.told-path c.if-level-eq0.true c.from.ensures tree)
+    if_ok_is c.remove_from_leaf.result _
+    (path_leaf sizes x (length c.args.held.now) c.args.level c.from.result c.args.top.block rs bs c.args.path.now c.told-path c.if-level-eq0.true c.from.ensures tree)
 
 pub returns-then-alone-clause-path_in : goal.returns-then-alone-clause-path_in
 returns-then-alone-clause-path_in g t c levels honest rs bs tree begins rises =
-    let sizes = sizes_of g.row.LEAF g.row.FAN levels in
+    let sizes = sizes_of g.row.FAN levels in
     let old = (g.D.Disk.state c.args.disk.now).now in
     let limit = length c.args.held.now in
     let l = c.args.level in
@@ -258,7 +255,7 @@ returns-then-alone-clause-path_in g t c levels honest rs bs tree begins rises =
 
 pub returns-in-Same-clause-path_in : goal.returns-in-Same-clause-path_in
 returns-in-Same-clause-path_in g t c levels honest rs bs tree begins rises =
-    let sizes = sizes_of g.row.LEAF g.row.FAN levels in
+    let sizes = sizes_of g.row.FAN levels in
     let old = (g.D.Disk.state c.args.disk.now).now in
     let limit = length c.args.held.now in
     let l = c.args.level in
@@ -275,7 +272,7 @@ returns-in-Same-clause-path_in g t c levels honest rs bs tree begins rises =
 
 pub returns-in-Some-clause-path_in : goal.returns-in-Some-clause-path_in
 returns-in-Some-clause-path_in g t c levels honest rs bs tree begins rises =
-    let sizes = sizes_of g.row.LEAF g.row.FAN levels in
+    let sizes = sizes_of g.row.FAN levels in
     let old = (g.D.Disk.state c.args.disk.now).now in
     let limit = length c.args.held.now in
     let l = c.args.level in
@@ -292,7 +289,7 @@ returns-in-Some-clause-path_in g t c levels honest rs bs tree begins rises =
 
 pub returns-in_ok-node-in-Rest-clause-path_in : goal.returns-in_ok-node-in-Rest-clause-path_in
 returns-in_ok-node-in-Rest-clause-path_in g t c levels honest rs bs tree begins rises =
-    let sizes = sizes_of g.row.LEAF g.row.FAN levels in
+    let sizes = sizes_of g.row.FAN levels in
     let old = (g.D.Disk.state c.args.disk.now).now in
     let limit = length c.args.held.now in
     let l = c.args.level in

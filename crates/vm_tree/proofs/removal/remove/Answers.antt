@@ -20,7 +20,7 @@ returns-then-root-eq0-clause-remove g c honest m bs rooted =
 
 pub returns-in-Same-clause-remove : goal.returns-in-Same-clause-remove
 returns-in-Same-clause-remove g c honest m bs rooted =
-    let sizes = sizes_of g.row.LEAF g.row.FAN g.row.LEVELS in
+    let sizes = sizes_of g.row.FAN g.row.LEVELS in
     let x = (g.D.Disk.state c.args.disk.now).now.contents in
     let limit = length c.args.held.now in
     let top = rooted_top sizes x limit c.args.root m bs rooted c.if-root-eq0.false in
@@ -37,7 +37,7 @@ returns-in-Same-clause-remove g c honest m bs rooted =
 
 pub returns-in-Nothing-clause-remove : goal.returns-in-Nothing-clause-remove
 returns-in-Nothing-clause-remove g c honest m bs rooted =
-    let sizes = sizes_of g.row.LEAF g.row.FAN g.row.LEVELS in
+    let sizes = sizes_of g.row.FAN g.row.LEVELS in
     let x = (g.D.Disk.state c.args.disk.now).now.contents in
     let limit = length c.args.held.now in
     let top = rooted_top sizes x limit c.args.root m bs rooted c.if-root-eq0.false in
@@ -54,7 +54,7 @@ returns-in-Nothing-clause-remove g c honest m bs rooted =
 
 pub returns-in-Rest-clause-remove : goal.returns-in-Rest-clause-remove
 returns-in-Rest-clause-remove g c honest m bs rooted =
-    let sizes = sizes_of g.row.LEAF g.row.FAN g.row.LEVELS in
+    let sizes = sizes_of g.row.FAN g.row.LEVELS in
     let x = (g.D.Disk.state c.args.disk.now).now.contents in
     let limit = length c.args.held.now in
     let top = rooted_top sizes x limit c.args.root m bs rooted c.if-root-eq0.false in
@@ -79,7 +79,7 @@ returns-in-Rest-clause-remove g c honest m bs rooted =
 
 pub returns-in_err-left-clause-remove : goal.returns-in_err-left-clause-remove
 returns-in_err-left-clause-remove g c honest m bs rooted =
-    let sizes = sizes_of g.row.LEAF g.row.FAN g.row.LEVELS in
+    let sizes = sizes_of g.row.FAN g.row.LEVELS in
     let x = (g.D.Disk.state c.args.disk.now).now.contents in
     let limit = length c.args.held.now in
     let top = rooted_top sizes x limit c.args.root m bs rooted c.if-root-eq0.false in
@@ -89,7 +89,7 @@ returns-in_err-left-clause-remove g c honest m bs rooted =
     rw (passed_on _ c.from_residual.ensures.1) (c.in_err-left.ensures.remove g.row.LEVELS honest m bs top.subtree top.lowest top.rising)
 
 pub returns-then-root-eq0-clause-path_in : goal.returns-then-root-eq0-clause-path_in
-returns-then-root-eq0-clause-path_in g c honest m bs rooted = path_none c.args.root c.args.path.now bs c.told-path c.if-root-eq0.true
+returns-then-root-eq0-clause-path_in g c honest m bs rooted = path_none c.args.root c.args.path.now bs c.if-root-eq0.true
 
 pub returns-in-Same-clause-path_in : goal.returns-in-Same-clause-path_in
 returns-in-Same-clause-path_in g c honest m bs rooted =

@@ -18,15 +18,15 @@ use Rattle.vm_tree.proofs.removal.write_rest.Goals as goal
 use Rattle.vm_tree.proofs.removal.write_rest.Goals.{then-not-is_root-via-then-not-is_root, then-not-is_root-via-else-not-is_root+then-children-gt1}
 
 pub returns-then-not-is_root-clause-rest : goal.returns-then-not-is_root-clause-rest
-returns-then-not-is_root-clause-rest g c honest leaf levels rs bs rises fits under before keep more all =
-    let sizes = sizes_of leaf g.row.FAN levels in
+returns-then-not-is_root-clause-rest g c honest levels rs bs rises fits under before keep more all =
+    let sizes = sizes_of g.row.FAN levels in
     let y = (g.D.Disk.state c.write_node_block.new.disk).now.contents in
     let made = c.in_ok-node.ensures.made honest before keep more sizes rs (omega (arith, c.requires.above)) (omega (arith, c.requires.low)) (omega (arith, c.requires.few)) rises (record { blocks = bs; under = under; each = all; fit = fits }) in
     subst (λ (root : Root). Made (IsRenewed before c.write_node_block.new.held keep) sizes y (length c.args.held.now) root.level (child_of root ∷ []) rs) (sym c.root_at.ensures) made
 
 pub returns-clause-rest : goal.returns-clause-rest
-returns-clause-rest g c honest leaf levels rs bs rises fits under before keep more all =
-    let sizes = sizes_of leaf g.row.FAN levels in
+returns-clause-rest g c honest levels rs bs rises fits under before keep more all =
+    let sizes = sizes_of g.row.FAN levels in
     let x = (g.D.Disk.state c.args.disk.now).now.contents in
     let cs = c.args.children.now in
     let d : Child = record { low = record { table = 0; number = 0 }; block = 0 } in
@@ -35,14 +35,14 @@ returns-clause-rest g c honest leaf levels rs bs rises fits under before keep mo
     let one : length cs ≡ 1 = omega (arith, c.if-children-gt1.false, some) in
     let is = one_child cs d one in
     let alone = subst (λ n. Children (Subtree sizes x n (c.args.level - 1)) (top ∷ []) rs bs) (sym c.blocks-2.ensures.count) (subst (λ (ds : List Child). Children (Subtree sizes x (length c.args.held.now) (c.args.level - 1)) ds rs bs) is under) in
-    let n = c.in_ok-root.ensures.narrow honest leaf levels rs bs alone in
+    let n = c.in_ok-root.ensures.narrow honest levels rs bs alone in
     let still = ap (λ (m : Medium). m.contents) (same_medium _ _ (c.in_ok-root.ensures.looks.reads honest)) in
     narrowed_made (IsRenewed before c.args.held.now keep) (IsRenewed before c.args.held.now keep) sizes x _ (length c.args.held.now) (c.args.level - 1) top c.in_ok-root.root rs bs still (λ n has. has) (subst (AllByRecursion ChildFits) is fits).0 all
     (subst (λ k. Narrows sizes x k top c.in_ok-root.root rs bs) c.blocks-2.ensures.count n)
 
 pub returns-in_err-root-clause-rest : goal.returns-in_err-root-clause-rest
-returns-in_err-root-clause-rest g c honest leaf levels rs bs rises fits under =
-    let sizes = sizes_of leaf g.row.FAN levels in
+returns-in_err-root-clause-rest g c honest levels rs bs rises fits under =
+    let sizes = sizes_of g.row.FAN levels in
     let x = (g.D.Disk.state c.args.disk.now).now.contents in
     let cs = c.args.children.now in
     let d : Child = record { low = record { table = 0; number = 0 }; block = 0 } in
@@ -50,7 +50,7 @@ returns-in_err-root-clause-rest g c honest leaf levels rs bs rises fits under =
     let some : 0 < length cs = search rules in
     let one : length cs ≡ 1 = omega (arith, c.if-children-gt1.false, some) in
     let alone = subst (λ n. Children (Subtree sizes x n (c.args.level - 1)) (top ∷ []) rs bs) (sym c.blocks-2.ensures.count) (subst (λ (ds : List Child). Children (Subtree sizes x (length c.args.held.now) (c.args.level - 1)) ds rs bs) (one_child cs d one) under) in
-    rw (passed_on _ c.from_residual-in_err-root.ensures.1) (c.in_err-root.ensures.narrow honest leaf levels rs bs alone)
+    rw (passed_on _ c.from_residual-in_err-root.ensures.1) (c.in_err-root.ensures.narrow honest levels rs bs alone)
 
 pub returns-clause-writes : goal.returns-clause-writes
 returns-clause-writes g c = looks_free c.in_ok-root.ensures.looks (λ is. cc)

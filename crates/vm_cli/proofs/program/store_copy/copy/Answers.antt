@@ -31,7 +31,7 @@ returns-clause-files g c honest =
                 (λ n denied. c.give_back.ensures.denied ∙ denied ∙ ap (λ ns. n ∷ ns) c.in-Some.ensures.some)
                 found.same back held.0 same makes;
           })
-      | inr (refusal, refused, left, told) ↦
+      | inr (why, refused, left, told) ↦
           let held = found.held (refused.goes.earlier back.honest) in
           let same = back.holds ∙ ap Some (synced_alone _ _ (refused.moments back.honest)) ∙ sym held.0 in
           inr (
@@ -43,7 +43,7 @@ returns-clause-files g c honest =
                 back = c.copy_disk-exit.result.1;
                 held = held.0;
                 lent = lent;
-                refusal = refusal;
+                why = why;
                 refused = refused;
                 told = told;
               });

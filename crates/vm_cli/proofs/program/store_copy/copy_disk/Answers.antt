@@ -5,7 +5,7 @@ use Rattle.vm_disk.specs.Moments.{Throughout}
 use Rattle.vm_disk.proofs.MomentLemmas.{then_reads}
 use Rattle.vm_store.specs.Refused.{IsAtMostSynced}
 use Rattle.vm_cli.proofs.CopyingLemmas.{copied_from, in_use_shown}
-use Rattle.vm_cli.proofs.PassLemmas.{goes_any, goes_both}
+use Rattle.vm_cli.proofs.PassLemmas.{goes_both}
 use Rattle.vm_cli.proofs.program.store_copy.copy_disk.Goals as goal
 
 pub returns-in-Ok-clause-copied : goal.returns-in-Ok-clause-copied
@@ -15,17 +15,17 @@ returns-in-Ok-clause-copied g c place honest =
     let there = subst (λ d. (g.P.D.Disk.state d).honest ≡ true) c.close.ensures.disk honest in
     let goes = c.copy_store-exit.ensures.any in
     let earlier = goes.earlier there in
-    let opens = c.in-Ok.ensures.opened earlier in
-    let synced = c.in-Ok.ensures.synced earlier (λ e. e) in
-    let first = goes_any _ _ _ c.in-Ok.ensures.any in
-    let makes = c.copy_store-exit.ensures.files place there c.in-Ok.ensures.well (opened opens.seen) opens.holds in
+    let opens = c.in-Ok.ensures.opened.opens earlier in
+    let synced = c.in-Ok.ensures.opened.synced earlier in
+    let first = c.in-Ok.ensures.opened.goes in
+    let makes = c.copy_store-exit.ensures.files place there c.in-Ok.ensures.opened.well (opened opens.seen) opens.holds in
     inl (
       opens.seen,
       _,
       record {
         goes = subst (λ d. Goes ⊥ old (g.P.D.Disk.state d)) (sym c.close.ensures.disk) (goes_both _ _ _ first goes);
         shown = opens.shown;
-        moments = subst (λ d. Throughout old (g.P.D.Disk.state d) (IsAtMostSynced old.now)) (sym c.close.ensures.disk) (then_reads _ _ _ _ (c.in-Ok.ensures.moments earlier) (c.copy_store-exit.ensures.reads there));
+        moments = subst (λ d. Throughout old (g.P.D.Disk.state d) (IsAtMostSynced old.now)) (sym c.close.ensures.disk) (then_reads _ _ _ _ (c.in-Ok.ensures.opened.moments earlier) (c.copy_store-exit.ensures.reads there));
       },
       in_use_shown g.P.D.Disk _ store synced.same opens,
       copied_from _ _ _ _ _ _ _ _ _ _ _ _ _ _ _ _ _ first (ap g.P.D.Disk.state c.close.ensures.disk) makes,

@@ -1,7 +1,8 @@
-use Rattle.std.proofs.Common.{◌≡◌, ◌≢◌, ◌∙◌, ap, inl, inr, arith, length, sym}
+use Rattle.std.proofs.Common.{◌≡◌, ◌≢◌, ◌∙◌, ap, inl, inr, arith, length, refl, sym}
 use Rattle.vm_types.specs.declared.refusal.Refusal.TheVariants.{AlreadyAStore, BadSize, Device}
 use Rattle.vm_cli.proofs.CopyingLemmas.{why_none}
 use Rattle.vm_cli.proofs.FilesLemmas.{enough_blocks}
+use Rattle.vm_cli.specs.declared.program.opening.NoStore.TheVariants.{Refused}
 use Rattle.vm_cli.proofs.program.store_copy.copy_onto.Goals as goal
 
 pub returns-in-Ok-clause-told : goal.returns-in-Ok-clause-told
@@ -53,3 +54,10 @@ returns-in-Err-clause-told g c enough apart place honest well s holds =
         ],
       );
     }
+
+pub returns-in-Err-clause-ends : goal.returns-in-Err-clause-ends
+returns-in-Err-clause-ends g c =
+    elim c.drop_copy.ensures.ends [
+      | inl stopped ↦ inl (stopped.1, inr (stopped.0, refl))
+      | inr told ↦ inr (refl, (_, inr (inr (Refused c.in-Err.refusal, refl)), told))
+    ]

@@ -3,11 +3,15 @@ use Rattle.vm_types.specs.declared.refusal.Refusal.TheVariants.{Memory}
 use Rattle.vm_cli.specs.Copies.{blocks_for}
 use Rattle.vm_cli.specs.Exits.{part_of}
 use Rattle.vm_cli.specs.Places.{Lacks}
+use Rattle.vm_cli.specs.declared.program.opening.NoStore.TheVariants.{Refused}
 use Rattle.vm_cli.proofs.CopyingLemmas.{as_asked, makes_laid, makes_taken, makes_unmade, part_apart}
 use Rattle.vm_cli.proofs.program.store_copy.copy_store.Goals as goal
 
 pub returns-in_default-clause-ends : goal.returns-in_default-clause-ends
-returns-in_default-clause-ends g c = inr (refl, (_, inr (inr (Memory, refl)), search rules))
+returns-in_default-clause-ends g c = inr (refl, (_, inr (inr (Refused Memory, refl)), search rules))
+
+pub returns-in-Err-clause-ends : goal.returns-in-Err-clause-ends
+returns-in-Err-clause-ends g c = inr (refl, (_, inr (inr (Refused c.in-Err.refusal, refl)), c.refused.ensures))
 
 pub returns-then-not-lacks-clause-files : goal.returns-then-not-lacks-clause-files
 returns-then-not-lacks-clause-files g c honest there well s holds =

@@ -8,8 +8,9 @@ use Rattle.vm_disk.proofs.MomentLemmas.{then_reads}
 use Rattle.vm_store.specs.Refused.{IsAtMostSynced, IsRefused}
 use Rattle.vm_cli.specs.Exits.{Tells}
 use Rattle.vm_cli.specs.declared.program.Exit.TheVariants.{Done}
+use Rattle.vm_cli.specs.declared.program.opening.NoStore.TheVariants.{Refused}
 use Rattle.vm_cli.proofs.CountingLemmas.{is_err, is_ok}
-use Rattle.vm_cli.proofs.PassLemmas.{goes_any, goes_both, passes_goes}
+use Rattle.vm_cli.proofs.PassLemmas.{goes_both, passes_goes}
 use Rattle.vm_cli.proofs.program.tree_view.show_disk.Goals as goal
 
 pub returns-in-Ok-drawn-clause-ends : goal.returns-in-Ok-drawn-clause-ends
@@ -27,14 +28,14 @@ returns-in-Ok-drawn-clause-told g c honest =
     let there = subst (λ d. (g.D.Disk.state d).honest ≡ true) c.close-disk.ensures.disk honest in
     let passes = c.draw_store-drawn.ensures.passes in
     let earlier = passes.goes.earlier there in
-    let opens = c.in-Ok.ensures.opened earlier in
-    let text = is_ok _ c.draw_store-drawn.result _ c.in-Ok-drawn.is (c.draw_store-drawn.ensures.drawn there c.in-Ok.ensures.well (opened opens.seen) opens.holds) in
+    let opens = c.in-Ok.ensures.opened.opens earlier in
+    let text = is_ok _ c.draw_store-drawn.result _ c.in-Ok-drawn.is (c.draw_store-drawn.ensures.drawn there c.in-Ok.ensures.opened.well (opened opens.seen) opens.holds) in
     inl (
       opens.seen,
       record {
-        goes = subst (λ d. Goes ⊥ old (g.D.Disk.state d)) (sym c.close-disk.ensures.disk) (goes_both _ _ _ (goes_any _ _ _ c.in-Ok.ensures.any) (passes_goes _ _ passes));
+        goes = subst (λ d. Goes ⊥ old (g.D.Disk.state d)) (sym c.close-disk.ensures.disk) (goes_both _ _ _ c.in-Ok.ensures.opened.goes (passes_goes _ _ passes));
         shown = opens.shown;
-        moments = subst (λ d. Throughout old (g.D.Disk.state d) (IsAtMostSynced old.now)) (sym c.close-disk.ensures.disk) (then_reads _ _ _ _ (c.in-Ok.ensures.moments earlier) (passes.reads there refl));
+        moments = subst (λ d. Throughout old (g.D.Disk.state d) (IsAtMostSynced old.now)) (sym c.close-disk.ensures.disk) (then_reads _ _ _ _ (c.in-Ok.ensures.opened.moments earlier) (passes.reads there refl));
       },
       subst (λ t. Tells Done c.show.result before after t) (c.deref.ensures.value ∙ text) c.show.ensures,
     )
@@ -46,18 +47,22 @@ returns-in-Err-drawn-clause-told g c honest =
     let there = subst (λ d. (g.D.Disk.state d).honest ≡ true) c.close-disk.ensures.disk honest in
     let passes = c.draw_store-drawn.ensures.passes in
     let earlier = passes.goes.earlier there in
-    let opens = c.in-Ok.ensures.opened earlier in
-    let why = is_err _ c.draw_store-drawn.result _ c.in-Err-drawn.is (c.draw_store-drawn.ensures.refused there c.in-Ok.ensures.well (opened opens.seen) opens.holds) in
+    let opens = c.in-Ok.ensures.opened.opens earlier in
+    let why = is_err _ c.draw_store-drawn.result _ c.in-Err-drawn.is (c.draw_store-drawn.ensures.refused there c.in-Ok.ensures.opened.well (opened opens.seen) opens.holds) in
     inr (
-      refusal,
+      Refused refusal,
       record {
         goes = subst (λ d. Goes (refusal ≡ Device) old (g.D.Disk.state d)) (sym c.close-disk.ensures.disk)
-            (goes_then _ _ _ _ _ _ (goes_any _ _ _ c.in-Ok.ensures.any) c.draw_store-drawn.ensures.any (λ is. c.in-Err-drawn.is ∙ ap Err is));
+            (goes_then _ _ _ _ _ _ c.in-Ok.ensures.opened.goes c.draw_store-drawn.ensures.any (λ is. c.in-Err-drawn.is ∙ ap Err is));
         why = λ _. elim why [
           | inl device ↦ subst (IsRefused old.now.contents) (sym device) tt
           | inr memory ↦ subst (IsRefused old.now.contents) (sym memory) tt
         ];
-        moments = λ _. subst (λ d. Throughout old (g.D.Disk.state d) (IsAtMostSynced old.now)) (sym c.close-disk.ensures.disk) (then_reads _ _ _ _ (c.in-Ok.ensures.moments earlier) (passes.reads there refl));
+        earlier = λ _ is. elim why [ inl device ↦ cc (is, device) | inr memory ↦ cc (is, memory) ];
+        moments = λ _. subst (λ d. Throughout old (g.D.Disk.state d) (IsAtMostSynced old.now)) (sym c.close-disk.ensures.disk) (then_reads _ _ _ _ (c.in-Ok.ensures.opened.moments earlier) (passes.reads there refl));
       },
       c.refused.ensures,
     )
+
+pub returns-in-Err-drawn-clause-ends : goal.returns-in-Err-drawn-clause-ends
+returns-in-Err-drawn-clause-ends g c = inr (refl, (Refused c.in-Err-drawn.refusal, c.refused.ensures))

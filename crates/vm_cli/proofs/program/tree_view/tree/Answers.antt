@@ -35,7 +35,7 @@ returns-clause-files g c honest =
               back = c.show_disk-exit.result.1;
               held = held.0;
               lent = lent;
-              refusal = refused.0;
+              why = refused.0;
               refused = refused.1;
               told = refused.2;
             });

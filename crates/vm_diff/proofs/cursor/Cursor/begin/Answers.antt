@@ -1,5 +1,5 @@
 use Rattle.std.proofs.Common.{ap, ap₂, ◌∙◌, arith, List}
-use Rattle.vm_diff.specs.Entry.{Entry}
+use Rattle.vm_block.specs.Leaf.{Record}
 use Rattle.vm_tree.specs.declared.root.Root.{Root}
 use Rattle.vm_diff.specs.Walk.{Walk}
 use Rattle.vm_diff.proofs.CursorLemmas.{only_top}
@@ -13,5 +13,5 @@ returns-clause-begun c true_is =
     record {
       empty = λ none. absurd (omega (arith, none, c.if-root-eq0.false));
       above = λ lt. absurd (omega (arith, lt, c.if-place.false, c.place.ensures.place, c.place-2.ensures.place));
-      some = λ some le. ap₂ (λ (ps : List Entry) (ts : List Root). record { pending = ps; tops = ts }) (ap (λ (w : Walk). w.pending) at_end) top;
+      some = λ some le. ap₂ (λ (ps : List Record) (ts : List Root). record { pending = ps; tops = ts }) (ap (λ (w : Walk). w.pending) at_end) top;
     }

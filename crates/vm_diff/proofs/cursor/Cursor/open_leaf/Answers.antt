@@ -1,6 +1,4 @@
-use Rattle.std.proofs.Common.{List, drop, ap, ap₂, ◌∙◌, arith}
-use Rattle.vm_diff.specs.Entry.{Entry}
-use Rattle.vm_tree.specs.declared.root.Root.{Root}
+use Rattle.std.proofs.Common.{drop, ap, ◌∙◌, arith}
 use Rattle.vm_diff.specs.Walk.{Walk}
 use Rattle.vm_diff.specs.Ahead.{tops_in}
 use Rattle.vm_diff.specs.Front.{front_of}

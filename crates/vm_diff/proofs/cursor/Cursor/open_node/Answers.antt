@@ -1,6 +1,5 @@
 use Rattle.std.proofs.Common.{◌≡◌, ◌-◌, ◌++◌, List, length, drop, slice_set, refl, ap, ◌∙◌, arith}
 use Rattle.std.proofs.lemmas.List.{length-set}
-use Rattle.vm_block.specs.declared.node.Child.{Child}
 use Rattle.vm_tree.specs.declared.root.Root.{Root}
 use Rattle.vm_diff.specs.Walk.{Walk, tops_of}
 use Rattle.vm_diff.specs.Ahead.{tops_in}

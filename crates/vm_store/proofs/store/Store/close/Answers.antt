@@ -3,7 +3,7 @@ use Rattle.vm_store.proofs.RunLemmas.{rests_show}
 use Rattle.vm_store.proofs.store.Store.close.Goals as goal
 
 pub returns-clause-shown : goal.returns-clause-shown
-returns-clause-shown g c honest well s holds = rw c.into_inner.ensures (shows_now _ _ _ _ _ _ s holds.rests)
+returns-clause-shown g c honest well s holds = shows_now _ _ _ _ _ _ s holds.rests
 
 pub returns-clause-crash : goal.returns-clause-crash
-returns-clause-crash g c honest well s holds = rw c.into_inner.ensures (rests_show _ _ _ _ _ _ s holds.rests)
+returns-clause-crash g c honest well s holds = rests_show _ _ _ _ _ _ s holds.rests

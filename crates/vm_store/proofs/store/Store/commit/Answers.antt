@@ -17,9 +17,9 @@ returns-in-Ok-clause-carried g c honest s holds =
     let is = c.deref.ensures.value ∙ c.write_entries.ensures.items ∙ ap slot_entries c.as_slice.ensures.items in
     record {
       answers = answers_done s _ ⊥ Commit s.working refl (λ never. never) refl;
-      state = λ fine. holds_alone rests.blocks (rests_renamed _ _ _ _ _ _ _ _ _ _ c.other-self.ensures refl refl (published _ _ _ _ _ _ s rests _ _ Done (is_published_as _ _ _ _ _ _ _ is (c.in-Ok.ensures.done honest _ _ _ rests.rest (subst (SlotFits c.args.self.now.parts.blocks) (sym is) rests.fits))) c.copy_from.ensures));
-      crash = weaken _ _ _ _ (λ m leaves left may. lent_left _ _ _ _ _ _ s rests _ is left (leaves left may)) (c.in-Ok.ensures.any_moment honest _ _ _ rests.rest (subst (SlotFits c.args.self.now.parts.blocks) (sym is) rests.fits));
-      guarded = weaken _ _ _ _ (λ m publishing. lent_guarded _ _ _ _ _ _ s rests _ is m publishing) (c.in-Ok.ensures.moments honest _ _ _ rests.rest (subst (SlotFits c.args.self.now.parts.blocks) (sym is) rests.fits));
+      state = λ fine. holds_alone rests.blocks (rests_renamed _ _ _ _ _ _ _ _ _ _ c.other-self.ensures refl refl (published _ _ _ _ _ _ s rests _ _ Done (is_published_as _ _ _ _ _ _ is (c.in-Ok.ensures.done honest _ _ rests.rest (subst (SlotFits c.args.self.now.parts.blocks) (sym is) rests.fits))) c.copy_from.ensures));
+      crash = weaken _ _ _ _ (λ m leaves left may. lent_left _ _ _ _ _ _ s rests _ is left (leaves left may)) (c.in-Ok.ensures.any_moment honest _ _ rests.rest (subst (SlotFits c.args.self.now.parts.blocks) (sym is) rests.fits));
+      guarded = weaken _ _ _ _ (λ m publishing. lent_guarded _ _ _ _ _ _ s rests _ is m publishing) (c.in-Ok.ensures.moments honest _ _ rests.rest (subst (SlotFits c.args.self.now.parts.blocks) (sym is) rests.fits));
       unsynced = λ other. absurd (other refl);
     }
 
@@ -30,8 +30,8 @@ returns-in-Err-clause-carried g c honest s holds =
     record {
       answers = inl refl;
       state = λ fine. absurd (fine refl);
-      crash = weaken _ _ _ _ (λ m leaves left may. lent_left _ _ _ _ _ _ s rests _ is left (leaves left may)) (c.in-Err.ensures.any_moment honest _ _ _ rests.rest (subst (SlotFits c.args.self.now.parts.blocks) (sym is) rests.fits));
-      guarded = weaken _ _ _ _ (λ m publishing. lent_guarded _ _ _ _ _ _ s rests _ is m publishing) (c.in-Err.ensures.moments honest _ _ _ rests.rest (subst (SlotFits c.args.self.now.parts.blocks) (sym is) rests.fits));
+      crash = weaken _ _ _ _ (λ m leaves left may. lent_left _ _ _ _ _ _ s rests _ is left (leaves left may)) (c.in-Err.ensures.any_moment honest _ _ rests.rest (subst (SlotFits c.args.self.now.parts.blocks) (sym is) rests.fits));
+      guarded = weaken _ _ _ _ (λ m publishing. lent_guarded _ _ _ _ _ _ s rests _ is m publishing) (c.in-Err.ensures.moments honest _ _ rests.rest (subst (SlotFits c.args.self.now.parts.blocks) (sym is) rests.fits));
       unsynced = λ other. absurd (other refl);
     }
 

@@ -2,11 +2,10 @@ use Rattle.std.proofs.Common.{rules, inl, inr, ◌∙◌, ◌≤◌, ℕ, Bool, 
 use Rattle.vm_types.specs.declared.command.Command.TheVariants.{Grow}
 use Rattle.vm_types.proofs.Growing.{good_size, no_more_is_bad, too_many_is_bad}
 use Rattle.vm_disk.specs.Disk.{Enlarges}
-use Rattle.vm_disk.specs.Moments.{OnlyReads, Throughout}
+use Rattle.vm_disk.specs.Moments.{Throughout}
 use Rattle.vm_disk.proofs.MomentLemmas.{started}
 use Rattle.vm_alloc.specs.Held.{IsHeld}
 use Rattle.vm_store.specs.Guarded.{IsGuarded}
-use Rattle.vm_store.specs.Rest.{PartsStandFor}
 use Rattle.vm_store.specs.declared.store.parts.Parts.{Parts}
 use Rattle.vm_store.proofs.LongerLemmas.{grow_is_accepted, grow_is_refused, longer_crash, longer_guarded, longer_unsynced, rests_longer, still_held}
 use Rattle.vm_store.proofs.CarryLemmas.{looked, stayed}
@@ -37,34 +36,24 @@ returns-in_default-new-2-clause-carried g c honest s holds =
     looked _ _ s holds (Grow c.args.blocks) _ (grow_is_accepted s c.args.blocks _ (good_size s.blocks c.args.blocks (omega (arith, c.if-blocks-self.false, holds.rests.blocks)) (omega (arith, c.if-blocks-gt-MAX_BLOCKS.false))) (inr (inl refl)))
     (started _ _ refl) holds.rests (λ _. holds)
 
-pub returns-in_default-reserve-clause-carried : goal.returns-in_default-reserve-clause-carried
-returns-in_default-reserve-clause-carried g c honest s holds =
-    let self = c.args.self.now in
-    let is = sym c.reserve.ensures.kept.inner in
-    let holds' = subst (λ d. PartsStandFor (g.D.Disk.state d).now self.parts s) is holds in
-    looked _ _ s holds (Grow c.args.blocks) _ (grow_is_accepted s c.args.blocks _ (good_size s.blocks c.args.blocks (omega (arith, c.if-blocks-self.false, holds.rests.blocks)) (omega (arith, c.if-blocks-gt-MAX_BLOCKS.false))) (inr (inl refl)))
-    (subst (λ d. OnlyReads (g.D.Disk.state self.disk.inner) (g.D.Disk.state d)) is (started _ _ refl)) holds'.rests (λ _. holds')
-
 pub returns-in_err-lengthen-clause-carried : goal.returns-in_err-lengthen-clause-carried
 returns-in_err-lengthen-clause-carried g c honest s holds =
-    let longer : Enlarges (g.D.Disk.state c.args.self.now.disk.inner) (g.D.Disk.state c.lengthen.new.self.disk.inner) =
-    subst (λ d. Enlarges (g.D.Disk.state d) (g.D.Disk.state c.lengthen.new.self.disk.inner)) c.reserve.ensures.kept.inner (c.lengthen.ensures.longer honest) in
+    let longer : Enlarges (g.D.Disk.state c.args.self.now.disk) (g.D.Disk.state c.lengthen.new.self.disk) = c.lengthen.ensures.longer honest in
     record {
       answers = grow_is_accepted s c.args.blocks _ (good_size s.blocks c.args.blocks (omega (arith, c.if-blocks-self.false, holds.rests.blocks)) (omega (arith, c.if-blocks-gt-MAX_BLOCKS.false))) (inl (search rules));
       state = λ fine. absurd (fine (search rules));
       crash = longer_crash _ _ longer _ _ _ _ _ s holds.rests (Grow c.args.blocks);
-      guarded = subst (λ (bits : List Bool). Throughout (g.D.Disk.state c.args.self.now.disk.inner) (g.D.Disk.state c.lengthen.new.self.disk.inner) (IsGuarded bits)) (sym (ap (λ (p : Parts). p.held) c.lengthen.ensures.same.parts)) (longer_guarded _ _ longer _ _ _ _ _ s holds.rests c.args.self.now.parts.held (λ n held. held));
+      guarded = subst (λ (bits : List Bool). Throughout (g.D.Disk.state c.args.self.now.disk) (g.D.Disk.state c.lengthen.new.self.disk) (IsGuarded bits)) (sym (ap (λ (p : Parts). p.held) c.lengthen.ensures.same.parts)) (longer_guarded _ _ longer _ _ _ _ _ s holds.rests c.args.self.now.parts.held (λ n held. held));
       unsynced = λ other. longer_unsynced _ _ longer;
     }
 
 pub returns-clause-carried : goal.returns-clause-carried
 returns-clause-carried g c honest s holds =
-    let old = (g.D.Disk.state c.args.self.now.disk.inner).now in
-    let new = (g.D.Disk.state c.lengthen.new.self.disk.inner).now in
+    let old = (g.D.Disk.state c.args.self.now.disk).now in
+    let new = (g.D.Disk.state c.lengthen.new.self.disk).now in
     let same = c.lengthen.ensures.same.parts in
-    let longer : Enlarges (g.D.Disk.state c.args.self.now.disk.inner) (g.D.Disk.state c.lengthen.new.self.disk.inner) =
-    subst (λ d. Enlarges (g.D.Disk.state d) (g.D.Disk.state c.lengthen.new.self.disk.inner)) c.reserve.ensures.kept.inner (c.lengthen.ensures.longer honest) in
-    let whole = g.met.D.Disk.whole c.lengthen.new.self.disk.inner honest in
+    let longer : Enlarges (g.D.Disk.state c.args.self.now.disk) (g.D.Disk.state c.lengthen.new.self.disk) = c.lengthen.ensures.longer honest in
+    let whole = g.met.D.Disk.whole c.lengthen.new.self.disk honest in
     let inside : c.args.blocks ≤ length new.contents = omega (arith, whole, c.in_ok-lengthen.ensures.all) in
     let grown = c.grow_to.ensures in
     let bits = c.grow_to.new.self.held in

@@ -3,7 +3,6 @@ use Rattle.vm_types.specs.declared.change.Change.{Change}
 use Rattle.vm_types.specs.declared.command.Command.TheVariants.{Merge}
 use Rattle.vm_types.specs.State.{changes_made}
 use Rattle.vm_disk.specs.Moments.{OnlyReads}
-use Rattle.vm_check.specs.Noted.{inner_of}
 use Rattle.vm_disk.proofs.MomentLemmas.{at_end, reads_then, started}
 use Rattle.vm_tree.specs.Faults.{refusal_of_put}
 use Rattle.vm_tree.proofs.Looking.{passed_on}
@@ -302,7 +301,7 @@ returns-clause-alike g c honest s holds none done =
     let empty : length c.in_ok-plan.plan.changes ≡ 0 = ap (λ (cs : List Change). length cs) plan.1.changes ∙ sym (merge_made _ _ _ _ _ _ s rests alt pair is c.args.settled.now plan.0) ∙ none in
     let still = c.in_ok-root.ensures.none empty in
     let unmarked = c.has_spare.ensures.enough (omega (arith, c.len.ensures, empty)) in
-    subst (λ d. OnlyReads (g.D.Disk.state (disk_of c.args.self.now)) (g.D.Disk.state (inner_of d))) (sym (still.0 ∙ ap (λ (store : Store _ _). store.disk) unmarked))
+    subst (λ d. OnlyReads (g.D.Disk.state (disk_of c.args.self.now)) (g.D.Disk.state d)) (sym (still.0 ∙ ap (λ (store : Store _ _). store.disk) unmarked))
     (c.in_ok-plan.ensures.reads before)
 
 pub returns-clause-few : goal.returns-clause-few
@@ -321,4 +320,4 @@ returns-clause-few g c honest s holds none =
     let base = base_rooted _ _ _ _ _ _ s rests c.args.alt.now c.in_ok-own.own found.own in
     let current = current_rooted _ _ _ _ _ _ s rests c.args.alt.now c.in_ok-own.own found.own in
     let parent = current_rooted _ _ _ _ _ _ s rests c.in_ok-own.parent.name c.in_ok-own.parent found.parent in
-    omega (arith, c.in_ok-plan.ensures.bound before base.0 parent.0 current.0 _ _ _ base.1 parent.1 current.1, pair_counts _ _ _ _ _ _ s rests c.args.alt.now pair found, ap (λ d. (g.D.Disk.state (inner_of d)).reads) (still.0 ∙ ap (λ (store : Store _ _). store.disk) unmarked))
+    omega (arith, c.in_ok-plan.ensures.bound before base.0 parent.0 current.0 _ _ _ base.1 parent.1 current.1, pair_counts _ _ _ _ _ _ s rests c.args.alt.now pair found, ap (λ d. (g.D.Disk.state d).reads) (still.0 ∙ ap (λ (store : Store _ _). store.disk) unmarked))

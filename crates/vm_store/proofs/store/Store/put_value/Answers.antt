@@ -1,5 +1,4 @@
 use Rattle.std.proofs.Common.{find, Err, inl, refl, subst, sym, ap, ◌∙◌, arith}
-use Rattle.vm_types.specs.Tree.{current_of}
 use Rattle.vm_types.specs.declared.command.Command.TheVariants.{Put}
 use Rattle.vm_disk.specs.Disk.{Medium}
 use Rattle.vm_disk.proofs.MomentLemmas.{at_end, same_medium, started}
@@ -52,9 +51,9 @@ returns-clause-carried g c honest s holds =
     let stays = ap (λ o. before_of o mid.parts.held) c.before_series.ensures in
     let series = in_series _ _ _ _ _ _ _ s c.args.alt.now _ _ c.go_on.ensures.series stays on in
     changed _ _ s holds (Put c.args.alt.now c.args.key c.args.value.now) _ (answers_done _ _ _ _ _ _ s rests c.args.alt.now c.args.key c.args.value.now _ (sym c.in-Some.ensures) _ _ (room_for _ _ _ (c.in_ok-has_spare.ensures.spare marked s holds) c.if-not-branch.false)
-    (λ deep. put.1 (lacks_over _ e.current _ _ (deep_here _ _ _ _ _ _ s rests' c.args.alt.now c.args.key c.args.value.now e is (g.D.Disk.state mid.disk.inner).now.contents
-    (subst (λ (m : Medium). LacksRoom m.contents (root_of mid c.args.alt.now) (current_of s.working c.args.alt.now) c.args.key) (sym read)
-    (subst (λ f. LacksRoom (g.D.Disk.state c.args.self.now.disk.inner).now.contents (f c.args.alt.now) (current_of s.working c.args.alt.now) c.args.key) (sym c.has_spare.ensures.roots) deep))))))
+    (λ deep. put.1 (lacks_over _ e.current _ (deep_here _ _ _ _ _ _ s rests' c.args.alt.now c.args.key c.args.value.now e is (g.D.Disk.state mid.disk).now.contents
+    (subst (λ (m : Medium). LacksRoom m.contents (root_of mid c.args.alt.now) (c.args.key, c.args.value.now)) (sym read)
+    (subst (λ f. LacksRoom (g.D.Disk.state c.args.self.now.disk).now.contents (f c.args.alt.now) (c.args.key, c.args.value.now)) (sym c.has_spare.ensures.roots) deep))))))
     _ (c.has_spare.ensures.reads marked) series (c.in_ok-root.ensures.moments honest series.wider) (c.in_ok-root.ensures.unsynced honest) c.in_ok-root.ensures.still
     (λ _. holds_as refl c.set_current.ensures
     (holds_then c.args.alt.now _ _ c.go_on.ensures.series stays
@@ -79,9 +78,9 @@ returns-in_err-root-clause-carried g c honest s holds =
     let series = in_series _ _ _ _ _ _ _ s c.args.alt.now _ _ c.go_on.ensures.series stays on in
     rw (passed_on _ c.from_residual-in_err-root.ensures.1)
     (changed _ _ s holds (Put c.args.alt.now c.args.key c.args.value.now) _ (answers_fault _ _ _ _ _ _ s rests c.args.alt.now c.args.key c.args.value.now _ (sym c.in-Some.ensures) _ _ _ c.in_err-root.field-0.0 _ (room_for _ _ _ (c.in_ok-has_spare.ensures.spare marked s holds) c.if-not-branch.false)
-    (λ here. subst (λ f. LacksRoom (g.D.Disk.state c.args.self.now.disk.inner).now.contents (f c.args.alt.now) (current_of s.working c.args.alt.now) c.args.key) c.has_spare.ensures.roots
-    (subst (λ (m : Medium). LacksRoom m.contents (root_of mid c.args.alt.now) (current_of s.working c.args.alt.now) c.args.key) read
-    (here_deep _ _ _ _ _ _ s rests' c.args.alt.now c.args.key c.args.value.now e is (g.D.Disk.state mid.disk.inner).now.contents (lacks_under _ e.current _ _ here))))
+    (λ here. subst (λ f. LacksRoom (g.D.Disk.state c.args.self.now.disk).now.contents (f c.args.alt.now) (c.args.key, c.args.value.now)) c.has_spare.ensures.roots
+    (subst (λ (m : Medium). LacksRoom m.contents (root_of mid c.args.alt.now) (c.args.key, c.args.value.now)) read
+    (here_deep _ _ _ _ _ _ s rests' c.args.alt.now c.args.key c.args.value.now e is (g.D.Disk.state mid.disk).now.contents (lacks_under _ e.current _ here))))
     put)
     _ (c.has_spare.ensures.reads marked) series (c.in_err-root.ensures.moments honest series.wider) (c.in_err-root.ensures.unsynced honest) c.in_err-root.ensures.still
     (λ _. holds_more _ _ _ _ _ _ _ s _ _ _ (at_end _ _ _ (c.in_err-root.ensures.failed honest)) c.in_err-root.ensures.still on))

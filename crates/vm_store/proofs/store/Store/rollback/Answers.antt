@@ -25,7 +25,7 @@ returns-clause-back g c = record {
 pub returns-clause-carried : goal.returns-clause-carried
 returns-clause-carried g c honest s holds =
     let self = c.args.self.now in
-    let disk = g.D.Disk.state self.disk.inner in
+    let disk = g.D.Disk.state self.disk in
     let new = c.roll_back.new.self in
     let rolled = c.roll_back.ensures in
     let rests = rests_rolled disk.now self.parts.blocks self.parts.kept self.parts.slot_name self.parts.held new.held self.parts.committed self.parts.working new.working s Done holds.rests holds.keeps

@@ -22,7 +22,7 @@ returns-clause-holds g c honest =
     let found = c.in_ok-slot_name.ensures.found (c.load_slot.ensures.any.earlier (c.read_maps.ensures.any.earlier honest)) in
     let same = same_medium _ _ (c.load_slot.ensures.reads (c.read_maps.ensures.any.earlier honest)) in
     c.read_maps.ensures.holds honest synced.clean (subst IsStore (sym synced.same) found.0) (found.1 ∙ ap (λ x. named_slot (block x 1)) (sym synced.same))
-    (subst (λ (m : Medium). SlotAt m.contents c.in_ok-slot_name.slot_name c.in_ok-slot.slot.format c.in_ok-slot.slot.blocks c.in_ok-slot.slot.entries.items) (sym same) (c.in_ok-slot.ensures.found (c.read_maps.ensures.any.earlier honest)))
+    (subst (λ (m : Medium). SlotAt m.contents c.in_ok-slot_name.slot_name c.in_ok-slot.slot.blocks c.in_ok-slot.slot.entries.items) (sym same) (c.in_ok-slot.ensures.found (c.read_maps.ensures.any.earlier honest)))
 
 pub returns-clause-refused : goal.returns-clause-refused
 returns-clause-refused g c honest =
@@ -31,7 +31,7 @@ returns-clause-refused g c honest =
     let same = same_medium _ _ (c.load_slot.ensures.reads (c.read_maps.ensures.any.earlier honest)) in
     subst (λ (x : Contents). IfErr c.read_maps.result (IsRefused x)) synced.same
     (c.read_maps.ensures.refused honest (subst IsStore (sym synced.same) found.0) (found.1 ∙ ap (λ x. named_slot (block x 1)) (sym synced.same))
-    (subst (λ (m : Medium). SlotAt m.contents c.in_ok-slot_name.slot_name c.in_ok-slot.slot.format c.in_ok-slot.slot.blocks c.in_ok-slot.slot.entries.items) (sym same) (c.in_ok-slot.ensures.found (c.read_maps.ensures.any.earlier honest))))
+    (subst (λ (m : Medium). SlotAt m.contents c.in_ok-slot_name.slot_name c.in_ok-slot.slot.blocks c.in_ok-slot.slot.entries.items) (sym same) (c.in_ok-slot.ensures.found (c.read_maps.ensures.any.earlier honest))))
 
 pub returns-in_err-slot-clause-moments : goal.returns-in_err-slot-clause-moments
 returns-in_err-slot-clause-moments g c honest =

@@ -10,6 +10,6 @@ returns-in-Err-Damaged-clause-refused g c honest store in_use =
       store,
       inl (
         c.first_block.ensures ∙ ap slot_at in_use,
-        λ format limit es slot. subst (λ e. Loads (Err e) format limit es) c.in-Err-Damaged.field-0-is (c.in-Err-Damaged.ensures.only honest format limit es (subst (λ b. SlotAt x b format limit es) (sym in_use) slot)),
+        λ limit es slot. subst (λ e. Loads (Err e) limit es) c.in-Err-Damaged.field-0-is (c.in-Err-Damaged.ensures.only honest limit es (subst (λ b. SlotAt x b limit es) (sym in_use) slot)),
       ),
     )

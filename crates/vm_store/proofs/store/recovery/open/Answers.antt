@@ -1,7 +1,6 @@
-use Rattle.std.proofs.Common.{◌≡◌, true, subst, ap, ◌∙◌}
+use Rattle.std.proofs.Common.{subst}
 use Rattle.vm_disk.specs.Disk.{Contents}
-use Rattle.vm_store.specs.Refused.{IsRefused}
-use Rattle.vm_store.specs.Shown.{Shows, ShowsNothing}
+use Rattle.vm_store.specs.Shown.{Shows}
 use Rattle.vm_store.proofs.OpeningLemmas.{refused_none}
 use Rattle.vm_store.proofs.store.recovery.open.Goals as goal
 
@@ -10,18 +9,11 @@ returns-in-Ok-clause-opened g c honest =
     let found = c.in-Ok.ensures.holds honest in
     record {
       seen = found.seen;
-      shown = subst (λ (x : Contents). Shows x found.seen) ((c.in-Ok.ensures.synced honest (λ e. cc)).same ∙ ap (λ d. (g.D.Disk.state d).now.contents) c.new-disk.ensures.inner) found.shown;
+      shown = subst (λ (x : Contents). Shows x found.seen) (c.in-Ok.ensures.synced honest (λ e. cc)).same found.shown;
       holds = found.holds;
       free = found.free;
     }
 
 pub returns-in-Err-clause-none : goal.returns-in-Err-clause-none
 returns-in-Err-clause-none g c honest no_device no_memory =
-    let under = subst (λ d. (g.D.Disk.state d).honest ≡ true) c.into_inner.ensures honest in
-    subst (λ d. ShowsNothing (g.D.Disk.state d).now.contents) c.new-disk.ensures.inner
-    (refused_none _ c.in-Err.refusal (c.in-Err.ensures.refused under) no_device no_memory)
-
-pub returns-in-Err-clause-refused : goal.returns-in-Err-clause-refused
-returns-in-Err-clause-refused g c honest =
-    let under = subst (λ d. (g.D.Disk.state d).honest ≡ true) c.into_inner.ensures honest in
-    subst (λ d. IsRefused (g.D.Disk.state d).now.contents c.in-Err.refusal) c.new-disk.ensures.inner (c.in-Err.ensures.refused under)
+    refused_none _ c.in-Err.refusal (c.in-Err.ensures.refused honest) no_device no_memory

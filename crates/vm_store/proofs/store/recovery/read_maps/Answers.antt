@@ -9,11 +9,9 @@ use Rattle.vm_alloc.specs.Marks.{IsMarked}
 use Rattle.vm_tree.proofs.ScanLemmas.{fault_lists}
 use Rattle.vm_tree.specs.Faults.{refusal_of_list}
 use Rattle.vm_tree.proofs.Looking.{passed_on}
-use Rattle.vm_store.specs.Filed.{tree_of}
+use Rattle.vm_store.specs.Filed.{Anywhere, tree_of}
 use Rattle.vm_store.specs.Refused.{IsRefused, IsStore}
 use Rattle.vm_store.specs.Rest.{Rests}
-use Rattle.vm_block.specs.Slot.{has_long}
-use Rattle.vm_check.specs.Suits.{SuitsAt}
 use Rattle.vm_check.specs.Verification.{Found, HaveTrees}
 use Rattle.vm_store.specs.Sizes.{sizes}
 use Rattle.vm_store.proofs.StandingLemmas.{standing_in}
@@ -25,7 +23,7 @@ use Rattle.vm_store.proofs.store.recovery.read_maps.Goals as goal
 
 pub versions_twice-requires-clause-roots : goal.versions_twice-requires-clause-roots
 versions_twice-requires-clause-roots g c =
-    roots_count _ _ _ _ _ _ _ c.deref-4.ensures.value c.in_ok-roots.ensures.roots c.deref-2.ensures.value c.in-Some-Ok-Ok-Ok.ensures c.deref.ensures.value c.deref-3.ensures.value
+    roots_count _ _ _ _ _ _ _ c.deref-4.ensures.value c.in_ok-roots.ensures.roots c.deref-2.ensures.value c.in-Some-Ok-Ok.ensures c.deref.ensures.value c.deref-3.ensures.value
 
 pub invariant_of-result : goal.invariant_of-result
 invariant_of-result g c =
@@ -35,54 +33,41 @@ invariant_of-result g c =
       most = head.most;
       kept_least = head.least;
       kept_most = omega arith;
-      bits = c.replace.ensures.count ∙ c.in-Some-Ok-Ok-Ok.ensures'.count;
+      bits = c.replace.ensures.count ∙ c.in-Some-Ok-Ok.ensures'.count;
       mark_bits = c.in_ok-roots.ensures.count;
-      before_bits = ap length c.in-Some-Ok-Ok-Ok.ensures'' ∙ length-replicate c.args.slot.blocks false;
+      before_bits = ap length c.in-Some-Ok-Ok.ensures'' ∙ length-replicate c.args.slot.blocks false;
       room_entries = c.requires.reserved;
     }
 
 pub returns-clause-holds : goal.returns-clause-holds
-returns-clause-holds g c honest before_clean before_store before_in_use before_slot =
-    let is = sym c.reserve.ensures.kept.inner in
-    let m = (g.D.Disk.state c.reserve.new.self.inner).now in
-    let clean = subst (λ d. IsClean (g.D.Disk.state d).now) is before_clean in
-    let store = subst (λ d. IsStore (g.D.Disk.state d).now.contents) is before_store in
-    let in_use = subst (λ d. c.args.slot_name ≡ named_slot (block (g.D.Disk.state d).now.contents 1)) is before_in_use in
-    let slot = subst (λ d. SlotAt (g.D.Disk.state d).now.contents c.args.slot_name c.args.slot.format c.args.slot.blocks c.args.slot.entries.items) is before_slot in
+returns-clause-holds g c honest clean store in_use slot =
+    let m = (g.D.Disk.state c.args.disk.now).now in
     let limit = c.args.slot.blocks in
-    let whole = g.met.D.Disk.whole c.reserve.new.self.inner (c.verify.ensures.looks.goes.earlier honest) in
-    let many : (g.D.Disk.state c.reserve.new.self.inner).blocks ≡ (g.D.Disk.state c.args.disk.now.inner).blocks = ap (λ d. (g.D.Disk.state d).blocks) c.reserve.ensures.kept.inner in
-    let inside : limit ≤ length m.contents = omega (arith, whole, many, c.requires.inside) in
+    let whole = g.met.D.Disk.whole c.args.disk.now (c.verify.ensures.looks.goes.earlier honest) in
+    let inside : limit ≤ length m.contents = omega (arith, whole, c.requires.inside) in
     let read = same_medium _ _ (c.verify.ensures.looks.reads honest) in
-    let long : c.has_long.result ≡ has_long c.args.slot.format = c.has_long.ensures in
-    let told = subst (λ (b : Bool). Found b sizes m.contents limit c.deref-2.result.now c.in_ok-roots.roots.items c.in_ok-roots.marks) long (c.in_ok-roots.ensures.found honest) in
-    let found = found_here (has_long c.args.slot.format) _ _ _ _ _ _ _ _ c.deref-2.ensures.value c.in-Some-Ok-Ok-Ok.ensures c.deref.ensures.value told in
+    let told = c.in_ok-roots.ensures.found honest in
+    let found = found_here _ _ _ _ _ _ _ _ c.deref-2.ensures.value c.in-Some-Ok-Ok.ensures c.deref.ensures.value told in
     let are = c.in-Some.ensures in
     let alike = found_alike _ _ _ _ c.deref-3.ensures.value c.deref-4.ensures.value in
     let seen : Seen = record { tree = tree_of found.filed; blocks = limit } in
-    let rests = rests_found m c.args.slot.format limit c.args.slot_name c.args.slot.entries.items clean store in_use slot inside c.in_ok-roots.marks c.replace.new.self _ found.filed found.same c.replace.ensures.system c.replace.ensures.marked found.stands in
+    let rests = rests_found m limit c.args.slot_name c.args.slot.entries.items clean store in_use slot inside c.in_ok-roots.marks c.replace.new.self _ found.filed found.same c.replace.ensures.system c.replace.ensures.marked found.stands in
     record {
       seen = seen;
-      shown = subst (λ (n : Medium). Shows n.contents seen) (sym read) (shows_found m c.args.slot.format limit c.args.slot_name c.args.slot.entries.items clean store in_use slot inside _ found.filed found.same
-          (standing_in (λ n. IsMarked c.in_ok-roots.marks n × SuitsAt (has_long c.args.slot.format) m.contents n) (SuitsAt (has_long c.args.slot.format) m.contents) m.contents m.contents limit (λ n is. refl) (λ n is. is.1) _ found.filed found.stands));
+      shown = subst (λ (n : Medium). Shows n.contents seen) (sym read) (shows_found m limit c.args.slot_name c.args.slot.entries.items clean store in_use slot inside _ found.filed found.same
+          (standing_in (IsMarked c.in_ok-roots.marks) Anywhere m.contents m.contents limit (λ n is. refl) (λ n is. tt) _ found.filed found.stands));
       holds = holds_alone refl (subst (λ (n : Medium). Rests n limit c.args.slot_name c.replace.new.self c.in-Some.committed c.in-Some.working (opened seen)) (sym read)
           (rests_named m limit c.args.slot_name c.replace.new.self _ c.in-Some.committed c.in-Some.working (opened seen) (are.0 ∙ alike) (are.1 ∙ alike) rests));
       free = λ s holds. freed_on m _ limit c.args.slot_name c.replace.new.self c.in-Some.committed c.in-Some.working read
-          (freed (has_long c.args.slot.format) m limit c.args.slot_name c.replace.new.self c.in-Some.committed c.in-Some.working c.args.slot.entries.items c.in_ok-roots.roots.items c.in_ok-roots.marks (are.0 ∙ alike) (are.1 ∙ alike)
-          (found_as_named (has_long c.args.slot.format) _ _ _ _ _ _ _ _ c.deref-2.ensures.value c.in-Some-Ok-Ok-Ok.ensures c.deref.ensures.value told) (c.replace.ensures.count ∙ c.in-Some-Ok-Ok-Ok.ensures'.count) c.replace.ensures.system c.replace.ensures.marked) s holds.rests;
+          (freed m limit c.args.slot_name c.replace.new.self c.in-Some.committed c.in-Some.working c.args.slot.entries.items c.in_ok-roots.roots.items c.in_ok-roots.marks (are.0 ∙ alike) (are.1 ∙ alike)
+          (found_as_named _ _ _ _ _ _ _ _ c.deref-2.ensures.value c.in-Some-Ok-Ok.ensures c.deref.ensures.value told) (c.replace.ensures.count ∙ c.in-Some-Ok-Ok.ensures'.count) c.replace.ensures.system c.replace.ensures.marked) s holds.rests;
     }
 
 pub returns-in_err-roots-clause-refused : goal.returns-in_err-roots-clause-refused
-returns-in_err-roots-clause-refused g c honest before_store before_in_use before_slot =
-    let is = sym c.reserve.ensures.kept.inner in
-    let m = (g.D.Disk.state c.reserve.new.self.inner).now in
-    let store = subst (λ d. IsStore (g.D.Disk.state d).now.contents) is before_store in
-    let in_use = subst (λ d. c.args.slot_name ≡ named_slot (block (g.D.Disk.state d).now.contents 1)) is before_in_use in
-    let slot = subst (λ d. SlotAt (g.D.Disk.state d).now.contents c.args.slot_name c.args.slot.format c.args.slot.blocks c.args.slot.entries.items) is before_slot in
-    let limit = c.args.slot.blocks in
-    let whole = g.met.D.Disk.whole c.reserve.new.self.inner (c.verify.ensures.looks.goes.earlier honest) in
-    let many : (g.D.Disk.state c.reserve.new.self.inner).blocks ≡ (g.D.Disk.state c.args.disk.now.inner).blocks = ap (λ d. (g.D.Disk.state d).blocks) c.reserve.ensures.kept.inner in
-    let inside : limit ≤ length m.contents = omega (arith, whole, many, c.requires.inside) in
+returns-in_err-roots-clause-refused g c honest store in_use slot =
+    let m = (g.D.Disk.state c.args.disk.now).now in
+    let whole = g.met.D.Disk.whole c.args.disk.now (c.verify.ensures.looks.goes.earlier honest) in
+    let inside : c.args.slot.blocks ≤ length m.contents = omega (arith, whole, c.requires.inside) in
     rw (passed_on _ c.from_residual.ensures.1)
-    (subst (λ d. IsRefused (g.D.Disk.state d).now.contents (refusal_of_list c.in_err-roots.field-0.0)) c.reserve.ensures.kept.inner (fault_refused m c.args.slot.format limit c.args.slot_name c.args.slot.entries.items store in_use slot inside c.in_err-roots.field-0.0
-    (λ trees. fault_lists c.in_err-roots.field-0.0 _ _ (c.in_err-roots.ensures.only honest (subst (λ (b : Bool). HaveTrees (SuitsAt b m.contents) sizes m.contents limit c.deref-2.result.now) (sym c.has_long.ensures) (trees_here (SuitsAt (has_long c.args.slot.format) m.contents) _ _ _ _ _ _ c.deref-2.ensures.value c.in-Some-Ok-Ok-Ok.ensures c.deref.ensures.value trees))))))
+    (fault_refused m c.args.slot.blocks c.args.slot_name c.args.slot.entries.items store in_use slot inside c.in_err-roots.field-0.0
+    (λ trees. fault_lists c.in_err-roots.field-0.0 _ _ (c.in_err-roots.ensures.only honest (trees_here _ _ _ _ _ _ c.deref-2.ensures.value c.in-Some-Ok-Ok.ensures c.deref.ensures.value trees))))

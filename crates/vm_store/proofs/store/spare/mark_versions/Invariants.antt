@@ -5,8 +5,8 @@ use Rattle.vm_store.proofs.store.spare.mark_versions.Given as goal
 
 abbrev pub invariant-loop-version : goal.invariant-loop-version
 invariant-loop-version g l =
-    let old = g.D.Disk.state l.fn.disk.inner in
-    let now = g.D.Disk.state l.disk.inner in record {
+    let old = g.D.Disk.state l.fn.disk in
+    let now = g.D.Disk.state l.disk in record {
       blocks : now.blocks ≡ old.blocks;
       earlier : now.honest ≡ true → old.honest ≡ true;
       rising : old.failures ≤ now.failures;

@@ -1,0 +1,93 @@
+//! How many blocks are read and written for values of any length.
+use crate::tests::script::{NEW, in_memory};
+
+/// A great value and a short one in one leaf, which two alternatives share. Opening makes five
+/// device calls: a sync, and one read each of the header, the selector, the slot and the leaf.
+const GREAT_AND_SHORT: &str = "
+    format 64
+    open
+    put top 7:1 61*3000
+    put top 7:2 duct
+    new spur top
+    commit
+    close
+    anew";
+
+/// A value of any length is read with its leaf. A Remove reads the leaf twice if it begins a
+/// series. A Put that makes two leaves writes these and the root, and one that makes three writes
+/// one more. What both alternatives share is not read to compare them.
+#[test]
+fn leaf_is_read_once_whatever_the_lengths_of_its_values(rt: HostRuntime) {
+    for (call, query, calls) in &[
+        ("", "", "calls -> 5"),
+        ("get top 7:1 -> 61*3000", "", "calls -> 6"),
+        ("look top 7:1 -> 61*3000", "", "calls -> 6"),
+        ("get top 7:2 -> duct", "", "calls -> 6"),
+        ("get top 7:3 -> ~", "", "calls -> 6"),
+        ("list top -> 7:1=61*3000 7:2=duct", "", "calls -> 6"),
+        ("put top 7:2 pipe", "", "calls -> 7"),
+        ("put top 7:1 62*4000", "", "calls -> 7"),
+        ("put top 7:1 ''", "", "calls -> 7"),
+        ("put top 7:2 62*4000", "", "calls -> 9"),
+        ("put top 7:0 62*4000", "", "calls -> 9"),
+        ("put top 7:3 62*4000", "", "calls -> 9"),
+        ("remove top 7:2", "", "calls -> 8"),
+        ("remove top 7:1", "", "calls -> 8"),
+        ("reclaim", "", "calls -> 5"),
+        ("changes spur -> none", "", "calls -> 5"),
+        ("conflicts spur -> none", "", "calls -> 5"),
+        ("merge spur -> ok 0", "", "calls -> 5"),
+        ("put top 7:2 pipe", "conflicts spur -> none", "calls -> 9"),
+        (
+            "put top 7:1 61*3000",
+            "conflicts spur -> none",
+            "calls -> 9",
+        ),
+        ("put top 7:1 61*3000", "post spur", "calls -> 9"),
+        (
+            "put top 7:3 62*4000",
+            "conflicts spur -> none",
+            "calls -> 13",
+        ),
+    ] {
+        in_memory(&rt, &[GREAT_AND_SHORT, "open", call, query, "close", calls]);
+    }
+}
+
+/// Three leaves and a root. An opening makes four device calls, and reads each of these. A marking
+/// reads the root alone.
+#[test]
+fn marking_reads_no_leaf(rt: HostRuntime) {
+    let row = "
+        put top 1:1 61*1300
+        put top 1:2 62*1300
+        put top 1:3 63*1300
+        put top 1:2 64*4000
+        commit
+        close
+        anew
+        open
+        reclaim
+        free -> 26
+        close
+        calls -> 9";
+    in_memory(&rt, &[NEW, row]);
+}
+
+/// The Put reads the only leaf, and writes three leaves and the root.
+#[test]
+fn put_that_makes_three_leaves_writes_four_blocks(rt: HostRuntime) {
+    let row = "
+        put top 1:1 61*1300
+        put top 1:2 62*1300
+        put top 1:3 63*1300
+        commit
+        close
+        anew
+        open
+        put top 1:2 64*4000
+        close
+        calls -> 10
+        dirty -> 34 35 37 38";
+    in_memory(&rt, &[NEW, row]);
+}

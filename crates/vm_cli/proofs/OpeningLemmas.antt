@@ -1,0 +1,32 @@
+-- Why a disk is refused.
+use Rattle.std.proofs.Common.{◌≡◌, inl, inr, [], ◌∷◌, length, sym, subst, ◌∙◌, arith}
+use Rattle.vm_types.specs.declared.refusal.Refusal.{Refusal}
+use Rattle.vm_types.specs.declared.refusal.Refusal.TheVariants.{Device, NotAStore}
+use Rattle.vm_disk.specs.Disk.{Contents, Medium, block}
+use Rattle.vm_block.specs.Header.{IsEarlierHeader, header_bytes_of}
+use Rattle.vm_store.specs.Refused.{IsRefused, IsSynced}
+use Rattle.vm_cli.specs.Openings.{KeepsRefusal, TellsEarlier, refusal_of}
+use Rattle.vm_cli.specs.declared.program.opening.NoStore.{NoStore}
+
+-- the reason of an opening stays, or is that the device failed
+pub reason_kept : (x : Contents) (refusal : Refusal) (why : NoStore) → KeepsRefusal refusal why → IsRefused x refusal → IsRefused x (refusal_of why)
+reason_kept x refusal why (inl same) refused = subst (IsRefused x) (sym same) refused
+reason_kept x refusal why (inr failed) refused = subst (IsRefused x) (sym failed.1) tt
+
+-- a disk that is synced first has the same header
+pub earlier_kept : (old mid : Medium) (refusal : Refusal) (why : NoStore) → KeepsRefusal refusal why → ((refusal ≡ Device → ⊥) → IsSynced old mid) → TellsEarlier mid.contents why → TellsEarlier old.contents why
+earlier_kept old mid refusal why (inl same) synced tells = λ none.
+    let is : refusal ≡ NotAStore = sym same ∙ none in
+    subst (λ (x : Contents). TellsEarlier x why) (synced (λ device. cc (is, device))).same tells none
+earlier_kept old mid refusal why (inr failed) synced tells = λ none. cc (none, failed.1)
+
+-- no bytes are no header
+no_bytes : IsEarlierHeader [] → ⊥
+unfolding header_bytes_of
+no_bytes (inl is) = cc
+no_bytes (inr is) = cc
+
+-- a disk without blocks has no header
+pub none_there : (x : Contents) → length x ≡ 0 → IsEarlierHeader (block x 0) → ⊥
+none_there [] none is = no_bytes is
+none_there (b ∷ x) none is = absurd (omega (arith, none))

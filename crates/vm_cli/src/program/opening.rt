@@ -1,0 +1,102 @@
+//! Opening the store on a disk, and why that is refused.
+ghost use Rattle.std.specs.Prelude.{◌≡◌, true, IfErr, IfOk};
+ghost use Rattle.vm_disk.specs.Disk.{Goes};
+ghost use Rattle.vm_disk.specs.Moments.{OnlyReads};
+ghost use Rattle.vm_cli.specs.Exits.{RefusesOn, earlier_text, no_store_text};
+ghost use Rattle.vm_cli.specs.Openings.{HasOpened, HasRefused, KeepsRefusal, TellsEarlier, refusal_of};
+
+use crate::answers::reply::push_refusal;
+use crate::answers::text::Text;
+use crate::program::{Exit, refused, say, unless_fault};
+use std::alloc::Global;
+use std::io::Write;
+use vm_block::is_earlier_header;
+use vm_disk::Disk;
+use vm_store::{Store, open};
+use vm_types::Refusal;
+
+/// Why a disk is refused.
+#[derive(Clone, Copy, Debug, PartialEq, Eq)]
+pub enum NoStore {
+    /// For this refusal.
+    Refused(Refusal),
+    /// It is no store of this format: it has the header of one of an earlier format.
+    Earlier,
+}
+
+/// Opens the store on a disk. If the disk is no store, reads block 0 once more, to tell whether it
+/// has one of an earlier format.
+pub(crate) fn open_store<D: Disk>(alloc: Global, disk: D) -> Result<Store<D>, (D, NoStore)>
+    ensures opened { IfOk result (HasOpened (D.state disk)) }
+    ensures refused { IfErr result (λ e. HasRefused (D.state disk) (D.state e.0) e.1) }
+{
+    match open(alloc, disk) {
+        Ok(store) => Ok(store),
+        Err((mut disk, refusal)) => {
+            let why = why_refused(&mut disk, refusal);
+            Err((disk, why))
+        }
+    }
+}
+
+/// Why a disk is refused whose opening gave this refusal.
+fn why_refused<D: Disk>(disk: &mut D, refusal: Refusal) -> NoStore
+    ensures any { Goes ((refusal ≡ Refusal.NotAStore) × (refusal_of result ≡ Refusal.Device))
+        (D.state disk.old) (D.state disk.new) }
+    ensures reads { (D.state disk.new).honest ≡ true
+        → OnlyReads (D.state disk.old) (D.state disk.new) }
+    ensures only { KeepsRefusal refusal result }
+    ensures told { (D.state disk.new).honest ≡ true
+        → TellsEarlier (D.state disk.old).now.contents result }
+{
+    match refusal {
+        Refusal::NotAStore => no_store(disk),
+        refusal => NoStore::Refused(refusal),
+    }
+}
+
+/// Why a disk is no store of this format.
+fn no_store<D: Disk>(disk: &mut D) -> NoStore
+    ensures any { Goes (refusal_of result ≡ Refusal.Device) (D.state disk.old) (D.state disk.new) }
+    ensures reads { (D.state disk.new).honest ≡ true
+        → OnlyReads (D.state disk.old) (D.state disk.new) }
+    ensures only { KeepsRefusal Refusal.NotAStore result }
+    ensures told { (D.state disk.new).honest ≡ true
+        → TellsEarlier (D.state disk.old).now.contents result }
+{
+    if disk.blocks() == 0 {
+        return NoStore::Refused(Refusal::NotAStore);
+    }
+    let mut header = [0; 4096];
+    let Ok(()) = disk.read(0, &mut header) else {
+        return NoStore::Refused(Refusal::Device);
+    };
+    if is_earlier_header(&header) {
+        NoStore::Earlier
+    } else {
+        NoStore::Refused(Refusal::NotAStore)
+    }
+}
+
+/// Says why a disk is refused.
+pub(crate) fn unopened<F: Write>(why: &NoStore, errors: &mut F) -> Exit
+    ensures { RefusesOn F.contents result errors.old errors.new (no_store_text why.now) }
+{
+    match why {
+        NoStore::Refused(refusal) => refused(refusal, errors),
+        NoStore::Earlier => of_earlier_format(errors),
+    }
+}
+
+/// Says that a disk is no store, and in a second line that it is one of an earlier format.
+fn of_earlier_format<F: Write>(errors: &mut F) -> Exit
+    ensures { RefusesOn F.contents result errors.old errors.new earlier_text }
+{
+    let mut text = Text::new();
+    text.push_bytes(b"altctl: ");
+    push_refusal(&mut text, &Refusal::NotAStore);
+    text.push(b'\n');
+    text.push_bytes(b"altctl: the file is of an earlier format: ");
+    text.push_bytes(b"tools/upgrade.py OLD NEW carries it over\n");
+    unless_fault(say(errors, text.as_bytes()), Exit::Refused)
+}

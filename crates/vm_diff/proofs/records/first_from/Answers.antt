@@ -1,0 +1,9 @@
+use Rattle.vm_types.specs.Places.{place}
+use Rattle.vm_diff.proofs.LeafCuts.{found_from, missing_from}
+use Rattle.vm_diff.proofs.records.first_from.Goals as goal
+
+pub returns-in-Found-clause-cut : goal.returns-in-Found-clause-cut
+returns-in-Found-clause-cut c rs leaf = found_from rs (place c.args.low) c.in-Found.index leaf.rising (c.in-Found.ensures.only rs leaf)
+
+pub returns-in-Missing-clause-cut : goal.returns-in-Missing-clause-cut
+returns-in-Missing-clause-cut c rs leaf = missing_from rs (place c.args.low) c.in-Missing.index leaf.rising (c.in-Missing.ensures.only rs leaf)
