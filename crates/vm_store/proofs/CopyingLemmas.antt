@@ -1,5 +1,5 @@
 -- The maps of versions stand under the copies of their roots, and how a copy is put on a disk.
-use Rattle.std.proofs.Common.{◌≡◌, inl, inr, ℕ, zero, suc, ◌+◌, ◌<◌, ◌≤◌, ◌^◌, Bool, true, false, Option, IfSome, Result, Ok, Err, IfErr, IsOk, OnOk, List, [], ◌∷◌, ◌++◌, length, take, get_or, map, replicate, refl, sym, ap, subst, ◌∙◌, arith}
+use Rattle.std.proofs.Common.{◌≡◌, inl, inr, ℕ, zero, suc, ◌+◌, ◌<◌, ◌≤◌, ◌^◌, Bool, false, Option, IfSome, Result, Ok, Err, IfErr, IsOk, OnOk, List, [], ◌∷◌, ◌++◌, length, take, get_or, map, replicate, refl, sym, ap, subst, ◌∙◌, arith}
 use Rattle.std.specs.List.{AllByRecursion}
 use Rattle.std.proofs.lemmas.List.{take_more}
 use Rattle.vm_types.specs.Map.{Map}

@@ -1,5 +1,5 @@
 -- A formatting, moment by moment.
-use Rattle.std.proofs.Common.{true, ◌≡◌, inl, inr, ℕ, ◌≤◌, ◌^◌, Bool, false, List, [], ◌∷◌, None, Result, Ok, Err, OnOk, IsTrue, refl, sym, ap, ◌∙◌, subst, arith}
+use Rattle.std.proofs.Common.{◌≡◌, inl, inr, ℕ, ◌≤◌, ◌^◌, Bool, false, List, [], ◌∷◌, None, Result, Ok, Err, OnOk, IsTrue, refl, sym, ap, ◌∙◌, subst, arith}
 use Rattle.std.proofs.lemmas.Bool.{false≢true}
 use Rattle.std.proofs.lemmas.List.Elements.{All-from_recursion}
 use Rattle.vm_types.specs.Name.{IsName, IsNameByte}
@@ -20,7 +20,7 @@ use Rattle.vm_store.specs.Filed.{Anywhere}
 use Rattle.vm_store.specs.Shown.{ShowsAtMostNew}
 use Rattle.vm_store.specs.Layout.{HasMaps, IsPutDown}
 use Rattle.vm_store.specs.Refused.{IsSynced, IsAtMostSynced}
-use Rattle.vm_store.specs.NewStore.{fresh_entry, IsFormatted, IsFormatting}
+use Rattle.vm_store.specs.NewStore.{fresh_entry, IsAnyHeader, IsFormatted, IsFormatting}
 use Rattle.vm_store.specs.declared.version.Version.{Version}
 use Rattle.vm_store.proofs.TopLemmas.{none_grown}
 
@@ -76,7 +76,7 @@ still_there old m (inr synced) = synced.same
 pub not_yet : (blocks : ℕ) (old m : Medium) → IsAtMostSynced old m → IsFormatting blocks old m
 not_yet blocks old m so_far = inl so_far
 
-pub formatting : (blocks : ℕ) (old m : Medium) → (IsHeader (block old.contents 0) → ⊥) → Leaves (ShowsAtMostNew blocks) m → IsFormatting blocks old m
+pub formatting : (blocks : ℕ) (old m : Medium) → (IsAnyHeader (block old.contents 0) → ⊥) → Leaves (ShowsAtMostNew blocks) m → IsFormatting blocks old m
 formatting blocks old m none leaves = inr (none, leaves)
 
 -- no header stands in what a sync left

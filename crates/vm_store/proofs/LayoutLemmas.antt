@@ -1,5 +1,5 @@
 -- How a store is put on a disk, moment by moment.
-use Rattle.std.proofs.Common.{true, ◌≡◌, ◌≢◌, ℕ, ◌≤◌, Bool, false, List, length, Result, Ok, Err, OnOk, refl, sym, ap, ◌∙◌, subst, arith}
+use Rattle.std.proofs.Common.{◌≡◌, ◌≢◌, ℕ, ◌≤◌, Bool, false, List, length, Result, Ok, Err, OnOk, refl, sym, ap, ◌∙◌, subst, arith}
 use Rattle.vm_types.specs.State.{Seen}
 use Rattle.vm_types.specs.Tree.{Tree}
 use Rattle.vm_types.specs.declared.sizes.TheConstants.{FIRST_DATA}

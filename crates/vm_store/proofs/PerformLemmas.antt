@@ -4,12 +4,11 @@ use Rattle.vm_types.specs.declared.answer.Answer.{Answer}
 use Rattle.vm_types.specs.declared.command.Command.{Command}
 use Rattle.vm_types.specs.declared.command.Command.TheVariants.{Back, Checkpoint, Commit, Drop, Grow, Merge, New, NewAt, Post, Put, Reclaim, Remove, Rollback, Uncheck}
 use Rattle.vm_types.specs.declared.refusal.Refusal.{Refusal}
-use Rattle.vm_types.specs.declared.refusal.Refusal.TheVariants.{Device, Failed, Memory}
-use Rattle.vm_store.specs.Answers.{ChangesEntriesAlone, IsEarly, IsGrow, TakesMemory}
+use Rattle.vm_types.specs.declared.refusal.Refusal.TheVariants.{Device, Failed}
+use Rattle.vm_store.specs.Answers.{IsEarly, IsGrow}
 use Rattle.vm_store.specs.Commands.{CarriesOut, GrowsAsAsked, Performs}
-use Rattle.vm_store.specs.Store.{EarlyKeeps, EarlyLeavesDisk, GoesOn, GrowsOn, IsCarriedOut, IsHonest, IsNoLonger, KeepsFree, LeavesBlocks, MarksAll, NewAreFree, ReadsFew, ReadsOnly, RollsBack, WritesCommit, disk_of, entries_of, has_failed}
+use Rattle.vm_store.specs.Store.{EarlyKeeps, EarlyLeavesDisk, GoesOn, GrowsOn, IsCarriedOut, IsNoLonger, NewAreFree, ReadsFew, ReadsOnly, disk_of, entries_of, has_failed}
 use Rattle.vm_store.specs.declared.store.Store.{Store}
-use Rattle.vm_store.proofs.LongerLemmas.{goes_grow}
 use Rattle.vm_store.proofs.RunLemmas.{answers_on, no_failure}
 use Rattle.vm_store.proofs.VersionLemmas.{keeps_on}
 

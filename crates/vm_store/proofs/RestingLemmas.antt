@@ -1,5 +1,5 @@
 -- What a store stands for, through device calls, crashes, puts and commits.
-use Rattle.std.proofs.Common.{◌≡◌, ◌⊎◌, inl, inr, ℕ, ◌+◌, ◌<◌, ◌≤◌, ◌^◌, nat_lt, Bool, true, false, List, [], length, find, Option, Some, None, option_map, unwrap_or, Ok, Err, refl, sym, ap, ◌∙◌, subst, arith}
+use Rattle.std.proofs.Common.{◌≡◌, ◌⊎◌, inl, inr, ℕ, ◌+◌, ◌<◌, ◌≤◌, ◌^◌, nat_lt, Bool, true, false, List, [], length, find, Option, Some, None, option_map, Ok, Err, refl, sym, ap, ◌∙◌, subst, arith}
 use Rattle.vm_types.specs.declared.answer.Answer.{Answer}
 use Rattle.vm_types.specs.declared.answer.Answer.TheVariants.{Done}
 use Rattle.vm_types.specs.declared.command.Command.TheVariants.{Put, Commit}

@@ -9,7 +9,6 @@ use Rattle.vm_disk.specs.Disk.{Contents, DiskState, Goes, IsClean, Medium, block
 use Rattle.vm_disk.specs.Moments.{Leaves, Throughout}
 use Rattle.vm_alloc.specs.Held.{IsHeld, free_count}
 use Rattle.vm_alloc.specs.Marks.{IsMarked}
-use Rattle.vm_block.specs.Header.{IsHeader}
 use Rattle.vm_block.specs.Slot.{SlotFits}
 use Rattle.vm_block.specs.declared.slot.Entry.{Entry}
 use Rattle.vm_check.specs.TreeCopy.{AreCopied, CopiesMarked, IsUndamaged, Paired, RootCopied, WhereCopied}
@@ -20,7 +19,7 @@ use Rattle.vm_check.specs.declared.renumbering.Renumbering.{Renumbering}
 use Rattle.vm_tree.specs.Faults.{refusal_of}
 use Rattle.vm_store.specs.Filed.{Anywhere, Filed, Standing, StandsAs, tree_of}
 use Rattle.vm_store.specs.Layout.{WithoutHeader}
-use Rattle.vm_store.specs.NewStore.{IsBadSize}
+use Rattle.vm_store.specs.NewStore.{IsAnyHeader, IsBadSize}
 use Rattle.vm_store.specs.Refused.{IsAtMostSynced}
 use Rattle.vm_store.specs.Shown.{Shows, ShowsAtMost}
 use Rattle.vm_store.specs.Store.{Holds, IsHonest, blocks_of, free_of, has_failed, reads_of}
@@ -160,7 +159,7 @@ module _ (s t s' t' : DiskState) (kept : ℕ) (vs : List Version) (blocks : ℕ)
 
 -- nothing has changed but that it may be synced; or there was no header, and a crash shows at most this
 abbrev pub IsCopying : Seen → Medium → Medium → Type 0
-IsCopying seen old m = IsAtMostSynced old m ⊎ ((IsHeader (block old.contents 0) → ⊥) × Leaves (ShowsAtMost seen) m)
+IsCopying seen old m = IsAtMostSynced old m ⊎ ((IsAnyHeader (block old.contents 0) → ⊥) × Leaves (ShowsAtMost seen) m)
 
 -- the refusals of a copy of a store that stands for a state
 abbrev pub IsOfCopy : Refusal → Type 0

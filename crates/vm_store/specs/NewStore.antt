@@ -1,11 +1,11 @@
 -- What a formatting leaves.
-use Rattle.std.specs.Prelude.{◌≡◌, ◌⊎◌, ◌↔◌, ℕ, ◌<◌, Bool, true, [], ◌∷◌, None, Result, Ok, Err, IfOk, IsErr, IsErrAnd, IsTrue, OnOk, codes}
+use Rattle.std.specs.Prelude.{◌≡◌, ◌⊎◌, ◌↔◌, ℕ, ◌<◌, Bool, true, List, [], ◌∷◌, None, Result, Ok, Err, IfOk, IsErr, IsErrAnd, IsTrue, OnOk, codes}
 use Rattle.vm_types.specs.declared.sizes.TheConstants.{MIN_BLOCKS, MAX_BLOCKS}
 use Rattle.vm_types.specs.declared.refusal.Refusal.{Refusal}
 use Rattle.vm_types.specs.declared.refusal.Refusal.TheVariants.{AlreadyAStore, BadSize, Device}
 use Rattle.vm_disk.specs.Disk.{DiskState, Medium, IsClean, block}
 use Rattle.vm_disk.specs.Moments.{Leaves, Throughout}
-use Rattle.vm_block.specs.Header.{IsHeader}
+use Rattle.vm_block.specs.Header.{IsEarlierHeader, IsHeader}
 use Rattle.vm_block.specs.declared.slot.Kind.TheVariants as kind
 use Rattle.vm_block.specs.declared.slot.Entry.{Entry}
 use Rattle.vm_block.specs.declared.selector.SlotName.TheVariants.{A}
@@ -27,9 +27,13 @@ pub record IsFormatted (blocks : ℕ) (m : Medium) : Type 0 where
   pub written : IsAsWritten m.contents A blocks (fresh_entry ∷ [])
   pub clean : IsClean m
 
+-- these bytes are the header of a store, of this format or an earlier one
+abbrev pub IsAnyHeader : List ℕ → Type 0
+IsAnyHeader bytes = IsHeader bytes ⊎ IsEarlierHeader bytes
+
 -- nothing has changed but that it may be synced; or there was no header, and a crash shows at most a new store of so many blocks
 abbrev pub IsFormatting : ℕ → Medium → Medium → Type 0
-IsFormatting blocks old m = IsAtMostSynced old m ⊎ ((IsHeader (block old.contents 0) → ⊥) × Leaves (ShowsAtMostNew blocks) m)
+IsFormatting blocks old m = IsAtMostSynced old m ⊎ ((IsAnyHeader (block old.contents 0) → ⊥) × Leaves (ShowsAtMostNew blocks) m)
 
 -- the disk that comes back, with a refusal or without one
 abbrev pub given_back : {D : Type 0} → Result D (D × Refusal) → D
@@ -46,17 +50,17 @@ ComesBack result refusal = IsErrAnd result (λ e. e.1 ≡ refusal)
 
 -- what a formatting does to a disk that is honest after it
 module _ (old new : DiskState) where
-  -- it is told whether block 0 is a header
+  -- it is told whether block 0 is a header, of this format or an earlier one
   abbrev pub TellsHeader : {E : Type 0} → Result Bool E → Type 0
-  TellsHeader result = new.honest ≡ true → IfOk result (λ header. IsTrue header ↔ IsHeader (block old.now.contents 0))
+  TellsHeader result = new.honest ≡ true → IfOk result (λ header. IsTrue header ↔ IsAnyHeader (block old.now.contents 0))
 
   -- where P holds, block 0 was a header
   abbrev pub HadHeader : Type 0 → Type 0
-  HadHeader P = new.honest ≡ true → P → IsHeader (block old.now.contents 0)
+  HadHeader P = new.honest ≡ true → P → IsAnyHeader (block old.now.contents 0)
 
   -- where block 0 was a header, this is refused, and the contents are as they were
   abbrev pub LeavesStore : {T E : Type 0} → Result T E → Type 0
-  LeavesStore result = new.honest ≡ true → IsHeader (block old.now.contents 0) → IsErr result × (new.now.contents ≡ old.now.contents)
+  LeavesStore result = new.honest ≡ true → IsAnyHeader (block old.now.contents 0) → IsErr result × (new.now.contents ≡ old.now.contents)
 
   -- at each moment nothing has changed but that it may be synced; or there was no header, and a crash shows at most a new store
   abbrev pub FormatsAtMost : ℕ → Type 0

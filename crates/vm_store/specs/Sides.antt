@@ -1,6 +1,5 @@
 -- What is read of two sides that went on from one base.
 use Rattle.std.specs.Prelude.{◌≡◌, ◌⊎◌, ℕ, ◌+◌, ◌≤◌, true, List, map, Option, None, Some, Result, Ok, Err}
-use Rattle.vm_types.specs.declared.change.Change.{Change}
 use Rattle.vm_types.specs.declared.change.Conflict.{Conflict}
 use Rattle.vm_types.specs.declared.key.Key.{Key}
 use Rattle.vm_types.specs.declared.command.Side.{Side}

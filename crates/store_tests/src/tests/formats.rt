@@ -53,3 +53,19 @@ fn format_commit_and_opening_agree(rt: HostRuntime) {
 fn format_leaves_a_store_as_it_was(rt: HostRuntime) {
     on_both(&rt, &[DUCT, "format 64 -> error 20 AlreadyAStore", BLOCKS]);
 }
+
+#[test]
+fn format_leaves_a_store_of_an_earlier_format_and_no_other_disk(rt: HostRuntime) {
+    let steps = "
+        set 0 8:01
+        format 64 -> error 20 AlreadyAStore
+        block 0 -> 0:414C5453544F524501 13:10
+        set 0 8:02
+        format 64 -> error 20 AlreadyAStore
+        block 0 -> 0:414C5453544F524502 13:10
+        block 34 -> 0:4C454633 8:01 16:07 18:01 26:04 28:64756374
+        set 0 8:04
+        format 64
+        block 0 -> 0:414C5453544F524503 13:10";
+    on_both(&rt, &[DUCT, steps]);
+}

@@ -1,17 +1,17 @@
 //! Formatting a disk: and how a store is put on a disk without one, as a copy is, too.
-ghost use Rattle.std.specs.Prelude.{◌≡◌, ◌⊎◌, ◌↔◌, ◌<◌, ◌≤◌, true, length, IfErr, IsErr, IsErrAnd};
+ghost use Rattle.std.specs.Prelude.{◌≡◌, ◌⊎◌, ◌↔◌, ◌<◌, ◌≤◌, true, length, IfErr, IsErr, IsErrAnd, IsTrue};
 ghost use Rattle.vm_types.specs.declared.sizes.TheConstants.{MAX_VERSIONS};
 ghost use Rattle.vm_disk.specs.Disk.{Goes, block};
 ghost use Rattle.vm_disk.specs.Moments.{Leaves};
 ghost use Rattle.vm_store.specs.Layout.{Completes, LaysOut, PutsAtMost, PutsDown, StaysReady, WithoutHeader};
-ghost use Rattle.vm_store.specs.NewStore.{ComesBack, Formats, FormatsAtMost, HadHeader, IsOfFormat, LeavesStore, TellsHeader, IsBadSize, fresh_entry, given_back};
+ghost use Rattle.vm_store.specs.NewStore.{ComesBack, Formats, FormatsAtMost, HadHeader, IsAnyHeader, IsOfFormat, LeavesStore, TellsHeader, IsBadSize, fresh_entry, given_back};
 ghost use Rattle.vm_store.specs.Refused.{SyncsAtMost, SyncsUnless};
 ghost use Rattle.vm_store.specs.Shown.{ShowsNothing};
 
-use vm_block::{Entry, Kind, SlotName, is_header, write_header};
+use vm_block::{Entry, Kind, SlotName, is_earlier_header, is_header, write_header};
 use vm_catalog::{select_slot, write_slot};
 use vm_disk::{DeviceFault, Disk};
-use vm_types::{MAX_BLOCKS, MIN_BLOCKS, Name, Refusal};
+use vm_types::{Block, MAX_BLOCKS, MIN_BLOCKS, Name, Refusal};
 
 /// The only entry of a new store.
 fn fresh_entry() -> Entry
@@ -29,7 +29,14 @@ fn fresh_entry() -> Entry
     }
 }
 
-/// Syncs, and tells whether block 0 is a header.
+/// Whether the block is the header of a store, of this format or an earlier one.
+fn is_any_header(bytes: &Block) -> bool
+    ensures { IsTrue result ↔ IsAnyHeader bytes.now }
+{
+    is_header(bytes) || is_earlier_header(bytes)
+}
+
+/// Syncs, and tells whether block 0 is the header of a store, of this format or an earlier one.
 pub(super) fn has_header<D: Disk>(disk: &mut D) -> Result<bool, DeviceFault>
     requires { MIN_BLOCKS ≤ (D.state disk.old).blocks }
     ensures any { Goes (IsErr result) (D.state disk.old) (D.state disk.new) }
@@ -44,7 +51,7 @@ pub(super) fn has_header<D: Disk>(disk: &mut D) -> Result<bool, DeviceFault>
     let Ok(()) = disk.read(0, &mut block) else {
         return Err(DeviceFault);
     };
-    Ok(is_header(&block))
+    Ok(is_any_header(&block))
 }
 
 /// Writes slot A with these entries and the selector that names it, and syncs.
@@ -123,7 +130,8 @@ fn make_store<D: Disk>(disk: &mut D, blocks: u32) -> Result<(), Refusal>
 }
 
 /// Makes a new store of `blocks` blocks on a disk: 64 to 1,048,576, and no more than the disk has.
-/// On refusal, the disk comes back with the refusal, and an existing store is unchanged.
+/// On refusal, the disk comes back with the refusal, and an existing store, also one of an earlier
+/// format, is unchanged.
 pub fn format<D: Disk>(mut disk: D, blocks: u32) -> Result<D, (D, Refusal)>
     // On any disk.
     ensures any { Goes (IsErrAnd result

@@ -53,7 +53,7 @@ returns-clause-moments g c source s holds honest =
     let P = IsCopying (in_blocks s c.args.blocks) old in
     let has = subst (λ (vs : List Version). HasVersions s.committed c.args.source.now.parts.kept vs (g.S.Disk.state (disk_of c.args.source.now)).now.contents) (sym c.as_slice.ensures.items) (versions_kept _ _ _ _ _ _ _ s holds.keeps holds.rests) in
     let looked = weaken _ _ _ P (λ m so_far. inl so_far) (c.has_header.ensures.moments before) in
-    let filled = weaken _ _ _ P (λ m leaves. inr (none, leaves)) (c.fill.ensures.moments source s.committed has honest (synced.clean 0) (none_synced _ _ synced none)) in
+    let filled = weaken _ _ _ P (λ m leaves. inr (none, leaves)) (c.fill.ensures.moments source s.committed has honest (synced.clean 0) (none_synced _ _ synced (λ header. none (inl header)))) in
     and_then _ _ _ P looked filled
 
 pub returns-clause-held : goal.returns-clause-held

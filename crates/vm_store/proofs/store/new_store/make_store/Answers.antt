@@ -1,4 +1,4 @@
-use Rattle.std.proofs.Common.{◌∷◌, [], ap, refl}
+use Rattle.std.proofs.Common.{◌∷◌, [], ap, inl, refl}
 use Rattle.vm_disk.proofs.MomentLemmas.{weaken, and_then, at_end}
 use Rattle.vm_types.specs.Tree.{fresh}
 use Rattle.vm_store.specs.NewStore.{IsFormatting}
@@ -19,7 +19,7 @@ returns-in-Ok-clause-moments g c honest =
     let none = not_true _ c.in-Ok-false.field-0-test (c.in-Ok-false.ensures.header before) in
     let looked = weaken _ _ _ (IsFormatting c.args.blocks old) (not_yet c.args.blocks old) (c.has_header.ensures.moments before) in
     let maps = fresh_maps c.args.blocks _ _ (ap (λ e. e ∷ []) c.fresh_entry.ensures) c.requires.least c.requires.most in
-    let down = weaken _ _ _ (IsFormatting c.args.blocks old) (λ m leaves. formatting c.args.blocks old m none leaves) (c.put_down.ensures.moments fresh maps honest (synced.clean 0) (none_synced _ _ synced none)) in
+    let down = weaken _ _ _ (IsFormatting c.args.blocks old) (λ m leaves. formatting c.args.blocks old m none leaves) (c.put_down.ensures.moments fresh maps honest (synced.clean 0) (none_synced _ _ synced (λ header. none (inl header)))) in
     and_then _ _ _ (IsFormatting c.args.blocks old) looked down
 
 pub returns-in-Err-put_down-clause-moments : goal.returns-in-Err-put_down-clause-moments
@@ -30,7 +30,7 @@ returns-in-Err-put_down-clause-moments g c honest =
     let none = not_true _ c.in-Ok-false.field-0-test (c.in-Ok-false.ensures.header before) in
     let looked = weaken _ _ _ (IsFormatting c.args.blocks old) (not_yet c.args.blocks old) (c.has_header.ensures.moments before) in
     let maps = fresh_maps c.args.blocks _ _ (ap (λ e. e ∷ []) c.fresh_entry.ensures) c.requires.least c.requires.most in
-    let down = weaken _ _ _ (IsFormatting c.args.blocks old) (λ m leaves. formatting c.args.blocks old m none leaves) (c.put_down.ensures.moments fresh maps honest (synced.clean 0) (none_synced _ _ synced none)) in
+    let down = weaken _ _ _ (IsFormatting c.args.blocks old) (λ m leaves. formatting c.args.blocks old m none leaves) (c.put_down.ensures.moments fresh maps honest (synced.clean 0) (none_synced _ _ synced (λ header. none (inl header)))) in
     and_then _ _ _ (IsFormatting c.args.blocks old) looked down
 
 pub returns-in-Ok-clause-formatted : goal.returns-in-Ok-clause-formatted

@@ -1,19 +1,13 @@
-use Rattle.std.proofs.Common.{◌≡◌, ◌≤◌, Bool, refl, false, length, subst, sym, ap, ◌∙◌, arith}
+use Rattle.std.proofs.Common.{◌≤◌, refl, false, length, subst, sym, ap, ◌∙◌, arith}
 use Rattle.std.proofs.lemmas.List.{length-replicate}
 use Rattle.vm_types.specs.State.{Seen, opened}
-use Rattle.vm_disk.specs.Disk.{IsClean, Medium, block}
-use Rattle.vm_block.specs.Selector.{named_slot}
-use Rattle.vm_catalog.specs.Catalog.{SlotAt}
+use Rattle.vm_disk.specs.Disk.{Medium}
 use Rattle.vm_disk.proofs.MomentLemmas.{same_medium}
 use Rattle.vm_alloc.specs.Marks.{IsMarked}
 use Rattle.vm_tree.proofs.ScanLemmas.{fault_lists}
-use Rattle.vm_tree.specs.Faults.{refusal_of_list}
 use Rattle.vm_tree.proofs.Looking.{passed_on}
 use Rattle.vm_store.specs.Filed.{Anywhere, tree_of}
-use Rattle.vm_store.specs.Refused.{IsRefused, IsStore}
 use Rattle.vm_store.specs.Rest.{Rests}
-use Rattle.vm_check.specs.Verification.{Found, HaveTrees}
-use Rattle.vm_store.specs.Sizes.{sizes}
 use Rattle.vm_store.proofs.StandingLemmas.{standing_in}
 use Rattle.vm_store.specs.Shown.{Shows}
 use Rattle.vm_store.proofs.AddedLemmas.{roots_count}
