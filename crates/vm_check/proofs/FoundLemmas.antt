@@ -26,7 +26,7 @@ each_at P (x ∷ xs) (suc i) d lt all = each_at P xs i d (omega arith) all.1
 
 module _ (sizes : Sizes) (x : Contents) (limit : ℕ) where
   -- one root more
-  pub roots_more : (ns : List ℕ) (roots : List Root) (bs : List ℕ) (n : ℕ) (root : Root) (m : Map) (own : List ℕ) → AreRoots sizes x limit ns roots bs → root.block ≡ n → IsRooted sizes x limit root m own
+  roots_more : (ns : List ℕ) (roots : List Root) (bs : List ℕ) (n : ℕ) (root : Root) (m : Map) (own : List ℕ) → AreRoots sizes x limit ns roots bs → root.block ≡ n → IsRooted sizes x limit root m own
       → AreRoots sizes x limit (ns ++ n ∷ []) (roots ++ root ∷ []) (bs ++ own)
   roots_more [] [] bs n root m own are named rooted = (m, own, [], named, rooted, refl, ap (λ z. z ++ own) are ∙ sym (append-nil own))
   roots_more [] (r ∷ roots) bs n root m own are named rooted = absurd are

@@ -1,15 +1,15 @@
 -- What the top block of a tree tells of its root, and how trees are found by their roots.
-use Rattle.std.proofs.Common.{◌≡◌, inl, inr, ℕ, zero, suc, ◌+◌, ◌<◌, ◌≤◌, Bool, false, true, List, [], ◌∷◌, ◌++◌, length, get_or, take, drop, replicate, refl, sym, ap, ◌∙◌, subst, arith}
+use Rattle.std.proofs.Common.{◌≡◌, inl, inr, ℕ, zero, suc, ◌+◌, ◌<◌, ◌≤◌, Bool, false, true, List, [], ◌∷◌, ◌++◌, length, map, get_or, take, drop, replicate, refl, sym, ap, ◌∙◌, subst, arith}
 use Rattle.std.specs.List.{AllByRecursion}
 use Rattle.std.proofs.lemmas.Bool.{false≢true}
-use Rattle.std.proofs.lemmas.List.{length-replicate, take_all, take_more}
+use Rattle.std.proofs.lemmas.List.{length-replicate}
 use Rattle.vm_types.specs.declared.key.Key.{Key}
 use Rattle.vm_types.specs.Map.{Map}
 use Rattle.vm_disk.specs.Disk.{Contents, Medium, block}
 use Rattle.vm_alloc.specs.Marks.{IsMarked}
 use Rattle.vm_alloc.proofs.HeldLemmas.{no_mark}
 use Rattle.vm_block.specs.Leaf.{BeginsWith, Record, key_bytes}
-use Rattle.vm_block.proofs.EachLemmas.{each_join}
+use Rattle.vm_block.proofs.EachLemmas.{each_join, each_so}
 use Rattle.vm_block.specs.Look.{IfRecords}
 use Rattle.vm_block.specs.Node.{IsNode}
 use Rattle.vm_block.specs.Way.{Lowest}
@@ -20,12 +20,12 @@ use Rattle.vm_tree.specs.declared.root.Root.{Root}
 use Rattle.vm_tree.proofs.TreeLemmas.{leaf_opens, node_opens, tree_opens}
 use Rattle.vm_check.specs.Form.{IsFilled, IsForm}
 use Rattle.vm_check.specs.Marks.{AreUnder, IsClosed, MarksMore, unmarked_inner}
-use Rattle.vm_check.specs.Trees.{AreTopped, HaveRoots, IsTop, IsTopped, level_of}
+use Rattle.vm_check.specs.Trees.{AreFound, AreTopped, IsFound, IsTop, IsTopped, level_of}
 use Rattle.vm_check.specs.Verification.{AreRoots, Found, HaveTrees}
 use Rattle.vm_check.specs.Visits.{HasLevel}
 use Rattle.vm_check.specs.declared.form.Form.{Form}
 use Rattle.vm_check.specs.declared.form.Form.TheVariants.{Leaf, Node}
-use Rattle.vm_check.proofs.FoundLemmas.{each_at, roots_more}
+use Rattle.vm_check.proofs.FoundLemmas.{each_at}
 use Rattle.vm_check.proofs.KnownLemmas.{children_begin, level_one, node_level, subtree_level}
 use Rattle.vm_check.proofs.WalkLemmas.{lowest_first}
 
@@ -66,7 +66,7 @@ module _ (x : Contents) (limit n : ℕ) (form : Form) (low : Key) (bytes : List 
   level_here = subst (λ (z : List ℕ). HasLevel z (level_of form)) top.bytes_are (form_level bytes form top.formed)
 
   -- the root of that block is a top
-  pub top_is : IsTop x limit (record { block = n; level = level_of form; low = low })
+  top_is : IsTop x limit (record { block = n; level = level_of form; low = low })
   top_is = record {
     inside = top.inside;
     form = level_here;
@@ -85,7 +85,7 @@ module _ (x : Contents) (limit n : ℕ) (form : Form) (low : Key) (bytes : List 
       subst (λ (k : Key). BeginsWith k m) (sym (lowest_first low at.children none here)) (children_begin (Subtree sizes x limit l) at.children none m at.under at.node.some at.below)
 
   -- it is the root of the tree there
-  pub top_rooted : (sizes : Sizes) (m : Map) (bs : List ℕ) → 0 < n → IsTree sizes x limit n m bs → IsRooted sizes x limit (record { block = n; level = level_of form; low = low }) m bs
+  top_rooted : (sizes : Sizes) (m : Map) (bs : List ℕ) → 0 < n → IsTree sizes x limit n m bs → IsRooted sizes x limit (record { block = n; level = level_of form; low = low }) m bs
   top_rooted sizes m bs some tree =
       let at = tree_opens sizes x limit n m bs some tree in
       let same : at.level ≡ level_of form = level_one (block x n) at.level (level_of form) (subtree_level sizes x limit at.level n m bs at.subtree) level_here in
@@ -96,6 +96,22 @@ module _ (x : Contents) (limit n : ℕ) (form : Form) (low : Key) (bytes : List 
         rising = at.rising;
         lowest = top_begins sizes at.level m bs at.subtree;
       })
+
+  -- so it was found
+  pub top_found : 0 < n → IsFound x limit (record { block = n; level = level_of form; low = low })
+  top_found some = record { topped = inr top_is; of_any = λ sizes m bs tree. top_rooted sizes m bs some tree }
+
+-- roots that were found, of trees, are roots of maps
+record FoundRoots (sizes : Sizes) (x : Contents) (limit : ℕ) (ns : List ℕ) (roots : List Root) : Type 0 where
+  pub blocks : List ℕ
+  pub are : AreRoots sizes x limit ns roots blocks
+
+found_roots : (sizes : Sizes) (x : Contents) (limit : ℕ) (roots : List Root) → AreFound x limit roots → HaveTrees sizes x limit (map (λ (r : Root). r.block) roots) → FoundRoots sizes x limit (map (λ (r : Root). r.block) roots) roots
+found_roots sizes x limit [] found trees = record { blocks = []; are = refl }
+found_roots sizes x limit (r ∷ roots) found trees =
+    let tree = trees.0 in
+    let rest = found_roots sizes x limit roots found.1 trees.1 in
+    record { blocks = tree.1 ++ rest.blocks; are = (tree.0, tree.1, rest.blocks, refl, found.0.of_any sizes tree.0 tree.1 tree.2, rest.are, refl) }
 
 -- roots of maps are roots with maps under them
 roots_under : (sizes : Sizes) (x : Contents) (limit : ℕ) (ns : List ℕ) (roots : List Root) (bs : List ℕ) → AreRoots sizes x limit ns roots bs → AreUnder sizes x limit roots bs
@@ -116,14 +132,15 @@ module _ (sizes : Sizes) (limit : ℕ) (old mid : Medium) (same : mid ≡ old) (
     pub under : AreUnder sizes mid.contents (length first) taken blocks
     pub closed : IsClosed mid.contents first
 
-  pub to_mark : (roots taken : List Root) → taken ≡ roots → HaveRoots sizes old.contents limit ns roots → ToMark roots taken
-  to_mark roots taken is have =
-      let under = subst (λ (m : Medium). AreUnder sizes m.contents limit roots have.0) (sym same) (roots_under sizes old.contents limit ns roots have.0 have.1) in
+  pub to_mark : (roots taken : List Root) → taken ≡ roots → map (λ (r : Root). r.block) roots ≡ ns → AreFound old.contents limit roots → HaveTrees sizes old.contents limit ns → ToMark roots taken
+  to_mark roots taken is named found trees =
+      let have = subst (λ (ks : List ℕ). FoundRoots sizes old.contents limit ks roots) named (found_roots sizes old.contents limit roots found (subst (HaveTrees sizes old.contents limit) (sym named) trees)) in
+      let under = subst (λ (m : Medium). AreUnder sizes m.contents limit roots have.blocks) (sym same) (roots_under sizes old.contents limit ns roots have.blocks have.are) in
       let many : length first ≡ limit = ap length clear ∙ length-replicate limit false in
       record {
-        blocks = have.0;
-        are = have.1;
-        under = subst (λ l. AreUnder sizes mid.contents l taken have.0) (sym many) (subst (λ (rs : List Root). AreUnder sizes mid.contents limit rs have.0) (sym is) under);
+        blocks = have.blocks;
+        are = have.are;
+        under = subst (λ l. AreUnder sizes mid.contents l taken have.blocks) (sym many) (subst (λ (rs : List Root). AreUnder sizes mid.contents limit rs have.blocks) (sym is) under);
         closed = subst (λ (z : List Bool). IsClosed mid.contents z) (sym clear) (none_closed mid.contents limit);
       }
 
@@ -148,22 +165,21 @@ inner_behind old mid first clear marks before between after tops same is few pai
     let there = subst (λ (z : List Bool). after + unmarked_inner old.contents marks ≤ between + unmarked_inner old.contents z) is here in omega (arith, there, few)
 
 -- before the first number
-pub no_roots : (sizes : Sizes) (x : Contents) (limit : ℕ) (roots : List Root) → roots ≡ [] → HaveRoots sizes x limit [] roots
-no_roots sizes x limit roots none = subst (λ (rs : List Root). HaveRoots sizes x limit [] rs) (sym none) ([], refl)
+pub no_roots : (x : Contents) (limit : ℕ) (roots : List Root) → roots ≡ [] → AreFound x limit roots
+no_roots x limit roots none = subst (AreFound x limit) (sym none) tt
 
-pub none_topped : (x : Contents) (limit : ℕ) (roots : List Root) → roots ≡ [] → AreTopped x limit roots
-none_topped x limit roots none = subst (AreTopped x limit) (sym none) tt
+-- a root without a block
+pub none_found : (x : Contents) (limit : ℕ) (root : Root) → root.block ≡ 0 → IsFound x limit root
+none_found x limit root none = record { topped = inl none; of_any = λ sizes m bs tree. bare_rooted sizes x limit root root.block m bs none none tree }
 
--- the roots of the first numbers, and one more
-pub more_roots : (sizes : Sizes) (limit : ℕ) (old mid : Medium) (ns : List ℕ) (i : ℕ) (roots pushed : List Root) (root : Root) → mid ≡ old → i < length ns → pushed ≡ roots ++ root ∷ [] → root.block ≡ get_or ns i 0
-    → HaveTrees sizes old.contents limit ns → HaveRoots sizes old.contents limit (take i ns) roots
-    → ((m : Map) (bs : List ℕ) → IsTree sizes mid.contents limit (get_or ns i 0) m bs → IsRooted sizes mid.contents limit root m bs) → HaveRoots sizes old.contents limit (take (i + 1) ns) pushed
-more_roots sizes limit old mid ns i roots pushed root same lt push named trees have gives =
-    let tree = each_at (λ n. (m : Map) × (bs : List ℕ) × IsTree sizes old.contents limit n m bs) ns i 0 lt trees in
-    let here = subst (λ (m : Medium). IsRooted sizes m.contents limit root tree.0 tree.1) same (gives tree.0 tree.1 (subst (λ (m : Medium). IsTree sizes m.contents limit (get_or ns i 0) tree.0 tree.1) (sym same) tree.2)) in
-    subst (λ (rs : List Root). HaveRoots sizes old.contents limit (take (i + 1) ns) rs) (sym push)
-    (subst (λ (ks : List ℕ). HaveRoots sizes old.contents limit ks (roots ++ root ∷ [])) (sym (take_more ns i 0 lt))
-    (have.0 ++ tree.1, roots_more sizes old.contents limit (take i ns) roots have.0 (get_or ns i 0) root tree.0 tree.1 have.1 named here))
+-- the first roots, and one more
+pub more_found : (limit : ℕ) (x : Contents) (roots pushed : List Root) (root : Root) → pushed ≡ roots ++ root ∷ [] → AreFound x limit roots → IsFound x limit root → AreFound x limit pushed
+more_found limit x roots pushed root push found one = subst (AreFound x limit) (sym push) (each_join (IsFound x limit) roots (root ∷ []) found (one, tt))
+
+-- a root that was found after another one
+pub found_here : (limit : ℕ) (old mid : Medium) (last root : Root) → mid ≡ old → IsFound old.contents limit last → (IsFound mid.contents limit last → IsFound mid.contents limit root) → IsFound old.contents limit root
+found_here limit old mid last root same before step =
+    subst (λ (m : Medium). IsFound m.contents limit root) same (step (subst (λ (m : Medium). IsFound m.contents limit last) (sym same) before))
 
 -- a fault at a number, where each has a tree
 pub root_lacking : (sizes : Sizes) (limit : ℕ) (old mid : Medium) (ns : List ℕ) (i : ℕ) (F : Type 0) → mid ≡ old → i < length ns → HaveTrees sizes old.contents limit ns
@@ -172,11 +188,6 @@ root_lacking sizes limit old mid ns i F same lt trees step =
     let tree = each_at (λ n. (m : Map) × (bs : List ℕ) × IsTree sizes old.contents limit n m bs) ns i 0 lt trees in
     step tree.0 tree.1 (subst (λ (m : Medium). IsTree sizes m.contents limit (get_or ns i 0) tree.0 tree.1) (sym same) tree.2)
 
--- all numbers
-pub all_roots : (sizes : Sizes) (x : Contents) (limit : ℕ) (ns : List ℕ) (i : ℕ) (roots : List Root) → length ns ≤ i → HaveRoots sizes x limit (take i ns) roots → HaveRoots sizes x limit ns roots
-all_roots sizes x limit ns i roots all have = subst (λ (ks : List ℕ). HaveRoots sizes x limit ks roots) (take_all i ns all) have
-
--- the tops of the first roots, and one more
-pub more_topped : (limit : ℕ) (old mid : Medium) (roots pushed : List Root) (root : Root) → mid ≡ old → pushed ≡ roots ++ root ∷ [] → AreTopped old.contents limit roots → IsTopped mid.contents limit root → AreTopped old.contents limit pushed
-more_topped limit old mid roots pushed root same push tops top =
-    subst (AreTopped old.contents limit) (sym push) (each_join (IsTopped old.contents limit) roots (root ∷ []) tops (subst (λ (m : Medium). IsTopped m.contents limit root) same top, tt))
+-- the tops of roots that were found
+pub found_topped : (x : Contents) (limit : ℕ) (roots : List Root) → AreFound x limit roots → AreTopped x limit roots
+found_topped x limit roots found = each_so (IsFound x limit) (IsTopped x limit) (λ root is. is.topped) roots found

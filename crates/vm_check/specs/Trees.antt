@@ -5,12 +5,13 @@ use Rattle.vm_types.specs.Map.{Map}
 use Rattle.vm_disk.specs.Disk.{Contents, DiskState, block}
 use Rattle.vm_block.specs.Leaf.{key_bytes}
 use Rattle.vm_tree.specs.Tree.{Sizes, IsData, IsTree}
-use Rattle.vm_tree.specs.Answers.{Lists, OkOrDevice}
+use Rattle.vm_tree.specs.Answers.{Lists}
 use Rattle.vm_tree.specs.Root.{IsRooted}
 use Rattle.vm_tree.specs.declared.root.Root.{Root}
 use Rattle.vm_tree.specs.declared.faults.ListFault.{ListFault}
 use Rattle.vm_tree.specs.declared.faults.TreeFault.{TreeFault}
-use Rattle.vm_check.specs.Verification.{AreRoots, HaveTrees}
+use Rattle.vm_check.specs.Form.{OkUnlessDevice}
+use Rattle.vm_check.specs.Verification.{HaveTrees}
 use Rattle.vm_check.specs.Visits.{HasLevel}
 use Rattle.vm_check.specs.declared.form.Form.{Form}
 use Rattle.vm_check.specs.declared.form.Form.TheVariants.{Leaf, Node}
@@ -33,17 +34,24 @@ IsTopped x limit root = (root.block ≡ 0) ⊎ IsTop x limit root
 abbrev pub AreTopped : Contents → ℕ → List Root → Type 0
 AreTopped x limit roots = AllByRecursion (IsTopped x limit) roots
 
--- under the numbers lie maps, with these roots
-abbrev pub HaveRoots : Sizes → Contents → ℕ → List ℕ → List Root → Type 0
-HaveRoots sizes x limit ns roots = (bs : List ℕ) × AreRoots sizes x limit ns roots bs
+-- it is the root of whatever tree has its block
+abbrev pub IsRootOfAny : Contents → ℕ → Root → Type 0
+IsRootOfAny x limit root = (sizes : Sizes) (m : Map) (bs : List ℕ) → IsTree sizes x limit root.block m bs → IsRooted sizes x limit root m bs
+
+-- both, as it was found by its top block
+pub record IsFound (x : Contents) (limit : ℕ) (root : Root) : Type 0 where
+  pub topped : IsTopped x limit root
+  pub of_any : IsRootOfAny x limit root
+
+abbrev pub AreFound : Contents → ℕ → List Root → Type 0
+AreFound x limit roots = AllByRecursion (IsFound x limit) roots
 
 -- # What is answered where the disk is honest after the call, unless the device fails or no memory is found
 
--- the root of a tree, where the number has one
-abbrev pub GivesRoot : Result Root TreeFault → DiskState → DiskState → ℕ → ℕ → Type 0
-GivesRoot result old new limit n =
-    new.honest ≡ true → (sizes : Sizes) (m : Map) (bs : List ℕ) → IsTree sizes old.now.contents limit n m bs
-    → OkOrDevice result (λ root. IsRooted sizes old.now.contents limit root m bs)
+-- a root, where the number has a tree
+abbrev pub AcceptsNumber : {T : Type 0} → Result T TreeFault → DiskState → DiskState → ℕ → ℕ → Type 0
+AcceptsNumber result old new limit n =
+    new.honest ≡ true → (sizes : Sizes) (m : Map) (bs : List ℕ) → IsTree sizes old.now.contents limit n m bs → OkUnlessDevice result
 
 -- a value with P, where each of the numbers has a tree
 abbrev pub WhereTrees : {T : Type 0} → Result T ListFault → DiskState → DiskState → ℕ → List ℕ → (Sizes → Contents → T → Type 0) → Type 0

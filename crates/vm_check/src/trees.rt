@@ -1,9 +1,9 @@
 //! Finding trees by their tops and their inner blocks.
-ghost use Rattle.std.specs.Prelude.{◌≡◌, ◌+◌, ◌≤◌, length, map, replicate, false, IfOk};
+ghost use Rattle.std.specs.Prelude.{◌≡◌, ◌+◌, ◌≤◌, length, map, replicate, false, IfOk, ⊤};
 ghost use Rattle.vm_tree.specs.Calls.{OnlyLists, OnlyLooks};
 ghost use Rattle.vm_tree.specs.BlockReads.{Finds};
 ghost use Rattle.vm_check.specs.Marks.{unmarked_inner};
-ghost use Rattle.vm_check.specs.Trees.{AreTopped, GivesRoot, HaveRoots, IsTopped, WhereTrees, level_of};
+ghost use Rattle.vm_check.specs.Trees.{AcceptsNumber, AreFound, AreTopped, IsFound, WhereTrees, level_of};
 ghost use Rattle.vm_check.specs.Verification.{Found};
 
 use crate::form::{Form, form_at};
@@ -31,8 +31,8 @@ fn root_at<D: Disk>(disk: &mut D, blocks: u32, number: u32) -> Result<Root, Tree
     ensures looks { OnlyLooks result (D.state disk.old) (D.state disk.new) }
     ensures once { (D.state disk.new).reads ≤ (D.state disk.old).reads + 1 }
     ensures named { IfOk result (λ root. root.block ≡ number) }
-    ensures topped { Finds result (D.state disk.old) (D.state disk.new) (λ x root. IsTopped x blocks root) }
-    ensures found { GivesRoot result (D.state disk.old) (D.state disk.new) blocks number }
+    ensures found { Finds result (D.state disk.old) (D.state disk.new) (λ x root. IsFound x blocks root) }
+    ensures only { AcceptsNumber result (D.state disk.old) (D.state disk.new) blocks number }
 {
     if number == 0 {
         return Ok(Root::default());
@@ -48,6 +48,27 @@ fn root_at<D: Disk>(disk: &mut D, blocks: u32, number: u32) -> Result<Root, Tree
     })
 }
 
+/// The same. If it is the root that was found last, its block is not read again.
+fn next_root<D: Disk>(
+    disk: &mut D,
+    blocks: u32,
+    number: u32,
+    last: Root,
+) -> Result<Root, TreeFault>
+    requires { blocks ≤ (D.state disk.old).blocks }
+    ensures looks { OnlyLooks result (D.state disk.old) (D.state disk.new) }
+    ensures once { (D.state disk.new).reads ≤ (D.state disk.old).reads + 1 }
+    ensures named { IfOk result (λ root. root.block ≡ number) }
+    ensures found { IsFound (D.state disk.old).now.contents blocks last
+        → Finds result (D.state disk.old) (D.state disk.new) (λ x root. IsFound x blocks root) }
+    ensures only { AcceptsNumber result (D.state disk.old) (D.state disk.new) blocks number }
+{
+    if number == last.block {
+        return Ok(last);
+    }
+    root_at(disk, blocks, number)
+}
+
 /// The roots of the trees under the numbers, in order.
 fn find_roots<D: Disk>(
     alloc: Global,
@@ -59,14 +80,14 @@ fn find_roots<D: Disk>(
     ensures looks { OnlyLists result (D.state disk.old) (D.state disk.new) }
     ensures once { (D.state disk.new).reads ≤ (D.state disk.old).reads + length numbers.now }
     ensures named { IfOk result (λ roots. map (λ root. root.block) roots.items ≡ numbers.now) }
-    ensures topped { Finds result (D.state disk.old) (D.state disk.new) (λ x roots. AreTopped x blocks roots.items) }
-    ensures found { WhereTrees result (D.state disk.old) (D.state disk.new) blocks numbers.now
-        (λ sizes x roots. HaveRoots sizes x blocks numbers.now roots.items) }
+    ensures found { Finds result (D.state disk.old) (D.state disk.new) (λ x roots. AreFound x blocks roots.items) }
+    ensures only { WhereTrees result (D.state disk.old) (D.state disk.new) blocks numbers.now (λ sizes x roots. ⊤) }
 {
     let mut roots = Vec::new(alloc);
+    let mut last = Root::default();
     for number in numbers {
-        let root = root_at(disk, blocks, *number)?;
-        match roots.push(root) {
+        last = next_root(disk, blocks, *number, last)?;
+        match roots.push(last) {
             Ok(()) => {}
             Err(_) => return Err(ListFault::Memory),
         }

@@ -10,7 +10,7 @@ use Rattle.vm_disk.specs.Moments.{Throughout}
 use Rattle.vm_disk.specs.declared.disk.Disk.{Ghosts}
 use Rattle.vm_store.specs.Copies.{IsCopy, IsCopying, in_blocks}
 use Rattle.vm_store.specs.NewStore.{IsBadSize}
-use Rattle.vm_store.specs.Recovery.{OpensAs}
+use Rattle.vm_store.specs.Recovery.{OpensWhole}
 use Rattle.vm_store.specs.Refused.{IsStore}
 use Rattle.vm_store.specs.Rest.{spare_of}
 use Rattle.vm_store.specs.Store.{FromState, blocks_of, disk_of, free_of}
@@ -49,9 +49,9 @@ module _ {D : Type 0} (members : Ghosts D) where
   pub record IsInUse (x : Contents) (seen : Seen) (used : ℕ) : Type 0 where
     pub store : Store D members
     pub over : (members.state (disk_of store)).now.contents ≡ x
-    pub opens : OpensAs x store
+    pub opens : OpensWhole x store
     pub shows : opens.seen ≡ seen
-    pub used_are : used ≡ seen.blocks - spare_of opens.holds.rests
+    pub used_are : used ≡ seen.blocks - spare_of opens.stands.holds.rests
 
 -- why a copy of this many blocks is refused on a disk that went from the one state to the other: for want of memory, or since the disk
 -- has fewer, and no call was made of it; or it has a store

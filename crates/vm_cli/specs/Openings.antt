@@ -5,7 +5,6 @@ use Rattle.vm_types.specs.declared.refusal.Refusal.TheVariants.{Device, NotAStor
 use Rattle.vm_disk.specs.Disk.{Contents, DiskState, Goes, block}
 use Rattle.vm_disk.specs.Moments.{Throughout}
 use Rattle.vm_block.specs.Header.{IsEarlierHeader}
-use Rattle.vm_store.specs.Recovery.{OpensAs}
 use Rattle.vm_store.specs.Refused.{IsAtMostSynced, IsRefused, IsSynced}
 use Rattle.vm_store.specs.Store.{disk_of, has_failed}
 use Rattle.vm_store.specs.declared.store.Store.{Store}
@@ -35,10 +34,10 @@ pub record HasRefused (old new : DiskState) (told : NoStore) : Type 0 where
   pub moments : new.honest ≡ true → Throughout old new (IsAtMostSynced old.now)
 
 module _ {D : Type 0} {members : _} where
-  -- the store that the disk showed was opened, and the disk is synced: at each moment nothing had changed, or all was synced
-  pub record HasOpened (old : DiskState) (store : Store D members) : Type 0 where
+  -- the store on the disk was opened, as `Opens` tells, and the disk is synced: at each moment nothing had changed, or all was synced
+  pub record HasOpened (Opens : Contents → Store D members → Type 0) (old : DiskState) (store : Store D members) : Type 0 where
     pub goes : Goes ⊥ old (members.state (disk_of store))
     pub well : has_failed store ≡ false
-    pub opens : (members.state (disk_of store)).honest ≡ true → OpensAs old.now.contents store
+    pub opens : (members.state (disk_of store)).honest ≡ true → Opens old.now.contents store
     pub synced : (members.state (disk_of store)).honest ≡ true → IsSynced old.now (members.state (disk_of store)).now
     pub moments : (members.state (disk_of store)).honest ≡ true → Throughout old (members.state (disk_of store)) (IsAtMostSynced old.now)

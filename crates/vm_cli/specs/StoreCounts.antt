@@ -3,7 +3,7 @@ use Rattle.std.specs.Prelude.{◌≡◌, ℕ, length, sum_by}
 use Rattle.vm_types.specs.Tree.{Tree}
 use Rattle.vm_disk.specs.Disk.{Contents}
 use Rattle.vm_disk.specs.declared.disk.Disk.{Ghosts}
-use Rattle.vm_store.specs.Recovery.{OpensAs}
+use Rattle.vm_store.specs.Recovery.{OpensWhole}
 use Rattle.vm_store.specs.Rest.{spare_of}
 use Rattle.vm_store.specs.Store.{disk_of, free_of}
 use Rattle.vm_types.specs.State.{State}
@@ -25,7 +25,7 @@ module _ {D : Type 0} (members : Ghosts D) where
   pub record IsCounted (x : Contents) (alternatives checkpoints free : ℕ) : Type 0 where
     pub store : Store D members
     pub over : (members.state (disk_of store)).now.contents ≡ x
-    pub opens : OpensAs x store
+    pub opens : OpensWhole x store
     pub alternatives_are : alternatives ≡ length opens.seen.tree
     pub checkpoints_are : checkpoints ≡ checkpoint_count opens.seen.tree
-    pub free_are : free ≡ spare_of opens.holds.rests
+    pub free_are : free ≡ spare_of opens.stands.holds.rests

@@ -1,9 +1,7 @@
-use Rattle.std.proofs.Common.{Ok, ◌≡◌, ◌+◌, ◌≤◌, true, length, map, take}
+use Rattle.std.proofs.Common.{Ok, ◌≡◌, ◌+◌, ◌≤◌, true, map, take}
 use Rattle.vm_tree.specs.Calls.{OnlyLooks}
-use Rattle.vm_tree.specs.Tree.{Sizes}
 use Rattle.vm_tree.specs.declared.root.Root.{Root}
-use Rattle.vm_check.specs.Trees.{AreTopped, HaveRoots}
-use Rattle.vm_check.specs.Verification.{HaveTrees}
+use Rattle.vm_check.specs.Trees.{AreFound, IsFound}
 use Rattle.vm_check.proofs.trees.find_roots.Given as goal
 
 -- what was found under the numbers so far
@@ -14,6 +12,6 @@ invariant-loop-number g l =
       looks : OnlyLooks {T = Unit {0}} (Ok tt) old now;
       once : now.reads ≤ old.reads + l.number-index;
       named : map (λ (r : Root). r.block) l.roots.items ≡ take l.number-index l.numbers;
-      topped : now.honest ≡ true → AreTopped old.now.contents l.blocks l.roots.items;
-      found : now.honest ≡ true → (sizes : Sizes) → HaveTrees sizes old.now.contents l.blocks l.numbers → HaveRoots sizes old.now.contents l.blocks (take l.number-index l.numbers) l.roots.items;
+      found : now.honest ≡ true → AreFound old.now.contents l.blocks l.roots.items;
+      last : now.honest ≡ true → IsFound old.now.contents l.blocks l.last;
     }
