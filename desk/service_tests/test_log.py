@@ -95,6 +95,23 @@ class IndexTests(unittest.TestCase):
                 self.assertEqual(wanted(self.path, **values), self.ask(log, words), words)
             log.close()
 
+    def test_parts_that_are_indexed_while_a_log_is_read(self):
+        """As a service does between two parts of an answer."""
+        chance = random.Random(8)
+        for _ in range(8):
+            Path(self.path).write_text(self.journal(chance))
+            for first in (0, 1, 3):
+                for values in ({}, {"last": 9}, {"planner": "anna"}, {"last": 2, "record": "2:5"}):
+                    Path(f"{self.path}.index").unlink(missing_ok=True)
+                    log, rows = Log(self.path, writes=True), b""
+                    for _ in range(first):
+                        log.index.add(log.size())
+                    for part in log.entries(filter_of([f"{name}={value}" for name, value in values.items()])):
+                        rows += part
+                        log.index.add(log.size())
+                    log.close()
+                    self.assertEqual(wanted(self.path, **values), rows.decode().splitlines()[:-1], (first, values))
+
     def test_an_index_of_another_journal_is_made_again(self):
         chance = random.Random(4)
         for _ in range(5):
