@@ -90,7 +90,7 @@ class Designs:
         if verb == "post" and alt.startswith(maps.IMPORTS):
             return False
         if is_own_line(entry.line):
-            if (verb, alt) == ("new", places.OWN):  # The index is made anew: where features lie is read again.
+            if alt == places.OWN and verb in ("renew", "new"):  # The index is made anew: where features lie is read again.
                 self.designs, self.indexes = {}, {}
             if alt == places.OWN:
                 self.indexed = entry.batch

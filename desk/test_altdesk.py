@@ -40,6 +40,8 @@ from desk_tests.test_looking import LookingTests
 from desk_tests.test_office import OfficePageTests, OfficeTests
 from desk_tests.test_page import PageTests
 from desk_tests.test_people import TogetherTests, TwoPeopleTests, UnseenTests
+from desk_tests.test_pieces import PiecesTests, ReadingTests
+from desk_tests.test_renewals import RenewalRightsTests, RenewalTests
 from desk_tests.test_service import ServicePageTests
 from desk_tests.test_window import ManyFeaturesTests, WhatIsNotDrawnTests
 

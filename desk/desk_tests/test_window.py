@@ -118,4 +118,6 @@ class ManyFeaturesTests(DeskTest):
         designs.refresh()
         self.assertEqual(0, len(designs.design("top").moved[7]))
         self.assertEqual({}, places.moved(other, places.OWN, "top", 7))
+        # 603 pages of 166 features, and 3 records of the bounds of 250 pages.
+        self.assertEqual([(".service", "renew .places 606")], [(it.planner, it.line) for it in other.log(after=1)])
         self.assertEqual(1201, designs.design("top").window((2600000, 1198999, 2601300, 1199001))["found"])

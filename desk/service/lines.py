@@ -54,8 +54,9 @@ NAME = re.compile(rb"[A-Za-z0-9_.-]{1,32}")
 # The alternative of a field office, and its marks: checkpoints of any alternative. docs/FIELD-OFFICES.md has what they are for.
 OFFICE = re.compile(rb"\.office\.([A-Za-z0-9_-]{1,15})")
 MARK = re.compile(OFFICE.pattern + rb"\.[A-Za-z0-9_.-]+")
-# A person for whom another one acts. Digits alone would be the number of a user, and a group has `@` before its name.
-PERSON = re.compile(rb"(?![0-9]+$)[A-Za-z0-9_.-][A-Za-z0-9_.@+-]{0,63}")
+# A person for whom another one acts. Digits alone would be the number of a user, a group has `@` before its name, and under
+# the name of its alternative the service itself stands in the journal.
+PERSON = re.compile(rb"(?![0-9]+$|%s$)[A-Za-z0-9_.-][A-Za-z0-9_.@+-]{0,63}" % re.escape(OWN))
 SEEN = re.compile(rb"([A-Za-z0-9_.-]{1,32})=([0-9]{1,19})")
 
 

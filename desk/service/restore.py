@@ -54,7 +54,7 @@ class Past:
         """The number, the time and a line, for each line of the batches after a number."""
         for log, kept in self.logs:
             after = max(after, dropped_from(log.file).highest)
-            for text in log.entries(Filter(after=after), kept):
+            for text in log.entries(Filter(after=after, is_in_full=True), kept):
                 for row in text.splitlines():
                     if row.startswith(b"entry "):
                         _, at, time, _, line = row.split(b" ", 4)

@@ -56,6 +56,8 @@ def person_of(connection):
         gids = {gid, *os.getgrouplist(name, gid)}
     except KeyError:
         name, gids = str(uid), {gid}
+    # The service's own name is nobody else's.
+    name = str(uid) if name == OWN.decode() else name
     return Person(uid, name, frozenset(map(group_name, gids)))
 
 

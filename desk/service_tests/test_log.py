@@ -22,7 +22,10 @@ def wanted(path, planner=None, alternative=None, record=None, last=None, after=0
     for batch in kept_batches(path):
         if batch["batch"] <= after or planner not in (None, batch["who"], str(batch["uid"])):
             continue
-        for line in batch["lines"]:
+        is_renewal = (batch["who"], batch["alternatives"]) == (".service", [".places"])
+        if is_renewal and alternative in (None, ".places") and record is None:
+            found.append(f"entry {batch['batch']} {batch['time']} .service renew .places {batch['records']}")
+        for line in batch["lines"] if not is_renewal else ():
             verb, *words = line.split(" ")
             is_about = words[:1] == [alternative] or verb == "post" and alternative in batch["alternatives"]
             if alternative is not None and not (alternative in batch["alternatives"] and is_about):
@@ -60,8 +63,10 @@ class IndexTests(unittest.TestCase):
                 number += 1
                 texts = [self.line(chance) for _ in range(chance.choice((1, 1, 3, 40)))]
                 names = sorted({it.split()[1] for it in texts if not it.startswith("grow")})
-                who = chance.choice(("anna", "b\u00fcr\"o", "carl"))
-                batch = {"batch": number, "time": "t", "uid": len(who), "who": who, "alternatives": names, "records": 1, "lines": texts}
+                who = chance.choice(("anna", "b\u00fcr\"o", "carl", ".service"))
+                if who == ".service" and chance.random() < 0.8:
+                    names, texts = [".places"], ["new .places top", *(it.replace("top", ".places") for it in texts)]
+                batch = {"batch": number, "time": "t", "uid": len(who), "who": who, "alternatives": names, "records": len(texts), "lines": texts}
                 group.append(json.dumps(batch, separators=(",", ":")))
             lines += group
             if chance.random() < 0.8:
@@ -88,12 +93,29 @@ class IndexTests(unittest.TestCase):
             for _ in range(chance.choice((0, 3, 999))):
                 log.index.add(log.size())
             for _ in range(12):
-                values = {"planner": chance.choice((None, "anna", 'b\u00fcr"o', "4", "x"))}
-                values.update(alternative=chance.choice((None, None, "top", "b.1")), record=chance.choice((None, "0:3", "2:5", "9:9")))
+                values = {"planner": chance.choice((None, "anna", 'b\u00fcr"o', "4", "x", ".service"))}
+                values.update(alternative=chance.choice((None, None, "top", "b.1", ".places")), record=chance.choice((None, "0:3", "2:5", "9:9")))
                 values.update(last=chance.choice((None, None, 0, 1, 7, 10**9)), after=chance.choice((0, 0, 5, 30)))
                 words = [f"{name}={value}" for name, value in values.items() if value is not None]
                 self.assertEqual(wanted(self.path, **values), self.ask(log, words), words)
             log.close()
+
+    def test_parts_that_are_indexed_while_a_log_is_read(self):
+        """As a service does between two parts of an answer."""
+        chance = random.Random(8)
+        for _ in range(8):
+            Path(self.path).write_text(self.journal(chance))
+            for first in (0, 1, 3):
+                for values in ({}, {"last": 9}, {"planner": "anna"}, {"last": 2, "record": "2:5"}):
+                    Path(f"{self.path}.index").unlink(missing_ok=True)
+                    log, rows = Log(self.path, writes=True), b""
+                    for _ in range(first):
+                        log.index.add(log.size())
+                    for part in log.entries(filter_of([f"{name}={value}" for name, value in values.items()])):
+                        rows += part
+                        log.index.add(log.size())
+                    log.close()
+                    self.assertEqual(wanted(self.path, **values), rows.decode().splitlines()[:-1], (first, values))
 
     def test_an_index_of_another_journal_is_made_again(self):
         chance = random.Random(4)

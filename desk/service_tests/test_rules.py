@@ -280,7 +280,7 @@ class ActingTests(ServiceTest):
         self.rules('act = ["*"]\n[change]\n"*" = ["@planners", "1000"]')
         self.start()
         with self.planner() as one:
-            for name in ("@planners", "1000", "*", "a/b", "x" * 65, "", "anna berta", "%41"):
+            for name in ("@planners", "1000", ".service", "*", "a/b", "x" * 65, "", "anna berta", "%41"):
                 due = ["error 22 BadLine", "error 90 Denied change *"]
                 self.assertEqual(due, one.ask(f"for {name}".rstrip(), "new north top"), name)
 
