@@ -311,7 +311,7 @@ all_ok() {
     sed 's/.*/ok/' "$work/$1.lines" >"$work/$1.answers"
 }
 
-# The same line for each version, and the same answer for each.
+# The same line for each design, and the same answer for each.
 for_versions() {
     awk -v line="$2" -v count="$versions" \
         'BEGIN { for (i = 1; i <= count; i++) { it = line; sub(/ALT/, "v" i, it); print it } }' >"$work/$1.lines"
@@ -324,8 +324,8 @@ prepare_gets() {
     awk -v size="$3" '{ printf "value %0*d\n", size, $1 }' "$work/$2" >"$work/$1.answers"
 }
 
-# The lines on records of 200 bytes. Each version has changes of its own, and as many are made in the parent, of which
-# a tenth are in conflict with those of each version.
+# The lines on records of 200 bytes. Each design has changes of its own, and as many are made in the parent, of which
+# a tenth are in conflict with those of each design.
 prepare() {
     numbers "$records" random >"$work/random"
     numbers "$records" rising >"$work/rising"
@@ -461,10 +461,10 @@ measure_records() {
     measure refused "$of lines that are refused" "$records"
     measure list "a list of $of records" 1
     ask versions
-    measure changes "changes of a version, $changed on each side" "$versions"
-    measure conflicts "conflicts of a version, $((changed / 10)) of them" "$versions"
+    measure changes "changes of a design, $changed on each side" "$versions"
+    measure conflicts "conflicts of a design, $((changed / 10)) of them" "$versions"
     measure merges "a merge of $changed changes" "$versions"
-    measure posts 'a version made, changed at one record, posted and dropped' "$commits"
+    measure posts 'a design made, changed at one record, posted and dropped' "$commits"
     stop
     begin "$blocks"
     measure_load load_rising "$of puts by rising keys, one commit" "$records" "$blocks"
