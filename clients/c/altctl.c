@@ -214,8 +214,8 @@ static int nameless(void)
 }
 
 /* Starts the program with these descriptors as its standard streams and, if there is a lock, as descriptor 3. It gets a
-   process group of its own, so that an interrupt from the terminal doesn't kill it in the middle of the caller's work, and
-   no signal is blocked in it. */
+   process group of its own, so that an interrupt from the terminal doesn't kill it in the middle of the caller's work,
+   and no signal is blocked in it. */
 static int start(pid_t *program, const char *const *words, int input, int output, int faults, int lock)
 {
     posix_spawn_file_actions_t actions;
@@ -238,7 +238,8 @@ static int start(pid_t *program, const char *const *words, int input, int output
     return error == 0 ? ALT_OK : ALT_NO_PROGRAM;
 }
 
-/* Waits for the program's end, and notes its status and what it said. The status stays 0 if the caller ignores SIGCHLD. */
+/* Waits for the program's end, and notes its status and what it said. The status stays 0 if the caller ignores
+   SIGCHLD. */
 static void note_end(pid_t program, int faults, alt_details *details)
 {
     int status = 0;
@@ -362,7 +363,8 @@ static int enter(const alt_store *store)
     return store->rows.is_open ? ALT_ROWS_OPEN : ALT_OK;
 }
 
-/* Adds the words of a line as `form` has them: `%w` is a word, `%k` a key, `%v` a value and its length, `%n` a number. */
+/* Adds the words of a line as `form` has them: `%w` is a word, `%k` a key, `%v` a value and its length, `%n` a
+   number. */
 static int add_words(struct buffer *out, const char *form, va_list words)
 {
     int error = ALT_OK;
@@ -833,8 +835,8 @@ const char *alt_error_text(alt_store *store, int error)
 
 /* --- commands -------------------------------------------------------------------------------------- */
 
-/* Ends a batch by a word, and takes the answers to all its lines. Of a refused batch one line has the refusal, and the others
-   say that they were not done. */
+/* Ends a batch by a word, and takes the answers to all its lines. Of a refused batch one line has the refusal, and the
+   others say that they were not done. */
 static int end_batch(alt_store *store, const char *word)
 {
     alt_ticket begin = store->batch, end;
@@ -1267,8 +1269,8 @@ static int add_rows(alt_cursor *cursor, alt_rows *rows, alt_key *last)
     return last->table == cursor->last_table && last->number == UINT64_MAX ? ALT_DONE : ALT_OK;
 }
 
-/* Reads the next page in the place of one that was given. If that fails there is no page, and the cursor goes on where it
-   would have begun. */
+/* Reads the next page in the place of one that was given. If that fails there is no page, and the cursor goes on where
+   it would have begun. */
 static int read_page(alt_cursor *cursor)
 {
     alt_rows *rows;

@@ -1,7 +1,7 @@
 #!/bin/sh
-# Tests the C client with each compiler and checker that is installed: `clients/c/test.sh [PROGRAM]`; without a PROGRAM it
-# takes the one that `./altctl` at the top starts. With --quick before it the first compiler alone tests it, with its checkers.
-# What is not installed is skipped, with a line that says so.
+# Tests the C client with each compiler and checker that is installed: `clients/c/test.sh [PROGRAM]`; without a PROGRAM
+# it takes the one that `./altctl` at the top starts. With --quick before it the first compiler alone tests it, with its
+# checkers. What is not installed is skipped, with a line that says so.
 set -eu
 
 quick=

@@ -1,5 +1,5 @@
-/* Tests of the C client over real files: `test_altctl PROGRAM FOLDER [SERVICE]`. Each test has a new store of 64 blocks.
-   SERVICE is `desk/altserve`; without it the tests of a service are skipped. */
+/* Tests of the C client over real files: `test_altctl PROGRAM FOLDER [SERVICE]`. Each test has a new store of 64
+   blocks. SERVICE is `desk/altserve`; without it the tests of a service are skipped. */
 #define _GNU_SOURCE
 #include "altctl.h"
 

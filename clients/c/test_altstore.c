@@ -1,5 +1,5 @@
-/* Tests of libaltstore: `test_altstore PROGRAM FOLDER`. PROGRAM is altctl, with which the images are compared, and FOLDER an
-   empty one. Prints the number of its checks, or the first that failed. */
+/* Tests of libaltstore: `test_altstore PROGRAM FOLDER`. PROGRAM is altctl, with which the images are compared, and
+   FOLDER an empty one. Prints the number of its checks, or the first that failed. */
 #define _POSIX_C_SOURCE 200809L
 #include "altstore.h"
 

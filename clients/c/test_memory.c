@@ -1,5 +1,5 @@
-/* Refuses each allocation of the C client in turn: `test_memory PROGRAM FOLDER`. Each call has to return an error then, or to
-   do what it does; what was put and committed without one has to be in the file. */
+/* Refuses each allocation of the C client in turn: `test_memory PROGRAM FOLDER`. Each call has to return an error then,
+   or to do what it does; what was put and committed without one has to be in the file. */
 #define _GNU_SOURCE
 #include <stdio.h>
 #include <stdlib.h>
@@ -51,8 +51,8 @@ static int checked(int error, const char *what)
     return error;
 }
 
-/* Steps through all records by a cursor. A step whose page was refused memory is tried again, and then goes on where it should.
-   A record whose put was not known to be answered may be there, too. */
+/* Steps through all records by a cursor. A step whose page was refused memory is tried again, and then goes on where it
+   should. A record whose put was not known to be answered may be there, too. */
 static void scan(alt_store *store, uint64_t due)
 {
     alt_cursor *cursor;

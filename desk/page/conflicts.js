@@ -1,5 +1,5 @@
-// Conflicts: base, parent and mine side by side, and a choice for each field that both have changed differently. Choices
-// are kept on the server until the merge is sent.
+// Conflicts: base, parent and mine side by side, and a choice for each field that both have changed differently.
+// Choices are kept on the server until the merge is sent.
 import { $, button, fill, make, own, sample, say, trying } from "./dom.js";
 import { mark, zoomToMarks } from "./chart.js";
 import { showHead } from "./desk.js";

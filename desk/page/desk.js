@@ -1,5 +1,6 @@
-// The desk in the browser: it asks the server for what it shows, and sends each change as a batch. The server looks whether what was
-// seen still holds. Modules have the map, drawing, styles, features, finding, conflicts, designs and printing.
+// The desk in the browser: it asks the server for what it shows, and sends each change as a batch. The server looks
+// whether what was seen still holds. Modules have the map, drawing, styles, features, finding, conflicts, designs and
+// printing.
 import { $, button, fill, make, sample, say, trying } from "./dom.js";
 import { showMap, unmark } from "./chart.js";
 import { fillConflicts, keepChoices, readChoices } from "./conflicts.js";

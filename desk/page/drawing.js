@@ -1,5 +1,5 @@
-// Drawing: a new course point by point, moved and removed bends of one, a line that is split. With the mouse, or by keyboard: then the
-// cross in the middle of the map is the pen, arrows move the map below it, Enter sets a point.
+// Drawing: a new course point by point, moved and removed bends of one, a line that is split. With the mouse, or by
+// keyboard: then the cross in the middle of the map is the pen, arrows move the map below it, Enter sets a point.
 import { $, button, fill, make, options, say, trying } from "./dom.js";
 import { map } from "./chart.js";
 import { desk } from "./shared.js";

@@ -1,4 +1,5 @@
-// A feature in the panel: before and now, its form, who changed it, and an edit that came too late beside what others have made.
+// A feature in the panel: before and now, its form, who changed it, and an edit that came too late beside what others
+// have made.
 import { $, button, fill, make, own, question, say, trying } from "./dom.js";
 import { mark, unmark } from "./chart.js";
 import { carryOut, link, showOther, showView } from "./desk.js";
@@ -26,8 +27,8 @@ async function showRead(isToMove) {
   await showView();
 }
 
-// Shows the feature once more, after something was undone or others have changed something, or the changes if it is gone.
-// What a person has asked for meanwhile stays.
+// Shows the feature once more, after something was undone or others have changed something, or the changes if it is
+// gone. What a person has asked for meanwhile stays.
 export async function showAgain() {
   const { feature } = desk;
   const isShown = () => desk.view === "feature" && desk.feature === feature && !desk.edits;

@@ -1,5 +1,5 @@
-// How features are drawn: by whether they are changed, or else by the style of their layer. The list of layers, and the form of a
-// style.
+// How features are drawn: by whether they are changed, or else by the style of their layer. The list of layers, and the
+// form of a style.
 import { $, button, fill, make, options, own, sample, svg, trying } from "./dom.js";
 import { backgroundItem } from "./background.js";
 import { carryOut, showOther } from "./desk.js";

@@ -11,7 +11,8 @@
 # or with `error 16 Memory`. After that the store is as before the line, the file is as long, and the same line gets
 # its usual answer. In the end the file shows the usual, with the usual slots byte by byte: a block that no version
 # needs may have other bytes, since it is written where there is no memory for it to wait. A run that ends before its
-# first line leaves the file as it was, and the file opens again. Nor does a run write beside one that has locked the file.
+# first line leaves the file as it was, and the file opens again. Nor does a run write beside one that has locked the
+# file.
 #
 # It needs a C compiler, and programs that are linked against glibc. Its verdict is its exit status.
 set -eu
@@ -210,8 +211,8 @@ check_end() {
     esac
 }
 
-# Runs a session over a new store, with each of its allocations refused: of an alternative, in a store of that many blocks,
-# of which as many may wait as the third word says, or as usual if it is empty.
+# Runs a session over a new store, with each of its allocations refused: of an alternative, in a store of that many
+# blocks, of which as many may wait as the third word says, or as usual if it is empty.
 run_session() {
     alt=$1
     buffer=$3
@@ -287,7 +288,8 @@ run_checks() {
     run_reads check
 }
 
-# Copies the store that a session left, with each allocation refused. It has so many blocks, all but the free ones in use.
+# Copies the store that a session left, with each allocation refused. It has so many blocks, all but the free ones in
+# use.
 run_copies() {
     cp "$room/usual" "$room/store"
     spare=$(echo free | "$program" run "$room/store")
@@ -362,8 +364,8 @@ hold_lock() {
     until [ -s "$room/held" ]; do sleep 0.1; done
 }
 
-# Has lines carried out beside a session that holds the lock, with each allocation refused: none of them writes. Each end is
-# met at least once.
+# Has lines carried out beside a session that holds the lock, with each allocation refused: none of them writes. Each
+# end is met at least once.
 try_locked() {
     cp "$room/empty" "$room/store"
     hold_lock

@@ -102,8 +102,8 @@ compare_bricks() {
     mount_volume "$mount"
 }
 
-# The load: batches of 100 puts, a commit after each. `load FILE COUNT [PROCESS ..]` kills these processes in the middle, and
-# appends the numbers of the acknowledged batches to those of earlier loads.
+# The load: batches of 100 puts, a commit after each. `load FILE COUNT [PROCESS ..]` kills these processes in the
+# middle, and appends the numbers of the acknowledged batches to those of earlier loads.
 load() {
     python3 - "$altctl" "$folder/acknowledged" "$@" <<'PYTHON'
 import os, signal, sys, time

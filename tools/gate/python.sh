@@ -1,6 +1,7 @@
 #!/bin/sh
-# Looks over Python without running it: `tools/gate/python.sh`. pyflakes reads the clients, the scripts and the desk, and
-# mypy those whose names have types. What is not installed (Debian's pyflakes3, mypy) is skipped, with a line that says so.
+# Looks over Python without running it: `tools/gate/python.sh`. pyflakes reads the clients, the scripts and the desk,
+# and mypy those whose names have types. What is not installed (Debian's pyflakes3, mypy) is skipped, with a line that
+# says so.
 set -eu
 
 cd "$(dirname -- "$0")/../.."

@@ -742,7 +742,8 @@ changed unmerged conflicts post
                                     * before
 END
 
-# Copies a store, which stays as it is, to a file: the number of its blocks, of those in use, and further words of the copy.
+# Copies a store, which stays as it is, to a file: the number of its blocks, of those in use, and further words of the
+# copy.
 copied() {
     cp "$1" before
     : >lines
@@ -1019,9 +1020,9 @@ redirected() {
     compare "$name: standard error" faults faults.came
 }
 
-# Starts the program with the words after the third, on the bytes in `lines`, with the standard descriptors closed that the
-# second names by their numbers. Compares its status with the third word, its output with `output`, and its standard error with
-# `faults`, as far as they are open.
+# Starts the program with the words after the third, on the bytes in `lines`, with the standard descriptors closed that
+# the second names by their numbers. Compares its status with the third word, its output with `output`, and its standard
+# error with `faults`, as far as they are open.
 closed() {
     name="$1, closed $2"
     input='<lines' out='>output.came' error='2>faults.came'
@@ -1142,8 +1143,8 @@ done
 absent 'no descriptor is left' made
 compare 'no descriptor is left: the file' spelled store
 
-# The standard output is open on the store's own file, or the input, where it may be written: that is not opened, and stays
-# as it is.
+# The standard output is open on the store's own file, or the input, where it may be written: that is not opened, and
+# stays as it is.
 echo 1 >status
 echo 'altctl: cannot open store' >faults
 : >output

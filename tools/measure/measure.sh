@@ -2,15 +2,15 @@
 # Measures the program over real files beside a store in the same format that is written by hand in C, without proofs
 # (`plain.c`), and prints tables in Markdown:
 # `tools/measure/measure.sh [-c] [-d DIVISOR] [--peers] [--long] [--pages] [--copies] [ALTCTL]`.
-# Both get the same lines, and all answers of both are compared with what is expected. A time is the middle one of three.
-# With -c it is the least one, and only that in which the process had a processor, which other work on the machine
-# disturbs less; a DIVISOR of 1 to 16 makes all of it that many times smaller. With --peers loads and gets are measured over LMDB
-# and SQLite, too (`peers.c`), where Debian's packages liblmdb-dev and libsqlite3-dev are installed. With --long values
-# of 2,000 bytes are measured instead; that needs about 2 GB for temporary files. With --pages parts of versions are
-# measured instead: pages, ranges and differences, by the program alone, with --peers pages of LMDB and SQLite, too. With
-# --copies copies are measured instead, beside `cp` and, with --peers, `mdb_copy -c` and `VACUUM INTO`, and openings of a
-# store from a cold disk before and after it was copied; that needs about 4 GB. How much a record takes is measured by
-# `measure_sizes.py`. It stands beside the gate: times are looked at, never tested.
+# Both get the same lines, and all answers of both are compared with what is expected. A time is the middle one of
+# three. With -c it is the least one, and only that in which the process had a processor, which other work on the
+# machine disturbs less; a DIVISOR of 1 to 16 makes all of it that many times smaller. With --peers loads and gets are
+# measured over LMDB and SQLite, too (`peers.c`), where Debian's packages liblmdb-dev and libsqlite3-dev are installed.
+# With --long values of 2,000 bytes are measured instead; that needs about 2 GB for temporary files. With --pages parts
+# of versions are measured instead: pages, ranges and differences, by the program alone, with --peers pages of LMDB and
+# SQLite, too. With --copies copies are measured instead, beside `cp` and, with --peers, `mdb_copy -c` and `VACUUM
+# INTO`, and openings of a store from a cold disk before and after it was copied; that needs about 4 GB. How much a
+# record takes is measured by `measure_sizes.py`. It stands beside the gate: times are looked at, never tested.
 set -eu
 
 usage() {
@@ -421,8 +421,8 @@ differing() {
     for _ in $(seq $many_diffs); do cat "$work/one"; done
 }
 
-# Two designs with changes of their own, half of them of the same records. The file `differ` has of each record its number
-# and its values in top, and in both.
+# Two designs with changes of their own, half of them of the same records. The file `differ` has of each record its
+# number and its values in top, and in both.
 prepare_designs() {
     head -n $design_changes "$work/numbers_$1" | awk '{ print $1, 1 }' >"$work/designs"
     tail -n +$((design_changes / 2 + 1)) "$work/numbers_$1" | head -n $design_changes | awk '{ print $1, 2 }' >>"$work/designs"
@@ -629,8 +629,8 @@ measure_peer() {
     rm -f "$work/store"*
 }
 
-# Compiles it over a store, with the words after the second, and has it measured by the function of the second, where the
-# store is installed.
+# Compiles it over a store, with the words after the second, and has it measured by the function of the second, where
+# the store is installed.
 try_peer() {
     name=$1
     program=$work/$1

@@ -4,8 +4,8 @@
    peers run FILE
 
    It knows `put top TABLE NUMBER VALUE`, `get top TABLE NUMBER`, `next top TABLE NUMBER COUNT`, `commit` and `checks
-   top`, tests nothing of their form, and answers each line at once, as altctl does. A value has no escapes. What was not
-   committed is lost at the end. */
+   top`, tests nothing of their form, and answers each line at once, as altctl does. A value has no escapes. What was
+   not committed is lost at the end. */
 #define _GNU_SOURCE
 #include <stdbool.h>
 #include <stdint.h>

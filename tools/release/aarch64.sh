@@ -1,19 +1,21 @@
 #!/bin/sh
-# Builds for aarch64, on a machine that need not be one, with the toolchain's own compiler and linker and Debian's cross packages:
+# Builds for aarch64, on a machine that need not be one, with the toolchain's own compiler and linker and Debian's cross
+# packages:
 #
 #   tools/release/aarch64.sh program        the program, from the proof of the same sources: altctl-aarch64 in
 #                                           crates/altctl/out
 #   tools/release/aarch64.sh client FOLDER  the libraries of the C client
 #
-# Where something is not installed, it says so on standard error and ends with status 1. The functions of the toolchain's
-# C that the program calls are in `aarch64.c`. The program is kept until what it is made of changes; `package.sh` takes
-# it.
+# Where something is not installed, it says so on standard error and ends with status 1. The functions of the
+# toolchain's C that the program calls are in `aarch64.c`. The program is kept until what it is made of changes;
+# `package.sh` takes it.
 set -eu
 
 target=aarch64-unknown-linux-gnu
 out=crates/altctl/out
 made=$out/altctl-aarch64
-# Where Debian's packages libc6-dev-arm64-cross and libgcc-12-dev-arm64-cross put the C library and the compiler's own parts.
+# Where Debian's packages libc6-dev-arm64-cross and libgcc-12-dev-arm64-cross put the C library and the compiler's own
+# parts.
 system=/usr/aarch64-linux-gnu
 parts=/usr/lib/gcc-cross/aarch64-linux-gnu/12
 # What rattle-link takes of both.
@@ -45,8 +47,8 @@ describe() {
     echo "with $(cat tools/release/aarch64.c tools/release/aarch64.sh $linked | sha256sum | cut -d ' ' -f 1)"
 }
 
-# The libraries below have been proved and built by `rt lib`, which does nothing where they are those of their sources. `main` is
-# proved anew, as the target is in its verdict.
+# The libraries below have been proved and built by `rt lib`, which does nothing where they are those of their sources.
+# `main` is proved anew, as the target is in its verdict.
 build_program() {
     describe >"$scratch/stamp"
     if [ -x "$made" ] && cmp -s "$scratch/stamp" "$made.stamp"; then
