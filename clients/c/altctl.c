@@ -315,7 +315,8 @@ static int flush(alt_store *store)
 {
     struct buffer *out = &store->out;
     while (out->begin < out->end && !store->is_deaf && store->end == 0) {
-        ssize_t count = send(store->socket, out->bytes + out->begin, out->end - out->begin, MSG_NOSIGNAL | MSG_DONTWAIT);
+        ssize_t count =
+            send(store->socket, out->bytes + out->begin, out->end - out->begin, MSG_NOSIGNAL | MSG_DONTWAIT);
         if (count >= 0) {
             out->begin += (size_t)count;
         } else if (errno == EAGAIN || errno == EWOULDBLOCK) {
@@ -337,7 +338,8 @@ static int read_line(alt_store *store, char **line)
     struct buffer *in = &store->in;
     int error = flush(store);
     for (size_t seen = 0; error == ALT_OK;) {
-        char *end = in->begin + seen < in->end ? memchr(in->bytes + in->begin + seen, '\n', in->end - in->begin - seen) : NULL;
+        size_t from = in->begin + seen;
+        char *end = from < in->end ? memchr(in->bytes + from, '\n', in->end - from) : NULL;
         if (end != NULL) {
             *end = 0;
             *line = in->bytes + in->begin;
@@ -692,7 +694,8 @@ int alt_copy(const char *file, const char *to, uint32_t blocks, alt_size *size, 
     close_all(&lock, 1);
     if (error == ALT_OK)
         error = copied(blocks, &details);
-    if (error == ALT_OK && size != NULL && sscanf(output, "copied %" SCNu32 ", %" SCNu32, &size->blocks, &size->used) != 2)
+    if (error == ALT_OK && size != NULL &&
+        sscanf(output, "copied %" SCNu32 ", %" SCNu32, &size->blocks, &size->used) != 2)
         return ALT_BAD_ANSWER;
     return error;
 }
@@ -823,7 +826,8 @@ const char *alt_error_text(alt_store *store, int error)
         return alt_error_name(error);
     const alt_details *it = &store->details;
     if (error > 0)
-        snprintf(store->text, sizeof store->text, "%d %s%s%s", error, it->name[0] != 0 ? it->name : alt_error_name(error),
+        snprintf(store->text, sizeof store->text, "%d %s%s%s", error,
+                 it->name[0] != 0 ? it->name : alt_error_name(error),
                  it->said[0] != 0 ? " " : "", it->said);
     else if (store->is_service)
         return "the service has closed the connection";
@@ -911,7 +915,8 @@ int alt_commit(alt_store *store)
 
 int alt_rollback(alt_store *store)
 {
-    return enter(store) == ALT_OK && store->batch != 0 ? end_batch(store, "rollback") : command(store, NULL, "rollback");
+    return enter(store) == ALT_OK && store->batch != 0 ? end_batch(store, "rollback")
+                                                       : command(store, NULL, "rollback");
 }
 
 int alt_reclaim(alt_store *store)
@@ -962,7 +967,8 @@ int alt_merge(alt_store *store, const char *alt, const alt_settlement *settlemen
 int alt_merge_all(alt_store *store, const char *alt, alt_side side, const alt_settlement *settlements, size_t count,
                   uint64_t *changed)
 {
-    return merge(store, alt, side == ALT_MINE ? "merge %w all=mine" : "merge %w all=theirs", settlements, count, changed);
+    const char *form = side == ALT_MINE ? "merge %w all=mine" : "merge %w all=theirs";
+    return merge(store, alt, form, settlements, count, changed);
 }
 
 /* --- batches of a service -------------------------------------------------------------------------- */
@@ -1105,8 +1111,8 @@ int alt_diff_table(alt_store *store, const char *before, const char *after, uint
     return begin_rows(store, error, ticket, CHANGES, rows);
 }
 
-int alt_diff_range(alt_store *store, const char *before, const char *after, uint16_t table, uint64_t first, uint64_t last,
-                   alt_rows **rows)
+int alt_diff_range(alt_store *store, const char *before, const char *after, uint16_t table, uint64_t first,
+                   uint64_t last, alt_rows **rows)
 {
     alt_ticket ticket = 0;
     int error = send_line(store, &ticket, "diff %w %w %n %n %n", before, after, (uint64_t)table, first, last);

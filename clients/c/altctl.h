@@ -118,12 +118,14 @@ typedef struct alt_store alt_store;
 /* How a store is opened. NULL in its place, or all zeros, is what most callers want. A service ignores all of it. */
 typedef struct {
     const char *program; /* the path of `altctl`; NULL: it is looked for in PATH */
-    int cache;           /* `--cache`: blocks of the file kept in memory; 0: the program's default; ALT_NO_BLOCKS: none */
+    int cache;           /* `--cache`: blocks of the file kept in memory; 0: the program's default;
+                            ALT_NO_BLOCKS: none */
     int buffer;          /* `--buffer`: written blocks that wait in memory; 0 and ALT_NO_BLOCKS as above */
     int wait;            /* not 0: while another process has locked the file, wait for it */
-    int read_only;       /* not 0: the file is only read, beside other readers; each command is refused (ALT_READ_ONLY) */
-    int grow;            /* up to how many blocks the store grows where a command would be refused for want of them (ALT_FULL);
-                            0: it does not; ALT_NO_LIMIT: as far as it can */
+    int read_only;       /* not 0: the file is only read, beside other readers; each command is refused
+                            (ALT_READ_ONLY) */
+    int grow;            /* up to how many blocks the store grows where a command would be refused for want of them
+                            (ALT_FULL); 0: it does not; ALT_NO_LIMIT: as far as it can */
 } alt_options;
 
 enum { ALT_NO_BLOCKS = -1, ALT_NO_LIMIT = -1 };
@@ -286,8 +288,8 @@ int alt_page(alt_store *store, const char *at, alt_key from, uint32_t count, alt
 int alt_changes(alt_store *store, const char *alt, alt_rows **rows);
 int alt_diff(alt_store *store, const char *before, const char *after, alt_rows **rows);
 int alt_diff_table(alt_store *store, const char *before, const char *after, uint16_t table, alt_rows **rows);
-int alt_diff_range(alt_store *store, const char *before, const char *after, uint16_t table, uint64_t first, uint64_t last,
-                   alt_rows **rows);
+int alt_diff_range(alt_store *store, const char *before, const char *after, uint16_t table, uint64_t first,
+                   uint64_t last, alt_rows **rows);
 int alt_conflicts(alt_store *store, const char *alt, alt_rows **rows);
 int alt_alternatives(alt_store *store, alt_rows **rows);
 int alt_checkpoints(alt_store *store, const char *alt, alt_rows **rows);

@@ -97,7 +97,8 @@ static int work(alt_store *store, int *is_put)
         is_put[at] = checked(alt_put(store, "top", (alt_key){7, (uint64_t)at}, value, sizeof value), "put") == ALT_OK;
     for (int at = 0; at < AHEAD; at++) {
         alt_key key = {7, (uint64_t)(ONE_BY_ONE + at)};
-        is_put[ONE_BY_ONE + at] = checked(alt_send_put(store, "top", key, value, sizeof value, &tickets[at]), "send") == ALT_OK;
+        int error = alt_send_put(store, "top", key, value, sizeof value, &tickets[at]);
+        is_put[ONE_BY_ONE + at] = checked(error, "send") == ALT_OK;
     }
     /* The last ones first: the others are kept. */
     for (int at = AHEAD - 1; at >= 0; at--)

@@ -39,7 +39,9 @@ async function take(state, own) {
   if (before?.epoch === state.epoch && state.batch < before.batch) return; // An answer that was overtaken.
   desk.state = state;
   const news = state.news.filter((it) => before && it.batch > before.batch && it.batch !== own);
-  if (news.length) $("news").textContent = news.map((it) => `${it.time.slice(11, 16)} ${it.planner}: ${it.text}`).join("; ");
+  if (news.length) {
+    $("news").textContent = news.map((it) => `${it.time.slice(11, 16)} ${it.planner}: ${it.text}`).join("; ");
+  }
   const row = state.tree.find((it) => it.name === desk.at) || state.tree[0];
   if (before?.batch !== state.batch) showTree();
   showOffice(state.office);
@@ -68,7 +70,8 @@ export async function open(name) {
 }
 
 function forget() {
-  Object.assign(desk, { feature: null, edits: false, view: "changes", choices: new Map(), made: [], design: null, compared: null });
+  Object.assign(desk,
+    { feature: null, edits: false, view: "changes", choices: new Map(), made: [], design: null, compared: null });
   drawing.tool.stop();
   unmark();
   $("panel").inert = true;
@@ -111,8 +114,10 @@ export function showHead() {
   if (!desk.design) return;
   showActions();
   drawing.showTools();
-  const press = (view) => () => trying(() => (view === "feature" && desk.feature.number ? show(desk.feature, false) : showOther(view)));
-  fill($("views"), ...Object.entries(VIEWS).map(([view, { text }]) => [view, text(desk.design)]).filter(([, text]) => text)
+  const press = (view) => () => trying(() => (
+    view === "feature" && desk.feature.number ? show(desk.feature, false) : showOther(view)));
+  fill($("views"),
+    ...Object.entries(VIEWS).map(([view, { text }]) => [view, text(desk.design)]).filter(([, text]) => text)
     .map(([view, text]) => button(`view-${view}`, text, press(view), { "aria-pressed": `${desk.view === view}` })));
   const feature = desk.view === "feature" && desk.feature?.number ? desk.feature : null;
   history.replaceState(null, "", `${location.pathname}${link(feature)}`);

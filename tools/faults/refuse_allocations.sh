@@ -199,7 +199,8 @@ run_refused() {
 check_end() {
     case "$answered: $status $(cat "$room/faults")" in
         "$count: 0 ")
-            cmp -s -n $((34 * 4096)) "$room/store" "$room/usual" && shown "$room/store" | cmp -s - "$room/usual_shown" ||
+            cmp -s -n $((34 * 4096)) "$room/store" "$room/usual" &&
+                shown "$room/store" | cmp -s - "$room/usual_shown" ||
                 fail "allocation $1: the file shows something else"
             ;;
         '0: 1 altctl: 16 Memory' | '0: 3 altctl: stopped')
@@ -329,7 +330,8 @@ began_as_usual() {
 do_all_lines() {
     printf '%s\n' ok ok ok 'ok 1' 'record 1 1 x' 'record 1 9 y' 'end 2' ok >"$room/usual_answers"
     do_lines 0
-    [ "$status" = 0 ] && cmp -s "$room/shown" "$room/usual_answers" || fail "do: it is $(cat "$room/shown" "$room/said")"
+    [ "$status" = 0 ] && cmp -s "$room/shown" "$room/usual_answers" ||
+        fail "do: it is $(cat "$room/shown" "$room/said")"
     cp "$room/store" "$room/usual"
     : >"$room/ends"
     number=0
@@ -376,7 +378,8 @@ try_locked() {
         rm -f "$room/refused"
         status=0
         timeout 60 env LD_PRELOAD="$room/refuse.so" REFUSE="$number" REFUSED="$room/refused" \
-            "$program" do "$room/store" 'put top 1 1 x' commit >"$room/shown" 2>"$room/said" </dev/null 5>&- || status=$?
+            "$program" do "$room/store" 'put top 1 1 x' commit >"$room/shown" 2>"$room/said" </dev/null 5>&- ||
+            status=$?
         echo "$status $(cat "$room/said")" >>"$room/ends"
         case $(tail -n 1 "$room/ends") in
             "1 altctl: $room/store is in use" | '3 altctl: stopped') [ ! -s "$room/shown" ] ;;

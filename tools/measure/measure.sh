@@ -379,7 +379,8 @@ prepare_long() {
     numbers "$long_records" random >"$work/long"
     { put_lines top 2000 0 <"$work/long" && echo commit; } | all_ok long_load
     prepare_gets long_gets long 2000
-    sort -n "$work/long" | awk '{ printf "record 1 %d %02000d\n", $1, $1 } END { print "end " NR }' >"$work/long_list.answers"
+    sort -n "$work/long" | awk '{ printf "record 1 %d %02000d\n", $1, $1 } END { print "end " NR }' \
+        >"$work/long_list.answers"
     echo list top >"$work/long_list.lines"
     yes reclaim | head -n $long_markings | all_ok long_markings
 }
@@ -405,7 +406,8 @@ prepare_pages() {
 
 # The lines that go through all of them by a thousand.
 prepare_walk() {
-    awk -v count="$1" 'BEGIN { for (i = 1; i <= count; i += 1000) printf "next top 1 %d 1000\n", i }' >"$work/walk.lines"
+    awk -v count="$1" 'BEGIN { for (i = 1; i <= count; i += 1000) printf "next top 1 %d 1000\n", i }' \
+        >"$work/walk.lines"
     awk -v count="$1" '
         BEGIN {
             for (i = 1; i <= count; i++) {
@@ -425,7 +427,8 @@ differing() {
 # number and its values in top, and in both.
 prepare_designs() {
     head -n $design_changes "$work/numbers_$1" | awk '{ print $1, 1 }' >"$work/designs"
-    tail -n +$((design_changes / 2 + 1)) "$work/numbers_$1" | head -n $design_changes | awk '{ print $1, 2 }' >>"$work/designs"
+    tail -n +$((design_changes / 2 + 1)) "$work/numbers_$1" | head -n $design_changes | awk '{ print $1, 2 }' \
+        >>"$work/designs"
     {
         printf 'new d1 top\nnew d2 top\n'
         awk '{ printf "put d%d 1 %d %016d\n", $2, $1, $1 + $2 }' "$work/designs"
@@ -443,7 +446,8 @@ prepare_designs() {
     awk '$3 != $4 { print $1, $3, $4 }' "$work/differ" | differing >"$work/diff.answers"
     tenth=$(($1 / 10))
     same_line diff_part "diff d1 d2 1 1 $tenth"
-    awk -v last=$tenth '$1 <= last && $3 != $4 { print $1, $3, $4 }' "$work/differ" | differing >"$work/diff_part.answers"
+    awk -v last=$tenth '$1 <= last && $3 != $4 { print $1, $3, $4 }' "$work/differ" | differing \
+        >"$work/diff_part.answers"
 }
 
 same_line() {
