@@ -1,8 +1,8 @@
 #!/usr/bin/env python3
-"""Tests of the desk in a headless Chromium, over real stores and the service: `desk/test_altdesk.py [CLASS ..]`, with the
-program's path in the variable ALTCTL, or else with the one that `./altctl` at the top builds. `--pictures` writes those
-of docs/pictures anew. Where a browser or a module is not there, a line says that they are skipped. The tests lie in
-`desk/desk_tests`."""
+"""Tests of the desk in a headless Chromium, over real stores and the service: `desk/test_altdesk.py [CLASS ..]`, with
+the program's path in the variable ALTCTL, or else with the one that `./altctl` at the top builds. `--pictures` writes
+those of docs/pictures anew. Where a browser or a module is not there, a line says that they are skipped. The tests lie
+in `desk/desk_tests`."""
 import os
 import shutil
 import sys

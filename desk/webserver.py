@@ -1,5 +1,5 @@
-"""The server of the desk's page: who gets in, and the questions that the page asks. One thread asks the service, one question after
-another, and a second one reads its journal, which may take long."""
+"""The server of the desk's page: who gets in, and the questions that the page asks. One thread asks the service, one
+question after another, and a second one reads its journal, which may take long."""
 import asyncio
 import contextlib
 from concurrent.futures import ThreadPoolExecutor
@@ -286,7 +286,11 @@ class Desk:
         except Late as late:
             return web.json_response({"fault": str(late), "now": late.now}, status=409)
         except (maps.Fault, Refusal) as fault:
-            text = str(fault) if isinstance(fault, maps.Fault) else REFUSALS.get(fault.number, f"the store refused it: {fault}")
+            text = (
+                str(fault)
+                if isinstance(fault, maps.Fault)
+                else REFUSALS.get(fault.number, f"the store refused it: {fault}")
+            )
             return web.json_response({"fault": text}, status=409)
         except (KeyError, TypeError, ValueError, AttributeError) as fault:
             return web.json_response({"fault": f"not a question of the desk: {fault!r}"}, status=400)

@@ -22,7 +22,8 @@ MAKERS = {b"new", b"drop", b"checkpoint", b"uncheck"}
 
 
 class Effect(NamedTuple):
-    """What a batch has changed: which alternatives, and how many records; or the place and the refusal of a line that needs a right."""
+    """What a batch has changed: which alternatives, and how many records; or the place and the refusal of a line that
+    needs a right."""
 
     refused: Optional[Tuple[int, bytes]]
     touched: Set[str]
@@ -48,8 +49,8 @@ class Entries:
     # --- what a batch changes ---------------------------------------------------------------------
 
     def take(self, batch: Batch, answers: List[bytes], rules) -> Effect:
-        """Takes in what a batch has changed. Only now is it known which parents its alternatives have, so a line may still need a
-        right that its planner lacks. The caller then drops what was taken in."""
+        """Takes in what a batch has changed. Only now is it known which parents its alternatives have, so a line may
+        still need a right that its planner lacks. The caller then drops what was taken in."""
         touched, records, who = set(), 0, word(author(batch))
         for place, (line, answer) in enumerate(zip(batch.lines, answers)):
             verb, *words = line.split(b" ", 3)

@@ -158,7 +158,8 @@ class Rules:
         return None if denial is None else refusal(90, *denial)
 
     def refusal_of_post(self, person, alternative, parent) -> Optional[bytes]:
-        """Why a person may not post into the parent of an alternative. Who may change the parent may also post into it."""
+        """Why a person may not post into the parent of an alternative. Who may change the parent may also post into
+        it."""
         if parent is None or self.denial(person, "change", parent) is None:
             return None
         denial = self.denial(person, "post", parent)

@@ -32,7 +32,12 @@ ALTCTL = os.environ.get("ALTCTL", str(TOP / "altctl"))
 BLOCKS = 400_000
 BETWEEN_SECONDS = 0.25  # from an answer to the next question, so that there is work to go on with
 MEANWHILE_SECONDS = 10
-LAYERS = {1: ("chambers", "Point"), 2: ("ducts", "Line String"), 3: ("cables", "Line String"), 4: ("service points", "Point")}
+LAYERS = {
+    1: ("chambers", "Point"),
+    2: ("ducts", "Line String"),
+    3: ("cables", "Line String"),
+    4: ("service points", "Point"),
+}
 FIELDS = [f"f{n}" for n in range(8)]
 Record = Tuple[int, int, bytes]
 
@@ -58,7 +63,11 @@ def network(chambers: int) -> Iterator[Record]:
     fields = maps.Fields(layer(1))
 
     def feature(table: int, number: int, label: str, geometry: bytes) -> Iterator[Record]:
-        its = {"label": label, "dn": chance.choice((50, 110, 160)), **{it: chance.choice(("PVC", "HDPE", "laid 1998")) for it in FIELDS}}
+        its = {
+            "label": label,
+            "dn": chance.choice((50, 110, 160)),
+            **{it: chance.choice(("PVC", "HDPE", "laid 1998")) for it in FIELDS},
+        }
         yield table, number, fields.packed(its)
         yield table + maps.GEOMETRY, number, geometry
 
@@ -67,9 +76,13 @@ def network(chambers: int) -> Iterator[Record]:
         (x, y), to = place(n), place(n + 1) if (n + 1) % across else place(n + across)
         yield from feature(1, n + 1, f"CH-{n + 1:06}", point(x, y))
         for copy in range(2):
-            yield from feature(2, 2 * n + copy + 1, f"RB-{2 * n + copy + 1:06}", line((x, y + copy), (to[0], to[1] + copy)))
+            yield from feature(
+                2, 2 * n + copy + 1, f"RB-{2 * n + copy + 1:06}", line((x, y + copy), (to[0], to[1] + copy))
+            )
         for copy in range(3 if n % 3 else 2):
-            yield from feature(3, 3 * n + copy + 1, f"CB-{3 * n + copy + 1:06}", line((x, y - copy), (to[0], to[1] - copy)))
+            yield from feature(
+                3, 3 * n + copy + 1, f"CB-{3 * n + copy + 1:06}", line((x, y - copy), (to[0], to[1] - copy))
+            )
         for copy in range(2 if n % 3 else 1):
             yield from feature(4, 2 * n + copy + 1, f"SP-{2 * n + copy + 1:06}", point(x + 7 + 9 * copy, y + 6))
 
@@ -85,7 +98,9 @@ def make(file: str, chambers: int) -> None:
         fields = maps.Fields(layer(2))
         store.put_many("north", ((2, n, fields.packed({"label": f"NEW-{n}", "dn": 63})) for n in range(1, 400, 2)))
         store.commit()
-    subprocess.run([sys.executable, str(TOP / "desk" / "altgis"), "index", file], check=True, env={**os.environ, "ALTCTL": ALTCTL})
+    subprocess.run(
+        [sys.executable, str(TOP / "desk" / "altgis"), "index", file], check=True, env={**os.environ, "ALTCTL": ALTCTL}
+    )
 
 
 class Asking:
@@ -93,7 +108,9 @@ class Asking:
         self.base, self.token = url.split("/#token=")
 
     def ask(self, path: str, **words: str) -> Tuple[float, dict]:
-        wanted = urllib.request.Request(f"{self.base}/api/{path}?{urllib.parse.urlencode(words)}", headers={"X-Desk-Token": self.token})
+        wanted = urllib.request.Request(
+            f"{self.base}/api/{path}?{urllib.parse.urlencode(words)}", headers={"X-Desk-Token": self.token}
+        )
         begun = time.monotonic()
         with urllib.request.urlopen(wanted) as answer:
             told = json.load(answer)
@@ -114,8 +131,14 @@ def measured(asking: Asking) -> None:
     one, told = asking.ask("design", at="north")
     two, _ = asking.ask("window", at="north", box=box)
     say("a design, never seen", [one + two], f"{len(told['changes'])} changes")
-    say("a design, seen before", [asking.ask("design", at="north")[0] + asking.ask("window", at="north", box=box)[0] for _ in range(9)])
-    near = [asking.ask("window", at="north", box=f"{2600000 + 300 * n},1200500,{2600230 + 300 * n},1200730") for n in range(9)]
+    say(
+        "a design, seen before",
+        [asking.ask("design", at="north")[0] + asking.ask("window", at="north", box=box)[0] for _ in range(9)],
+    )
+    near = [
+        asking.ask("window", at="north", box=f"{2600000 + 300 * n},1200500,{2600230 + 300 * n},1200730")
+        for n in range(9)
+    ]
     say("a window", [it for it, _ in near], f"{len(near[0][1]['features'])} features")
     for text in ("RB-004711", "new-77", "nowhere"):
         found = [asking.ask("find", at="north", text=text) for _ in range(9)]
@@ -215,7 +238,11 @@ def main() -> None:
         file = words.store or f"{folder}/network.alt"
         if not os.path.exists(file):
             make(file, words.chambers)
-        desk = subprocess.Popen([sys.executable, str(TOP / "desk" / "altdesk"), "--program", ALTCTL, file], stdout=subprocess.PIPE, text=True)
+        desk = subprocess.Popen(
+            [sys.executable, str(TOP / "desk" / "altdesk"), "--program", ALTCTL, file],
+            stdout=subprocess.PIPE,
+            text=True,
+        )
         try:
             url = next(it for it in map(lambda it: re.search(r"http://\S+", it), desk.stdout) if it)[0]
             if words.browser:
