@@ -7,7 +7,8 @@ NAMES = {0: "layer", STYLES: "style"}  # of tables that have no features
 
 
 class Changes:
-    """What differs from one version to another: records, and features with whether they are added, changed or removed."""
+    """What differs from one version to another: records, and features with whether they are added, changed or
+    removed."""
 
     def __init__(self, store, old, new):
         self.store, self.old, self.new = store, old, new
@@ -36,11 +37,17 @@ class Changes:
         self._note(keys)
 
     def _note(self, keys):
-        """Notes of which kind the change of each key's feature is. What a feature has beside its changes is looked up."""
+        """Notes of which kind the change of each key's feature is. What a feature has beside its changes is looked
+        up."""
         features = {self.feature_of(it) for it in keys} - {None}
         due = {it: [key for key in self.keys_of(it) if key in self.rows] for it in features}
         self.kinds = getattr(self, "kinds", {})
-        beside = [key for it, keys in due.items() for key in self.keys_of(it) if keys and key not in keys and self.one_sided(keys)]
+        beside = [
+            key
+            for it, keys in due.items()
+            for key in self.keys_of(it)
+            if keys and key not in keys and self.one_sided(keys)
+        ]
         is_there = {key for key, value in zip(beside, self.store.get_many(self.new, beside)) if value is not None}
         for feature, keys in due.items():
             self.kinds.pop(feature, None)
@@ -58,7 +65,8 @@ class Changes:
         return table - PARTS in self.layers or (table == PARTS and bool(self.layers))
 
     def feature_of(self, key):
-        """The feature that a record belongs to. A part of a long value belongs to none; other records are by themselves."""
+        """The feature that a record belongs to. A part of a long value belongs to none; other records are by
+        themselves."""
         table, number = key
         if table - GEOMETRY in self.layers:
             return table - GEOMETRY, number
@@ -83,6 +91,8 @@ class Changes:
         found = {}
         for key in sorted(self.rows):
             feature = self.feature_of(key)
-            row = found.setdefault(feature, {**self.row(feature), "status": status.get(feature, self.kinds[feature]), "what": []})
+            row = found.setdefault(
+                feature, {**self.row(feature), "status": status.get(feature, self.kinds[feature]), "what": []}
+            )
             row["what"].append(self.what(key))
         return [found[feature] for feature in sorted(found)]

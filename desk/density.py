@@ -7,8 +7,8 @@ ACROSS = 40  # cells of a window
 
 
 def cells(its, box):
-    """The cells of a window that have features, as west, south, east, north and about how many. Of an index the pages are taken,
-    each of which has features close together, spread evenly over its bounds."""
+    """The cells of a window that have features, as west, south, east, north and about how many. Of an index the pages
+    are taken, each of which has features close together, spread evenly over its bounds."""
     west, south, east, north = box
     size = max(east - west, north - south) / ACROSS
     if not size > 0:
@@ -24,4 +24,7 @@ def cells(its, box):
         counts[y : top + 1, x : right + 1] += each / area
     rows, columns = numpy.nonzero(counts >= 0.5)
     corners = zip(columns.tolist(), rows.tolist(), counts[rows, columns].tolist())
-    return [[west + x * size, south + y * size, west + (x + 1) * size, south + (y + 1) * size, round(it)] for x, y, it in corners]
+    return [
+        [west + x * size, south + y * size, west + (x + 1) * size, south + (y + 1) * size, round(it)]
+        for x, y, it in corners
+    ]

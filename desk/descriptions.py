@@ -1,5 +1,5 @@
-"""What people say of designs: title, owner, status and note of each, in an alternative of their own, so that it is kept when a
-design is posted or dropped.
+"""What people say of designs: title, owner, status and note of each, in an alternative of their own, so that it is kept
+when a design is posted or dropped.
 
 | Record of `.designs` | Its value |
 |---|---|

@@ -18,7 +18,8 @@ PIXELS = 2000  # that a window has across, at most
 
 
 class Design:
-    """What a design has changed, what is in conflict, and where its features lie. `top` has no base: it is compared to itself."""
+    """What a design has changed, what is in conflict, and where its features lie. `top` has no base: it is compared to
+    itself."""
 
     def __init__(self, store, alt, parent, index):
         self.store, self.alt, self.parent, self.base = store, alt, parent, f"{alt}@" if parent else alt
@@ -33,7 +34,8 @@ class Design:
         self.on_map = {table for table, crs in systems.items() if crs == self.crs}
         self.courses = {it: {} for it in self.on_map}
         self.places = {it: index(it) or places.scanned(store, alt, it) for it in self.on_map}
-        # Where features lie that have moved since the index was made, None for nowhere, and those that have changed otherwise.
+        # Where features lie that have moved since the index was made, None for nowhere, and those that have changed
+        # otherwise.
         self.moved, self.beside = {}, {it: {} for it in self.on_map}
         for table, its in self.places.items():
             is_stored = isinstance(its, places.Index)
@@ -47,7 +49,9 @@ class Design:
         for key in keys:
             self.conflicts.pop(key, None)
             mine = self.mine.rows.get(key)
-            theirs = mine and self.parent and next(self.store.diff(self.base, self.parent, key[0], key[1], key[1]), None)
+            theirs = (
+                mine and self.parent and next(self.store.diff(self.base, self.parent, key[0], key[1], key[1]), None)
+            )
             if theirs and theirs.after != mine.after:
                 self.conflicts[key] = Conflict(*key, mine.before, theirs.after, mine.after)
             self.texts.pop(key, None)
@@ -126,8 +130,8 @@ class Design:
         return styles.record_of(table, style)
 
     def window(self, box, off=()):
-        """The features in a window, but those of layers that are off: those that are changed go first, and then the largest. Of
-        each layer it tells how many there are, and where they lie if not all are drawn."""
+        """The features in a window, but those of layers that are off: those that are changed go first, and then the
+        largest. Of each layer it tells how many there are, and where they lie if not all are drawn."""
         found = {table: self._in_window(table, box) for table in sorted(self.on_map - set(off))}
         tables = numpy.repeat(list(found), [len(it[0]) for it in found.values()]) if found else numpy.empty(0, int)
         numbers = numpy.concatenate([numpy.empty(0, "<u8"), *(it[0] for it in found.values())])
@@ -142,7 +146,13 @@ class Design:
         features = [self.on_window(it, tolerance, status.get(it, "same")) for it in keys]
         drawn = {table: sum(it[0] == table for it in keys) for table in found}
         layers = [
-            {"table": table, "name": self.layers[table]["name"], "found": count, "is_about": is_about, "drawn": drawn[table]}
+            {
+                "table": table,
+                "name": self.layers[table]["name"],
+                "found": count,
+                "is_about": is_about,
+                "drawn": drawn[table],
+            }
             for table, (_, _, count, is_about) in found.items()
         ]
         dense = {it["table"]: cells(self.places[it["table"]], box) for it in layers if it["found"] > it["drawn"]}
@@ -150,7 +160,8 @@ class Design:
         return {"type": "FeatureCollection", "features": features, **told, "layers": layers, "density": dense}
 
     def _in_window(self, table, box):
-        """The numbers of a layer's features in a window, their sizes, how many there are, and whether that is a guess."""
+        """The numbers of a layer's features in a window, their sizes, how many there are, and whether that is a
+        guess."""
         numbers, boxes, about = self.places[table].window(*box)
         stays = ~numpy.isin(numbers, numpy.array([*self.moved[table], *self.beside[table]], "<u8"))
         others, more, count = self.others[table].window(*box)

@@ -1,9 +1,11 @@
-"""What the desk shows of a store's designs: the tree of them, what each has changed, what is in conflict, and the features in a
-window of the map. `altdesk` stands on this module; maps.py says how a layer lies in the store, and places.py its index.
+"""What the desk shows of a store's designs: the tree of them, what each has changed, what is in conflict, and the
+features in a window of the map. `altdesk` stands on this module; maps.py says how a layer lies in the store, and
+places.py its index.
 
-Of a design is read what it has changed, and then what a window or a question needs. After a batch only the keys are looked at that
-its lines in the journal name; a merge, a post or `back` names none, so the design is looked at anew, as it is where more lines came
-than are followed. Where a store has no index, the bounds of all features are read once, page by page."""
+Of a design is read what it has changed, and then what a window or a question needs. After a batch only the keys are
+looked at that its lines in the journal name; a merge, a post or `back` names none, so the design is looked at anew, as
+it is where more lines came than are followed. Where a store has no index, the bounds of all features are read once,
+page by page."""
 import contextlib
 import secrets
 
@@ -42,14 +44,15 @@ def is_own_line(line):
 
 
 def without_steps(entries):
-    """The lines of the journal that people read. Of a pull or a push of a field office that is the one that names the office anew."""
+    """The lines of the journal that people read. Of a pull or a push of a field office that is the one that names the
+    office anew."""
     steps = {it.batch for it in entries if it.line.startswith(STEP)}
     return [it for it in entries if it.line.startswith(STEP) or it.batch not in steps and not is_own_line(it.line)]
 
 
 class Designs:
-    """The designs of a service's store, as they are at the batch up to which the journal was read. `epoch` tells them from those of
-    another connection: while there was none, anything may have been done to the store."""
+    """The designs of a service's store, as they are at the batch up to which the journal was read. `epoch` tells them
+    from those of another connection: while there was none, anything may have been done to the store."""
 
     def __init__(self, store):
         self.store, self.batch, self.parents, self.news, self.rows = store, None, {}, [], None
@@ -74,7 +77,8 @@ class Designs:
             return
         self.rows, self.batch = None, news.batch
         parents = {it.name: it.parent for it in self.store.alternatives()}
-        self.parents, self.has_index = {name: it for name, it in parents.items() if not is_own(name)}, places.OWN in parents
+        self.parents = {name: it for name, it in parents.items() if not is_own(name)}
+        self.has_index = places.OWN in parents
         if not news.is_whole or not all(map(self._follow, news.entries)):
             self._forget(self.batch)
         for it in without_steps(news.entries):
@@ -90,7 +94,7 @@ class Designs:
         if verb == "post" and alt.startswith(maps.IMPORTS):
             return False
         if is_own_line(entry.line):
-            if (verb, alt) == ("new", places.OWN):  # The index is made anew: where features lie is read again.
+            if alt == places.OWN and verb in ("renew", "new"):  # The index is made anew: where features lie is read again.
                 self.designs, self.indexes = {}, {}
             if alt == places.OWN:
                 self.indexed = entry.batch
@@ -112,7 +116,8 @@ class Designs:
         return True
 
     def _mark(self, table, number, *alts):
-        """Marks a record that has changed in one of these designs. A layer, and many records, let the design be read anew."""
+        """Marks a record that has changed in one of these designs. A layer, and many records, let the design be read
+        anew."""
         for it in alts:
             if it in self.designs:
                 self.designs[it].stale.add((table, number))
@@ -159,7 +164,8 @@ class Designs:
         return found if found is not None and len(found.pages) else None
 
     def tree(self):
-        """Each design with how many records it has changed and how many are in conflict, as `altctl tree` counts them."""
+        """Each design with how many records it has changed and how many are in conflict, as `altctl tree` counts
+        them."""
         if self.rows is None:
             self.rows = self._tree()
         return self.rows
@@ -200,13 +206,16 @@ class Designs:
         joined = in_conflict - {design.mine.feature_of(it) or it for it in clashes.features}
         told = {"conflicts_in_all": len(clashes.features), "joined": len(joined), "mark": clashes.marks[joining.REST]}
         told.update({"records": len(design.mine.rows), "conflicts": self.conflicts(alt, 0)})
-        told.update({"name": alt, "parent": self.parents[alt], "batch": self.batch, "stamp": self.stamp(alt), "layers": layers})
+        told.update(
+            {"name": alt, "parent": self.parents[alt], "batch": self.batch, "stamp": self.stamp(alt), "layers": layers}
+        )
         changes = design.mine.listed(design.status)
         size = {"bounds": bounds, "aspect": aspect_of(design.crs, bounds), "metres": metres_of(design.crs)}
         return {**told, **size, "changes": changes}
 
     def _layer(self, design, table, it):
-        told = {"table": table, "name": it["name"], "is_on_map": table in design.on_map, "geometry": it["geometry"], "crs": it["crs"]}
+        told = {"table": table, "name": it["name"], "is_on_map": table in design.on_map}
+        told.update({"geometry": it["geometry"], "crs": it["crs"]})
         fields = [{"name": field["name"], "type": field["type"]} for field in it["fields"]]
         return {**told, "fields": fields, "style": design.style_of(table)}
 
@@ -249,8 +258,8 @@ class Designs:
         return Changes(self.store, f"{alt}@", parent).listed({}) if parent else []
 
     def compared(self, alt, other):
-        """How two designs differ: what another one has that this one has not, or has otherwise. Of the first ones the courses
-        are told, too."""
+        """How two designs differ: what another one has that this one has not, or has otherwise. Of the first ones the
+        courses are told, too."""
         changes = Changes(self.store, self.known(alt), self.known(other))
         listed, on_map = changes.listed({}), self.design(alt).on_map | self.design(other).on_map
         for it in [it for it in listed if it["table"] in on_map][:MOST_COMPARED]:
@@ -260,11 +269,15 @@ class Designs:
         return listed
 
     def feature(self, alt, feature, other=None):
-        """A feature: before, now, and with what types its fields are edited. Before is what another design has, if one is said."""
+        """A feature: before, now, and with what types its fields are edited. Before is what another design has, if one
+        is said."""
         design = self.design(alt)
         before, now = (design.sides(feature, at) for at in (design.base if other is None else self.known(other), alt))
         if before is None and now is None:
             raise maps.Fault(f"{alt} has no {design.mine.name(feature[0])} {feature[1]}")
-        fields = [{"name": it["name"], "type": it["type"]} for it in design.mine.layers.get(feature[0], {"fields": []})["fields"]]
+        fields = [
+            {"name": it["name"], "type": it["type"]}
+            for it in design.mine.layers.get(feature[0], {"fields": []})["fields"]
+        ]
         told = {"before": before, "now": now, "fields": fields, "bounds": design.box(feature), "other": other}
         return {**design.mine.row(feature), "status": design.status.get(feature, "same"), **told}

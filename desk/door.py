@@ -4,13 +4,15 @@ import re
 import secrets
 from urllib.parse import urlsplit
 
+from service import lines
+
 HOST = "127.0.0.1"
 # The page sends the token in this header. A cookie would go to every other port of this machine.
 TOKEN = "X-Desk-Token"
 # The web server says in this one who somebody is. It counts only at the socket that the web server alone can connect
 # to.
 PERSON = "X-Desk-Person"
-NAME = re.compile(r"(?![0-9]+$)[A-Za-z0-9_.-][A-Za-z0-9_.@+-]{0,63}")
+NAME = re.compile(lines.PERSON.pattern.decode("ascii"))
 
 
 class TokenDoor:

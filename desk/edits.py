@@ -1,6 +1,6 @@
-"""What a person asks the desk to do: each is a batch, and is refused if what the person saw has changed. The desk looks at what it
-knows, and the service at what came since: each batch names the alternatives that it rests on, with the batch at which they were
-looked at."""
+"""What a person asks the desk to do: each is a batch, and is refused if what the person saw has changed. The desk looks
+at what it knows, and the service at what came since: each batch names the alternatives that it rests on, with the batch
+at which they were looked at."""
 import contextlib
 
 import joining

@@ -1,4 +1,5 @@
-"""Features as people draw and change them: what comes from the page becomes records, if the feature is still as it was shown."""
+"""Features as people draw and change them: what comes from the page becomes records, if the feature is still as it was
+shown."""
 import json
 
 from osgeo import ogr
@@ -49,14 +50,18 @@ def refuse_late(design, records, numbered):
     late = {}
     for table, number, it in numbered:
         now = None if number is None else design.side_of(records, (table, number))
-        if number is not None and (now is None or any(now[name] != it["before"][name] for name in ("attributes", "course"))):
+        if number is not None and (
+            now is None or any(now[name] != it["before"][name] for name in ("attributes", "course"))
+        ):
             late[f"{table}:{number}"] = now
     if late:
         raise Late(late)
 
 
 def read_all(store, at, features):
-    return maps.read(store, at, [key for table, number in features for key in ((table, number), (table + GEOMETRY, number))])
+    return maps.read(
+        store, at, [key for table, number in features for key in ((table, number), (table + GEOMETRY, number))]
+    )
 
 
 def set_feature(update, layer, key, it):
@@ -85,13 +90,18 @@ def wkb_of(course, layer):
     if not due.startswith("Unknown") and due.replace(" ", "").upper() != kind:
         if ALSO.get(due) != kind:
             raise Fault(f"{layer['name']} has courses of type {due}, and not {kind}")
-        geometry = {"LINESTRING": ogr.ForceToMultiLineString, "POLYGON": ogr.ForceToMultiPolygon, "POINT": ogr.ForceToMultiPoint}[kind](geometry)
+        geometry = {
+            "LINESTRING": ogr.ForceToMultiLineString,
+            "POLYGON": ogr.ForceToMultiPolygon,
+            "POINT": ogr.ForceToMultiPoint,
+        }[kind](geometry)
         value = bytes(geometry.ExportToIsoWkb(ogr.wkbNDR))
     return value
 
 
 def split_feature(designs, alt, it, hand):
-    """The update that splits a line at a place near it: its first part keeps the number, and the other one gets a new one."""
+    """The update that splits a line at a place near it: its first part keeps the number, and the other one gets a new
+    one."""
     key = table, number = int(it["table"]), int(it["number"])
     design = designs.design(alt)
     records = read_all(designs.store, alt, [key])

@@ -60,8 +60,8 @@ def as_searched(text):
     return text.replace("\0", " ").casefold().encode("utf-8", "replace")
 
 
-def read_texts(store, source, layer):
-    return Texts(maps.scan_values(store, source.at, source.table, bad=lambda *_: None), layer)
+def read_texts(store, source, layer, in_pieces):
+    return Texts(in_pieces(maps.scan_values(store, source.at, source.table, bad=lambda *_: None)), layer)
 
 
 class Finder:

@@ -1,5 +1,5 @@
-"""What planners do meanwhile: the journal of a service as it grows. The journal may be long and slow to read, so the desk reads it
-on a connection of its own, and shows what it knows until the rest has come."""
+"""What planners do meanwhile: the journal of a service as it grows. The journal may be long and slow to read, so the
+desk reads it on a connection of its own, and shows what it knows until the rest has come."""
 from typing import NamedTuple
 
 MOST_LINES = 1000  # followed line by line
@@ -7,7 +7,8 @@ STEP = "new .office."  # A line of each pull and push of a field office.
 
 
 class News(NamedTuple):
-    """The lines of the journal up to a batch. If they are not whole, more came than are followed, or the journal lacks some."""
+    """The lines of the journal up to a batch. If they are not whole, more came than are followed, or the journal lacks
+    some."""
 
     batch: int
     entries: list
@@ -37,7 +38,9 @@ class Journal:
 def told(entry):
     """A line of the journal as people read it."""
     verb, *words = entry.line.split()
-    what = " ".join(words[:3] if verb == "new" else words[:2] if verb in ("checkpoint", "uncheck", "back") else words[:1])
+    what = " ".join(
+        words[:3] if verb == "new" else words[:2] if verb in ("checkpoint", "uncheck", "back") else words[:1]
+    )
     text = {"put": f"edited {what}", "remove": f"removed from {what}"}.get(verb, f"{verb} {what}")
     if entry.line.startswith(STEP):
         text = f"the office {words[0].split('.')[2]} pulled or pushed"

@@ -1,4 +1,5 @@
-"""Numbers for features that are drawn at the desk. Each is given once: the desk takes them from the store a thousand at a time."""
+"""Numbers for features that are drawn at the desk. Each is given once: the desk takes them from the store a thousand at
+a time."""
 from maps import numbers
 
 

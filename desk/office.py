@@ -72,8 +72,8 @@ class Office:
         return self.told()
 
     async def follow(self, batch_of):
-        """If the store is a clone, looks after each batch at what is ahead here. HEAD is not asked before a person wants
-        that: whoever made the store has put its address there."""
+        """If the store is a clone, looks after each batch at what is ahead here. HEAD is not asked before a person
+        wants that: whoever made the store has put its address there."""
         self.turn, seen = asyncio.Lock(), None
         while seen is None or self.name is not None:
             batch = batch_of()

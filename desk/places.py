@@ -32,7 +32,8 @@ NOTHING = numpy.empty(0, PAGE)
 PER_PAGE, PER_HEAD = maps.LONGEST // PAGE.itemsize, maps.LONGEST // HEAD.itemsize
 MOST_PAGES = 120  # that one window reads
 FARTHEST = 1e12  # No coordinate system counts so far, and from 1e38 on a bound would be infinite.
-IS_THERE = 4
+TRIES = 3  # of a renewal, if others change `top` meanwhile
+CHANGED = 103
 STRAIGHT = range(1, 8)  # Points to collections: of these the bounds are those of their points. A curve goes beyond them.
 
 
@@ -231,46 +232,51 @@ def spread(numbers):
 
 
 def renew(store, is_service, fresh=None):
-    """Makes the index anew for what `top` shows, with the bounds that the old one knows, and those of whole tables that `fresh`
-    has. A checkpoint holds that state meanwhile, as others may change it."""
-    try:
-        store.checkpoint("top", OWN)
-    except Refusal as refusal:
-        if refusal.number != IS_THERE:
-            raise
-        store.uncheck("top", OWN)  # Of one that was stopped. If it's still at work, its own batch is refused.
-        store.checkpoint("top", OWN)
-    is_there = OWN in {it.name for it in store.alternatives()}
-    try:
-        tables = maps.layers(store, f"top@{OWN}")
-        records = [it for table in tables for it in records_of(store, table, f"top@{OWN}", is_there, fresh or {})]
-        with store.batch() if is_service else contextlib.nullcontext():
-            if is_there:
+    """Makes the index anew for what `top` shows. Where the features of a table lie is told by `fresh`, or else by the
+    old index and by what has moved since. For a service that is one batch, which is refused if `top` has changed since
+    it was looked at: then it is looked at again."""
+    if OWN not in {it.name for it in store.alternatives()}:
+        store.new(OWN, "top")  # So all of it can be read while others go on.
+    fresh, seen = fresh or {}, {OWN: store.batches()} if is_service else {}
+    known = {table: stored(store, table) for table in maps.layers(store, OWN) if table not in fresh}
+    for tries in range(TRIES, 0, -1):
+        if is_service:
+            seen["top"] = store.batches()
+        whole = {table: fresh.get(table) or since(store, table, known) for table in maps.layers(store, "top")}
+        try:
+            with store.batch(seen) if is_service else contextlib.nullcontext():
                 store.drop(OWN)
-            store.new(OWN, "top", OWN)
-            store.uncheck("top", OWN)
-            store.put_many(OWN, records)
-    except Refusal:
-        with contextlib.suppress(Refusal):
-            store.uncheck("top", OWN)
-        raise
+                store.new(OWN, "top")
+                store.put_many(OWN, (it for table, its in whole.items() for it in records_of(table, its)))
+            break
+        except Refusal as refusal:
+            if not is_service:
+                store.rollback()
+            if refusal.number != CHANGED or refusal.detail.startswith(f"{OWN} ") or tries == 1:
+                raise
     store.commit()
 
 
-def records_of(store, table, mark, is_there, fresh):
-    """The records of a table's index for a checkpoint of `top`."""
-    known = Index(store, table) if is_there else None
-    if table in fresh or known is None or not len(known.pages):
-        whole = fresh.get(table) or scanned(store, mark, table)
-        numbers, boxes = whole.numbers, whole.boxes
-    else:
-        entries, others = known.read(numpy.arange(len(known.pages))), moved(store, OWN, mark, table)
-        stay = ~numpy.isin(entries["number"], numpy.fromiter(others, "<u8", len(others)))
-        stay &= (numpy.abs(entries["box"]) <= FARTHEST).all(axis=1)
-        more = Places.of(others)
-        numbers = numpy.concatenate([entries["number"][stay], more.numbers])
-        boxes = numpy.concatenate([entries["box"][stay].astype(float), more.boxes])
-    if not len(numbers):
-        return
-    for its_table, values in zip((PAGES + table, HEADS + table), packed(numbers, boxes)):
-        yield from ((its_table, at, value) for at, value in enumerate(values))
+def stored(store, table):
+    """Where the features of a table lie in `.places`, by its index if it has one."""
+    index = Index(store, table)
+    if not len(index.pages):
+        return scanned(store, OWN, table)
+    entries = index.read(numpy.arange(len(index.pages)))
+    entries = entries[(numpy.abs(entries["box"]) <= FARTHEST).all(axis=1)]
+    return Places(entries["number"], entries["box"])
+
+
+def since(store, table, known):
+    """Where the features of a table lie in `top`, if `known` has where they lie in `.places`."""
+    others, its = moved(store, OWN, "top", table), known.get(table, Places([], []))
+    stay, more = ~numpy.isin(its.numbers, numpy.fromiter(others, "<u8", len(others))), Places.of(others)
+    numbers, boxes = [its.numbers[stay], more.numbers], [its.boxes[stay], more.boxes]
+    return Places(numpy.concatenate(numbers), numpy.concatenate(boxes))
+
+
+def records_of(table, its):
+    """The records of the index of a table, if that has features."""
+    if len(its.numbers):
+        for its_table, values in zip((PAGES + table, HEADS + table), packed(its.numbers, its.boxes)):
+            yield from ((its_table, at, value) for at, value in enumerate(values))

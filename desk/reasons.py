@@ -1,5 +1,5 @@
-"""Why something failed, for the person who asked for it: a line on what was not done, and a second one on the file, the line or
-the word that it was about, with what the system or the program said."""
+"""Why something failed, for the person who asked for it: a line on what was not done, and a second one on the file, the
+line or the word that it was about, with what the system or the program said."""
 import os
 import sys
 from typing import Iterator

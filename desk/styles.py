@@ -1,10 +1,8 @@
 """How layers are drawn: a record of each design, so a style is versioned, merged and posted as all else.
 
-| Record | Its value |
-|---|---|
-| (300, T) | the style of the layer of table T, as JSON: colour, width, pattern and symbol, the field whose values have styles of their own, and the field that labels show |
-
-What is not said, and what is no style, is as in `PLAIN`."""
+Record (300, T) has the style of the layer of table T, as JSON: colour, width, pattern and symbol, the field whose
+values have styles of their own, and the field that labels show. What is not said, and what is no style, is as in
+`PLAIN`."""
 import json
 import re
 
@@ -15,7 +13,9 @@ STYLES = 300
 COLOUR = re.compile("#[0-9a-fA-F]{6}")
 PATTERNS = ("solid", "dashed", "dotted")
 SYMBOLS = ("circle", "square", "triangle", "diamond")
-PLAIN = {"colour": "#7A828A", "width": 1.5, "pattern": "solid", "symbol": "circle", "by": None, "label": None, "values": {}}
+PLAIN = {
+    "colour": "#7A828A", "width": 1.5, "pattern": "solid", "symbol": "circle", "by": None, "label": None, "values": {},
+}
 MOST_VALUES = 50
 
 

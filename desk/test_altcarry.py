@@ -266,8 +266,8 @@ class PullTests(CarryTest):
         self.assertIn("north: same", self.carry("status", self.field))
 
     def test_what_a_design_has_not_merged_is_not_read_again(self):
-        """Of a base that has not changed, a pull reads what lies between it and the nearer one of two known versions: here
-        the design has one change, or its parent has."""
+        """Of a base that has not changed, a pull reads what lies between it and the nearer one of two known versions:
+        here the design has one change, or its parent has."""
         read = []
 
         def differ(pair, link, *pairs):
@@ -719,8 +719,8 @@ class InterruptionTests(CarryTest):
         self.assertLess(3, at)
 
     def late(self, prepare, step, at, when):
-        """A batch to HEAD that is cut off comes there late: before batch `when` of the next try. Returns whether the step has
-        so many batches, and that one is HEAD's."""
+        """A batch to HEAD that is cut off comes there late: before batch `when` of the next try. Returns whether the
+        step has so many batches, and that one is HEAD's."""
         self.start_again()
         prepare()
         waiting, count = [], itertools.count()

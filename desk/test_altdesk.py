@@ -1,8 +1,8 @@
 #!/usr/bin/env python3
-"""Tests of the desk in a headless Chromium, over real stores and the service: `desk/test_altdesk.py [CLASS ..]`, with the
-program's path in the variable ALTCTL, or else with the one that `./altctl` at the top builds. `--pictures` writes those
-of docs/pictures anew. Where a browser or a module is not there, a line says that they are skipped. The tests lie in
-`desk/desk_tests`."""
+"""Tests of the desk in a headless Chromium, over real stores and the service: `desk/test_altdesk.py [CLASS ..]`, with
+the program's path in the variable ALTCTL, or else with the one that `./altctl` at the top builds. `--pictures` writes
+those of docs/pictures anew. Where a browser or a module is not there, a line says that they are skipped. The tests lie
+in `desk/desk_tests`."""
 import os
 import shutil
 import sys
@@ -40,6 +40,8 @@ from desk_tests.test_looking import LookingTests
 from desk_tests.test_office import OfficePageTests, OfficeTests
 from desk_tests.test_page import PageTests
 from desk_tests.test_people import TogetherTests, TwoPeopleTests, UnseenTests
+from desk_tests.test_pieces import PiecesTests, ReadingTests
+from desk_tests.test_renewals import RenewalRightsTests, RenewalTests
 from desk_tests.test_service import ServicePageTests
 from desk_tests.test_window import ManyFeaturesTests, WhatIsNotDrawnTests
 

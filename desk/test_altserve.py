@@ -1,7 +1,7 @@
 #!/usr/bin/env python3
-"""Tests of the service over real stores: `desk/test_altserve.py [CLASS ..]`, with the program's path in the variable ALTCTL, or
-else with the one that `./altctl` at the top builds. What needs rights or programs that are missing is skipped, with a line that
-says so. The tests lie in `desk/service_tests`."""
+"""Tests of the service over real stores: `desk/test_altserve.py [CLASS ..]`, with the program's path in the variable
+ALTCTL, or else with the one that `./altctl` at the top builds. What needs rights or programs that are missing is
+skipped, with a line that says so. The tests lie in `desk/service_tests`."""
 import sys
 import unittest
 from pathlib import Path
@@ -22,6 +22,7 @@ from service_tests.test_limits import DocumentTests, UnreadTests, UsersTests
 from service_tests.test_lines import LineTests
 from service_tests.test_log import IndexTests, LogTests
 from service_tests.test_parts import PartsTests
+from service_tests.test_renewals import RenewalTests
 from service_tests.test_restore import RestoreTests
 from service_tests.test_rules import ActingTests, RulesTests
 from service_tests.test_signals import ShortageTests, SignalTests

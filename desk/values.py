@@ -1,5 +1,5 @@
-"""Attributes and geometries as people read them, and as they type them. What is in a store may be anything: a value that cannot be
-shown is told to be bad, and why."""
+"""Attributes and geometries as people read them, and as they type them. What is in a store may be anything: a value
+that cannot be shown is told to be bad, and why."""
 import contextlib
 import json
 import math
@@ -15,7 +15,12 @@ gdal.UseExceptions()
 ogr.UseExceptions()
 osr.UseExceptions()
 
-LITERALS = {"Integer": int, "Integer64": int, "Real": (int, float), "value": (type(None), bool, int, float, str, list, dict)}
+LITERALS = {
+    "Integer": int,
+    "Integer64": int,
+    "Real": (int, float),
+    "value": (type(None), bool, int, float, str, list, dict),
+}
 
 
 FEW = 8  # points of a course that is not worth being simplified
@@ -99,8 +104,8 @@ def is_plain(geometry):
 
 
 def side_of(records, feature, keys, layer):
-    """A feature as the records of a version have it, None if it has none: attributes, course, and what of it is bad. A course that
-    the page does not have as a whole is none to be edited."""
+    """A feature as the records of a version have it, None if it has none: attributes, course, and what of it is bad. A
+    course that the page does not have as a whole is none to be edited."""
     if not any(it in records for it in keys):
         return None
     bad, found = [], {}

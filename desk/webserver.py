@@ -1,5 +1,5 @@
-"""The server of the desk's page: who gets in, and the questions that the page asks. One thread asks the service, one question after
-another, and a second one reads its journal, which may take long."""
+"""The server of the desk's page: who gets in, and the questions that the page asks. One thread asks the service, one
+question after another, and a second one reads its journal, which may take long."""
 import asyncio
 import contextlib
 from concurrent.futures import ThreadPoolExecutor
@@ -19,6 +19,7 @@ from maps.history import history
 from news import Journal, told
 from office import Office
 from people import People
+from pieces import Pieces
 
 HERE = Path(__file__).resolve().parent
 LEAFLET = Path("/usr/share/javascript/leaflet")
@@ -105,7 +106,7 @@ class Desk:
         threads = (ThreadPoolExecutor(1) for _ in range(4))
         self.thread, self.journal_thread, self.texts_thread, self.figures_thread = threads
         self.pictures_threads = background and ThreadPoolExecutor(background.threads)
-        self.designs, self.journal = None, None
+        self.designs, self.journal, self.pieces = None, None, Pieces()
         # Pull and push would be the desk's own user's, and not that of who asks for it.
         self.office = None if door.is_behind else Office(path, program, lambda: self.arrived.set())
 
@@ -169,7 +170,8 @@ class Desk:
     def text_query(self, work):
         async def found(it):
             await self.catch_up()
-            await self.read_texts(it["at"])
+            with self.pieces.wanted():
+                await self.read_texts(it["at"])
             return await self.asked(lambda designs: work(designs, it))
 
         async def answer(request):
@@ -178,11 +180,12 @@ class Desk:
         return answer
 
     async def read_texts(self, alt):
-        """Reads the texts of a design's tables on a connection of their own: that may take a few seconds."""
+        """Reads the texts of a design's tables on a connection of their own: that may take a few seconds, so it stands still
+        while somebody asks."""
 
         def read(missing):
             with Store(f"unix:{self.path}") as store:
-                return {source: read_texts(store, source, layer) for source, layer in missing.items()}
+                return {source: read_texts(store, source, layer, self.pieces.of) for source, layer in missing.items()}
 
         async with self.reading:
             for _ in range(TRIES):
@@ -218,7 +221,8 @@ class Desk:
 
     async def history(self, request):
         async def found():
-            events = await self.of_journal(lambda: history(self.journal.store, feature_of(request.query)))
+            with self.pieces.question():
+                events = await self.of_journal(lambda: history(self.journal.store, feature_of(request.query)))
             return [it._asdict() for it in events]
 
         return await self.reply(found())
@@ -282,7 +286,11 @@ class Desk:
         except Late as late:
             return web.json_response({"fault": str(late), "now": late.now}, status=409)
         except (maps.Fault, Refusal) as fault:
-            text = str(fault) if isinstance(fault, maps.Fault) else REFUSALS.get(fault.number, f"the store refused it: {fault}")
+            text = (
+                str(fault)
+                if isinstance(fault, maps.Fault)
+                else REFUSALS.get(fault.number, f"the store refused it: {fault}")
+            )
             return web.json_response({"fault": text}, status=409)
         except (KeyError, TypeError, ValueError, AttributeError) as fault:
             return web.json_response({"fault": f"not a question of the desk: {fault!r}"}, status=400)
@@ -291,7 +299,8 @@ class Desk:
             return web.json_response({"fault": text}, status=503)
 
     async def asked(self, work):
-        return await asyncio.get_running_loop().run_in_executor(self.thread, self.ask, work)
+        with self.pieces.question():
+            return await asyncio.get_running_loop().run_in_executor(self.thread, self.ask, work)
 
     def ask(self, work):
         self.people.hang_up()

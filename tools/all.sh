@@ -1,7 +1,7 @@
 #!/bin/sh
 # Runs the scripts that stand beside the gate, one after another, each of a bounded size: `tools/all.sh`. It ends with
-# one line, names in it the scripts that failed, and has the status 1 then. What needs more than is installed is skipped,
-# with a line that says so. The scripts in `measure` are none of them: times are looked at, never tested.
+# one line, names in it the scripts that failed, and has the status 1 then. What needs more than is installed is
+# skipped, with a line that says so. The scripts in `measure` are none of them: times are looked at, never tested.
 #
 # `tools/all.sh --quick [COUNT]` runs what takes few seconds, and the others shorter or not at all, in 4 minutes in all.
 # Its last line counts them with those COUNT that passed before: `N passed, M failed`.
@@ -15,7 +15,8 @@ names=
 quick=
 [ "${1-}" != --quick ] || quick=yes
 
-# Runs a script with its words. The seconds are there for one that hangs: ten times what it takes on a machine of its own.
+# Runs a script with its words. The seconds are there for one that hangs: ten times what it takes on a machine of its
+# own.
 try() {
     seconds=$1
     script=$2

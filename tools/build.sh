@@ -1,7 +1,8 @@
 #!/bin/sh
-# Builds the program altctl from the sources, which are proved first: crates/altctl/out/altctl. It says on standard error
-# which crate is being proved. An interrupted build leaves nothing behind; the next one goes on with the crate that it
-# was at. `./altctl` reads this file, with `top` set, where no program of these sources is there and dist/ carries none.
+# Builds the program altctl from the sources, which are proved first: crates/altctl/out/altctl. It says on standard
+# error which crate is being proved. An interrupted build leaves nothing behind; the next one goes on with the crate
+# that it was at. `./altctl` reads this file, with `top` set, where no program of these sources is there and dist/
+# carries none.
 set -eu
 
 [ "${0##*/}" != build.sh ] || top=$(CDPATH='' cd -- "$(dirname -- "$0")/.." && pwd)

@@ -1,7 +1,7 @@
 #!/bin/sh
-# Has dist/ carry the program that these sources give: `tools/dist.sh`. It takes the program that the gate or a build has
-# left, and builds it where there is none. Run it as the last step of a change to the program's sources. Where they give
-# the same bytes as before, only the digest of the sources is written anew.
+# Has dist/ carry the program that these sources give: `tools/dist.sh`. It takes the program that the gate or a build
+# has left, and builds it where there is none. Run it as the last step of a change to the program's sources. Where they
+# give the same bytes as before, only the digest of the sources is written anew.
 #
 # `tools/dist.sh --check` writes nothing: it says where dist/ is not what these sources give, and ends with status 1.
 set -eu

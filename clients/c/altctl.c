@@ -214,8 +214,8 @@ static int nameless(void)
 }
 
 /* Starts the program with these descriptors as its standard streams and, if there is a lock, as descriptor 3. It gets a
-   process group of its own, so that an interrupt from the terminal doesn't kill it in the middle of the caller's work, and
-   no signal is blocked in it. */
+   process group of its own, so that an interrupt from the terminal doesn't kill it in the middle of the caller's work,
+   and no signal is blocked in it. */
 static int start(pid_t *program, const char *const *words, int input, int output, int faults, int lock)
 {
     posix_spawn_file_actions_t actions;
@@ -238,7 +238,8 @@ static int start(pid_t *program, const char *const *words, int input, int output
     return error == 0 ? ALT_OK : ALT_NO_PROGRAM;
 }
 
-/* Waits for the program's end, and notes its status and what it said. The status stays 0 if the caller ignores SIGCHLD. */
+/* Waits for the program's end, and notes its status and what it said. The status stays 0 if the caller ignores
+   SIGCHLD. */
 static void note_end(pid_t program, int faults, alt_details *details)
 {
     int status = 0;
@@ -314,7 +315,8 @@ static int flush(alt_store *store)
 {
     struct buffer *out = &store->out;
     while (out->begin < out->end && !store->is_deaf && store->end == 0) {
-        ssize_t count = send(store->socket, out->bytes + out->begin, out->end - out->begin, MSG_NOSIGNAL | MSG_DONTWAIT);
+        ssize_t count =
+            send(store->socket, out->bytes + out->begin, out->end - out->begin, MSG_NOSIGNAL | MSG_DONTWAIT);
         if (count >= 0) {
             out->begin += (size_t)count;
         } else if (errno == EAGAIN || errno == EWOULDBLOCK) {
@@ -336,7 +338,8 @@ static int read_line(alt_store *store, char **line)
     struct buffer *in = &store->in;
     int error = flush(store);
     for (size_t seen = 0; error == ALT_OK;) {
-        char *end = in->begin + seen < in->end ? memchr(in->bytes + in->begin + seen, '\n', in->end - in->begin - seen) : NULL;
+        size_t from = in->begin + seen;
+        char *end = from < in->end ? memchr(in->bytes + from, '\n', in->end - from) : NULL;
         if (end != NULL) {
             *end = 0;
             *line = in->bytes + in->begin;
@@ -362,7 +365,8 @@ static int enter(const alt_store *store)
     return store->rows.is_open ? ALT_ROWS_OPEN : ALT_OK;
 }
 
-/* Adds the words of a line as `form` has them: `%w` is a word, `%k` a key, `%v` a value and its length, `%n` a number. */
+/* Adds the words of a line as `form` has them: `%w` is a word, `%k` a key, `%v` a value and its length, `%n` a
+   number. */
 static int add_words(struct buffer *out, const char *form, va_list words)
 {
     int error = ALT_OK;
@@ -690,7 +694,8 @@ int alt_copy(const char *file, const char *to, uint32_t blocks, alt_size *size, 
     close_all(&lock, 1);
     if (error == ALT_OK)
         error = copied(blocks, &details);
-    if (error == ALT_OK && size != NULL && sscanf(output, "copied %" SCNu32 ", %" SCNu32, &size->blocks, &size->used) != 2)
+    if (error == ALT_OK && size != NULL &&
+        sscanf(output, "copied %" SCNu32 ", %" SCNu32, &size->blocks, &size->used) != 2)
         return ALT_BAD_ANSWER;
     return error;
 }
@@ -821,7 +826,8 @@ const char *alt_error_text(alt_store *store, int error)
         return alt_error_name(error);
     const alt_details *it = &store->details;
     if (error > 0)
-        snprintf(store->text, sizeof store->text, "%d %s%s%s", error, it->name[0] != 0 ? it->name : alt_error_name(error),
+        snprintf(store->text, sizeof store->text, "%d %s%s%s", error,
+                 it->name[0] != 0 ? it->name : alt_error_name(error),
                  it->said[0] != 0 ? " " : "", it->said);
     else if (store->is_service)
         return "the service has closed the connection";
@@ -833,8 +839,8 @@ const char *alt_error_text(alt_store *store, int error)
 
 /* --- commands -------------------------------------------------------------------------------------- */
 
-/* Ends a batch by a word, and takes the answers to all its lines. Of a refused batch one line has the refusal, and the others
-   say that they were not done. */
+/* Ends a batch by a word, and takes the answers to all its lines. Of a refused batch one line has the refusal, and the
+   others say that they were not done. */
 static int end_batch(alt_store *store, const char *word)
 {
     alt_ticket begin = store->batch, end;
@@ -909,7 +915,8 @@ int alt_commit(alt_store *store)
 
 int alt_rollback(alt_store *store)
 {
-    return enter(store) == ALT_OK && store->batch != 0 ? end_batch(store, "rollback") : command(store, NULL, "rollback");
+    return enter(store) == ALT_OK && store->batch != 0 ? end_batch(store, "rollback")
+                                                       : command(store, NULL, "rollback");
 }
 
 int alt_reclaim(alt_store *store)
@@ -960,7 +967,8 @@ int alt_merge(alt_store *store, const char *alt, const alt_settlement *settlemen
 int alt_merge_all(alt_store *store, const char *alt, alt_side side, const alt_settlement *settlements, size_t count,
                   uint64_t *changed)
 {
-    return merge(store, alt, side == ALT_MINE ? "merge %w all=mine" : "merge %w all=theirs", settlements, count, changed);
+    const char *form = side == ALT_MINE ? "merge %w all=mine" : "merge %w all=theirs";
+    return merge(store, alt, form, settlements, count, changed);
 }
 
 /* --- batches of a service -------------------------------------------------------------------------- */
@@ -1103,8 +1111,8 @@ int alt_diff_table(alt_store *store, const char *before, const char *after, uint
     return begin_rows(store, error, ticket, CHANGES, rows);
 }
 
-int alt_diff_range(alt_store *store, const char *before, const char *after, uint16_t table, uint64_t first, uint64_t last,
-                   alt_rows **rows)
+int alt_diff_range(alt_store *store, const char *before, const char *after, uint16_t table, uint64_t first,
+                   uint64_t last, alt_rows **rows)
 {
     alt_ticket ticket = 0;
     int error = send_line(store, &ticket, "diff %w %w %n %n %n", before, after, (uint64_t)table, first, last);
@@ -1267,8 +1275,8 @@ static int add_rows(alt_cursor *cursor, alt_rows *rows, alt_key *last)
     return last->table == cursor->last_table && last->number == UINT64_MAX ? ALT_DONE : ALT_OK;
 }
 
-/* Reads the next page in the place of one that was given. If that fails there is no page, and the cursor goes on where it
-   would have begun. */
+/* Reads the next page in the place of one that was given. If that fails there is no page, and the cursor goes on where
+   it would have begun. */
 static int read_page(alt_cursor *cursor)
 {
     alt_rows *rows;

@@ -1,7 +1,7 @@
 #!/bin/sh
-# Tests the C client with each compiler and checker that is installed: `clients/c/test.sh [PROGRAM]`; without a PROGRAM it
-# takes the one that `./altctl` at the top starts. With --quick before it the first compiler alone tests it, with its checkers.
-# What is not installed is skipped, with a line that says so.
+# Tests the C client with each compiler and checker that is installed: `clients/c/test.sh [PROGRAM]`; without a PROGRAM
+# it takes the one that `./altctl` at the top starts. With --quick before it the first compiler alone tests it, with its
+# checkers. What is not installed is skipped, with a line that says so.
 set -eu
 
 quick=
@@ -42,7 +42,8 @@ tests() {
     options=$3
     shift 3
     # shellcheck disable=SC2086
-    try "$name, build" $compiler $warnings $options -o "$folder/tests" "$here/test_altctl.c" "$here/altctl.c" -lpthread || return 0
+    try "$name, build" $compiler $warnings $options -o "$folder/tests" "$here/test_altctl.c" "$here/altctl.c" \
+        -lpthread || return 0
     mkdir -p "$folder/stores"
     # shellcheck disable=SC2086
     try "$name" "$@" "$folder/tests" "$program" "$folder/stores" $service || :
@@ -57,7 +58,8 @@ in_memory() {
     rm -rf "$folder/images"
     mkdir "$folder/images"
     # shellcheck disable=SC2086
-    ! try "$name, build" $compiler $warnings $options -o "$folder/in_memory" "$here/test_altstore.c" "$folder/altstore/libaltstore.a" ||
+    ! try "$name, build" $compiler $warnings $options -o "$folder/in_memory" "$here/test_altstore.c" \
+        "$folder/altstore/libaltstore.a" ||
         try "$name" "$@" "$folder/in_memory" "$(realpath "$program")" "$folder/images" || :
 }
 
@@ -91,7 +93,8 @@ for compiler in gcc clang; do
             checkers='-g -fsanitize=address,undefined -fno-sanitize-recover=all'
             tests "$compiler with its checkers" "$compiler" "$checkers" env
             # shellcheck disable=SC2086
-            ! try "$compiler, memory is refused, build" "$compiler" $warnings $checkers -o "$folder/memory" "$here/test_memory.c" -lpthread ||
+            ! try "$compiler, memory is refused, build" "$compiler" $warnings $checkers -o "$folder/memory" \
+                "$here/test_memory.c" -lpthread ||
                 try "$compiler, memory is refused" "$folder/memory" "$program" "$folder/stores" || :
         fi
     fi
@@ -104,7 +107,8 @@ if [ -z "$quick" ] && has gcc && gcc -fsanitize=thread -o "$folder/empty" "$fold
 fi
 if has g++; then
     try 'example in C++, build' sh -c "gcc -std=c99 -c -o '$folder/altctl.o' '$here/altctl.c' &&
-        g++ -std=c++11 -Wall -Wextra -Wpedantic -Werror -o '$folder/example' '$here/example.cpp' '$folder/altctl.o'" || :
+        g++ -std=c++11 -Wall -Wextra -Wpedantic -Werror -o '$folder/example' '$here/example.cpp' \
+            '$folder/altctl.o'" || :
     "$program" create "$folder/example.alt" 256 >/dev/null
     printf '%s\n' '7:1 is duct 160 PVC here, and duct 125 PVC in the parent' 'merged: 1 record changed' \
         '7 1 duct 160 PVC' '7 2 duct 110 PVC' '7 3 duct 50 HDPE' >"$folder/due"
@@ -118,14 +122,16 @@ if "$top/tools/release/altstore.sh" "$folder/altstore" >"$folder/output"; then
             break
         fi
         if has "$compiler" && can_check "$compiler"; then
-            in_memory "$compiler" "$compiler, in memory" '-O1 -g -fsanitize=address,undefined -fno-sanitize-recover=all' env
+            in_memory "$compiler" "$compiler, in memory" \
+                '-O1 -g -fsanitize=address,undefined -fno-sanitize-recover=all' env
         fi
     done
     if [ -z "$quick" ] && has gcc && has valgrind; then
         in_memory gcc 'valgrind, in memory' '-O1 -g' valgrind -q --error-exitcode=9 --leak-check=full
     fi
     if command -v python3 >/dev/null; then
-        try 'in memory, from Python' python3 "$here/../python/test_altstore.py" "$folder/altstore/libaltstore.so.0" "$program" || :
+        try 'in memory, from Python' python3 "$here/../python/test_altstore.py" "$folder/altstore/libaltstore.so.0" \
+            "$program" || :
     fi
 else
     echo "skipped: $(cat "$folder/output")"

@@ -1,5 +1,5 @@
-/* Tests of the C client over real files: `test_altctl PROGRAM FOLDER [SERVICE]`. Each test has a new store of 64 blocks.
-   SERVICE is `desk/altserve`; without it the tests of a service are skipped. */
+/* Tests of the C client over real files: `test_altctl PROGRAM FOLDER [SERVICE]`. Each test has a new store of 64
+   blocks. SERVICE is `desk/altserve`; without it the tests of a service are skipped. */
 #define _GNU_SOURCE
 #include "altctl.h"
 
@@ -46,7 +46,8 @@ static int failures;
 static void same_value(int line, const void *due, size_t length, alt_value came)
 {
     int is_none = due == NULL;
-    if (is_none ? came.bytes != NULL : came.bytes == NULL || came.length != length || memcmp(due, came.bytes, length) != 0) {
+    if (is_none ? came.bytes != NULL
+                : came.bytes == NULL || came.length != length || memcmp(due, came.bytes, length) != 0) {
         printf("%s:%d: the value of %zu bytes is another one\n", __FILE__, line, came.length);
         failures++;
     }
@@ -486,7 +487,8 @@ static void a_cursor_lets_others_ask(void)
         SAME(ALT_OK, alt_put(store, "top", key(8, number % 3), "b", 1));
         SAME(number, record.key.number);
         SAME(number, other.key.number);
-        SAME(1, record.value.length == other.value.length && memcmp(record.value.bytes, other.value.bytes, other.value.length) == 0);
+        SAME(1, record.value.length == other.value.length &&
+                    memcmp(record.value.bytes, other.value.bytes, other.value.length) == 0);
     }
     /* The last page was asked for before record 2 of table 8 was put a last time. */
     for (uint64_t number = 0; number < 3; number++) {
@@ -1055,7 +1057,8 @@ static void a_killed_caller_leaves_no_lock(void)
     pid_t caller = fork();
     if (caller == 0) {
         store = opened();
-        if (put(store, "top", 1, "duct") == ALT_OK && alt_commit(store) == ALT_OK && put(store, "top", 2, "pipe") == ALT_OK)
+        if (put(store, "top", 1, "duct") == ALT_OK && alt_commit(store) == ALT_OK &&
+            put(store, "top", 2, "pipe") == ALT_OK)
             kill(getpid(), SIGKILL);
         _exit(1);
     }
@@ -1182,7 +1185,8 @@ static alt_store *answered(const char *answers)
 
 static void other_answers_are_told(void)
 {
-    const char *to_gets[] = {"nonsense\\n", "\\n", "value\\n", "error\\n", "error x y\\n", "error 5\\n", "error 0 Ok\\n"};
+    const char *to_gets[] = {"nonsense\\n",  "\\n",        "value\\n",     "error\\n",
+                             "error x y\\n", "error 5\\n", "error 0 Ok\\n"};
     const char *to_lists[] = {"record\\n", "record 7\\n", "record 7 1\\n", "record 7 1 duct pipe\\n", "nonsense\\n"};
     char value[8];
     size_t length;
@@ -1580,6 +1584,7 @@ int main(int count, char **words)
         printf("%s %s\n", failures == before ? "ok" : "FAILED", tests[at].name);
     }
     unlink(file);
-    printf("%zu tests%s, %d failures\n", sizeof tests / sizeof *tests, service == NULL ? " but those of a service" : "", failures);
+    printf("%zu tests%s, %d failures\n", sizeof tests / sizeof *tests,
+           service == NULL ? " but those of a service" : "", failures);
     return failures > 0;
 }

@@ -1,5 +1,5 @@
-/* Tests of libaltstore: `test_altstore PROGRAM FOLDER`. PROGRAM is altctl, with which the images are compared, and FOLDER an
-   empty one. Prints the number of its checks, or the first that failed. */
+/* Tests of libaltstore: `test_altstore PROGRAM FOLDER`. PROGRAM is altctl, with which the images are compared, and
+   FOLDER an empty one. Prints the number of its checks, or the first that failed. */
 #define _POSIX_C_SOURCE 200809L
 #include "altstore.h"
 
@@ -91,10 +91,12 @@ static void test_lines(void)
 {
     altstore store = ALTSTORE_CLOSED_HANDLE;
     CHECK(altstore_new(&store, 64, 128) == ALTSTORE_OK);
-    CHECK(asks(&store, "put top 7 1 duct\nnew north top\nput north 7 1 pipe\nget north 7 1\nget top 7 1", false, ALTSTORE_OK,
+    CHECK(asks(&store, "put top 7 1 duct\nnew north top\nput north 7 1 pipe\nget north 7 1\nget top 7 1", false,
+               ALTSTORE_OK,
                "ok\nok\nok\nvalue pipe\nvalue duct\n"));
     CHECK(asks(&store, "", false, ALTSTORE_OK, ""));
-    CHECK(asks(&store, "get south 7 1\nget top 7 1\n", false, ALTSTORE_LINE_REFUSED, "error 1 NoSuchAlternative\nvalue duct\n"));
+    CHECK(asks(&store, "get south 7 1\nget top 7 1\n", false, ALTSTORE_LINE_REFUSED,
+               "error 1 NoSuchAlternative\nvalue duct\n"));
     CHECK(asks(&store, "get south 7 1\nget top 7 1\n", true, ALTSTORE_LINE_REFUSED, "error 1 NoSuchAlternative\n"));
     uint8_t part[4];
     CHECK(altstore_answers(&store, 8, part, sizeof part) == 4 && memcmp(part, "NoSu", 4) == 0);
@@ -118,7 +120,8 @@ static void test_images(const char *program, const char *folder)
     close(descriptor);
     CHECK(asks(&store, "list top\n", false, ALTSTORE_OK, "record 7 1 duct\nend 1\n"));
     altstore_close(&store);
-    CHECK(runs(program, folder, "do saved.alt 'list top' 'put top 7 3 more' commit", "record 7 1 duct\nend 1\nok\nok\n"));
+    CHECK(runs(program, folder, "do saved.alt 'list top' 'put top 7 3 more' commit",
+               "record 7 1 duct\nend 1\nok\nok\n"));
     descriptor = file(folder, "saved.alt", O_RDONLY);
     CHECK(altstore_load(&store, descriptor, 0) == ALTSTORE_OK);
     CHECK(altstore_load(&store, descriptor, 0) == ALTSTORE_OPEN);

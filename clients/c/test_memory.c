@@ -1,5 +1,5 @@
-/* Refuses each allocation of the C client in turn: `test_memory PROGRAM FOLDER`. Each call has to return an error then, or to
-   do what it does; what was put and committed without one has to be in the file. */
+/* Refuses each allocation of the C client in turn: `test_memory PROGRAM FOLDER`. Each call has to return an error then,
+   or to do what it does; what was put and committed without one has to be in the file. */
 #define _GNU_SOURCE
 #include <stdio.h>
 #include <stdlib.h>
@@ -51,8 +51,8 @@ static int checked(int error, const char *what)
     return error;
 }
 
-/* Steps through all records by a cursor. A step whose page was refused memory is tried again, and then goes on where it should.
-   A record whose put was not known to be answered may be there, too. */
+/* Steps through all records by a cursor. A step whose page was refused memory is tried again, and then goes on where it
+   should. A record whose put was not known to be answered may be there, too. */
 static void scan(alt_store *store, uint64_t due)
 {
     alt_cursor *cursor;
@@ -97,7 +97,8 @@ static int work(alt_store *store, int *is_put)
         is_put[at] = checked(alt_put(store, "top", (alt_key){7, (uint64_t)at}, value, sizeof value), "put") == ALT_OK;
     for (int at = 0; at < AHEAD; at++) {
         alt_key key = {7, (uint64_t)(ONE_BY_ONE + at)};
-        is_put[ONE_BY_ONE + at] = checked(alt_send_put(store, "top", key, value, sizeof value, &tickets[at]), "send") == ALT_OK;
+        int error = alt_send_put(store, "top", key, value, sizeof value, &tickets[at]);
+        is_put[ONE_BY_ONE + at] = checked(error, "send") == ALT_OK;
     }
     /* The last ones first: the others are kept. */
     for (int at = AHEAD - 1; at >= 0; at--)

@@ -6,9 +6,9 @@
         store.put("north", 7, 1, b"duct")
         store.commit()
 
-Values are bytes, 4,000 at most, names are texts, and a key is a table and a number. What was not committed is gone at the end of
-the `with`. Several threads may use one store: each call has its own answer. docs/FORMATS.md has the lines and their
-answers, docs/OPERATING.md what helps where one is refused.
+Values are bytes, 4,000 at most, names are texts, and a key is a table and a number. What was not committed is gone at
+the end of the `with`. Several threads may use one store: each call has its own answer. docs/FORMATS.md has the lines
+and their answers, docs/OPERATING.md what helps where one is refused.
 """
 from __future__ import annotations
 
@@ -42,11 +42,13 @@ Path = Union[str, bytes, "os.PathLike[str]", "os.PathLike[bytes]"]
 
 
 class Refusal(Exception):
-    """A line that was refused: `error NUMBER NAME`, and behind it a count, a block or a key, where it has one. Of several
-    lines that were given at once `at` tells which one it is, 0 for the first. `line` is the line itself, where it is
-    known, and `reason` which word of a bad line is wrong."""
+    """A line that was refused: `error NUMBER NAME`, and behind it a count, a block or a key, where it has one. Of
+    several lines that were given at once `at` tells which one it is, 0 for the first. `line` is the line itself, where
+    it is known, and `reason` which word of a bad line is wrong."""
 
-    def __init__(self, number: int, name: str, detail: str = "", at: Optional[int] = None, line: Optional[str] = None) -> None:
+    def __init__(
+        self, number: int, name: str, detail: str = "", at: Optional[int] = None, line: Optional[str] = None
+    ) -> None:
         place = "" if at is None else f" (line {at} of those given)"
         super().__init__(f"{number} {name} {detail}".rstrip() + place)
         self.number, self.name, self.detail, self.at, self.line = number, name, detail, at, line
@@ -308,8 +310,8 @@ class Rows(Generic[Row]):
 
 
 class Process:
-    """A process of `altctl run`, which locks the file as long as it runs. It is in a session of its own: a Ctrl-C that ends a
-    call here does not end it, and what was not committed is there still."""
+    """A process of `altctl run`, which locks the file as long as it runs. It is in a session of its own: a Ctrl-C that
+    ends a call here does not end it, and what was not committed is there still."""
 
     ahead, pipe = AHEAD, PIPE
 
@@ -329,7 +331,12 @@ class Process:
         """Has a second process copy the file, whose lock this one holds."""
         program, file = self._words
         words = [program, "copy", "--no-lock", "--", file, os.fsdecode(to), *([] if blocks is None else [str(blocks)])]
-        how = {"stdin": subprocess.DEVNULL, "stdout": subprocess.PIPE, "stderr": subprocess.PIPE, "start_new_session": True}
+        how = {
+            "stdin": subprocess.DEVNULL,
+            "stdout": subprocess.PIPE,
+            "stderr": subprocess.PIPE,
+            "start_new_session": True,
+        }
         ran = subprocess.run(words, encoding="utf-8", errors="replace", **how)
         if ran.returncode == 0:
             return Copied(*map(int, re.findall("[0-9]+", ran.stdout)))
@@ -400,12 +407,13 @@ class Tunnel(Service):
 
 
 class Store:
-    """An open store. The program locks its file (`flock`) as long as it runs: a second one raises BlockingIOError, or with
-    `wait` it waits. With `read_only` the file is only read, beside other readers, and each command is refused (24 ReadOnly). With
-    `grow` the store grows where a command would be refused for want of blocks (13 Full): as far as it can, or up to that many blocks.
+    """An open store. The program locks its file (`flock`) as long as it runs: a second one raises BlockingIOError, or
+    with `wait` it waits. With `read_only` the file is only read, beside other readers, and each command is refused (24
+    ReadOnly). With `grow` the store grows where a command would be refused for want of blocks (13 Full): as far as it
+    can, or up to that many blocks.
 
-    "unix:PATH" stands for a store that a service works on, for many planners at once. There each change is committed before its
-    method returns, except in a `with store.batch()`. A Tunnel leads to a service elsewhere."""
+    "unix:PATH" stands for a store that a service works on, for many planners at once. There each change is committed
+    before its method returns, except in a `with store.batch()`. A Tunnel leads to a service elsewhere."""
 
     def __init__(self, file, program="altctl", cache=None, wait=False, read_only=False, grow=False):
         self._rows, self._batch, self._is_open, self._turn = None, None, False, threading.RLock()
@@ -450,9 +458,10 @@ class Store:
 
     @contextlib.contextmanager
     def batch(self, seen: Optional[Dict[str, int]] = None) -> Iterator[None]:
-        """Changes that a service applies together at the end of the `with`: all of them, or none. If an exception leaves the
-        `with`, or one of them is refused at its end, everything stays as it was. Queries are not possible in it. `seen` is a dict
-        from alternatives to batches: if one has changed since that batch, all of it is refused (103 Changed)."""
+        """Changes that a service applies together at the end of the `with`: all of them, or none. If an exception
+        leaves the `with`, or one of them is refused at its end, everything stays as it was. Queries are not possible in
+        it. `seen` is a dict from alternatives to batches: if one has changed since that batch, all of it is refused
+        (103 Changed)."""
         if not isinstance(self._other, Service) or self._batch is not None:
             raise ValueError("a batch is one of a service's store, and not in another one")
         self._batch = [self._line("begin", *(f"{alt}={number:d}" for alt, number in (seen or {}).items()))]
@@ -513,10 +522,10 @@ class Store:
         return answer
 
     def _ask_many(self, lines, most):
-        """Gives for each line the words of its answer, of one line. A portion of lines is written, and then its answers are
-        read, the one that tells a refusal among them. No side waits for the other for good: both pipes are empty before a
-        portion, and into one of them goes all of it. Either the lines have no more than `most` = PIPE bytes together, or
-        the answers, of 64 bytes each at most. In a batch they are held."""
+        """Gives for each line the words of its answer, of one line. A portion of lines is written, and then its answers
+        are read, the one that tells a refusal among them. No side waits for the other for good: both pipes are empty
+        before a portion, and into one of them goes all of it. Either the lines have no more than `most` = PIPE bytes
+        together, or the answers, of 64 bytes each at most. In a batch they are held."""
         if self._batch is not None:
             for line in lines:
                 self._hold(line)
@@ -542,8 +551,8 @@ class Store:
         self._ask("put", alt, table, number, encode(value))
 
     def get(self, alt: str, table: int, number: int) -> Optional[bytes]:
-        """The value of a record, or None. In place of an alternative stands a version of it, too: "north@" for its base,
-        "north@before" for a checkpoint."""
+        """The value of a record, or None. In place of an alternative stands a version of it, too: "north@" for its
+        base, "north@before" for a checkpoint."""
         answer = self._ask("get", alt, table, number)
         return decode(answer[1]) if answer[0] == "value" else None
 
@@ -551,8 +560,9 @@ class Store:
         self._ask("remove", alt, table, number)
 
     def put_many(self, alt: str, records: Iterable[Tuple[int, int, Value]]) -> None:
-        """Puts each (table, number, value), in their order. Lines are written ahead of their answers. Where one is refused,
-        those before it are put, and some of those behind it may be: the Refusal tells in `at` which one it was."""
+        """Puts each (table, number, value), in their order. Lines are written ahead of their answers. Where one is
+        refused, those before it are put, and some of those behind it may be: the Refusal tells in `at` which one it
+        was."""
         words = self._line("put", alt)
         lines = (f"{words} {table:d} {number:d} {encode(value)}" for table, number, value in records)
         for _ in self._ask_many(lines, float("inf")):
@@ -567,9 +577,9 @@ class Store:
             yield decode(answer[1]) if answer[0] == "value" else None
 
     def answers_of(self, queries: Iterable[Sequence[object]]) -> List[Union[List[List[str]], Refusal]]:
-        """The answers to queries, each the words of a line such as ("diff", "top", "north"), as lists of rows: each row the
-        words behind its first one. In the place of a query that was refused stands its Refusal. Lines are written ahead of
-        their answers: to a service, a few hundred queries take one round trip."""
+        """The answers to queries, each the words of a line such as ("diff", "top", "north"), as lists of rows: each row
+        the words behind its first one. In the place of a query that was refused stands its Refusal. Lines are written
+        ahead of their answers: to a service, a few hundred queries take one round trip."""
         found = []
         for portion in portions([self._line(*words) for words in queries], self._other.pipe, self._other.ahead):
             with self._turn:
@@ -611,8 +621,8 @@ class Store:
     def list(
         self, at: str, table: Optional[int] = None, first: Optional[int] = None, last: Optional[int] = None
     ) -> Rows[Record]:
-        """All records of an alternative or of a version of it, by table and then by number; or those of a table, or of its
-        numbers from `first` to `last`, both included, where None is no limit."""
+        """All records of an alternative or of a version of it, by table and then by number; or those of a table, or of
+        its numbers from `first` to `last`, both included, where None is no limit."""
         return self._list(record_of, "list", at, *part_words(table, first, last))
 
     def next(self, at: str, table: int, number: int, count: int) -> Rows[Record]:
@@ -620,8 +630,9 @@ class Store:
         return self._list(record_of, "next", at, whole(table), whole(number), whole(count))
 
     def scan(self, at: str, table: Optional[int] = None) -> Iterator[Record]:
-        """All records, or those of a table, as `list` gives them, but a thousand at a time: other lines may come in between, and
-        at no time are more than these in memory. A page shows the version as it is when the page is asked for."""
+        """All records, or those of a table, as `list` gives them, but a thousand at a time: other lines may come in
+        between, and at no time are more than these in memory. A page shows the version as it is when the page is asked
+        for."""
         first, last = (0, LAST_TABLE) if table is None else (whole(table), whole(table))
         place, end = first << NUMBER_BITS, (last + 1) << NUMBER_BITS
         return self._pages(at, place, end, self._page(at, place))
@@ -670,8 +681,8 @@ class Store:
         first_number: Optional[int] = None,
         last_number: Optional[int] = None,
     ) -> Rows[Change]:
-        """What differs from one version to another, as Change rows: everywhere, in a table, or at its numbers from `first_number`
-        to `last_number`, both included."""
+        """What differs from one version to another, as Change rows: everywhere, in a table, or at its numbers from
+        `first_number` to `last_number`, both included."""
         return self._list(change_of, "diff", first, second, *part_words(table, first_number, last_number))
 
     def tally(self, alt: str) -> Tally:
@@ -686,8 +697,9 @@ class Store:
     def merge(
         self, alt: str, settlements: Optional[Dict[Key, str]] = None, all: Optional[str] = None
     ) -> Optional[int]:
-        """Brings in what changed in the parent, and gives how many records that changed, but in a batch. Settlements are a dict
-        from (table, number) to "mine" or "theirs", one for each conflict; `all`, "mine" or "theirs", settles each other one."""
+        """Brings in what changed in the parent, and gives how many records that changed, but in a batch. Settlements
+        are a dict from (table, number) to "mine" or "theirs", one for each conflict; `all`, "mine" or "theirs", settles
+        each other one."""
         words = [] if all is None else [f"all={all}"]
         words += [f"{table}:{number}={side}" for (table, number), side in (settlements or {}).items()]
         answer = self._ask("merge", alt, *words)
@@ -700,7 +712,8 @@ class Store:
         self._ask("commit")
 
     def rollback(self) -> None:
-        """Undoes everything since the last commit, also a growth. A service commits each change, so there it undoes nothing."""
+        """Undoes everything since the last commit, also a growth. A service commits each change, so there it undoes
+        nothing."""
         self._ask("rollback")
 
     def reclaim(self) -> None:
@@ -719,13 +732,14 @@ class Store:
         return int(self._ask("blocks")[1])
 
     def copy(self, to: Path, blocks: Optional[int] = None) -> Copied:
-        """Copies what was committed to a new file of `blocks` blocks, or of as many as the store has, and gives that number and how
-        many are in use, as Copied. Raises the Refusal 13 Full if more than `blocks` are in use; no file is made then. If it fails
-        otherwise, for instance as the file exists, it raises Ended; nothing has the name `to` then that had it not before. The file
-        gets it once it is whole; until then `.part` stands behind it.
+        """Copies what was committed to a new file of `blocks` blocks, or of as many as the store has, and gives that
+        number and how many are in use, as Copied. Raises the Refusal 13 Full if more than `blocks` are in use; no file
+        is made then. If it fails otherwise, for instance as the file exists, it raises Ended; nothing has the name `to`
+        then that had it not before. The file gets it once it is whole; until then `.part` stands behind it.
 
-        A second process reads the file meanwhile. Here that is safe: between two lines the program writes nothing, and other calls
-        of this store wait. An `altctl copy --no-lock` of your own is not safe while a commit, a reclaim or any other line runs."""
+        A second process reads the file meanwhile. Here that is safe: between two lines the program writes nothing, and
+        other calls of this store wait. An `altctl copy --no-lock` of your own is not safe while a commit, a reclaim or
+        any other line runs."""
         if isinstance(self._other, Service) or self._batch is not None:
             raise ValueError("a service copies its store itself, by the line backup")
         if blocks is not None and not LEAST_BLOCKS <= whole(blocks) <= MOST_BLOCKS:
@@ -757,7 +771,7 @@ class Store:
         self._ask("for", name)
 
     def log(self, **filters: object) -> Rows[Entry]:
-        """Who changed what, and when, as a service's journal tells it: Entry rows, the latest one last. The filters are those of
-        its line `log`, for instance record="7:1" or last=10."""
+        """Who changed what, and when, as a service's journal tells it: Entry rows, the latest one last. The filters are
+        those of its line `log`, for instance record="7:1" or last=10."""
         words = [f"{name}={value}" for name, value in filters.items()]
         return self._list(lambda it: Entry(int(it[0]), it[1], it[2], " ".join(it[3:])), "log", *words)

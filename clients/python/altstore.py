@@ -1,5 +1,5 @@
-"""A store of Zonegrater in the memory of this process, by `libaltstore`: a reader of a snapshot, a store to try something
-in, a store for tests. Nothing is durable before `save`; for a durable store take `altctl`.
+"""A store of Zonegrater in the memory of this process, by `libaltstore`: a reader of a snapshot, a store to try
+something in, a store for tests. Nothing is durable before `save`; for a durable store take `altctl`.
 
     from altstore import Memory
 
@@ -12,7 +12,8 @@ in, a store for tests. Nothing is durable before `save`; for a durable store tak
         store.save("copy.alt")
 
 Each method sends a line of docs/FORMATS.md, and `ask` sends any lines. A store is used by one thread at a time. Needs
-Python 3.8 or later, and the shared library: by its path in ALTSTORE_LIBRARY, beside this file, or where the system looks.
+Python 3.8 or later, and the shared library: by its path in ALTSTORE_LIBRARY, beside this file, or where the system
+looks.
 """
 from __future__ import annotations
 
@@ -126,7 +127,8 @@ class Memory:
             raise Refused(code)
 
     def ask(self, lines: Union[str, bytes], stops: bool = False) -> str:
-        """The answers to lines, as text. A refused line is answered by its refusal, and is the last one if `stops` is true."""
+        """The answers to lines, as text. A refused line is answered by its refusal, and is the last one if `stops` is
+        true."""
         data = lines.encode() if isinstance(lines, str) else lines
         found, handle = _library(), ctypes.byref(self._handle)
         code = found.altstore_ask(handle, data, len(data), stops)

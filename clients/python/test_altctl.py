@@ -165,7 +165,9 @@ class StoreTests(unittest.TestCase):
             store.put("top", 7, 1, b"tube")
             versions = ["north", "north@", "north@before", "top", "top@"]
             self.assertEqual([b"cable", b"duct", b"cable", b"tube", None], [store.get(it, 7, 1) for it in versions])
-            self.assertEqual([[b"cable"], [None]], [list(store.get_many(it, [(7, 1)])) for it in ("north@before", "top@")])
+            self.assertEqual(
+                [[b"cable"], [None]], [list(store.get_many(it, [(7, 1)])) for it in ("north@before", "top@")]
+            )
             self.assertEqual([Record(7, 1, b"cable")], list(store.list("north@before")))
             self.assertEqual([Record(7, 1, b"duct")], list(store.list("north@")))
             self.assertEqual([], list(store.list("top@")))
@@ -208,7 +210,8 @@ class StoreTests(unittest.TestCase):
         return left
 
     def same_parts(self, store, rng, versions, numbers, at, other):
-        """Compares parts and pages of a version, and parts of what differs from it to another one, with those of dicts."""
+        """Compares parts and pages of a version, and parts of what differs from it to another one, with those of
+        dicts."""
         own, its = versions[at], versions[other]
         rows = [Record(*key, own[key]) for key in sorted(own)]
         changes = [Change(*it, own.get(it), its.get(it)) for it in sorted({*own, *its}) if own.get(it) != its.get(it)]
@@ -245,7 +248,9 @@ class StoreTests(unittest.TestCase):
                     store.put_many("top", ((*it, b"") for it in due))
                     self.assertEqual(due, [it[:2] for it in store.scan("top")])
                     for table in (6, 7, 8, 65535):
-                        self.assertEqual([it for it in due if it[0] == table], [it[:2] for it in store.scan("top", table)])
+                        self.assertEqual(
+                            [it for it in due if it[0] == table], [it[:2] for it in store.scan("top", table)]
+                        )
 
     def test_a_scan_asks_for_no_more_than_a_page(self):
         with Store(self.grown(4096), ALTCTL) as store:
@@ -432,7 +437,9 @@ class StoreTests(unittest.TestCase):
             self.assertEqual([Record(7, 1, b"duct")], list(copy.list("north@")))
             self.assertEqual([Record(7, 1, b"pipe")], list(copy.list("north@before")))
             self.assertEqual([Conflict(7, 1, b"duct", b"hose", b"pipe")], list(copy.conflicts("north")))
-            self.assertEqual([Change(7, 1, b"duct", b"pipe"), Change(7, 2, None, b"x" * 4000)], list(copy.changes("north")))
+            self.assertEqual(
+                [Change(7, 1, b"duct", b"pipe"), Change(7, 2, None, b"x" * 4000)], list(copy.changes("north"))
+            )
             self.assertEqual([Alternative("top", None), Alternative("north", "top")], list(copy.alternatives()))
 
     def test_a_store_that_is_copied_gets_smaller_but_not_too_small(self):
@@ -992,11 +999,16 @@ class ServiceTests(unittest.TestCase):
             with self.assertRaises(Refusal) as came, store.batch():
                 store.put("top", 7, 1, b"a")
                 store.put(".service", 7, 1, b"a")
-            self.assertEqual((90, "Denied", "change .service"), (came.exception.number, came.exception.name, came.exception.detail))
+            self.assertEqual(
+                (90, "Denied", "change .service"), (came.exception.number, came.exception.name, came.exception.detail)
+            )
             with self.assertRaises(KeyError), store.batch():
                 store.put("top", 7, 1, b"a")
                 raise KeyError
-            for call in [lambda: store.get("top", 7, 1), lambda: list(store.list("top")), store.commit, store.rollback, store.batch().__enter__]:
+            for call in [
+                lambda: store.get("top", 7, 1), lambda: list(store.list("top")), store.commit, store.rollback,
+                store.batch().__enter__,
+            ]:
                 with self.assertRaises(ValueError), store.batch():
                     store.put("top", 7, 1, b"a")
                     call()
@@ -1012,7 +1024,9 @@ class ServiceTests(unittest.TestCase):
             one.put("north", 7, 1, b"a")
             with self.assertRaises(Refusal) as came, other.batch({"north": seen, "top": seen}):
                 other.put("north", 7, 1, b"b")
-            self.assertEqual((103, "Changed", "north 2"), (came.exception.number, came.exception.name, came.exception.detail))
+            self.assertEqual(
+                (103, "Changed", "north 2"), (came.exception.number, came.exception.name, came.exception.detail)
+            )
             with other.batch({"north": other.batches()}):
                 other.put("north", 7, 1, b"b")
             self.assertEqual(b"b", one.get("north", 7, 1))
@@ -1028,7 +1042,10 @@ class ServiceTests(unittest.TestCase):
             store.put("north", 7, 1, b"a b")
             store.put("top", 7, 2, b"c")
             found = list(store.log())
-            self.assertEqual([(1, "new north top"), (2, "put north 7 1 a%20b"), (3, "put top 7 2 c")], [(it.batch, it.line) for it in found])
+            self.assertEqual(
+                [(1, "new north top"), (2, "put north 7 1 a%20b"), (3, "put top 7 2 c")],
+                [(it.batch, it.line) for it in found],
+            )
             self.assertEqual({store.whoami()}, {it.planner for it in found})
             self.assertEqual(found[:1] + found[1:2], list(store.log(record="7:1")))
             self.assertEqual(found[1:2], list(store.log(alternative="north", last=1)))

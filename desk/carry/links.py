@@ -57,8 +57,8 @@ def serves(path: str) -> bool:
 
 
 def opened(file: str, program: str) -> Store:
-    """A store's file. One that cannot be opened, other than for now, is a fault of whoever named it. What is not there at
-    all may be the socket of a service that will be back."""
+    """A store's file. One that cannot be opened, other than for now, is a fault of whoever named it. What is not there
+    at all may be the socket of a service that will be back."""
     try:
         return Store(file, program, grow=True)
     except (FileNotFoundError, IsADirectoryError, PermissionError) as fault:

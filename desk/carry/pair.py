@@ -25,7 +25,8 @@ class Pair:
         self.there: Optional[Names] = None
         self.marks: Dict[str, str] = {}
         self.token = ""
-        # The designs that steps made, here or at HEAD, for changes of both sides that do not fit: a person settles them.
+        # The designs that steps made, here or at HEAD, for changes of both sides that do not fit: a person settles
+        # them.
         self.beside: List[str] = []
 
     # --- what there is ----------------------------------------------------------------------------

@@ -70,8 +70,8 @@ class Pull:
         self.incoming = {it: Incoming(parents[it], rows[it], base.get(it, {})) for it in designs}
 
     def _nearest(self, design: str, parent: str) -> str:
-        """The version that both know from which a design's base is read: its parent's mark, or its own one. The nearer one
-        makes the answer short, however much the parent has changed since the last merge."""
+        """The version that both know from which a design's base is read: its parent's mark, or its own one. The nearer
+        one makes the answer short, however much the parent has changed since the last merge."""
         pair = self.pair
         known = [pair.mark(it) for it in (parent, design) if it in pair.marks]
         if len(known) == 1 or pair.parent(design) != parent:

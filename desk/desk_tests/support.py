@@ -96,7 +96,9 @@ class Browser:
     def __init__(self):
         options = webdriver.ChromeOptions()
         options.binary_location = CHROMIUM
-        words = ["headless=new", "disable-gpu", "disable-dev-shm-usage", "hide-scrollbars", "force-prefers-reduced-motion"]
+        words = [
+            "headless=new", "disable-gpu", "disable-dev-shm-usage", "hide-scrollbars", "force-prefers-reduced-motion",
+        ]
         for it in [*words, *(["no-sandbox"] if os.getuid() == 0 else [])]:
             options.add_argument(f"--{it}")
         options.set_capability("goog:loggingPrefs", {"browser": "ALL"})
@@ -131,7 +133,9 @@ class Browser:
                 if found:
                     return found
             if time.monotonic() > late:
-                raise AssertionError(f"waited in vain; the page says: {self.driver.find_element(By.TAG_NAME, 'body').text}")
+                raise AssertionError(
+                    f"waited in vain; the page says: {self.driver.find_element(By.TAG_NAME, 'body').text}"
+                )
             time.sleep(0.05)
 
     def all(self, selector):
@@ -347,8 +351,10 @@ class PlanningTest(DeskTest):
 
     def pixel(self, browser, at):
         """Where a place of the map is on the page, by the scale that the map says and two places that it draws."""
-        script = """const dots = [...document.querySelectorAll('#map path')].filter((it) => /a/.test(it.getAttribute('d')) && it.getAttribute('fill') !== 'none');
-            return dots.map((it) => { const box = it.getBoundingClientRect(); return [(box.left + box.right) / 2, (box.top + box.bottom) / 2]; })"""
+        script = """const is_dot = (it) => /a/.test(it.getAttribute('d')) && it.getAttribute('fill') !== 'none';
+            const boxes = [...document.querySelectorAll('#map path')].filter(is_dot)
+                .map((it) => it.getBoundingClientRect());
+            return boxes.map((box) => [(box.left + box.right) / 2, (box.top + box.bottom) / 2]);"""
         dots = browser.until(lambda: [it for it in [browser.run(script)] if len(it) >= 12])[0]
         west, east = min(it[0] for it in dots), max(it[0] for it in dots)
         north, south = min(it[1] for it in dots), max(it[1] for it in dots)

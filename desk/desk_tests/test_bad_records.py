@@ -48,7 +48,10 @@ class BadRecordTests(AskingTest):
         good = self.found("feature?at=north&table=7&number=5")["now"]
         self.assertEqual(({"dn": "110", "mat": "PVC"}, []), (good["attributes"], good["bad"]))
         window = self.found("window?at=north&box=2599000,1199000,2602000,1201000")["features"]
-        self.assertEqual({"5", "10", "11", "12"}, {it["properties"]["number"] for it in window if it["geometry"]} - {*map(str, self.BAD)})
+        self.assertEqual(
+            {"5", "10", "11", "12"},
+            {it["properties"]["number"] for it in window if it["geometry"]} - {*map(str, self.BAD)},
+        )
         bounds = self.found("design?at=north")["bounds"]
         self.assertTrue(2599000 < bounds[0] < bounds[2] < 2602000, bounds)
 
@@ -69,7 +72,9 @@ class BadRecordTests(AskingTest):
         browser.open(f"http://127.0.0.1:{self.port}/#token={self.token}")
         browser.choose_design("north")
         browser.find(1)
-        self.assertIn("bad: its course cannot be drawn: it has a coordinate that is not finite", browser.text("#view tbody"))
+        self.assertIn(
+            "bad: its course cannot be drawn: it has a coordinate that is not finite", browser.text("#view tbody")
+        )
         browser.find(4)
         self.assertIn("bad: 7:4 is no head of a longer value", browser.text("#view tbody"))
         self.assertEqual([], browser.faults())

@@ -15,7 +15,9 @@ class DemoTests(DeskTest):
         self.file = os.path.join(self.folder, "demo.alt")
 
     def test_one_command_starts_it_all(self):
-        words = [sys.executable, str(DESK / "demo"), self.file, "--open", *([] if shutil.which("gmt") else ["--made-up"])]
+        words = [
+            sys.executable, str(DESK / "demo"), self.file, "--open", *([] if shutil.which("gmt") else ["--made-up"]),
+        ]
         demo, said = self.launch(words, "#token=", env={**os.environ, "ALTCTL": ALTCTL})
         url = re.search(r"http://\S+", said)[0]
         browser = self.browser(1120, 640)
@@ -35,5 +37,7 @@ class DemoTests(DeskTest):
         self.assertEqual(0, demo.wait(LONGEST_WAIT))
         tree = subprocess.run([ALTCTL, "tree", self.file], check=True, capture_output=True, text=True).stdout
         counts = re.findall(r"^ *(\d+) +\d+ +(\d+) .* (north|south)$", tree, re.M)
-        self.assertEqual([[alt, changed, conflicts] for changed, conflicts, alt in counts], [[it[0], *it[-2:]] for it in shown[1:]])
+        self.assertEqual(
+            [[alt, changed, conflicts] for changed, conflicts, alt in counts], [[it[0], *it[-2:]] for it in shown[1:]]
+        )
         self.assertFalse(os.path.exists(f"{self.file}.sock"), "the service that the desk has started ends with it")

@@ -77,7 +77,9 @@ class DesignsTests(DeskTest):
         self.same_as_read_anew("top", "north")
         self.other.put("top", 7, 2, attributes(dn=60))
         self.same_as_read_anew("top", "north")
-        self.assertEqual(["conflict"], [it["status"] for it in self.designs.about("north")["changes"] if it["number"] == "2"])
+        self.assertEqual(
+            ["conflict"], [it["status"] for it in self.designs.about("north")["changes"] if it["number"] == "2"]
+        )
         self.other.merge("north", {(7, 2): "theirs"})
         self.same_as_read_anew("top", "north")
         self.other.post("north")

@@ -41,8 +41,11 @@ class DoorTests(AskingTest):
         # A browser that leaves what it was given, and who may read it.
         seen = Path(self.folder, "seen")
         browser = Path(self.folder, "browser")
-        browser.write_text(f"#!/bin/sh\nfile=${{1#file://}}\nstat -c %a $file $(dirname $file) >{seen}.part\ncat $file >>{seen}.part; echo >>{seen}.part\n"
-                           f"echo $1 >>{seen}.part; mv {seen}.part {seen}; sleep 60\n")
+        browser.write_text(
+            f"#!/bin/sh\nfile=${{1#file://}}\nstat -c %a $file $(dirname $file) >{seen}.part\n"
+            f"cat $file >>{seen}.part; echo >>{seen}.part\n"
+            f"echo $1 >>{seen}.part; mv {seen}.part {seen}; sleep 60\n"
+        )
         browser.chmod(0o755)
         words = [sys.executable, str(DESK / "altdesk"), "--program", ALTCTL, "--open", self.socket]
         program, said = self.launch(words, "#token=", env={**os.environ, "BROWSER": f"{browser} %s"})
@@ -53,7 +56,11 @@ class DoorTests(AskingTest):
             time.sleep(0.05)
         *modes, page, address = seen.read_text().split("\n")[:-1]
         self.assertEqual((["600", "700"], True, False), (modes, token in page, token in address))
-        told = [Path(it, "cmdline").read_bytes() for it in map(str, Path("/proc").glob("[0-9]*")) if os.access(f"{it}/cmdline", os.R_OK)]
+        told = [
+            Path(it, "cmdline").read_bytes()
+            for it in map(str, Path("/proc").glob("[0-9]*"))
+            if os.access(f"{it}/cmdline", os.R_OK)
+        ]
         self.assertEqual([], [it for it in told if token.encode() in it])
         program.terminate()
         program.wait()
@@ -74,12 +81,20 @@ class DoorTests(AskingTest):
         self.assertEqual(2 + 1, len(list(self.store().alternatives())))
 
     def test_no_other_file_is_served(self):
-        paths = "/../altdesk", "/%2e%2e/altdesk", "/page/../altdesk", "//etc/passwd", "/desk.js/../../altdesk", "/..%2faltdesk"
+        paths = (
+            "/../altdesk", "/%2e%2e/altdesk", "/page/../altdesk", "//etc/passwd", "/desk.js/../../altdesk",
+            "/..%2faltdesk",
+        )
         for path in (*paths, "/altdesk"):
             self.assertEqual(404, self.ask(path, self.token)[0], path)
 
     def test_what_is_no_question_is_refused(self):
-        for path in ("feature?at=north&table=7&number=x", "design", "window?at=north&box=1,2", "window?at=north&box=a,b,c,d"):
+        for path in (
+            "feature?at=north&table=7&number=x",
+            "design",
+            "window?at=north&box=1,2",
+            "window?at=north&box=a,b,c,d",
+        ):
             self.assertEqual(400, self.ask(f"/api/{path}", self.token)[0], path)
         for path in ("design?at=nowhere", "feature?at=north&table=7&number=99"):
             self.assertEqual(409, self.ask(f"/api/{path}", self.token)[0], path)
@@ -141,7 +156,10 @@ class DoorTests(AskingTest):
             browser.driver.get(f"http://127.0.0.1:{server.server_port}/")
             browser.until(lambda: browser.driver.title == "other")
             self.assertEqual(0, browser.run("return sessionStorage.length"))
-            ask = "return fetch(arguments[0], { headers: { 'X-Desk-Token': 'x' } }).then(() => 'answered', () => 'refused')"
+            ask = (
+                "return fetch(arguments[0], { headers: { 'X-Desk-Token': 'x' } })"
+                ".then(() => 'answered', () => 'refused')"
+            )
             self.assertEqual("refused", browser.run(ask, f"http://127.0.0.1:{self.port}/api/state"))
             server.shutdown()
         self.assertTrue(came)

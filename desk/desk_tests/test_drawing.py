@@ -34,7 +34,9 @@ class DrawingTests(PlanningTest):
         self.assertEqual(1, len(drawn))
         self.assertEqual({"dn": 125, "mat": "HDPE"}, json.loads(store.get("north", 7, drawn[0])))
         points = ogr.CreateGeometryFromWkb(store.get("north", 107, drawn[0])).GetPoints()
-        self.assertEqual((self.chamber(5), self.chamber(10)), (points[0], points[-1]), "it ends in the chambers exactly")
+        self.assertEqual(
+            (self.chamber(5), self.chamber(10)), (points[0], points[-1]), "it ends in the chambers exactly"
+        )
         self.assertEqual(3, len(points))
         self.assertLess(abs(points[1][0] - 2600020) + abs(points[1][1] - 1200045), 1)
         browser.until(lambda: browser.all("path.is-added"))
@@ -81,7 +83,14 @@ class DrawingTests(PlanningTest):
         box = bend.rect
         by = round(x - box["x"] - box["width"] / 2) + 4, round(y - box["y"] - box["height"] / 2) + 3
         # Leaflet takes the first few pixels for the beginning of a drag, and moves nothing by them.
-        drag = ActionChains(browser.driver).click_and_hold(bend).move_by_offset(4, 4).pause(0.1).move_by_offset(*by).pause(0.1)
+        drag = (
+            ActionChains(browser.driver)
+            .click_and_hold(bend)
+            .move_by_offset(4, 4)
+            .pause(0.1)
+            .move_by_offset(*by)
+            .pause(0.1)
+        )
         drag.release().perform()
         browser.click("#keep-course")
         browser.says("Moved ducts 5.")
@@ -135,7 +144,11 @@ class DrawingTests(PlanningTest):
         seen = {"at": "north", "epoch": designs.epoch, "seen": designs.batch, "do": "change"}
         line = {"type": "LineString", "coordinates": [[0, 0], [9, 9]]}
         bad = [{"values": {"dn": "1.5"}}, {"values": {"dn": "x"}}, {"course": {"type": "Point", "coordinates": [1, 2]}}]
-        bad += [{"course": {"type": "LineString", "coordinates": [[0, 0], [1e39, 0]]}}, {"course": {"type": "Circle"}}, {"course": "x"}]
+        bad += [
+            {"course": {"type": "LineString", "coordinates": [[0, 0], [1e39, 0]]}},
+            {"course": {"type": "Circle"}},
+            {"course": "x"},
+        ]
         for it in bad:
             with self.assertRaises(maps.Fault, msg=str(it)):
                 carry_out(designs, {**seen, "features": [{"table": 7, "course": line, **it}]}, person)
@@ -156,7 +169,9 @@ class DrawingTests(PlanningTest):
         other.put("north", 7, 5, attributes(dn=110, mat="HDPE"))
         browser.confirm()
         browser.says("it has changed meanwhile")
-        rows = [[it.text for it in row.find_elements(By.CSS_SELECTOR, "th, td")] for row in browser.all("#late tbody tr")]
+        rows = [
+            [it.text for it in row.find_elements(By.CSS_SELECTOR, "th, td")] for row in browser.all("#late tbody tr")
+        ]
         self.assertEqual([["dn", "110", "110", "125"], ["mat", "PVC", "HDPE", "PVC"]], sorted(rows))
         chosen = {it.get_attribute("name"): it.get_attribute("value") for it in browser.all("#late input:checked")}
         self.assertEqual({"dn": "mine", "mat": "theirs"}, chosen, "what one side alone changed is chosen")
@@ -193,7 +208,9 @@ class DrawingTests(PlanningTest):
         browser.says("Drew a new feature of ducts.")
         number = max(it.number for it in store.list("north", 7))
         points = ogr.CreateGeometryFromWkb(store.get("north", 107, number)).GetPoints()
-        self.assertEqual((self.chamber(1), 2, {"dn": 63}), (points[0], len(points), json.loads(store.get("north", 7, number))))
+        self.assertEqual(
+            (self.chamber(1), 2, {"dn": 63}), (points[0], len(points), json.loads(store.get("north", 7, number)))
+        )
         # Move its end by keys, and take both back.
         go("find-number")
         self.press(browser, str(number), Keys.ENTER)

@@ -32,7 +32,12 @@ class JournalTests(AskingTest):
         other.put("north", 7, 5, attributes(dn=50, mat="PVC"))
         self.assertTrue(SlowJournal.asked.wait(LONGEST_WAIT))
         begun = time.monotonic()
-        for path in ("state", "design?at=south", "window?at=north&box=2599000,1199000,2602000,1201000", "design?at=north"):
+        for path in (
+            "state",
+            "design?at=south",
+            "window?at=north&box=2599000,1199000,2602000,1201000",
+            "design?at=north",
+        ):
             self.assertEqual(200, self.ask(f"/api/{path}", self.token)[0], path)
         now = json.loads(self.ask("/api/feature?at=north&table=7&number=5", self.token)[1])["now"]
         self.assertEqual("50", now["attributes"]["dn"])

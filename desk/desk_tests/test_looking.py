@@ -17,7 +17,9 @@ from maps.history import history
 class LookingTests(PlanningTest):
     def test_layers_styles_and_labels(self):
         browser, store = self.opened(), self.store()
-        self.assertEqual(["all 4 here are drawn", "all 12 here are drawn"], [it.text for it in browser.all("#layers small")])
+        self.assertEqual(
+            ["all 4 here are drawn", "all 12 here are drawn"], [it.text for it in browser.all("#layers small")]
+        )
         browser.click("#layer-8")
         browser.until(lambda: browser.all("#layers small")[1].text == "off")
         browser.until(lambda: len(browser.all("#map path.is-same")) == 4)
@@ -26,13 +28,17 @@ class LookingTests(PlanningTest):
         browser.one("#style-by")
         browser.run("""const set = (id, value) => { const it = document.getElementById(id); it.value = value;
             it.dispatchEvent(new Event('input')); it.dispatchEvent(new Event('change')); };
-            set('style-colour', '#cc79a7'); set('style-width', 4); set('style-pattern', 'dashed'); set('style-by', 'mat');""")
+            set('style-colour', '#cc79a7'); set('style-width', 4);
+            set('style-pattern', 'dashed'); set('style-by', 'mat');""")
         browser.click("#style-values")
         browser.one("#value-0-colour")
         browser.click("#keep-style")
         browser.says("Kept the style of ducts in north.")
         style = json.loads(store.get("north", 300, 7))
-        self.assertEqual(("#cc79a7", 4, "dashed", "mat", ["PVC"]), (*[style[it] for it in ("colour", "width", "pattern", "by")], list(style["values"])))
+        self.assertEqual(
+            ("#cc79a7", 4, "dashed", "mat", ["PVC"]),
+            (*[style[it] for it in ("colour", "width", "pattern", "by")], list(style["values"])),
+        )
         drawn = "return [...document.querySelectorAll('#map path.is-same')].map((it) => it.getAttribute('stroke'))"
         browser.until(lambda: browser.run(drawn).count("#0072B2") == 4)
         # It is the design's, and comes to top by a post; undone, it is gone.
@@ -47,7 +53,12 @@ class LookingTests(PlanningTest):
 
     def test_a_style_that_is_none_is_plain(self):
         browser, store = self.opened(), self.store()
-        for value in (b"x", b"[]", b'{"colour":"url(http://a/b)","width":"9e9","symbol":7,"values":{"a":3}}', b"[" * 3000):
+        for value in (
+            b"x",
+            b"[]",
+            b'{"colour":"url(http://a/b)","width":"9e9","symbol":7,"values":{"a":3}}',
+            b"[" * 3000,
+        ):
             store.put("north", 300, 7, value)
             browser.until(lambda: not browser.all("#said.fault"))
         time.sleep(1)
@@ -81,7 +92,9 @@ class LookingTests(PlanningTest):
         browser.until(lambda: browser.all("path.is-added"))
         self.press_at(browser, (self.chamber(5)[0] + 20, self.chamber(5)[1]), (0, 1))
         browser.until(lambda: len(browser.all("#view li button")) == 2)
-        self.assertEqual({"ducts 5: as in the base", "ducts 50: added"}, {it.text for it in browser.all("#view li button")})
+        self.assertEqual(
+            {"ducts 5: as in the base", "ducts 50: added"}, {it.text for it in browser.all("#view li button")}
+        )
         browser.click("#here-1")
         browser.one("#view table")
 
@@ -114,9 +127,23 @@ class LookingTests(PlanningTest):
         browser.one("#about-note").send_keys("Two ducts.")
         browser.click("#about-save")
         browser.says("Kept what is said of north.")
-        browser.until(lambda: "Station road, <b>phase</b> 1" in browser.text("#tree") and "anna, for approval" in browser.text("#tree"))
+        browser.until(
+            lambda: "Station road, <b>phase</b> 1" in browser.text("#tree")
+            and "anna, for approval" in browser.text("#tree")
+        )
         told = [json.loads(it.value) for it in store.list(".designs", 1)]
-        self.assertEqual([{"name": "north", "title": "Station road, <b>phase</b> 1", "owner": "anna", "status": "for approval", "note": "Two ducts."}], told)
+        self.assertEqual(
+            [
+                {
+                    "name": "north",
+                    "title": "Station road, <b>phase</b> 1",
+                    "owner": "anna",
+                    "status": "for approval",
+                    "note": "Two ducts.",
+                }
+            ],
+            told,
+        )
         self.assertNotIn(".designs", browser.text("#tree"))
         self.assertEqual([], list(store.changes("north")))
         # What no desk has written is told as nothing.
@@ -136,7 +163,10 @@ class LookingTests(PlanningTest):
         browser.click("#compare")
         self.assertEqual("From north to south: 1 removed, 2 changed.", browser.text("#differences-told"))
         rows = [it.text for it in browser.all("#differences li button")]
-        self.assertEqual(["ducts 1: removed (attributes, course)", "ducts 5: changed (attributes)", "ducts 6: changed (course)"], rows)
+        self.assertEqual(
+            ["ducts 1: removed (attributes, course)", "ducts 5: changed (attributes)", "ducts 6: changed (course)"],
+            rows,
+        )
         browser.picture("desk-compared")
         browser.click("#differences li:nth-child(2) button")
         browser.until(lambda: [it.text for it in browser.all("#view thead th")] == ["", "north", "south"])
@@ -150,7 +180,10 @@ class LookingTests(PlanningTest):
         self.assertNotIn("token", link)
         browser.driver.get("about:blank")
         browser.driver.get(link)
-        browser.until(lambda: browser.text("#view h3") == "ducts 5: as in the base" and browser.text("#chosen").startswith("north"))
+        browser.until(
+            lambda: browser.text("#view h3") == "ducts 5: as in the base"
+            and browser.text("#chosen").startswith("north")
+        )
 
     def test_only_batches_that_changed_a_feature_are_its_history(self):
         self.serve()
@@ -173,11 +206,15 @@ class LookingTests(PlanningTest):
     def test_a_page_is_printed(self):
         browser = self.opened()
         browser.click("#view-print")
-        browser.run("document.getElementById('print-scale').value = 500; document.getElementById('print-title').value = 'Station road'")
+        browser.run(
+            "document.getElementById('print-scale').value = 500;"
+            " document.getElementById('print-title').value = 'Station road'"
+        )
         browser.click("#lay-out")
         browser.until(lambda: "1 : 500" in browser.text("#block"))
         self.assertEqual(["ducts", "chambers"], [it.text for it in browser.all("#block li")])
-        pdf = base64.b64decode(browser.driver.execute_cdp_cmd("Page.printToPDF", {"preferCSSPageSize": True, "printBackground": True})["data"])
+        options = {"preferCSSPageSize": True, "printBackground": True}
+        pdf = base64.b64decode(browser.driver.execute_cdp_cmd("Page.printToPDF", options)["data"])
         path = os.path.join(self.folder, "plan.pdf")
         Path(path).write_bytes(pdf)
         self.assertEqual(1, len(re.findall(rb"/Type\s*/Page\b", pdf)), "one page")

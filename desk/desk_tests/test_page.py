@@ -11,7 +11,8 @@ from desk_tests.support import ALTCTL, DeskTest, attributes, course, duct
 
 class PageTests(DeskTest):
     def conflict(self):
-        """Has duct 5 in conflict between north and top, duct 2 changed, 3 removed and 20 added in north, and a checkpoint there."""
+        """Has duct 5 in conflict between north and top, duct 2 changed, 3 removed and 20 added in north, and a
+        checkpoint there."""
         with Store(self.file, ALTCTL) as store:
             store.put("north", 7, 5, attributes(dn=125, mat="PVC"))
             store.put("north", 107, 2, course((2600060, 1200000), (2600085, 1200020), (2600110, 1200000)))
@@ -32,8 +33,11 @@ class PageTests(DeskTest):
         browser = self.opened()
         browser.click("#whole")
         browser.until(lambda: browser.all("path.is-added"))
-        script = "return [...document.querySelectorAll('#map path')].map(it => [it.getAttribute('class').match(/is-(\\w+)/)[1], "
-        script += "it.getAttribute('stroke'), it.getAttribute('stroke-width') + ' ' + it.getAttribute('stroke-dasharray')])"
+        script = "return [...document.querySelectorAll('#map path')]"
+        script += ".map(it => [it.getAttribute('class').match(/is-(\\w+)/)[1], "
+        script += (
+            "it.getAttribute('stroke'), it.getAttribute('stroke-width') + ' ' + it.getAttribute('stroke-dasharray')])"
+        )
         found = [tuple(it) for it in browser.run(script)]
         states = dict.fromkeys(["added", "changed", "removed", "conflict"], 1)
         self.assertEqual({**states, "same": 13 - 4}, {it: [name for name, *_ in found].count(it) for it, *_ in found})
@@ -119,8 +123,10 @@ class PageTests(DeskTest):
         browser.edit(6, dn=125)
         browser.confirm()
         browser.says("Changed ducts 6.")
-        shown = [it.text for it in browser.all("#view tbody th")], [it.text for it in browser.all("#view tbody td:last-child")]
-        self.assertEqual({"dn": "125", "constructor": "–", "toString": "–", "__proto__": "mine"}, dict(list(zip(*shown))[:4]))
+        shown = [[it.text for it in browser.all(f"#view tbody {cell}")] for cell in ("th", "td:last-child")]
+        self.assertEqual(
+            {"dn": "125", "constructor": "–", "toString": "–", "__proto__": "mine"}, dict(list(zip(*shown))[:4])
+        )
         self.assertEqual(b'{"__proto__":"mine","dn":"125"}', self.store().get("north", 7, 6))
 
     def test_more_conflicts_than_are_shown(self):
@@ -148,7 +154,10 @@ class PageTests(DeskTest):
         browser.click("#do-merge")
         browser.click("input[value=theirs]")
         self.assertLessEqual(browser.run("return document.documentElement.scrollWidth"), 375)
-        small = "return [...document.querySelectorAll('button')].filter(it => it.offsetHeight && it.offsetHeight < 40).length"
+        small = (
+            "return [...document.querySelectorAll('button')]"
+            ".filter(it => it.offsetHeight && it.offsetHeight < 40).length"
+        )
         self.assertEqual(0, browser.run(small))
         browser.run("document.querySelector('#panel').scrollIntoView()")
         browser.picture("desk-small")

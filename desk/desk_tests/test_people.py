@@ -147,8 +147,14 @@ class TogetherTests(PlanningTest):
         points = (now["course"] or {}).get("coordinates")
         its = {
             "count": lambda: {**before, "values": {"dn": str(int(now["attributes"]["dn"]) + 1)}},
-            "move": lambda: {**before, "course": {"type": "LineString", "coordinates": [points[0], [points[1][0] + 1, points[1][1]]]}},
-            "draw": lambda: {"table": 7, "course": {"type": "LineString", "coordinates": [[0, 0], [1, 1]]}, "values": {"mat": "drawn"}},
+            "move": lambda: {
+                **before,
+                "course": {"type": "LineString", "coordinates": [points[0], [points[1][0] + 1, points[1][1]]]},
+            },
+            "draw": lambda: {
+                "table": 7, "course": {"type": "LineString", "coordinates": [[0, 0], [1, 1]]},
+                "values": {"mat": "drawn"},
+            },
             "delete": lambda: {**before, "remove": True},
         }[what]()
         self.carry_out(designs, {"do": "change", "features": [its]}, person)
@@ -184,7 +190,9 @@ class TogetherTests(PlanningTest):
         for number in (1, 2, 5, 6):
             self.assertEqual(110 + counts.count((number, "count")), found[number]["dn"], number)
             end = ogr.CreateGeometryFromWkb(store.get("north", 107, number)).GetPoints()[-1]
-            self.assertEqual((self.chamber(number + 1)[0] + counts.count((number, "move")), self.chamber(number + 1)[1]), end)
+            self.assertEqual(
+                (self.chamber(number + 1)[0] + counts.count((number, "move")), self.chamber(number + 1)[1]), end
+            )
         drawn = sum(what == "draw" for _, what in counts)
         self.assertEqual(drawn, sum(it.get("mat") == "drawn" for it in found.values()))
         self.assertEqual(4 + drawn, len(found))

@@ -32,7 +32,14 @@ class WhatIsNotDrawnTests(AskingTest):
         self.assertLess(abs(sum(it[4] for it in cells) - 6000), 600)
         self.assertTrue(all(2599000 <= it[0] < it[2] and it[1] < it[3] for it in cells))
         status, text = self.ask("/api/window?at=north&box=2599000,1199000,2619000,1202000&off=8", self.token)
-        self.assertEqual((["ducts"], 12, {}), ([it["name"] for it in json.loads(text)["layers"]], len(json.loads(text)["features"]), json.loads(text)["density"]))
+        self.assertEqual(
+            (["ducts"], 12, {}),
+            (
+                [it["name"] for it in json.loads(text)["layers"]],
+                len(json.loads(text)["features"]),
+                json.loads(text)["density"],
+            ),
+        )
 
     def test_answers_are_compressed(self):
         path = "/api/window?at=north&box=2599000,1199000,2619000,1202000"
@@ -71,7 +78,8 @@ class ManyFeaturesTests(DeskTest):
             store.commit()
 
     def counted(self):
-        """How many lines went to the service and back since the last time. The desk asks for its state now and then, too."""
+        """How many lines went to the service and back since the last time. The desk asks for its state now and then,
+        too."""
         found, self.counter.lines = self.counter.lines, 0
         return found
 
@@ -81,8 +89,9 @@ class ManyFeaturesTests(DeskTest):
         self.addCleanup(self.counter.stop)
         browser = self.browser()
         browser.open(self.desk(f"{self.socket}.counted")[1])
-        # Of 200,000 records 3,000 geometries that are drawn are asked for and answered, and 120 pages of the index, and up to as
-        # many others where the map finds another size as the page fills. The texts are read ahead once, for finding.
+        # Of 200,000 records 3,000 geometries that are drawn are asked for and answered, and 120 pages of the index, and
+        # up to as many others where the map finds another size as the page fills. The texts are read ahead once, for
+        # finding.
         ask = "const headers = { 'X-Desk-Token': sessionStorage.getItem('token') };"
         ask += "return fetch(arguments[0], { headers }).then((it) => it.json())"
         browser.until(lambda: browser.text("#note"))
@@ -92,13 +101,17 @@ class ManyFeaturesTests(DeskTest):
         due = r"3000 of about (\d+) features are drawn: zoom in for the others\."
         count = int(browser.until(lambda: re.fullmatch(due, browser.text("#note")))[1])
         self.assertLess(abs(count - self.COUNT), self.COUNT // 5)
-        browser.until(lambda: browser.all("path.is-changed") and browser.all("path.is-added") and browser.all("path.is-removed"))
+        browser.until(
+            lambda: browser.all("path.is-changed") and browser.all("path.is-added") and browser.all("path.is-removed")
+        )
         # Those that are as in the base are so many that they are drawn on a canvas.
         self.assertEqual((3, True), (len(browser.all("path.leaflet-interactive")), browser.run(DRAWN)))
         self.assertLess(self.counted(), 10_000)
         browser.click("#view ul li:nth-child(2) button")
         browser.until(lambda: browser.text("#view h3") == "ducts 777: changed")
-        browser.until(lambda: 1 < len(browser.all("path.leaflet-interactive")) < 300 and not browser.all("#note")[0].text)
+        browser.until(
+            lambda: 1 < len(browser.all("path.leaflet-interactive")) < 300 and not browser.all("#note")[0].text
+        )
         # Now a few pages, and the ducts about this one, among them the long one.
         self.assertLess(self.counted(), 800)
         box = [2600000, 1200000, 2600160, 1200060]
@@ -118,4 +131,6 @@ class ManyFeaturesTests(DeskTest):
         designs.refresh()
         self.assertEqual(0, len(designs.design("top").moved[7]))
         self.assertEqual({}, places.moved(other, places.OWN, "top", 7))
+        # 603 pages of 166 features, and 3 records of the bounds of 250 pages.
+        self.assertEqual([(".service", "renew .places 606")], [(it.planner, it.line) for it in other.log(after=1)])
         self.assertEqual(1201, designs.design("top").window((2600000, 1198999, 2601300, 1199001))["found"])

@@ -74,6 +74,9 @@ class BatchesTests(AltgisCase):
         self.assertLessEqual(max(sizes), 510)
         self.assertEqual(2, sum(it.line.startswith("post .import-") for it in entries))
         self.assertIn("import into top: dn: 100 to 101\n", self.altgis("history", self.address, "7:500"))
+        # The index of 1,501 features has 10 pages and one record of their bounds, and of 1,101 features 7 pages.
+        lines = [it.line for it in entries if it.planner == ".service"]
+        self.assertEqual(["renew .places 0", "renew .places 11", "renew .places 8"], lines)
 
     def test_others_go_on_meanwhile(self):
         """What they have changed stays, except in records of the import."""

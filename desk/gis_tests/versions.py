@@ -43,8 +43,8 @@ class VersionTests(AltgisCase):
         return len(features)
 
     def test_sql_reads_and_writes_what_gdal_does(self):
-        """A GeoPackage that is read by SQL gives the records that GDAL gives, and one that is written by SQL is the same to
-        GDAL; what SQL is not for goes through GDAL."""
+        """A GeoPackage that is read by SQL gives the records that GDAL gives, and one that is written by SQL is the
+        same to GDAL; what SQL is not for goes through GDAL."""
         count = self.hard(self.file("a.gpkg"))
         set_up()
         records = []

@@ -81,8 +81,10 @@ export async function showWindow() {
 
 function tell({ features: { length }, found, is_about: isAbout }) {
   const hidden = (desk.design?.layers || []).filter((layer) => !layer.is_on_map).map((layer) => layer.name);
-  const capped = found > length ? `${length} of ${isAbout ? "about " : ""}${found} features are drawn: zoom in for the others. ` : "";
-  $("note").textContent = capped + (hidden.length ? `Not on the map, for another coordinate system: ${hidden.join(", ")}.` : "");
+  const capped = found > length
+    ? `${length} of ${isAbout ? "about " : ""}${found} features are drawn: zoom in for the others. ` : "";
+  $("note").textContent = capped + (hidden.length
+    ? `Not on the map, for another coordinate system: ${hidden.join(", ")}.` : "");
 }
 
 // Where features lie that are too many to be drawn: darker where there are more.

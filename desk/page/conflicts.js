@@ -1,5 +1,5 @@
-// Conflicts: base, parent and mine side by side, and a choice for each field that both have changed differently. Choices
-// are kept on the server until the merge is sent.
+// Conflicts: base, parent and mine side by side, and a choice for each field that both have changed differently.
+// Choices are kept on the server until the merge is sent.
 import { $, button, fill, make, own, sample, say, trying } from "./dom.js";
 import { mark, zoomToMarks } from "./chart.js";
 import { showHead } from "./desk.js";
@@ -44,7 +44,8 @@ export function fillConflicts() {
   const text = `${name} and ${parent} have both changed these. ${openChoices()} of ${keys.length} have no choice yet.`;
   const steps = make("div", { class: "buttons" }, button("previous-conflict", "Previous", () => step(-1)),
     button("next-conflict", "Next", () => step(1)));
-  const buttons = make("div", { class: "buttons" }, all("mine", `All as in ${name}`), all("theirs", `All as in ${parent}`), undo);
+  const buttons = make("div", { class: "buttons" }, all("mine", `All as in ${name}`),
+    all("theirs", `All as in ${parent}`), undo);
   return fill($("view"), make("p", { id: "open" }, text), told, buttons, steps, ...conflicts.map(conflict),
     ...rest(count - conflicts.length));
 }
@@ -154,7 +155,8 @@ function lookAt({ key, sides }) {
   desk.looked = key;
   const base = JSON.stringify(sides.base?.course);
   const isOwn = base !== JSON.stringify(sides.parent?.course) && base !== JSON.stringify(sides.mine?.course);
-  mark([[sides.parent?.course, SIDES.parent], [sides.mine?.course, SIDES.mine], [isOwn && sides.base?.course, SIDES.base]]);
+  mark([[sides.parent?.course, SIDES.parent], [sides.mine?.course, SIDES.mine],
+    [isOwn && sides.base?.course, SIDES.base]]);
   zoomToMarks();
 }
 

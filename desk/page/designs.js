@@ -18,9 +18,11 @@ export function showTree() {
     const go = () => trying(() => open(it.name));
     const isChosen = it.name === desk.at ? "true" : null;
     const name = make("button", { id: `design-${it.name}`, onclick: go, "aria-current": isChosen }, it.name);
-    const checks = it.checkpoints.map((check) => make("span", { class: "checkpoint", title: "a checkpoint" }, `• ${check}`));
+    const checks = it.checkpoints.map((check) => make("span", { class: "checkpoint", title: "a checkpoint" },
+      `• ${check}`));
     const { title, owner, status } = it.about;
-    const said = [title, [owner, status].filter(Boolean).join(", ")].filter(Boolean).map((text) => make("span", { class: "about" }, text));
+    const said = [title, [owner, status].filter(Boolean).join(", ")].filter(Boolean)
+      .map((text) => make("span", { class: "about" }, text));
     const head = make("th", { scope: "row", class: `deep-${Math.min(it.depth, 4)}` }, name, ...said, ...checks);
     return make("tr", {}, head, make("td", {}, `${it.changed ?? "–"}`), make("td", {}, `${it.conflicts ?? "–"}`));
   }));
@@ -34,7 +36,8 @@ export function showActions() {
   const what = parent ? `${name}, a design under ${parent}` : `${name}, what all designs begin with`;
   $("chosen").textContent = title ? `${what}: ${title}` : what;
   const { checkpoints } = rowOf(name) || { checkpoints: [] };
-  const act = (text, work) => make("button", { id: `do-${text.split(" ")[0].toLowerCase()}`, onclick: work }, `${text}…`);
+  const act = (text, work) => make("button", { id: `do-${text.split(" ")[0].toLowerCase()}`, onclick: work },
+    `${text}…`);
   fill($("actions"), ...[
     parent && act("Merge", merge),
     parent && act("Post", post),
@@ -49,17 +52,20 @@ export function showActions() {
 
 export function fillAbout() {
   const its = rowOf(desk.at)?.about || {};
-  const line = (name, text, node) => make("p", {}, make("label", {}, text, node || make("input", { name, id: `about-${name}`, value: its[name] || "", maxlength: 200 })));
+  const line = (name, text, node) => make("p", {}, make("label", {}, text,
+    node || make("input", { name, id: `about-${name}`, value: its[name] || "", maxlength: 200 })));
   const status = make("select", { name: "status", id: "about-status" });
   options(status, [...new Set([...STATUSES, its.status || ""])].map((it) => [it, it || "not said"]), its.status || "");
   const note = make("textarea", { name: "note", id: "about-note", rows: 4, maxlength: 500 });
   note.value = its.note || "";
   const save = async (event) => {
     event.preventDefault();
-    await carryOut({ do: "describe", ...Object.fromEntries(new FormData(event.target)) }, `Kept what is said of ${desk.at}.`);
+    await carryOut({ do: "describe", ...Object.fromEntries(new FormData(event.target)) },
+      `Kept what is said of ${desk.at}.`);
   };
-  fill($("view"), make("form", { class: "about", onsubmit: save }, make("h3", {}, `About ${desk.at}`), line("title", "Title"),
-    line("owner", "Owner"), line("status", "Status", status), line("note", "Note", note), make("p", { class: "buttons" }, button("about-save", "Keep it"))));
+  fill($("view"), make("form", { class: "about", onsubmit: save }, make("h3", {}, `About ${desk.at}`),
+    line("title", "Title"), line("owner", "Owner"), line("status", "Status", status), line("note", "Note", note),
+    make("p", { class: "buttons" }, button("about-save", "Keep it"))));
 }
 
 // --- how two designs differ -------------------------------------------------------------------------------
@@ -77,15 +83,18 @@ export function fillCompared() {
     desk.compared = { other, told };
     showDifferences(list, other, told);
   };
-  fill($("view"), make("form", { onsubmit: (event) => trying(() => go(event)) }, make("h3", {}, `How ${desk.at} differs from another design`),
+  fill($("view"), make("form", { onsubmit: (event) => trying(() => go(event)) },
+    make("h3", {}, `How ${desk.at} differs from another design`),
     make("p", {}, make("label", {}, "The other one ", select), " ", button("compare", "Compare"))), list);
 }
 
 function showDifferences(list, other, told) {
-  const counts = Object.entries(Object.groupBy(told, (it) => it.status)).map(([status, its]) => `${its.length} ${WORDS[status]}`);
+  const counts = Object.entries(Object.groupBy(told, (it) => it.status))
+    .map(([status, its]) => `${its.length} ${WORDS[status]}`);
   mark(told.flatMap((it) => [[it.before, SIDES.base], [it.now, STATES[it.status]]]));
   if (told.some((it) => it.before || it.now)) zoomToMarks();
-  const text = told.length ? `From ${other} to ${desk.at}: ${counts.join(", ")}.` : `${desk.at} and ${other} are the same.`;
+  const text = told.length ? `From ${other} to ${desk.at}: ${counts.join(", ")}.`
+    : `${desk.at} and ${other} are the same.`;
   fill(list, make("p", { id: "differences-told" }, text), rows(told, "", (it) => show(it, true, other)));
 }
 
@@ -132,7 +141,8 @@ async function named(what, text) {
 }
 
 async function back(checkpoints) {
-  const text = `Back to which checkpoint of ${desk.at} (${checkpoints.join(", ")})? What was changed since then is gone.`;
+  const names = checkpoints.join(", ");
+  const text = `Back to which checkpoint of ${desk.at} (${names})? What was changed since then is gone.`;
   const name = await question(text, "Back", "Checkpoint");
   if (name) await carryOut({ do: "back", name }, `${desk.at} is as at the checkpoint ${name}.`);
 }

@@ -1,5 +1,6 @@
-// The desk in the browser: it asks the server for what it shows, and sends each change as a batch. The server looks whether what was
-// seen still holds. Modules have the map, drawing, styles, features, finding, conflicts, designs and printing.
+// The desk in the browser: it asks the server for what it shows, and sends each change as a batch. The server looks
+// whether what was seen still holds. Modules have the map, drawing, styles, features, finding, conflicts, designs and
+// printing.
 import { $, button, fill, make, sample, say, trying } from "./dom.js";
 import { showMap, unmark } from "./chart.js";
 import { fillConflicts, keepChoices, readChoices } from "./conflicts.js";
@@ -38,7 +39,9 @@ async function take(state, own) {
   if (before?.epoch === state.epoch && state.batch < before.batch) return; // An answer that was overtaken.
   desk.state = state;
   const news = state.news.filter((it) => before && it.batch > before.batch && it.batch !== own);
-  if (news.length) $("news").textContent = news.map((it) => `${it.time.slice(11, 16)} ${it.planner}: ${it.text}`).join("; ");
+  if (news.length) {
+    $("news").textContent = news.map((it) => `${it.time.slice(11, 16)} ${it.planner}: ${it.text}`).join("; ");
+  }
   const row = state.tree.find((it) => it.name === desk.at) || state.tree[0];
   if (before?.batch !== state.batch) showTree();
   showOffice(state.office);
@@ -67,7 +70,8 @@ export async function open(name) {
 }
 
 function forget() {
-  Object.assign(desk, { feature: null, edits: false, view: "changes", choices: new Map(), made: [], design: null, compared: null });
+  Object.assign(desk,
+    { feature: null, edits: false, view: "changes", choices: new Map(), made: [], design: null, compared: null });
   drawing.tool.stop();
   unmark();
   $("panel").inert = true;
@@ -110,8 +114,10 @@ export function showHead() {
   if (!desk.design) return;
   showActions();
   drawing.showTools();
-  const press = (view) => () => trying(() => (view === "feature" && desk.feature.number ? show(desk.feature, false) : showOther(view)));
-  fill($("views"), ...Object.entries(VIEWS).map(([view, { text }]) => [view, text(desk.design)]).filter(([, text]) => text)
+  const press = (view) => () => trying(() => (
+    view === "feature" && desk.feature.number ? show(desk.feature, false) : showOther(view)));
+  fill($("views"),
+    ...Object.entries(VIEWS).map(([view, { text }]) => [view, text(desk.design)]).filter(([, text]) => text)
     .map(([view, text]) => button(`view-${view}`, text, press(view), { "aria-pressed": `${desk.view === view}` })));
   const feature = desk.view === "feature" && desk.feature?.number ? desk.feature : null;
   history.replaceState(null, "", `${location.pathname}${link(feature)}`);

@@ -39,7 +39,8 @@ export function question(text, yes, field) {
   $("question-text").textContent = text;
   $("question-yes").textContent = yes;
   $("question-field").hidden = !field;
-  Object.assign($("question-input"), { value: "", required: !!field, pattern: field ? "[A-Za-z0-9_.\\-]{1,32}" : ".*" });
+  Object.assign($("question-input"),
+    { value: "", required: !!field, pattern: field ? "[A-Za-z0-9_.\\-]{1,32}" : ".*" });
   $("question-input").title = field ? "1 to 32 letters, digits, _, - and ." : "";
   $("question-label").textContent = field || "";
   $("question").returnValue = "no";
@@ -70,7 +71,8 @@ export function svg(tag, attributes, ...children) {
 
 // A line as the map draws it, for the legend.
 export function sample(style) {
-  const given = { x1: 2, x2: 42, y1: 6, y2: 6, stroke: style.color, "stroke-width": style.weight, "stroke-linecap": "round" };
+  const given = { x1: 2, x2: 42, y1: 6, y2: 6, stroke: style.color, "stroke-width": style.weight,
+    "stroke-linecap": "round" };
   const line = svg("line", { ...given, "stroke-dasharray": style.dashArray || "" });
   return svg("svg", { "aria-hidden": "true", viewBox: "0 0 44 12" }, line);
 }

@@ -1,5 +1,5 @@
-// Drawing: a new course point by point, moved and removed bends of one, a line that is split. With the mouse, or by keyboard: then the
-// cross in the middle of the map is the pen, arrows move the map below it, Enter sets a point.
+// Drawing: a new course point by point, moved and removed bends of one, a line that is split. With the mouse, or by
+// keyboard: then the cross in the middle of the map is the pen, arrows move the map below it, Enter sets a point.
 import { $, button, fill, make, options, say, trying } from "./dom.js";
 import { map } from "./chart.js";
 import { desk } from "./shared.js";
@@ -9,12 +9,14 @@ import { redo, split, undo } from "./steps.js";
 
 const PEN = { color: "#CC79A7", weight: 4, opacity: 1, interactive: false };
 const SNAPS = ["a chamber or point", "an end", "a bend", "a line"];
-const HELP = "Click, or Enter at the cross, sets a point; Backspace takes one back; a double click or F ends; Escape cancels.";
+const HELP = "Click, or Enter at the cross, sets a point; Backspace takes one back; "
+  + "a double click or F ends; Escape cancels.";
 const NUDGE = { ArrowLeft: [-1, 0], ArrowRight: [1, 0], ArrowUp: [0, -1], ArrowDown: [0, 1] };
 let mode = null; // what the tool does: draw, split or move
 let layer, points, course, sketch, handles;
 
-const kindOf = ({ geometry }) => (/Point/.test(geometry) ? "Point" : /Polygon|Surface/.test(geometry) ? "Polygon" : "LineString");
+const kindOf = ({ geometry }) => (
+  /Point/.test(geometry) ? "Point" : /Polygon|Surface/.test(geometry) ? "Polygon" : "LineString");
 
 export const tool = {
   isOn: () => mode !== null,
@@ -36,19 +38,27 @@ export function showTools() {
   options(select, layers.map((it) => [it.table, it.name]), $("draw-layer")?.value);
   const steps = (what) => desk.state?.steps[what][desk.at];
   fill($("tools"), ...(isBusy ? busyTools() : [
-    layers.length && button("draw", "Draw", () => draw(Number(select.value)), { title: "Draw a new feature in this layer" }), layers.length && select,
-    button("reshape", "Move bends", reshape, { disabled: !isWhole, title: "Move the bends of the feature that is shown" }),
-    button("split", "Split", () => begin("split"), { disabled: !isWhole || shape.type !== "LineString", title: "Split the line that is shown" }),
-    button("undo-step", "Undo", () => trying(undo), { disabled: !steps("undo"), title: steps("undo") ? `Undo: ${steps("undo")}` : "Nothing to undo" }),
-    button("redo-step", "Redo", () => trying(redo), { disabled: !steps("redo"), title: steps("redo") ? `Do again: ${steps("redo")}` : "Nothing to do again" }),
+    layers.length && button("draw", "Draw", () => draw(Number(select.value)),
+      { title: "Draw a new feature in this layer" }),
+    layers.length && select,
+    button("reshape", "Move bends", reshape,
+      { disabled: !isWhole, title: "Move the bends of the feature that is shown" }),
+    button("split", "Split", () => begin("split"),
+      { disabled: !isWhole || shape.type !== "LineString", title: "Split the line that is shown" }),
+    button("undo-step", "Undo", () => trying(undo),
+      { disabled: !steps("undo"), title: steps("undo") ? `Undo: ${steps("undo")}` : "Nothing to undo" }),
+    button("redo-step", "Redo", () => trying(redo),
+      { disabled: !steps("redo"), title: steps("redo") ? `Do again: ${steps("redo")}` : "Nothing to do again" }),
   ]));
 }
 
 function busyTools() {
   const end = mode === "move" ? button("keep-course", "Keep the course", () => trying(keep))
     : mode === "draw" && button("end-drawing", "End here", () => trying(finish), { disabled: points.length < least() });
-  const what = { draw: `Drawing in ${layer?.name}.`, split: "Split: where?", move: "Drag the bends, or Tab to one and press arrows; Delete removes it." };
-  return [make("span", {}, what[mode]), end, button("stop-drawing", "Cancel", () => { stop(); say("Nothing is drawn."); })];
+  const what = { draw: `Drawing in ${layer?.name}.`, split: "Split: where?",
+    move: "Drag the bends, or Tab to one and press arrows; Delete removes it." };
+  return [make("span", {}, what[mode]), end,
+    button("stop-drawing", "Cancel", () => { stop(); say("Nothing is drawn."); })];
 }
 
 function begin(what) {
@@ -150,7 +160,8 @@ function showHandles(focused) {
 
 function showSketchOf(shape) {
   sketch.clearLayers();
-  sketch.addLayer(L.geoJSON(shape, { style: PEN, interactive: false, pointToLayer: (_, at) => L.circleMarker(at, { ...PEN, radius: 6 }) }));
+  sketch.addLayer(L.geoJSON(shape,
+    { style: PEN, interactive: false, pointToLayer: (_, at) => L.circleMarker(at, { ...PEN, radius: 6 }) }));
 }
 
 const KEY = () => `${desk.feature.table}:${desk.feature.number}`;
@@ -191,7 +202,8 @@ function handle(list, n, id, isRing) {
 function middle(list, n) {
   const [a, b] = [list[n - 1], list[n]];
   const icon = L.divIcon({ className: "bend middle", iconSize: [10, 10] });
-  const marker = L.marker([(a[1] + b[1]) / 2, (a[0] + b[0]) / 2], { icon, draggable: true, keyboard: false }).addTo(handles);
+  const marker = L.marker([(a[1] + b[1]) / 2, (a[0] + b[0]) / 2], { icon, draggable: true, keyboard: false })
+    .addTo(handles);
   marker.on("dragend", () => {
     const { lng, lat } = snapped(marker.getLatLng(), KEY()) || marker.getLatLng();
     list.splice(n, 0, [lng, lat]);

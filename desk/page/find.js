@@ -26,9 +26,11 @@ async function find() {
 
 export function fillFound() {
   const { found, is_more: isMore, text } = desk.found;
-  const rows = found.map((it, at) => make("li", {}, make("button", { id: `found-${at}`, onclick: () => trying(() => show(it, true)) },
-    `${it.layer} ${it.number}`, make("small", {}, Object.entries(it.texts).map(([name, its]) => `${name} ${its}`).join(", ")))));
-  const count = isMore ? `More than ${found.length} features have “${text}”. These are some of them.` : `${found.length} features have “${text}”.`;
+  const rows = found.map((it, at) => make("li", {},
+    make("button", { id: `found-${at}`, onclick: () => trying(() => show(it, true)) }, `${it.layer} ${it.number}`,
+      make("small", {}, Object.entries(it.texts).map(([name, its]) => `${name} ${its}`).join(", ")))));
+  const count = isMore ? `More than ${found.length} features have “${text}”. These are some of them.`
+    : `${found.length} features have “${text}”.`;
   fill($("view"), make("p", { id: "found" }, count), make("ul", { class: "rows" }, ...rows));
 }
 

@@ -4,7 +4,8 @@ import { map, scale, showWindow, zoomOf } from "./chart.js";
 import { desk, WORDS } from "./shared.js";
 import { layersOff, sampleOf, STATES } from "./styles.js";
 
-const PAPERS = { "a4-landscape": "A4 landscape", "a4-portrait": "A4 portrait", "a3-landscape": "A3 landscape", "a3-portrait": "A3 portrait" };
+const PAPERS = { "a4-landscape": "A4 landscape", "a4-portrait": "A4 portrait", "a3-landscape": "A3 landscape",
+  "a3-portrait": "A3 portrait" };
 const SCALES = [200, 250, 500, 1000, 2000, 2500, 5000, 10000, 25000, 50000, 100000];
 let before;
 
@@ -20,7 +21,8 @@ export function fillPrint() {
     event.preventDefault();
     trying(() => layOut(paper.value, Number(size.value) || null, title.value));
   };
-  fill($("view"), make("form", { class: "about", onsubmit: go }, make("h3", {}, `Print ${desk.at}`), field("Paper", paper), field("Scale", size),
+  fill($("view"), make("form", { class: "about", onsubmit: go }, make("h3", {}, `Print ${desk.at}`),
+    field("Paper", paper), field("Scale", size),
     field("Title", title), make("p", { class: "buttons" }, button("lay-out", "Lay out the page"))));
 }
 
@@ -41,14 +43,19 @@ async function layOut(paper, number, title) {
 function fillBlock(title, number) {
   const its = desk.state.tree.find((it) => it.name === desk.at)?.about || {};
   const off = new Set(layersOff());
-  const shown = new Set([...document.querySelectorAll("#map [class*=is-]")].map((it) => it.getAttribute("class").match(/is-(\w+)/)[1]));
-  const states = Object.entries(STATES).filter(([status]) => status !== "same" && shown.has(status)).map(([status, style]) => [sample(style), WORDS[status]]);
+  const drawn = [...document.querySelectorAll("#map [class*=is-]")];
+  const shown = new Set(drawn.map((it) => it.getAttribute("class").match(/is-(\w+)/)[1]));
+  const states = Object.entries(STATES).filter(([status]) => status !== "same" && shown.has(status))
+    .map(([status, style]) => [sample(style), WORDS[status]]);
   const layers = desk.design.layers.filter((it) => it.is_on_map && !off.has(it.table)).flatMap((it) =>
-    [[sampleOf(it), it.name], ...Object.entries(it.style.values).map(([value, look]) => [sampleOf(it, look), `${it.name}: ${value}`])]);
+    [[sampleOf(it), it.name],
+    ...Object.entries(it.style.values).map(([value, look]) => [sampleOf(it, look), `${it.name}: ${value}`])]);
   const legend = [...layers, ...states].map(([node, text]) => make("li", {}, node, text));
   const lines = { Design: desk.at, Owner: its.owner, Status: its.status, Scale: `1 : ${number.toLocaleString("en")}`,
-    Coordinates: desk.design.layers.find((it) => it.is_on_map)?.crs, Printed: `${new Date().toISOString().slice(0, 10)}, ${desk.state.planner}` };
-  const rows = Object.entries(lines).filter(([, text]) => text).flatMap(([name, text]) => [make("dt", {}, name), make("dd", {}, text)]);
+    Coordinates: desk.design.layers.find((it) => it.is_on_map)?.crs,
+    Printed: `${new Date().toISOString().slice(0, 10)}, ${desk.state.planner}` };
+  const rows = Object.entries(lines).filter(([, text]) => text)
+    .flatMap(([name, text]) => [make("dt", {}, name), make("dd", {}, text)]);
   fill($("block"), make("div", { class: "title" }, make("strong", {}, title), make("span", {}, its.note || "")),
     make("ul", { "aria-label": "Legend" }, ...legend), make("dl", {}, ...rows));
 }

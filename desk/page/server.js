@@ -1,8 +1,8 @@
 // The server: what the page asks it, and the token that lets the page in.
 import { desk } from "./shared.js";
 
-// The address that altdesk prints has the token behind the #. It stays with this tab and with others of this page, for no other page
-// or port to read. The rest behind the # says what to show: a design, and a feature of it.
+// The address that altdesk prints has the token behind the #. It stays with this tab and with others of this page, for
+// no other page or port to read. The rest behind the # says what to show: a design, and a feature of it.
 const tabs = new BroadcastChannel("desk");
 // Behind a web server nobody needs a token: that knows who somebody is. The header says then that it is this page that
 // asks.

@@ -11,5 +11,6 @@ export const desk = {
   made: [], // earlier choices, to be taken back
 };
 
-export const WORDS = { added: "added", changed: "changed", removed: "removed", conflict: "in conflict", same: "as in the base" };
+export const WORDS = { added: "added", changed: "changed", removed: "removed", conflict: "in conflict",
+  same: "as in the base" };
 export const MOST_ROWS = 500;

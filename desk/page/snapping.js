@@ -32,12 +32,16 @@ function noteLine(points, key) {
 // The place where a point goes, or null if nothing is near. A feature does not snap to itself.
 export function snapped(latlng, own) {
   const at = map.latLngToLayerPoint(latlng);
-  const box = L.latLngBounds(map.layerPointToLatLng(at.subtract([NEAR, NEAR])), map.layerPointToLatLng(at.add([NEAR, NEAR])));
+  const box = L.latLngBounds(map.layerPointToLatLng(at.subtract([NEAR, NEAR])),
+    map.layerPointToLatLng(at.add([NEAR, NEAR])));
   const found = [null, null, null];
   for (const [lng, lat, rank, key] of places) {
-    if (key === own || lng < box.getWest() || lng > box.getEast() || lat < box.getSouth() || lat > box.getNorth()) continue;
+    if (key === own || lng < box.getWest() || lng > box.getEast() || lat < box.getSouth()
+      || lat > box.getNorth()) continue;
     const distance = at.distanceTo(map.latLngToLayerPoint([lat, lng]));
-    if (distance <= NEAR && (!found[rank] || distance < found[rank].distance)) found[rank] = { distance, lng, lat, rank };
+    if (distance <= NEAR && (!found[rank] || distance < found[rank].distance)) {
+      found[rank] = { distance, lng, lat, rank };
+    }
   }
   return found[0] || found[1] || found[2] || onLine(at, box, own);
 }

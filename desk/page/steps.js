@@ -16,5 +16,7 @@ export async function redo() {
 export async function split(feature, point) {
   const { table, number, now, layer } = feature;
   const before = { attributes: now.attributes, course: now.course };
-  if (await carryOut({ do: "split", table, number, before, point }, `Split ${layer} ${number}.`)) await show(feature, false);
+  if (await carryOut({ do: "split", table, number, before, point }, `Split ${layer} ${number}.`)) {
+    await show(feature, false);
+  }
 }

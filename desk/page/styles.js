@@ -1,5 +1,5 @@
-// How features are drawn: by whether they are changed, or else by the style of their layer. The list of layers, and the form of a
-// style.
+// How features are drawn: by whether they are changed, or else by the style of their layer. The list of layers, and the
+// form of a style.
 import { $, button, fill, make, options, own, sample, svg, trying } from "./dom.js";
 import { backgroundItem } from "./background.js";
 import { carryOut, showOther } from "./desk.js";
@@ -56,9 +56,12 @@ export function pointOf(properties, at) {
   if (look.symbol === "circle") return L.circleMarker(at, { radius: size, fillOpacity: 0.6 });
   const { color } = styleOf(properties);
   const shape = SYMBOLS[look.symbol](size);
-  for (const [name, value] of Object.entries({ fill: color, stroke: "#fff", "stroke-width": 1 })) shape.setAttribute(name, value);
-  const box = svg("svg", { viewBox: `${-size - 1} ${-size - 1} ${2 * size + 2} ${2 * size + 2}`, width: 2 * size + 2, height: 2 * size + 2 }, shape);
-  const icon = L.divIcon({ html: box, className: `symbol is-${properties.status}`, iconSize: [2 * size + 2, 2 * size + 2] });
+  for (const [name, value] of Object.entries({ fill: color, stroke: "#fff", "stroke-width": 1 })) {
+    shape.setAttribute(name, value);
+  }
+  const side = 2 * size + 2;
+  const box = svg("svg", { viewBox: `${-size - 1} ${-size - 1} ${side} ${side}`, width: side, height: side }, shape);
+  const icon = L.divIcon({ html: box, className: `symbol is-${properties.status}`, iconSize: [side, side] });
   return L.marker(at, { icon, keyboard: false });
 }
 
@@ -67,7 +70,9 @@ export function sampleOf({ geometry, style }, look = {}) {
   const its = { ...style, ...look };
   if (!/Point/.test(geometry)) return sample({ color: its.colour, weight: its.width, dashArray: DASHES[its.pattern] });
   const shape = SYMBOLS[its.symbol](5);
-  for (const [name, value] of Object.entries({ fill: its.colour, transform: "translate(22 6)" })) shape.setAttribute(name, value);
+  for (const [name, value] of Object.entries({ fill: its.colour, transform: "translate(22 6)" })) {
+    shape.setAttribute(name, value);
+  }
   return svg("svg", { "aria-hidden": "true", viewBox: "0 0 44 12" }, shape);
 }
 
@@ -84,9 +89,11 @@ export function showLayers(drawn = []) {
       trying(showWindow);
     };
     const box = make("input", { type: "checkbox", id: `layer-${table}`, checked: !off.has(table), onchange: toggle });
-    const change = button(`style-${table}`, "Style", () => trying(() => showStyle(layer)), { "aria-label": `Style of ${name}` });
+    const change = button(`style-${table}`, "Style", () => trying(() => showStyle(layer)),
+      { "aria-label": `Style of ${name}` });
     const count = counts.get(table);
-    return make("li", {}, make("label", {}, box, " ", sampleOf(layer), name), change, make("small", {}, about(layer, count)));
+    return make("li", {}, make("label", {}, box, " ", sampleOf(layer), name), change,
+      make("small", {}, about(layer, count)));
   }), backgroundItem());
 }
 
@@ -96,7 +103,8 @@ function about(layer, count) {
   if (!count) return "";
   const { found, drawn, is_about: isAbout } = count;
   if (!found) return "none here";
-  return found > drawn ? `${drawn} of ${isAbout ? "about " : ""}${found} here are drawn, the others as density` : `all ${found} here are drawn`;
+  return found > drawn ? `${drawn} of ${isAbout ? "about " : ""}${found} here are drawn, the others as density`
+    : `all ${found} here are drawn`;
 }
 
 // --- the form of a style ----------------------------------------------------------------------------
@@ -118,7 +126,8 @@ export async function fillStyle() {
 function styleForm(layer, style, known, draw) {
   const fields = [["", "no field"], ...layer.fields.map(({ name }) => [name, name])];
   const choose = (name, text, values) => {
-    const select = make("select", { id: `style-${name}`, onchange: (event) => { style[name] = event.target.value || null; draw(); } });
+    const select = make("select",
+      { id: `style-${name}`, onchange: (event) => { style[name] = event.target.value || null; draw(); } });
     options(select, values, style[name] ?? "");
     return make("p", {}, make("label", {}, `${text} `, select));
   };
@@ -127,15 +136,19 @@ function styleForm(layer, style, known, draw) {
     await carryOut({ do: "style", table: layer.table, style }, `Kept the style of ${layer.name} in ${desk.at}.`);
   };
   const byField = style.by ? valuesForm(style, own({ attributes: known }, style.by) || [], draw) : null;
-  return make("form", { onsubmit: save }, make("h3", {}, `Style of ${layer.name}`), lookForm("style", style, `${layer.name}, `),
+  return make("form", { onsubmit: save }, make("h3", {}, `Style of ${layer.name}`),
+    lookForm("style", style, `${layer.name}, `),
     choose("label", "Labels show", fields), choose("by", "Drawn by the value of", fields), byField,
-    make("p", { class: "buttons" }, button("keep-style", "Keep it in this design"), button("no-style", "Don't keep it", () => showOther("changes"))));
+    make("p", { class: "buttons" }, button("keep-style", "Keep it in this design"),
+      button("no-style", "Don't keep it", () => showOther("changes"))));
 }
 
 function valuesForm(style, values, draw) {
   const add = () => {
     for (const [at, value] of values.slice(0, PALETTE.length).entries()) {
-      if (!Object.hasOwn(style.values, value)) style.values[value] = { colour: PALETTE[at], width: Math.max(style.width, 2.5), pattern: "solid" };
+      if (!Object.hasOwn(style.values, value)) {
+        style.values[value] = { colour: PALETTE[at], width: Math.max(style.width, 2.5), pattern: "solid" };
+      }
     }
     draw();
   };
@@ -146,14 +159,18 @@ function valuesForm(style, values, draw) {
 
 // The colour, width, pattern and symbol of something.
 function lookForm(id, look, of) {
-  const colour = make("input", { type: "color", id: `${id}-colour`, value: look.colour || "#7A828A", "aria-label": `${of}colour`,
+  const colour = make("input", { type: "color", id: `${id}-colour`, value: look.colour || "#7A828A",
+    "aria-label": `${of}colour`,
     oninput: (event) => { look.colour = event.target.value; } });
-  const width = make("input", { type: "number", id: `${id}-width`, min: 0.5, max: 12, step: 0.5, value: look.width || 1.5,
+  const width = make("input", { type: "number", id: `${id}-width`, min: 0.5, max: 12, step: 0.5,
+    value: look.width || 1.5,
     "aria-label": `${of}width`, oninput: (event) => { look.width = Number(event.target.value); } });
   const select = (name, values) => {
-    const node = make("select", { id: `${id}-${name}`, "aria-label": `${of}${name}`, onchange: (event) => { look[name] = event.target.value; } });
+    const node = make("select",
+      { id: `${id}-${name}`, "aria-label": `${of}${name}`, onchange: (event) => { look[name] = event.target.value; } });
     options(node, values.map((it) => [it, it]), look[name] || values[0]);
     return node;
   };
-  return make("p", { class: "look" }, colour, width, select("pattern", Object.keys(DASHES)), select("symbol", Object.keys(SYMBOLS)));
+  return make("p", { class: "look" }, colour, width, select("pattern", Object.keys(DASHES)),
+    select("symbol", Object.keys(SYMBOLS)));
 }

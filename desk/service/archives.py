@@ -1,8 +1,8 @@
 """Old entries of a journal, moved into a file of their own by `altserve archive`.
 
-An archive is the beginning of the journal as it was, up to a commit. It is durable under its name before the rest takes the
-journal's name, so whenever a crash comes, each entry is in the archive or in the journal, or in both. The rest begins with a line
-`dropped`, which names the archive, and a line `opened`, which stands for all starts before it."""
+An archive is the beginning of the journal as it was, up to a commit. It is durable under its name before the rest takes
+the journal's name, so whenever a crash comes, each entry is in the archive or in the journal, or in both. The rest
+begins with a line `dropped`, which names the archive, and a line `opened`, which stands for all starts before it."""
 import contextlib
 import errno
 import json
@@ -30,7 +30,8 @@ SYNCED = 1 << 20
 
 
 class Cut(NamedTuple):
-    """Where the rest of a journal begins, the highest number before that, and the last batch that the store held then."""
+    """Where the rest of a journal begins, the highest number before that, and the last batch that the store held
+    then."""
 
     at: int
     highest: int
@@ -129,8 +130,9 @@ def remove_parts(file: str) -> None:
 
 
 def archived(journal: Journal, file: str, name: str, until: str) -> Iterator[bytes]:
-    """Moves the entries up to a moment into an archive. It stops after each part, so that others can be served; its last part is
-    the answer, and comes when all is done. Raises OSError if it cannot be done, and Broken if the journal can no longer be used."""
+    """Moves the entries up to a moment into an archive. It stops after each part, so that others can be served; its
+    last part is the answer, and comes when all is done. Raises OSError if it cannot be done, and Broken if the journal
+    can no longer be used."""
     cut = None
     for found in cuts(journal.file, journal.end, until):
         cut = found or cut

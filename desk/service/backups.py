@@ -17,8 +17,8 @@ from service.limits import refusal
 from service.store import Store
 
 NAME = re.compile(rb"[A-Za-z0-9_][A-Za-z0-9_.-]{0,31}")
-# The name of a copy that is not complete: of which backup, and by which process. `altctl copy` makes it under a name of its own,
-# with `.part` behind that.
+# The name of a copy that is not complete: of which backup, and by which process. `altctl copy` makes it under a name of
+# its own, with `.part` behind that.
 PART = re.compile(r"\.[A-Za-z0-9_][A-Za-z0-9_.-]{0,31}\.[0-9]+\.part(\.part)?")
 # Once the second program has read this much of the store, it has read the slot.
 READ_BYTES = 64 << 10
@@ -57,8 +57,8 @@ class Backups:
         return Copy(self.store, f"{self.folder}/.{name}.{os.getpid()}.part", f"{self.folder}/{name}")
 
     def copy_alone(self, part: str) -> None:
-        """Copies while nothing else is done: by the program if it can, under the lock that is held here, else the file as it is,
-        which holds nothing uncommitted."""
+        """Copies while nothing else is done: by the program if it can, under the lock that is held here, else the file
+        as it is, which holds nothing uncommitted."""
         file, said = self.store.file, ""
         if self.has_copy:
             status, said = quietly([self.store.altctl, "copy", "--no-lock", "--", file, part])
@@ -74,10 +74,11 @@ class Backups:
 class Copy:
     """A backup that is made while batches go on. A second program reads the committed state that it found at its start.
 
-    That is safe as long as no block of that state is written again. A commit writes only free blocks and the slot that is not in
-    use, so one commit may come before the second program has read the slot. Blocks become free only when the program marks, and
-    that it does for a line `reclaim`, or if fewer than 17 blocks are free for each record that is to change. So the free blocks
-    are watched: if there may have been too few, the copy is made again, at last while nothing else is done."""
+    That is safe as long as no block of that state is written again. A commit writes only free blocks and the slot that
+    is not in use, so one commit may come before the second program has read the slot. Blocks become free only when the
+    program marks, and that it does for a line `reclaim`, or if fewer than 17 blocks are free for each record that is to
+    change. So the free blocks are watched: if there may have been too few, the copy is made again, at last while
+    nothing else is done."""
 
     def __init__(self, store: Store, part: str, name: str):
         self.store, self.part, self.name, self.begun, self.tries = store, part, name, time.monotonic(), 0

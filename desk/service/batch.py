@@ -7,10 +7,12 @@ from service.limits import refusal
 
 
 class Batch:
-    """Lines of one planner. In the end it has the answers to all of them, or the position and the answer of the one that was
-    refused; the position after the last line stands for `commit`."""
+    """Lines of one planner. In the end it has the answers to all of them, or the position and the answer of the one
+    that was refused; the position after the last line stands for `commit`."""
 
-    def __init__(self, person, lines=(), is_explicit=False, rules=None, source=None, seen: Optional[Dict[str, int]] = None):
+    def __init__(
+        self, person, lines=(), is_explicit=False, rules=None, source=None, seen: Optional[Dict[str, int]] = None
+    ):
         self.person, self.lines, self.is_explicit = person, list(lines), is_explicit
         # Alternatives that must not have changed since the batch that its planner saw.
         self.seen = seen or {}
@@ -52,7 +54,9 @@ class Batch:
 
     def is_small(self) -> bool:
         """Whether it may share its commit with others."""
-        return len(self.lines) <= limits.SMALL_LINES and self.bytes <= max(limits.SMALL_BYTES, limits.LINE_BYTES * (self.count == 1))
+        return len(self.lines) <= limits.SMALL_LINES and self.bytes <= max(
+            limits.SMALL_BYTES, limits.LINE_BYTES * (self.count == 1)
+        )
 
     def text(self) -> bytes:
         """The answer to the planner."""

@@ -1,5 +1,5 @@
-"""Batches of lines over one store. Each takes effect as a whole or not at all, and is durable before it is answered. Batches that
-wait together share a commit."""
+"""Batches of lines over one store. Each takes effect as a whole or not at all, and is durable before it is answered.
+Batches that wait together share a commit."""
 import contextlib
 import errno
 import os
@@ -69,7 +69,8 @@ class Batches:
     # --- who made which alternative ---------------------------------------------------------------
 
     def _find_makers(self) -> None:
-        """Finds out who made the alternatives and checkpoints: from the file that the last service wrote, and the journal since."""
+        """Finds out who made the alternatives and checkpoints: from the file that the last service wrote, and the
+        journal since."""
         entries = remembered(self.owners, self.log, self.store.kept)
         entries.parents = self.store.entries.parents
         entries.forget_missing(self.store.checkpoints())
@@ -88,7 +89,8 @@ class Batches:
     # --- old entries of the journal ---------------------------------------------------------------
 
     def archive(self, name: str, until: str) -> Iterator[bytes]:
-        """Moves the entries up to a moment into an archive, in parts as an answer to `log`. The last one is the answer."""
+        """Moves the entries up to a moment into an archive, in parts as an answer to `log`. The last one is the
+        answer."""
         if self.is_archiving:
             yield refused(OSError(errno.EBUSY, "another one is under way"))
             return
@@ -110,7 +112,8 @@ class Batches:
             self.is_archiving = False
 
     def _read_anew(self) -> None:
-        """Reads the journal that has taken the place of the old one. Answers that are under way go on with the old one."""
+        """Reads the journal that has taken the place of the old one. Answers that are under way go on with the old
+        one."""
         weakref.finalize(self.log, close_files, [self.log.file, self.log.index.file])
         with contextlib.suppress(FileNotFoundError):
             os.unlink(f"{self.path}.index")
@@ -245,7 +248,8 @@ class Batches:
             batches = [it for it in open_ones(batches) if it.source not in alone]
 
     def _judged(self, batches: List[Batch], answers: List[bytes], entries: Entries) -> Optional[List[Done]]:
-        """The batches that were carried out; None if one was refused that may have had an effect, so that others have to be again."""
+        """The batches that were carried out; None if one was refused that may have had an effect, so that others have
+        to be again."""
         done, at = [], 0
         for number, batch in enumerate(batches, self.journal.next):
             its = answers[at : at + len(batch.lines)]
@@ -260,7 +264,8 @@ class Batches:
         return done
 
     def _judge(self, batch, answers, entries, is_among_others) -> Tuple[Optional[Effect], Optional[int]]:
-        """Refuses a batch if a line of it was refused or lacks a right. Returns its effect, if it has one, and the place of that line."""
+        """Refuses a batch if a line of it was refused or lacks a right. Returns its effect, if it has one, and the
+        place of that line."""
         place, effect = refused_place(answers), None
         if place is None:
             effect = entries.take(batch, answers, self.rules)
@@ -281,7 +286,9 @@ class Batches:
     def _commit(self, commit: Commit) -> None:
         self._look_at_files()
         try:
-            self.journal.write([(it.number, it.batch, it.effect.touched, it.effect.records) for it in commit.done], commit.last)
+            self.journal.write(
+                [(it.number, it.batch, it.effect.touched, it.effect.records) for it in commit.done], commit.last
+            )
         except Broken as fault:
             refuse_all(commit.done, refusal(97, "EIO"))
             raise Fatal(f"{self.path}: {fault}") from None
@@ -304,7 +311,9 @@ class Batches:
         seconds = sync_seconds + now - asked_at
         self.commits.note(now, len(commit.done), seconds, sync_seconds)
         if seconds > SLOW_SECONDS:
-            self.teller.tell("slow commit", f"batch {commit.last} took {seconds:.3f} s, {sync_seconds:.3f} s of it for the journal")
+            self.teller.tell(
+                "slow commit", f"batch {commit.last} took {seconds:.3f} s, {sync_seconds:.3f} s of it for the journal"
+            )
         self.journal.done(commit.last)
 
     def _take(self, commit: Commit) -> None:
@@ -343,7 +352,8 @@ def refuse_all(done: Iterable[Done], answer: bytes) -> None:
 
 
 def refuse_last(batches: List[Batch], answers: List[bytes]) -> None:
-    """If the program ended after it refused a line, refuses the batch of that line, or all of them if the line was the service's."""
+    """If the program ended after it refused a line, refuses the batch of that line, or all of them if the line was the
+    service's."""
     if not answers or not answers[-1].startswith(b"error "):
         return
     place = len(answers) - 1

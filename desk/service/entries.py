@@ -9,6 +9,7 @@ from service.journal_log import Filter, Log
 from service.last_changes import changed_by
 from service.limits import refusal
 from service.lines import word
+from service.renewals import author
 
 # The makers by the names of alternatives and checkpoints.
 Makers = Dict[str, Dict[str, str]]
@@ -21,7 +22,8 @@ MAKERS = {b"new", b"drop", b"checkpoint", b"uncheck"}
 
 
 class Effect(NamedTuple):
-    """What a batch has changed: which alternatives, and how many records; or the place and the refusal of a line that needs a right."""
+    """What a batch has changed: which alternatives, and how many records; or the place and the refusal of a line that
+    needs a right."""
 
     refused: Optional[Tuple[int, bytes]]
     touched: Set[str]
@@ -47,9 +49,9 @@ class Entries:
     # --- what a batch changes ---------------------------------------------------------------------
 
     def take(self, batch: Batch, answers: List[bytes], rules) -> Effect:
-        """Takes in what a batch has changed. Only now is it known which parents its alternatives have, so a line may still need a
-        right that its planner lacks. The caller then drops what was taken in."""
-        touched, records = set(), 0
+        """Takes in what a batch has changed. Only now is it known which parents its alternatives have, so a line may
+        still need a right that its planner lacks. The caller then drops what was taken in."""
+        touched, records, who = set(), 0, word(author(batch))
         for place, (line, answer) in enumerate(zip(batch.lines, answers)):
             verb, *words = line.split(b" ", 3)
             touched |= changed_by(verb, words, self.parents)
@@ -58,15 +60,14 @@ class Entries:
             elif verb == b"merge":
                 records += int(answer.split(b" ")[1])
             elif verb == b"post" or verb in MAKERS:
-                refused = self._take(verb, words, batch.person, rules)
+                refused = self._take(verb, words, batch.person, who, rules)
                 if refused is not None:
                     return Effect((place, refused), touched, records)
         return Effect(None, touched, records)
 
-    def _take(self, verb: bytes, words: List[bytes], person, rules) -> Optional[bytes]:
+    def _take(self, verb: bytes, words: List[bytes], person, who: str, rules) -> Optional[bytes]:
         if verb == b"post":
             return rules.refusal_of_post(person, words[0], self.parents[words[0]])
-        who = word(person.name)
         self.note(verb, words, who)
         most = rules.most_entries(person) if verb in (b"new", b"checkpoint") else None
         return None if most is None or self.counts[who] <= most else refusal(102, most)
@@ -121,7 +122,7 @@ def remembered(path: str, log: Log, kept: int) -> Entries:
     """Who made what, as of a batch: from the file that was written last, and the journal since."""
     number, makers = saved(path)
     entries = Entries({}, makers)
-    for text in log.entries(Filter(after=number), kept) if number else ():
+    for text in log.entries(Filter(after=number, is_in_full=True), kept) if number else ():
         for line in text.splitlines():
             if line.startswith(b"entry "):
                 _, _, _, who, verb, *words = line.split(b" ", 7)

@@ -11,11 +11,12 @@ from typing import Callable, Iterable, Iterator, Optional, Tuple
 
 from service.batch import Batch
 from service.lines import printable
+from service.renewals import author
 
 # The line of a batch up to its own lines.
 HEAD = re.compile(
     rb'\{"batch":(?P<number>\d+),"time":"(?P<time>[^"]*)","uid":(?P<uid>\d+),"who":(?P<who>"[^"\\]*(?:\\.[^"\\]*)*"),'
-    rb'"alternatives":\[(?P<alternatives>[^\]]*)\],"records":\d+,"lines":\['
+    rb'"alternatives":\[(?P<alternatives>[^\]]*)\],"records":(?P<records>\d+),"lines":\['
 )
 DONE = re.compile(rb'\{"done":(\d+)\}')
 OPENED = re.compile(rb'\{"opened":"[^"]*","last":(\d+),"next":(\d+)\}')
@@ -147,7 +148,7 @@ def parts_of(at: str, batches: Iterable[Tuple[int, Batch, Iterable[str], int]]) 
     """The lines of batches, in parts."""
     for number, batch, touched, records in batches:
         names = ",".join(quoted(it) for it in sorted(touched))
-        who = f'"time":"{at}","uid":{batch.person.uid},"who":{quoted(batch.person.name)}'
+        who = f'"time":"{at}","uid":{batch.person.uid},"who":{quoted(author(batch))}'
         yield f'{{"batch":{number},{who},"alternatives":[{names}],"records":{records},"lines":['.encode("ascii")
         separator = ""
         for line in batch.lines:

@@ -178,25 +178,26 @@ class Index:
     def parts(self, size: int, begin: int = 0, is_backwards: bool = False, wanted: Groups = ()) -> Iterator[Optional[Part]]:
         """The parts of a journal of this size that end behind `begin` and may have what is wanted, in their order or the other
         one; and None now and then, as there may be none for long."""
-        numbers = range(self._before(lambda it: it.end <= begin), self.count, PORTION)
+        # Whoever takes them may have others indexed in between.
+        count, indexed_end = self.count, self.end
+        numbers = range(self._before(lambda it: it.end <= begin), count, PORTION)
         if is_backwards:
-            yield from reversed(list(self._rest(size, begin)))
+            yield from reversed(list(self._rest(indexed_end, size, begin)))
             for at in reversed(numbers):
-                yield from reversed(self._portion(at, wanted))
+                yield from reversed(self._portion(at, count, wanted))
                 yield None
         else:
             for at in numbers:
-                yield from self._portion(at, wanted)
+                yield from self._portion(at, count, wanted)
                 yield None
-            yield from self._rest(size, begin)
+            yield from self._rest(indexed_end, size, begin)
 
-    def _portion(self, at: int, wanted: Groups) -> List[Part]:
-        text = os.pread(self.file, min(PORTION, self.count - at) * RECORD, at * RECORD)
+    def _portion(self, at: int, count: int, wanted: Groups) -> List[Part]:
+        text = os.pread(self.file, min(PORTION, count - at) * RECORD, at * RECORD)
         return [part_of(text[it * RECORD : it * RECORD + FORM.size]) for it in that_may_have(text, wanted)]
 
-    def _rest(self, size: int, begin: int) -> Iterator[Part]:
-        """The parts that are not indexed yet."""
-        at = self.end
+    def _rest(self, at: int, size: int, begin: int) -> Iterator[Part]:
+        """The parts from a position on, that of the first one that is not indexed yet."""
         while (end := part_end(self.journal, at, size)) > at:
             if end > begin:
                 yield Part(at, end)

@@ -9,6 +9,7 @@ from typing import Iterator, List, NamedTuple, Optional, Tuple
 from service.journal import DONE, OPENED, PART, line_feed_before
 from service.journal_index import HEADS, OPENINGS, OVERLAP, WIDE, WIDE_VERBS, Index, Part, part_end, pieces, places, record_key
 from service.lines import word
+from service.renewals import is_told_in_one_line, summary
 
 STRING = re.compile(rb'"([^"\\]*(?:\\.[^"\\]*)*)"(,|\]\}\n)')
 # No head of a batch is longer.
@@ -21,13 +22,15 @@ LAST = Part(0, 0)
 
 class Filter(NamedTuple):
     """Which lines are wanted: those of a planner, about an alternative, that may change a record, of batches above a number; and
-    only the last ones, as many as this."""
+    only the last ones, as many as this. A renewal of the index of places is told in one line, unless all are wanted in full,
+    and changes no record."""
 
     planner: Optional[str] = None
     alternative: Optional[str] = None
     record: Optional[Tuple[int, int]] = None
     last: Optional[int] = None
     after: int = 0
+    is_in_full: bool = False
 
     def keys(self) -> List[List[Tuple[int, ...]]]:
         """The groups of keys of which a part needs one each, by their places in the filter of a part."""
@@ -86,6 +89,7 @@ class Head(NamedTuple):
     who: bytes
     uid: bytes
     alternatives: List[bytes]
+    records: int
     at: int
 
 
@@ -232,12 +236,15 @@ def next_head(text: bytes, at: int, wanted: Filter, ranges) -> Optional[Head]:
             continue
         names = [it.strip(b'"') for it in found["alternatives"].split(b",")]
         if alternative is None or alternative in names:
-            return Head(number, found["time"], word(who.decode("utf-8")).encode("ascii"), found["uid"], names, found.end())
+            name = word(who.decode("utf-8")).encode("ascii")
+            return Head(number, found["time"], name, found["uid"], names, int(found["records"]), found.end())
     return None
 
 
 def take_lines(text: bytes, at: int, head: Head, wanted: Filter, found: List[bytes]) -> Tuple[int, bool]:
     """Adds the wanted lines of a batch, from a position on. Returns where it stopped, and whether that is the batch's end."""
+    if not wanted.is_in_full and is_told_in_one_line(head.who, head.alternatives):
+        return take_renewal(text, at, head, wanted, found)
     of_line = wanted.of_line() if wanted.record is not None else None
     end = text.find(b"\n", at) + 1
     while True:
@@ -251,10 +258,22 @@ def take_lines(text: bytes, at: int, head: Head, wanted: Filter, found: List[byt
             return (at + len(b"]}\n"), True) if text.startswith(b"]}\n", at) else (at, False)
         line = string[1] if b"\\" not in string[1] else json.loads(b'"%s"' % string[1]).encode("ascii")
         if is_wanted(line, head, wanted):
-            found.append(b"entry %d %s %s %s\n" % (head.number, head.time, head.who, line))
+            found.append(entry(head, line))
         at = string.end()
         if string[2] != b",":
             return at, True
+
+
+def take_renewal(text: bytes, at: int, head: Head, wanted: Filter, found: List[bytes]) -> Tuple[int, bool]:
+    """The same of a renewal, which has one line in place of all of its own."""
+    end = text.find(b"\n", at) + 1
+    if end and wanted.record is None:
+        found.append(entry(head, summary(head.records)))
+    return end or len(text), end > 0
+
+
+def entry(head: Head, line: bytes) -> bytes:
+    return b"entry %d %s %s %s\n" % (head.number, head.time, head.who, line)
 
 
 def is_wanted(line: bytes, head: Head, wanted: Filter) -> bool:

@@ -1,4 +1,5 @@
-"""The limits and refusals of the service, as docs/PLANNERS.md lists them. One user may take a quarter of what all share."""
+"""The limits and refusals of the service, as docs/PLANNERS.md lists them. One user may take a quarter of what all
+share."""
 
 # The longest line that the program takes.
 LINE_BYTES = 1_048_576
@@ -20,7 +21,8 @@ GROUP_OF_ONE = 64
 # A batch of more than that has a commit of its own.
 SMALL_LINES = 64
 SMALL_BYTES = 64 << 10
-# Unread answers that are kept in memory: of a planner, and of all of them. The rest goes to temporary files, up to this size.
+# Unread answers that are kept in memory: of a planner, and of all of them. The rest goes to temporary files, up to this
+# size.
 UNREAD_BYTES = 1 << 20
 UNREAD_BYTES_OF_ALL = 64 << 20
 UNREAD_FILES = 16 << 30

@@ -7,8 +7,8 @@ OWN = b".service"
 
 
 class Line(NamedTuple):
-    """The words after the verb, whether it is a query with one line of answer, one with rows, or a change, and the right that a
-    change requires."""
+    """The words after the verb, whether it is a query with one line of answer, one with rows, or a change, and the
+    right that a change requires."""
 
     words: str
     kind: str
@@ -51,17 +51,19 @@ OWN_WORDS = {b"begin", b"commit", b"abort", b"rollback"}
 OWN_WORDS |= {b"for", b"whoami", b"batches", b"backup", b"archive", b"log", b"status"}
 
 NAME = re.compile(rb"[A-Za-z0-9_.-]{1,32}")
-# The alternative of a field office, and its marks: checkpoints of any alternative. docs/FIELD-OFFICES.md has what they are for.
+# The alternative of a field office, and its marks: checkpoints of any alternative. docs/FIELD-OFFICES.md has what they
+# are for.
 OFFICE = re.compile(rb"\.office\.([A-Za-z0-9_-]{1,15})")
 MARK = re.compile(OFFICE.pattern + rb"\.[A-Za-z0-9_.-]+")
-# A person for whom another one acts. Digits alone would be the number of a user, and a group has `@` before its name.
-PERSON = re.compile(rb"(?![0-9]+$)[A-Za-z0-9_.-][A-Za-z0-9_.@+-]{0,63}")
+# A person for whom another one acts. Digits alone would be the number of a user, a group has `@` before its name, and under
+# the name of its alternative the service itself stands in the journal.
+PERSON = re.compile(rb"(?![0-9]+$|%s$)[A-Za-z0-9_.-][A-Za-z0-9_.@+-]{0,63}" % re.escape(OWN))
 SEEN = re.compile(rb"([A-Za-z0-9_.-]{1,32})=([0-9]{1,19})")
 
 
 def words_of(line: bytes) -> List[bytes]:
-    """The words of a line, as the program reads it: one CR at its end does not count, and only spaces separate words. None if the
-    line has no answer."""
+    """The words of a line, as the program reads it: one CR at its end does not count, and only spaces separate words.
+    None if the line has no answer."""
     words = [it for it in line.removesuffix(b"\r").split(b" ") if it]
     return [] if words and words[0].startswith(b"#") else words
 
@@ -80,8 +82,8 @@ def seen_of(words: List[bytes]) -> Optional[Dict[str, int]]:
 
 
 def alternative_of(words: List[bytes]) -> Optional[bytes]:
-    """The alternative that a change requires its right for: None if the right is one of the store as a whole, b"" if the line
-    does not name one, or `new` no parent."""
+    """The alternative that a change requires its right for: None if the right is one of the store as a whole, b"" if
+    the line does not name one, or `new` no parent."""
     if RIGHTS[words[0]] in OF_THE_STORE:
         return None
     names = words[1:3] if words[0] == b"new" else words[1:2]
@@ -107,10 +109,12 @@ def office_of(words: List[bytes]) -> Optional[bytes]:
 
 
 def printable(line: bytes) -> str:
-    """A line for the program as text. Bytes that are not printable, which only a value can have, are written with `%`."""
+    """A line for the program as text. Bytes that are not printable, which only a value can have, are written with
+    `%`."""
     return re.sub(rb"[^ -~]", lambda it: b"%%%02X" % it[0][0], line.removesuffix(b"\r")).decode("ascii")
 
 
 def word(text: str) -> str:
     """A name or a rule as one word: other bytes are written as in a value."""
-    return re.sub(rb"[^!-~]|%", lambda it: b"%%%02X" % it[0][0], text.encode("utf-8", "surrogateescape")).decode("ascii")
+    written = text.encode("utf-8", "surrogateescape")
+    return re.sub(rb"[^!-~]|%", lambda it: b"%%%02X" % it[0][0], written).decode("ascii")

@@ -102,15 +102,28 @@ class Planner:
         """Keeps nothing of an unfinished line that is too long, or too much beside all that its user has waiting."""
         size = len(self.text) - self.at
         is_long = size > limits.LINE_BYTES
-        if is_long or size > limits.RECEIVED_BYTES and not self.server.users.may_hold(self.person.uid, size - self.counted):
+        if (
+            is_long
+            or size > limits.RECEIVED_BYTES and not self.server.users.may_hold(self.person.uid, size - self.counted)
+        ):
             self.skips = LONG_LINE if is_long else refusal(94)
             self.text, self.at, self.sought = bytearray(), 0, 0
 
     def _count_text(self) -> None:
         """What waits here counts if it is more than was received at once."""
         first = self.first
-        line = first if isinstance(first, bytes) else first.line if isinstance(first, Query) else b"".join(getattr(first, "words", ()))
-        size = len(self.text) - self.at + (first.bytes if isinstance(first, Batch) and not first.is_explicit else len(line))
+        line = (
+            first
+            if isinstance(first, bytes)
+            else first.line
+            if isinstance(first, Query)
+            else b"".join(getattr(first, "words", ()))
+        )
+        size = (
+            len(self.text)
+            - self.at
+            + (first.bytes if isinstance(first, Batch) and not first.is_explicit else len(line))
+        )
         size = size if size > limits.RECEIVED_BYTES else 0
         self.server.users.hold(self.person.uid, size - self.counted)
         self.counted = size
@@ -120,7 +133,8 @@ class Planner:
         return self.sought == len(self.text) and self.has_finished == self.has_ended
 
     def look(self, count: int = LOOK) -> None:
-        """Looks at the next lines, up to one that makes a request. If there are many, the server has the rest looked at later."""
+        """Looks at the next lines, up to one that makes a request. If there are many, the server has the rest looked at
+        later."""
         while self.first is None and not self.is_closed and not self.is_exhausted():
             if not count:
                 self.server.unseen[self] = None
@@ -315,7 +329,9 @@ class Planner:
         """Tells the operator of a line that a right was missing for."""
         if refused is not None and refused.startswith(b"error 90 "):
             what = printable(line[:TOLD])
-            self.server.batches.teller.tell("denied", f"{self.person.name}, uid {self.person.uid}: {what}: {refused[9:].decode()}")
+            self.server.batches.teller.tell(
+                "denied", f"{self.person.name}, uid {self.person.uid}: {what}: {refused[9:].decode()}"
+            )
 
     # --- answers ----------------------------------------------------------------------------------
 

@@ -20,12 +20,13 @@ class Ended(Exception):
 
 
 class Program:
-    """A process of `altctl run FILE`. It inherits the lock, so the lock lasts until both it and the service have ended."""
+    """A process of `altctl run FILE`. It inherits the lock, so the lock lasts until both it and the service have
+    ended."""
 
     def __init__(self, words, lock):
         how = {"stdin": subprocess.PIPE, "stdout": subprocess.PIPE, "pass_fds": [lock], "bufsize": 0}
-        # SIGXFSZ stays ignored in it, so that exceeding a limit on file sizes fails like any other write. Signals to the group of
-        # the service do not reach it, so it ends only after the batch at work.
+        # SIGXFSZ stays ignored in it, so that exceeding a limit on file sizes fails like any other write. Signals to
+        # the group of the service do not reach it, so it ends only after the batch at work.
         self.process = subprocess.Popen(words, restore_signals=False, start_new_session=True, **how)
         self.into, self.out = self.process.stdin.fileno(), self.process.stdout.fileno()
 

@@ -30,7 +30,8 @@ class Past:
         journal_log = logs[-1][1]
         # The last batch in the store.
         self.last = kept = journal_log.kept(journal_log.size())
-        # The journals, oldest first, each with the last batch that counts of it, and the ranges of the numbers that count.
+        # The journals, oldest first, each with the last batch that counts of it, and the ranges of the numbers that
+        # count.
         self.logs: List[Tuple[Log, int]] = []
         self.ranges: List[Tuple[int, int]] = []
         # The oldest of them, and the archive that comes before it.
@@ -54,7 +55,7 @@ class Past:
         """The number, the time and a line, for each line of the batches after a number."""
         for log, kept in self.logs:
             after = max(after, dropped_from(log.file).highest)
-            for text in log.entries(Filter(after=after), kept):
+            for text in log.entries(Filter(after=after, is_in_full=True), kept):
                 for row in text.splitlines():
                     if row.startswith(b"entry "):
                         _, at, time, _, line = row.split(b" ", 4)
@@ -85,20 +86,25 @@ class Past:
             raise Impossible(self.what_is_missing(f"the backup is as of batch {backup}, and "))
         for it in (backup, number):
             if it > self.before and not any(first <= it <= end for first, end in self.ranges):
-                raise Impossible(f"batch {it} is not among those that led to the last state that the journal tells, batch {self.last}")
+                raise Impossible(
+                    f"batch {it} is not among those that led to the last state that the journal tells,"
+                    f" batch {self.last}"
+                )
 
     def what_is_missing(self, why: str = "") -> str:
         path, archive = self.oldest
         return (
             f"{why}{path} begins after batch {self.before}\n"
-            f"it is possible from a backup as of batch {self.before} or later, or with --archive and the archive {archive}"
+            f"it is possible from a backup as of batch {self.before} or later,"
+            f" or with --archive and the archive {archive}"
         )
 
 
 def restored(
     backup: str, journal: str, archives: Sequence[str], new: str, until: str, altctl: str, say: Callable[[object], None]
 ) -> Tuple[int, int]:
-    """Makes the file `new`. Returns the number of its last batch, and how many batches were carried out after the backup."""
+    """Makes the file `new`. Returns the number of its last batch, and how many batches were carried out after the
+    backup."""
     part = f"{new}.part"
     for it in (new, part):
         if os.path.lexists(it):

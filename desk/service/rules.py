@@ -56,6 +56,8 @@ def person_of(connection):
         gids = {gid, *os.getgrouplist(name, gid)}
     except KeyError:
         name, gids = str(uid), {gid}
+    # The service's own name is nobody else's.
+    name = str(uid) if name == OWN.decode() else name
     return Person(uid, name, frozenset(map(group_name, gids)))
 
 
@@ -156,7 +158,8 @@ class Rules:
         return None if denial is None else refusal(90, *denial)
 
     def refusal_of_post(self, person, alternative, parent) -> Optional[bytes]:
-        """Why a person may not post into the parent of an alternative. Who may change the parent may also post into it."""
+        """Why a person may not post into the parent of an alternative. Who may change the parent may also post into
+        it."""
         if parent is None or self.denial(person, "change", parent) is None:
             return None
         denial = self.denial(person, "post", parent)

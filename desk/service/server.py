@@ -1,7 +1,7 @@
 """The service: connections of planners, and rounds that carry out their requests one after another.
 
-It is a single thread. While the program is at work, lines of other planners wait in their sockets, and form the next group. In
-each round whoever had least comes first."""
+It is a single thread. While the program is at work, lines of other planners wait in their sockets, and form the next
+group. In each round whoever had least comes first."""
 import selectors
 import socket
 import time
@@ -41,7 +41,8 @@ class Server:
         self.backups = Backups(batches.store)
         self.selector = selectors.DefaultSelector()
         self.users, self.planners = Users(), {}
-        # Planners with requests, with lines that are not looked at yet, with answers to be sent, and with a log, each in turns.
+        # Planners with requests, with lines that are not looked at yet, with answers to be sent, and with a log, each
+        # in turns.
         self.waiting, self.unseen, self.touched, self.logs = {}, {}, {}, deque()
         # Whose turn it is: queries with one line of answer, groups of batches, and what takes longer.
         self.queries, self.groups, self.long, self.pace = Turns(), Turns(work_of), Turns(), Pace()
@@ -140,7 +141,9 @@ class Server:
                 self._tick(now)
 
     def _has_work(self) -> bool:
-        return bool(self.unseen or self.logs) or any(it.is_ready() for it in self.waiting) or self.batches.log.has_more()
+        return (
+            bool(self.unseen or self.logs) or any(it.is_ready() for it in self.waiting) or self.batches.log.has_more()
+        )
 
     def _tick(self, now: float) -> None:
         for planner in list(self.planners):
@@ -160,7 +163,8 @@ class Server:
         self._send()
 
     def _look(self) -> None:
-        """Looks at lines that many planners have sent, for a moment: at those of batches that are held, and at remarks."""
+        """Looks at lines that many planners have sent, for a moment: at those of batches that are held, and at
+        remarks."""
         until = time.monotonic() + LOOK_SECONDS
         while self.unseen and time.monotonic() < until:
             planner = next(iter(self.unseen))
@@ -183,7 +187,9 @@ class Server:
             elif isinstance(it, Word):
                 self._answer_word(planner, it)
             else:
-                planner.answer(next(answers) + b"\n" if isinstance(it, Query) else it if isinstance(it, bytes) else it.text())
+                planner.answer(
+                    next(answers) + b"\n" if isinstance(it, Query) else it if isinstance(it, bytes) else it.text()
+                )
 
     def _commit_group(self) -> None:
         """Carries out small batches and commits them together."""
@@ -201,14 +207,17 @@ class Server:
         now, seconds = time.monotonic(), commits.seconds - seconds
         if commits.count > count:
             self.pace.note(work, now - begun - seconds, seconds / (commits.count - count))
-        # A planner with an answer often sends the next line at once. Waiting a little for it avoids two groups that alternate.
+        # A planner with an answer often sends the next line at once. Waiting a little for it avoids two groups that
+        # alternate.
         self.expected = len({planner for planner, _ in group} | self.waiting.keys())
         self.gathers_until = now + GATHER * (now - begun)
 
     def _carry_out_long(self) -> None:
         """Carries out one request that does not belong in a group."""
         may_commit = self._may_commit()
-        fits = lambda it: not is_short(it) and not is_small(it) and (may_commit or not isinstance(it, Batch))  # noqa: E731
+        fits = lambda it: (  # noqa: E731
+            not is_short(it) and not is_small(it) and (may_commit or not isinstance(it, Batch))
+        )
         for planner, request in self.long.take(self.waiting, fits, 1):
             if isinstance(request, Batch):
                 try:
@@ -237,7 +246,12 @@ class Server:
                 planner.job = self.wanted
                 self.wanted.append((planner, others[0].decode()))
                 self._begin_backup()
-        elif verb == b"archive" and len(others) == 2 and NAME.fullmatch(others[0]) and is_moment(others[1].decode("latin-1")):
+        elif (
+            verb == b"archive"
+            and len(others) == 2
+            and NAME.fullmatch(others[0])
+            and is_moment(others[1].decode("latin-1"))
+        ):
             if self._has_right(person, planner, "archive"):
                 planner.job = self.batches.archive(*(it.decode() for it in others))
                 self.logs.append(planner)
@@ -394,7 +408,10 @@ def is_short(request: Request) -> bool:
     """Whether its answer is known already, or one line that the program gives at once."""
     if isinstance(request, Query):
         return not request.has_rows
-    return isinstance(request, (bytes, Forgotten)) or is_empty(request) or isinstance(request, Word) and request.words == [b"batches"]
+    return (
+        isinstance(request, (bytes, Forgotten)) or is_empty(request)
+        or isinstance(request, Word) and request.words == [b"batches"]
+    )
 
 
 def is_empty(request: Request) -> bool:

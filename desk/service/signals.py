@@ -4,7 +4,8 @@ import socket
 
 
 class Signals:
-    """TERM and INT end the service after the current round. HUP makes it read the rules again. `woken` becomes readable."""
+    """TERM and INT end the service after the current round. HUP makes it read the rules again. `woken` becomes
+    readable."""
 
     def __init__(self) -> None:
         self.ends, self.rereads = False, False

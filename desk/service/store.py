@@ -23,9 +23,9 @@ class Fatal(Exception):
 
 
 class Store:
-    """Between two batches the store holds nothing uncommitted. Each commit includes the number of its last batch, as the name of
-    the only checkpoint of the alternative `.service`. A checkpoint takes no block, so a full store can still be emptied. The
-    alternative is made anew each time, so it keeps no old version of `top` in use."""
+    """Between two batches the store holds nothing uncommitted. Each commit includes the number of its last batch, as
+    the name of the only checkpoint of the alternative `.service`. A checkpoint takes no block, so a full store can
+    still be emptied. The alternative is made anew each time, so it keeps no old version of `top` in use."""
 
     def __init__(self, file: str, altctl: str, options: List[str], lock: int, say: Callable[[object], None]):
         self.file, self.altctl, self.lock, self.say = file, altctl, lock, say

@@ -34,8 +34,8 @@ class Turns:
         self.work_of, self.now = work_of, 0
 
     def take(self, waiting: Dict[Planner, None], fits: Callable[[Request], bool], work: int) -> List[Taken]:
-        """Takes first requests that fit, until they are that much work. While others wait no user has more than a quarter
-        of it. Whoever had a turn is last in `waiting` then."""
+        """Takes first requests that fit, until they are that much work. While others wait no user has more than a
+        quarter of it. Whoever had a turn is last in `waiting` then."""
         taken: List[Taken] = []
         counts, of_users = Counter(), Counter()
         quarter: float = max(1, of_one_user(work))

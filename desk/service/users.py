@@ -6,7 +6,8 @@ from service.limits import of_one_user
 
 
 class User:
-    """A user with connections: how many, the size of the lines that are held and wait, and of unread answers, in memory and files."""
+    """A user with connections: how many, the size of the lines that are held and wait, and of unread answers, in memory
+    and files."""
 
     def __init__(self) -> None:
         self.planners, self.held, self.in_memory, self.in_files = 0, 0, 0, 0
@@ -41,7 +42,9 @@ class Users:
 
     def may_hold(self, uid: int, size: int) -> bool:
         """Whether that much more may be held for a user."""
-        return self.by_number[uid].held + size <= of_one_user(limits.HELD_BYTES) and self.held + size <= limits.HELD_BYTES
+        return (
+            self.by_number[uid].held + size <= of_one_user(limits.HELD_BYTES) and self.held + size <= limits.HELD_BYTES
+        )
 
     def may_keep(self, uid: int, size: int) -> bool:
         """Whether that much more of unread answers may be kept in memory for a user."""
@@ -56,7 +59,9 @@ class Users:
     def file(self, uid: int, size: int) -> bool:
         """Counts the size of unread answers in files, unless it is too much."""
         user = self.by_number[uid]
-        if size > 0 and (user.in_files + size > of_one_user(limits.UNREAD_FILES) or self.in_files + size > limits.UNREAD_FILES):
+        if size > 0 and (
+            user.in_files + size > of_one_user(limits.UNREAD_FILES) or self.in_files + size > limits.UNREAD_FILES
+        ):
             return False
         user.in_files += size
         self.in_files += size

@@ -36,7 +36,8 @@ LONG = "%00" * 4000
 
 
 def kept_batches(path):
-    """The batches that the store holds, by a model: a state of the store for each number that was the last one in it."""
+    """The batches that the store holds, by a model: a state of the store for each number that was the last one in
+    it."""
     states, now, waiting = {0: []}, [], []
     for line in map(json.loads, Path(path).read_text().splitlines()):
         if "batch" in line:
@@ -135,7 +136,9 @@ class ServiceTest(unittest.TestCase):
         self.until(lambda: b": batches to " in self.said.read_bytes())
 
     def start_limited(self, **values):
-        self.start(change="\n".join(["from service import limits", *(f"limits.{name} = {it}" for name, it in values.items())]))
+        self.start(
+            change="\n".join(["from service import limits", *(f"limits.{name} = {it}" for name, it in values.items())])
+        )
 
     def until(self, is_so):
         late = time.monotonic() + 60

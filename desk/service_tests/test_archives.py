@@ -23,7 +23,8 @@ def rows_of(batches):
 
 class ArchiveCase(ServiceTest):
     def altserve(self, *words, change=""):
-        text = f"import sys, runpy\nsys.path[:0] = [{str(Path(ALTSERVE).parent)!r}]\n{change}\nsys.argv[0] = {ALTSERVE!r}\n"
+        text = f"import sys, runpy\nsys.path[:0] = [{str(Path(ALTSERVE).parent)!r}]\n"
+        text += f"{change}\nsys.argv[0] = {ALTSERVE!r}\n"
         text += f"runpy.run_path({ALTSERVE!r}, run_name='__main__')"
         how = {"stdout": subprocess.PIPE, "stderr": subprocess.PIPE, "text": True, "timeout": 120}
         return subprocess.run([sys.executable, "-c", text, *words], **how)
@@ -56,9 +57,17 @@ class ArchiveTests(ArchiveCase):
         self.assertEqual("put top 1 19 19", self.log()[-1].split(" ", 1)[1])
         all_lines = self.log()
         ran = self.archive("one", 5)
-        self.assertEqual((0, f"archived up to batch 5: {self.path('one')}, "), (ran.returncode, ran.stdout.rpartition(", ")[0] + ", "), ran.stderr)
+        self.assertEqual(
+            (0, f"archived up to batch 5: {self.path('one')}, "),
+            (ran.returncode, ran.stdout.rpartition(", ")[0] + ", "),
+            ran.stderr,
+        )
         self.assertEqual(all_lines[5:], self.log())
-        times = {it["batch"]: it["time"] for it in map(json.loads, Path(self.journal).read_text().splitlines()) if "batch" in it}
+        times = {
+            it["batch"]: it["time"]
+            for it in map(json.loads, Path(self.journal).read_text().splitlines())
+            if "batch" in it
+        }
         ran = self.archive("two", times[9])
         last = max(it for it in times if times[it] <= times[9])
         self.assertEqual((0, all_lines[last:]), (ran.returncode, self.log()), ran.stderr)
@@ -78,7 +87,9 @@ class ArchiveTests(ArchiveCase):
         with self.planner() as one:
             self.assertEqual(["ok"], one.ask("put top 1 21 21"))
         self.assertEqual(["22 put top 1 21 21"], self.log())
-        self.assertEqual((0o600, 0o700), tuple(os.stat(it).st_mode & 0o777 for it in (self.path("four"), f"{self.file}.archives")))
+        self.assertEqual(
+            (0o600, 0o700), tuple(os.stat(it).st_mode & 0o777 for it in (self.path("four"), f"{self.file}.archives"))
+        )
 
     def test_what_is_not_archived(self):
         self.start()
@@ -95,13 +106,20 @@ class ArchiveTests(ArchiveCase):
         Path(f"{self.file}.archives").mkdir(exist_ok=True)
         Path(self.path("one")).touch()
         ran = self.archive("one", 3)
-        self.assertEqual((1, True), (ran.returncode, "error 104 NoArchive EEXIST\naltserve: an archive of that name is there" in ran.stderr))
+        self.assertEqual(
+            (1, True),
+            (ran.returncode, "error 104 NoArchive EEXIST\naltserve: an archive of that name is there" in ran.stderr),
+        )
         self.assertEqual(before, Path(self.journal).read_bytes())
         with self.planner() as one:
             self.assertEqual(["error 22 BadLine"] * 3, one.ask("archive", "archive a", "archive a b"))
         self.stop()
         ran = self.altserve("archive", "--until", "3", f"{self.folder}/none", "a")
-        self.assertEqual((1, True), (ran.returncode, ran.stderr.endswith(f"{self.folder}/none: No such file or directory\n")), ran.stderr)
+        self.assertEqual(
+            (1, True),
+            (ran.returncode, ran.stderr.endswith(f"{self.folder}/none: No such file or directory\n")),
+            ran.stderr,
+        )
 
     @unittest.skipUnless(HAS_TOML, NEEDS_TOML)
     def test_it_takes_a_right(self):
@@ -115,7 +133,11 @@ class ArchiveTests(ArchiveCase):
         self.until(lambda: self.archive("one", 1).returncode == 0)
 
     def test_others_go_on_meanwhile(self):
-        self.start(change=SMALL + "\nimport time, os\nreal = os.fdatasync\ndef slow(file):\n    time.sleep(0.002)\n    real(file)\nos.fdatasync = slow")
+        self.start(
+            change=SMALL
+            + "\nimport time, os\nreal = os.fdatasync\n"
+            "def slow(file):\n    time.sleep(0.002)\n    real(file)\nos.fdatasync = slow"
+        )
         self.fill(120)
         with self.planner() as one, self.planner() as other:
             other.send("log", "archive a 100", "log")
@@ -155,7 +177,14 @@ class ArchiveTests(ArchiveCase):
             count = itertools.count(1)
             for it in CALLS:
                 real = getattr(os, it)
-                setattr(os, it, lambda *words, real=real, **how: (next(count) == at and os.kill(os.getpid(), signal.SIGKILL), real(*words, **how))[1])
+                setattr(
+                    os,
+                    it,
+                    lambda *words, real=real, **how: (
+                        next(count) == at and os.kill(os.getpid(), signal.SIGKILL),
+                        real(*words, **how),
+                    )[1],
+                )
             archives.PART, archives.SYNCED = 300, 300
             try:
                 archives.archived_alone(self.file, "a", "7", print)
@@ -186,7 +215,9 @@ class ArchiveTests(ArchiveCase):
             if at % 16 == 0:
                 self.start()
                 self.stop()
-                self.assertEqual(names, os.listdir(f"{self.file}.archives") if os.path.exists(f"{self.file}.archives") else [])
+                self.assertEqual(
+                    names, os.listdir(f"{self.file}.archives") if os.path.exists(f"{self.file}.archives") else []
+                )
                 self.assertFalse(os.path.exists(f"{self.journal}.new"))
         self.assertGreater(ends, 10)
         self.assertEqual({(False, 12), (True, 12), (True, 5)}, states)
@@ -195,14 +226,27 @@ class ArchiveTests(ArchiveCase):
         self.start(change=SMALL)
         self.fill(10)
         before = self.log()
-        text = "import errno, os\nreal = os.write\ndef write(file, text):\n    if os.path.exists({!r}) and '/{}' in os.readlink(f'/proc/self/fd/{{file}}'):\n        raise OSError(errno.ENOSPC, 'full')\n    return real(file, text)\nos.write = write"
+        text = (
+            "import errno, os\nreal = os.write\ndef write(file, text):\n"
+            "    if os.path.exists({!r}) and '/{}' in os.readlink(f'/proc/self/fd/{{file}}'):\n"
+            "        raise OSError(errno.ENOSPC, 'full')\n"
+            "    return real(file, text)\nos.write = write"
+        )
         self.stop()
         for place in ("map.alt.archives/", "map.alt.journal.new"):
             full = f"{self.folder}/full"
-            self.start(change=SMALL + "\n" + text.replace("{!r}", repr(full)).replace("{}", place).replace("{{", "{").replace("}}", "}"))
+            self.start(
+                change=SMALL
+                + "\n"
+                + text.replace("{!r}", repr(full)).replace("{}", place).replace("{{", "{").replace("}}", "}")
+            )
             Path(full).touch()
             ran = self.archive("a", 5)
-            self.assertEqual((1, True), (ran.returncode, "error 104 NoArchive ENOSPC\naltserve: No space left" in ran.stderr), ran.stderr)
+            self.assertEqual(
+                (1, True),
+                (ran.returncode, "error 104 NoArchive ENOSPC\naltserve: No space left" in ran.stderr),
+                ran.stderr,
+            )
             self.assertEqual(([], before), (os.listdir(f"{self.file}.archives"), self.log()))
             os.unlink(full)
             self.assertFalse(os.path.exists(f"{self.journal}.new"))
@@ -241,13 +285,20 @@ class RestoreFromArchivesTests(ArchiveCase):
                     cuts.append(number)
         self.stop()
         archives = {it: self.path(f"a{it}") for it in cuts}
-        for backup, number, names in ((0, 5, (8,)), (0, 8, (8,)), (0, 15, (20, 8)), (0, 40, (8, 33, 20)), (10, 25, (20, 33)), (23, 40, (33,)), (31, 40, (33, 8))):
+        for backup, number, names in (
+            (0, 5, (8,)), (0, 8, (8,)), (0, 15, (20, 8)), (0, 40, (8, 33, 20)), (10, 25, (20, 33)), (23, 40, (33,)),
+            (31, 40, (33, 8)),
+        ):
             new = f"{self.folder}/new"
             options = [it for name in names for it in ("--archive", archives[name])]
             ran = self.restore(f"{self.file}.backups/b{backup}", new, "--until", str(number), *options)
             # Archives that come after the moment are not needed, but those after the last given one are.
             if number > 33 or all(it in names for it in cuts if it > backup):
-                self.assertEqual((0, f"restored batch {number}, {number - backup} batches after the backup\n"), (ran.returncode, ran.stdout), ran.stderr)
+                self.assertEqual(
+                    (0, f"restored batch {number}, {number - backup} batches after the backup\n"),
+                    (ran.returncode, ran.stdout),
+                    ran.stderr,
+                )
                 self.file, file = new, self.file
                 self.assertEqual(states[number], self.altctl("list top"))
                 self.file = file
@@ -256,7 +307,9 @@ class RestoreFromArchivesTests(ArchiveCase):
                 self.assertEqual(1, ran.returncode, (backup, number, names))
         ran = self.restore(f"{self.file}.backups/b10", f"{self.folder}/new", "--until", "38", "--archive", archives[33])
         told = f"altserve: the backup is as of batch 10, and {archives[33]} begins after batch 20\n"
-        told += "altserve: it is possible from a backup as of batch 20 or later, or with --archive and the archive a20\n"
+        told += (
+            "altserve: it is possible from a backup as of batch 20 or later, or with --archive and the archive a20\n"
+        )
         self.assertEqual((1, True), (ran.returncode, ran.stderr.endswith(told)), ran.stderr)
         self.assertFalse(os.path.exists(f"{self.folder}/new"))
 
@@ -270,7 +323,9 @@ class RestoreFromArchivesTests(ArchiveCase):
             ran = self.restore(f"{self.file}.backups/b0", f"{self.folder}/new", "--until", until)
             self.assertEqual((1, True), (ran.returncode, "the archive a\n" in ran.stderr), ran.stderr)
         ran = self.restore(f"{self.file}.backups/b0", f"{self.folder}/new", "--until", "1", "--archive", self.path("a"))
-        self.assertEqual((0, "restored batch 1, 1 batches after the backup\n"), (ran.returncode, ran.stdout), ran.stderr)
+        self.assertEqual(
+            (0, "restored batch 1, 1 batches after the backup\n"), (ran.returncode, ran.stdout), ran.stderr
+        )
 
     def test_a_backup_was_put_back_before_and_after(self):
         self.start()
@@ -284,13 +339,20 @@ class RestoreFromArchivesTests(ArchiveCase):
         self.stop()
         self.assertEqual(["1 put top 1 1 a", "3 put top 1 3 c"], self.log("--archive", self.path("a")))
         self.assertEqual(["4 put top 1 4 d"], self.log())
-        self.assertEqual([1, 2, 3], [it["batch"] for it in map(json.loads, Path(self.path("a")).read_text().splitlines()) if "batch" in it])
+        self.assertEqual(
+            [1, 2, 3],
+            [it["batch"] for it in map(json.loads, Path(self.path("a")).read_text().splitlines()) if "batch" in it],
+        )
         new = f"{self.folder}/new"
         ran = self.restore(f"{self.file}.backups/b0", new, "--archive", self.path("a"))
-        self.assertEqual((0, "restored batch 4, 3 batches after the backup\n"), (ran.returncode, ran.stdout), ran.stderr)
+        self.assertEqual(
+            (0, "restored batch 4, 3 batches after the backup\n"), (ran.returncode, ran.stdout), ran.stderr
+        )
         self.file, file = new, self.file
         self.assertEqual(["record 1 1 a", "record 1 3 c", "record 1 4 d", "end 3"], self.altctl("list top"))
         self.file = file
-        ran = self.restore(f"{self.file}.backups/b0", f"{self.folder}/other", "--until", "2", "--archive", self.path("a"))
+        ran = self.restore(
+            f"{self.file}.backups/b0", f"{self.folder}/other", "--until", "2", "--archive", self.path("a")
+        )
         self.assertEqual((1, True), (ran.returncode, "batch 2 is not among those" in ran.stderr), ran.stderr)
         self.assertEqual([1, 3], [it["batch"] for it in kept_batches(self.path("a"))])

@@ -66,7 +66,9 @@ class BackupTests(ServiceTest):
         self.assertEqual(2, self.count())
         self.assertIn(self.in_backup("a", "list top")[-1], [f"end {it}" for it in range(1, 11)])
         self.assertEqual(["end 11"], self.in_backup("b", "list top")[-1:])
-        self.assertEqual(0, subprocess.run([ALTCTL, "check", f"{self.file}.backups/a"], stdout=subprocess.DEVNULL).returncode)
+        self.assertEqual(
+            0, subprocess.run([ALTCTL, "check", f"{self.file}.backups/a"], stdout=subprocess.DEVNULL).returncode
+        )
 
     def test_blocks_that_become_free_meanwhile(self):
         self.start_slow()
@@ -192,7 +194,12 @@ class BackupTests(ServiceTest):
                 it.join()
 
     def test_several_commits_before_the_slot_is_read(self):
-        for commits, is_open, spoils in ([1], False, False), ([2], False, True), ([2], True, False), ([1, 2], True, False):
+        for commits, is_open, spoils in (
+            ([1], False, False),
+            ([2], False, True),
+            ([2], True, False),
+            ([1, 2], True, False),
+        ):
             copy = Copy.__new__(Copy)
             copy.store, copy.free, copy.commits, copy.is_spoiled, copy.is_open = None, 1000, 0, False, is_open
             with mock.patch.object(backups, "free_blocks", return_value=1000):

@@ -11,8 +11,8 @@ from service import limits
 from service_tests.support import ALTCTL, LONG, ServiceTest, kept_batches
 
 
-# The program without the word `rollback`, as earlier versions, and with one of later ones: `copy FROM TO`, which leaves a file
-# NAME.copied behind.
+# The program without the word `rollback`, as earlier versions, and with one of later ones: `copy FROM TO`, which leaves
+# a file NAME.copied behind.
 OTHER = """#!{python}
 import shutil, subprocess, sys
 
@@ -47,7 +47,9 @@ class BatchTests(ServiceTest):
             self.assertEqual(["value b"], other.ask("get top 7 2"))
         [batch] = kept_batches(self.journal)
         self.assertEqual((1, 2, ["north", "top"]), (batch["batch"], batch["records"], batch["alternatives"]))
-        self.assertEqual(["new north top", "put north 7 1 a", "put north 7 2 b", "merge north", "post north"], batch["lines"])
+        self.assertEqual(
+            ["new north top", "put north 7 1 a", "put north 7 2 b", "merge north", "post north"], batch["lines"]
+        )
 
     def test_of_a_batch_with_a_refused_line_nothing_is_made(self):
         self.start()
@@ -67,7 +69,11 @@ class BatchTests(ServiceTest):
         self.start()
         with self.planner() as one:
             self.assertEqual(["ok"], one.ask("put top 1 1 a"))
-            for lines in (["put nowhere 1 1 a"], ["begin", "remove top 1 9", "commit"], ["begin", "put top 1 2 a", "drop x", "commit"]):
+            for lines in (
+                ["put nowhere 1 1 a"],
+                ["begin", "remove top 1 9", "commit"],
+                ["begin", "put top 1 2 a", "drop x", "commit"],
+            ):
                 one.ask(*lines)
                 self.assertEqual(["checkpoint 1", "end 1"], one.rows("checks .service"), lines)
             self.assertEqual(["ok"], one.ask("put top 1 3 a"))
@@ -84,7 +90,13 @@ class BatchTests(ServiceTest):
                 self.until(planners[0].is_read)
                 for number, one in enumerate(planners[1:], 1):
                     # Each third is refused at its second line, and each fifth takes back what it has put.
-                    last = "put nowhere 1 1 a" if number % 3 == 0 else f"remove top 1 {number}" if number % 5 == 0 else "put top 2 2 b"
+                    last = (
+                        "put nowhere 1 1 a"
+                        if number % 3 == 0
+                        else f"remove top 1 {number}"
+                        if number % 5 == 0
+                        else "put top 2 2 b"
+                    )
                     one.send("begin", f"put top 1 {number} a", last, "commit")
             self.assertEqual(["ok"], planners[0].read())
             for number, one in enumerate(planners[1:], 1):

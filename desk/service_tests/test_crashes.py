@@ -26,8 +26,8 @@ class CrashTests(ServiceTest):
         return Batches(Store(self.file, ALTCTL, [], lock, say), Rules(f"{self.file}.rules"), say)
 
     def moments(self):
-        """Store and journal before and after each step of three commits, and how much of the journal is synced. A crash within a
-        commit of the program leaves the store as before or as after it: that is proved."""
+        """Store and journal before and after each step of three commits, and how much of the journal is synced. A crash
+        within a commit of the program leaves the store as before or as after it: that is proved."""
         lock = locked(self.file)
         batches = self.batches(lock, self.fail)
         program, journal = batches.store.program, batches.journal

@@ -125,7 +125,9 @@ class DeviceTests(ServiceTest):
             self.assertEqual(["1", "2", "3"], [it.split()[2] for it in one.rows("list top")[:-1]])
         self.stop()
         # Of the second and third batch, the first attempts are not in the log.
-        self.assertEqual(["1", "2", "top", "3"], self.told()[:2] + [it.split()[-1] for it in self.log()[2:3]] + self.told()[3:])
+        self.assertEqual(
+            ["1", "2", "top", "3"], self.told()[:2] + [it.split()[-1] for it in self.log()[2:3]] + self.told()[3:]
+        )
 
     def test_a_commit_that_is_refused(self):
         with self.planner() as one:
@@ -157,7 +159,9 @@ class DeviceTests(ServiceTest):
     def test_the_device_fails_at_a_line_of_the_service(self):
         with self.planner() as one:
             self.fail("15_Device checkpoint .service")
-            self.assertEqual(["error 15 Device", "none", "ok"], one.ask("put top 1 1 a", "get top 1 1", "put top 1 1 b"))
+            self.assertEqual(
+                ["error 15 Device", "none", "ok"], one.ask("put top 1 1 a", "get top 1 1", "put top 1 1 b")
+            )
 
     def test_a_restore_whose_program_fails(self):
         with self.planner() as one:
@@ -225,7 +229,8 @@ class SyncTests(ServiceTest):
         self.assertEqual(["1 put top 1 1 a", "3 put top 1 3 a"], self.log())
 
     def stop_at_a_new_start(self, call, is_journals):
-        """Has a call fail from the moment on at which the program is killed: the service can't start it again, and ends."""
+        """Has a call fail from the moment on at which the program is killed: the service can't start it again, and
+        ends."""
         self.start_failing(call, is_journals)
         with self.planner() as one:
             self.assertEqual(["ok"], one.ask("put top 1 1 a"))

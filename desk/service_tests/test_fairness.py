@@ -58,7 +58,9 @@ class FairnessTests(ServiceTest):
                 with self.flood(12, text):
                     begun = time.monotonic()
                     for number in range(5):
-                        self.assertEqual(["ok", "value a"], one.ask(f"put top 8 {number} a", f"get top 8 {number}"), what)
+                        self.assertEqual(
+                            ["ok", "value a"], one.ask(f"put top 8 {number} a", f"get top 8 {number}"), what
+                        )
                     self.assertLess(time.monotonic() - begun, 20, what)
 
     def test_each_planner_has_its_share(self):
@@ -133,7 +135,8 @@ class BoundTests(ServiceTest):
         self.assertLess(self.memory(), 96 << 20)
 
     def fill(self, uid):
-        """Starts a process of another user that has the service hold as much as it may, and leaves as many answers unread."""
+        """Starts a process of another user that has the service hold as much as it may, and leaves as many answers
+        unread."""
         ready, is_ready = os.pipe()
         child = os.fork()
         if child:
@@ -233,7 +236,10 @@ class LeavingTests(ServiceTest):
         self.start_limited(PLANNERS=4 * 2)
         with self.planner() as one:
             one.ask("put top 1 1 a")
-            for text in (b"", b"log\n", b"list top\nlog\n", b"begin\nput top 1 1 a\n", b"put top 1 1 a\n" * 200, b"put top", b"log last=1\n" * 300):
+            for text in (
+                b"", b"log\n", b"list top\nlog\n", b"begin\nput top 1 1 a\n", b"put top 1 1 a\n" * 200, b"put top",
+                b"log last=1\n" * 300,
+            ):
                 for _ in range(60):
                     with contextlib.suppress(OSError), self.planner() as other:
                         other.socket.sendall(text)

@@ -14,11 +14,15 @@ class JournalTests(ServiceTest):
     def test_the_log_by_planner_alternative_and_record(self):
         self.start()
         with self.planner() as one:
-            one.ask("new north top", "put north 7 1 a", "put north 7 2 b", "remove north 7 2", "put top 7 1 c", "grow 300")
+            one.ask(
+                "new north top", "put north 7 1 a", "put north 7 2 b", "remove north 7 2", "put top 7 1 c", "grow 300"
+            )
             one.ask("begin")
             self.assertEqual(["ok 0", "ok", "ok"], one.ask("merge north 7:1=mine", "post north", "commit"))
             self.assertEqual(["error 90 Denied drop .service"], one.ask("drop .service"))
-            all_lines = ["1 new north top", "2 put north 7 1 a", "3 put north 7 2 b", "4 remove north 7 2", "5 put top 7 1 c"]
+            all_lines = [
+                "1 new north top", "2 put north 7 1 a", "3 put north 7 2 b", "4 remove north 7 2", "5 put top 7 1 c",
+            ]
             all_lines += ["6 grow 300", "7 merge north 7:1=mine", "7 post north"]
             due = {
                 "": all_lines,
@@ -75,7 +79,10 @@ class JournalTests(ServiceTest):
             number, lines = 0, ['{"opened":"","last":0,"next":1}']
             for _ in range(chance.randint(0, 12)):
                 number += 1
-                lines.append(f'{{"batch":{number},"time":"","uid":0,"who":"a","alternatives":["b"],"records":1,"lines":["put b 1 {number} x"]}}')
+                lines.append(
+                    f'{{"batch":{number},"time":"","uid":0,"who":"a","alternatives":["b"],"records":1,'
+                    f'"lines":["put b 1 {number} x"]}}'
+                )
                 lines += [f'{{"done":{number}}}'] * chance.randint(0, 1)
                 if chance.random() < 0.3:
                     last = number - chance.choice((0, 0, 1, number))
@@ -139,7 +146,9 @@ class JournalTests(ServiceTest):
         """A service over a store on a disk of 4 MiB, which is the folder that is returned."""
         small = os.path.join(self.folder, "small")
         os.mkdir(small)
-        if subprocess.run(["mount", "-t", "tmpfs", "-o", "size=4m", "tmpfs", small], stderr=subprocess.DEVNULL).returncode:
+        if subprocess.run(
+            ["mount", "-t", "tmpfs", "-o", "size=4m", "tmpfs", small], stderr=subprocess.DEVNULL
+        ).returncode:
             self.skipTest("a mount is not allowed here")
         self.addCleanup(subprocess.run, ["umount", "--lazy", small], check=True)
         self.file = os.path.join(small, "map.alt")

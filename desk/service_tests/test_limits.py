@@ -19,15 +19,20 @@ class DocumentTests(unittest.TestCase):
         for row in (
             f"| a line | {limits.LINE_BYTES:,} bytes |",
             f"| a batch between `begin` and `commit` | {limits.BATCH_LINES:,} lines, {limits.BATCH_BYTES >> 20} MiB |",
-            f"| holding a batch | {limits.HELD_SECONDS // 60} minutes |",
-            f"| held and waiting lines of all planners | {limits.HELD_BYTES >> 20} MiB, of one user {limits.HELD_BYTES >> 22} MiB. "
+            f"| from `begin` to `commit` | {limits.HELD_SECONDS // 60} minutes |",
+            "| lines of all planners that wait or are in a batch that was begun | "
+            f"{limits.HELD_BYTES >> 20} MiB, of one user {limits.HELD_BYTES >> 22} MiB. "
             f"Each line counts {limits.LINE_COST} bytes more",
             f"| connections | {limits.PLANNERS:,}, of one user {limits.of_one_user(limits.PLANNERS)} |",
             f"| waiting lines | {limits.RECEIVED_BYTES >> 10} KiB of each planner;",
-            f"| unread answers of all planners in memory | {limits.UNREAD_BYTES_OF_ALL >> 20} MiB, of one user {limits.UNREAD_BYTES_OF_ALL >> 22} MiB |",
-            f"| temporary files of all planners | {limits.UNREAD_FILES >> 30} GiB, of one user {limits.UNREAD_FILES >> 32} GiB |",
-            f"| lines in one commit | {limits.GROUP:,}, each KiB counting as one more; {limits.GROUP_OF_ONE} batches of one planner,",
-            f"| lines of a batch that shares its commit | {limits.SMALL_LINES}, of {limits.SMALL_BYTES >> 10} KiB together |",
+            f"| unread answers of all planners in memory | {limits.UNREAD_BYTES_OF_ALL >> 20} MiB, "
+            f"of one user {limits.UNREAD_BYTES_OF_ALL >> 22} MiB |",
+            f"| temporary files of all planners | {limits.UNREAD_FILES >> 30} GiB, "
+            f"of one user {limits.UNREAD_FILES >> 32} GiB |",
+            f"| lines in one commit | {limits.GROUP:,}, each KiB counting as one more; "
+            f"{limits.GROUP_OF_ONE} batches of one planner,",
+            f"| lines of a batch that shares its commit | {limits.SMALL_LINES}, "
+            f"of {limits.SMALL_BYTES >> 10} KiB together |",
             f"| alternatives and checkpoints of one user | {limits.ENTRIES}, unless",
         ):
             self.assertIn(row, text)

@@ -13,7 +13,9 @@ class LineTests(ServiceTest):
     def test_a_line_is_durable_before_it_is_answered(self):
         self.start()
         with self.planner() as one:
-            self.assertEqual(["ok", "ok", "value duct"], one.ask("new north top", "put north 7 1 duct", "get north 7 1"))
+            self.assertEqual(
+                ["ok", "ok", "value duct"], one.ask("new north top", "put north 7 1 duct", "get north 7 1")
+            )
             os.kill(self.program(), signal.SIGKILL)
             self.assertEqual(["value duct", "none"], one.ask("get north 7 1", "get north 7 2"))
         self.stop(signal.SIGKILL)
@@ -72,8 +74,10 @@ class LineTests(ServiceTest):
 
     def test_carriage_returns_are_read_as_by_the_program(self):
         lines = [
-            "new a top\r", "new b top\r\r", "new c .service\r\r", "put a 1 1 x\r\r", "get a 1 1", "put a 1 2 x\ry", "get a 1 2\r", "get a 1 2\r\r",
-            "put a 1 3 \r\r", "get a 1 3", "put a 1 4 x \r", "get a 1 4", "put a 1 4 x\r \r", "get a 1 4", "commit\r\r", "\r", "\r\r", "#\r\r", "list a\r",
+            "new a top\r", "new b top\r\r", "new c .service\r\r", "put a 1 1 x\r\r", "get a 1 1", "put a 1 2 x\ry",
+            "get a 1 2\r", "get a 1 2\r\r",
+            "put a 1 3 \r\r", "get a 1 3", "put a 1 4 x \r", "get a 1 4", "put a 1 4 x\r \r", "get a 1 4", "commit\r\r",
+            "\r", "\r\r", "#\r\r", "list a\r",
         ]
         # One of the program's own answers takes the place of the one that the service gives for its alternative.
         due = self.altctl(*lines)
@@ -105,14 +109,24 @@ class LineTests(ServiceTest):
         with self.planner() as one:
             self.assertEqual(["planner", name, str(os.getuid())], one.ask("whoami")[0].split()[:3])
             # Each line is committed by itself: a commit has nothing to do, and nothing can be taken back.
-            self.assertEqual(["ok"] * 4 + ["value a"], one.ask("put top 1 1 a", "commit", "rollback", "abort", "get top 1 1"))
-            lines = ["whoami I", "backup", "backup a b", "log a", "log record=7", "log last=-1", "log last=a", "begin now", "commit all"]
+            self.assertEqual(
+                ["ok"] * 4 + ["value a"], one.ask("put top 1 1 a", "commit", "rollback", "abort", "get top 1 1")
+            )
+            lines = [
+                "whoami I", "backup", "backup a b", "log a", "log record=7", "log last=-1", "log last=a", "begin now",
+                "commit all",
+            ]
             for line in lines:
                 self.assertEqual(["error 22 BadLine"], one.ask(line), line)
 
     def test_the_alternative_of_the_service_is_its_own(self):
         self.start()
-        rights = {"put .service 1 1 a": "change", "drop .service": "drop", "post .service": "post", "new a .service": "change"}
+        rights = {
+            "put .service 1 1 a": "change",
+            "drop .service": "drop",
+            "post .service": "post",
+            "new a .service": "change",
+        }
         rights.update({"new .service top": "change", "uncheck .service 0": "change", "merge .service": "change"})
         with self.planner() as one:
             for line, right in rights.items():

@@ -1,4 +1,5 @@
-"""The journal read by its index: whatever is in a journal, the answer to `log` is that of a plain reading of all of it."""
+"""The journal read by its index: whatever is in a journal, the answer to `log` is that of a plain reading of all of
+it."""
 import json
 import os
 import random
@@ -22,7 +23,10 @@ def wanted(path, planner=None, alternative=None, record=None, last=None, after=0
     for batch in kept_batches(path):
         if batch["batch"] <= after or planner not in (None, batch["who"], str(batch["uid"])):
             continue
-        for line in batch["lines"]:
+        is_renewal = (batch["who"], batch["alternatives"]) == (".service", [".places"])
+        if is_renewal and alternative in (None, ".places") and record is None:
+            found.append(f"entry {batch['batch']} {batch['time']} .service renew .places {batch['records']}")
+        for line in batch["lines"] if not is_renewal else ():
             verb, *words = line.split(" ")
             is_about = words[:1] == [alternative] or verb == "post" and alternative in batch["alternatives"]
             if alternative is not None and not (alternative in batch["alternatives"] and is_about):
@@ -46,13 +50,18 @@ class IndexTests(unittest.TestCase):
             Path(it).unlink(missing_ok=True)
 
     def line(self, chance):
-        name, verb = chance.choice(("top", "a", "b.1", "-")), chance.choice(("put", "put", "remove", "merge", "post", "grow"))
+        name = chance.choice(("top", "a", "b.1", "-"))
+        verb = chance.choice(("put", "put", "remove", "merge", "post", "grow"))
         value = "".join(chance.choice('ab"\\%{}[],:') for _ in range(chance.choice((1, 9, 300))))
-        words = {"put": f"{chance.choice(('', '00'))}{chance.randint(0, 3)} {chance.randint(0, 9)} {value}", "remove": f"0 {chance.randint(0, 9)}"}
+        words = {
+            "put": f"{chance.choice(('', '00'))}{chance.randint(0, 3)} {chance.randint(0, 9)} {value}",
+            "remove": f"0 {chance.randint(0, 9)}",
+        }
         return f"grow {chance.randint(64, 99)}" if verb == "grow" else f"{verb} {name} {words.get(verb, '')}".strip()
 
     def journal(self, chance):
-        """A journal at random: with backups that were put back, older and newer ones, and batches that were not made."""
+        """A journal at random: with backups that were put back, older and newer ones, and batches that were not
+        made."""
         number, last, lines, past = 0, 0, ['{"opened":"","last":0,"next":1}'], [0]
         for _ in range(chance.randint(1, 60)):
             group = []
@@ -60,8 +69,13 @@ class IndexTests(unittest.TestCase):
                 number += 1
                 texts = [self.line(chance) for _ in range(chance.choice((1, 1, 3, 40)))]
                 names = sorted({it.split()[1] for it in texts if not it.startswith("grow")})
-                who = chance.choice(("anna", "b\u00fcr\"o", "carl"))
-                batch = {"batch": number, "time": "t", "uid": len(who), "who": who, "alternatives": names, "records": 1, "lines": texts}
+                who = chance.choice(("anna", "b\u00fcr\"o", "carl", ".service"))
+                if who == ".service" and chance.random() < 0.8:
+                    names, texts = [".places"], ["new .places top", *(it.replace("top", ".places") for it in texts)]
+                batch = {
+                    "batch": number, "time": "t", "uid": len(who), "who": who, "alternatives": names,
+                    "records": len(texts), "lines": texts,
+                }
                 group.append(json.dumps(batch, separators=(",", ":")))
             lines += group
             if chance.random() < 0.8:
@@ -88,12 +102,32 @@ class IndexTests(unittest.TestCase):
             for _ in range(chance.choice((0, 3, 999))):
                 log.index.add(log.size())
             for _ in range(12):
-                values = {"planner": chance.choice((None, "anna", 'b\u00fcr"o', "4", "x"))}
-                values.update(alternative=chance.choice((None, None, "top", "b.1")), record=chance.choice((None, "0:3", "2:5", "9:9")))
+                values = {"planner": chance.choice((None, "anna", 'b\u00fcr"o', "4", "x", ".service"))}
+                values.update(
+                    alternative=chance.choice((None, None, "top", "b.1", ".places")),
+                    record=chance.choice((None, "0:3", "2:5", "9:9")),
+                )
                 values.update(last=chance.choice((None, None, 0, 1, 7, 10**9)), after=chance.choice((0, 0, 5, 30)))
                 words = [f"{name}={value}" for name, value in values.items() if value is not None]
                 self.assertEqual(wanted(self.path, **values), self.ask(log, words), words)
             log.close()
+
+    def test_parts_that_are_indexed_while_a_log_is_read(self):
+        """As a service does between two parts of an answer."""
+        chance = random.Random(8)
+        for _ in range(8):
+            Path(self.path).write_text(self.journal(chance))
+            for first in (0, 1, 3):
+                for values in ({}, {"last": 9}, {"planner": "anna"}, {"last": 2, "record": "2:5"}):
+                    Path(f"{self.path}.index").unlink(missing_ok=True)
+                    log, rows = Log(self.path, writes=True), b""
+                    for _ in range(first):
+                        log.index.add(log.size())
+                    for part in log.entries(filter_of([f"{name}={value}" for name, value in values.items()])):
+                        rows += part
+                        log.index.add(log.size())
+                    log.close()
+                    self.assertEqual(wanted(self.path, **values), rows.decode().splitlines()[:-1], (first, values))
 
     def test_an_index_of_another_journal_is_made_again(self):
         chance = random.Random(4)
@@ -133,15 +167,23 @@ class IndexTests(unittest.TestCase):
         log.close()
 
     def test_a_value_that_looks_like_a_line(self):
-        texts = ['put top 1 1 ","put top 7 1 a', 'put top 1 2 \\"put top 7 1 b', "put top 7 1 c", 'put top 1 3 ["put top 7 1 "']
-        batch = {"batch": 1, "time": "t", "uid": 0, "who": "anna", "alternatives": ["top"], "records": 4, "lines": texts}
+        texts = [
+            'put top 1 1 ","put top 7 1 a',
+            'put top 1 2 \\"put top 7 1 b',
+            "put top 7 1 c",
+            'put top 1 3 ["put top 7 1 "',
+        ]
+        batch = {
+            "batch": 1, "time": "t", "uid": 0, "who": "anna", "alternatives": ["top"], "records": 4, "lines": texts,
+        }
         Path(self.path).write_text(json.dumps(batch, separators=(",", ":")) + '\n{"done":1}\n')
         log = Log(self.path)
         self.assertEqual(["entry 1 t anna put top 7 1 c"], self.ask(log, ["record=7:1"]))
         log.close()
 
     def test_a_part_says_no_if_it_has_nothing(self):
-        line = '{"batch":%d,"time":"t","uid":0,"who":"anna","alternatives":["top"],"records":1,"lines":["put top 1 %d a"]}\n'
+        line = '{"batch":%d,"time":"t","uid":0,"who":"anna","alternatives":["top"],"records":1,'
+        line += '"lines":["put top 1 %d a"]}\n'
         Path(self.path).write_text("".join(line % (it, it) for it in range(1, 2000)))
         log = Log(self.path, writes=True)
         while log.index.add(log.size()):
@@ -151,7 +193,9 @@ class IndexTests(unittest.TestCase):
             found = [it for it in log.index.parts(log.size(), wanted=filter_of([words]).keys()) if it]
             self.assertLessEqual(len(found), most, words)
         self.assertGreater(count, 400)
-        self.assertEqual(log.index.after(1000), max(it.end for it in log.index.parts(log.index.end) if it and it.last <= 1000))
+        self.assertEqual(
+            log.index.after(1000), max(it.end for it in log.index.parts(log.index.end) if it and it.last <= 1000)
+        )
         log.close()
 
 
@@ -198,7 +242,9 @@ class LogTests(ServiceTest):
     def test_numbers_with_zeros(self):
         self.start()
         with self.planner() as one:
-            self.assertEqual(["ok"] * 4, one.ask("put top 007 01 a", "put top 7 1 b", "remove top 07 001", "put top 70 1 c"))
+            self.assertEqual(
+                ["ok"] * 4, one.ask("put top 007 01 a", "put top 7 1 b", "remove top 07 001", "put top 70 1 c")
+            )
         self.assertEqual(["1 put top 007 01 a", "2 put top 7 1 b", "3 remove top 07 001"], self.log("--record", "7:1"))
 
     def test_a_long_batch(self):
@@ -277,5 +323,7 @@ os.write = write"""
             self.assertEqual(("", 0), (log.stderr.read(), log.wait()))
 
     def test_a_file_without_a_journal(self):
-        ran = subprocess.run([sys.executable, ALTSERVE, "log", self.file], stdout=subprocess.PIPE, stderr=subprocess.PIPE)
+        ran = subprocess.run(
+            [sys.executable, ALTSERVE, "log", self.file], stdout=subprocess.PIPE, stderr=subprocess.PIPE
+        )
         self.assertEqual((1, b"", 2), (ran.returncode, ran.stdout, ran.stderr.count(b"\n")), ran.stderr)

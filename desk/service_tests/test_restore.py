@@ -12,7 +12,10 @@ from service_tests.support import ALTCTL, ALTSERVE, LONG, ServiceTest, entries
 
 class RestoreTests(ServiceTest):
     def restore(self, backup, new, until=None, journal=None):
-        words = [sys.executable, ALTSERVE, "restore", "--program", ALTCTL, *([] if until is None else ["--until", str(until)])]
+        words = [
+            sys.executable, ALTSERVE, "restore", "--program", ALTCTL,
+            *([] if until is None else ["--until", str(until)]),
+        ]
         words += [backup, journal or self.journal, new]
         return subprocess.run(words, stdout=subprocess.PIPE, stderr=subprocess.PIPE, timeout=120, text=True)
 
@@ -20,7 +23,12 @@ class RestoreTests(ServiceTest):
         """All that a store shows, except the service's alternative."""
         rows = one.rows("alts")
         names = [it.split()[1] for it in rows[:-1] if it.split()[1] != ".service"]
-        return {line: one.rows(line) for name in names for line in (f"list {name}", f"list {name}@", f"checks {name}") if line != "list top@"}
+        return {
+            line: one.rows(line)
+            for name in names
+            for line in (f"list {name}", f"list {name}@", f"checks {name}")
+            if line != "list top@"
+        }
 
     def shown_by(self, file):
         self.file, file = file, self.file
@@ -48,11 +56,20 @@ class RestoreTests(ServiceTest):
                 if kind < 0.5:
                     lines = [put]
                 elif kind < 0.7:
-                    lines = ["begin", put, f"put {name} 2 {number} b\r", "merge a all=mine", "merge b all=theirs", "commit"]
+                    lines = [
+                        "begin", put, f"put {name} 2 {number} b\r", "merge a all=mine", "merge b all=theirs", "commit",
+                    ]
                 elif kind < 0.8:
                     lines = ["begin", "merge a all=mine", "post a", "commit"]
                 else:
-                    lines = chance.choice((["begin", "drop b", "new b a", "commit"], [f"checkpoint a c{number}"], [f"put no 1 1 {number}"], ["reclaim"]))
+                    lines = chance.choice(
+                        (
+                            ["begin", "drop b", "new b a", "commit"],
+                            [f"checkpoint a c{number}"],
+                            [f"put no 1 1 {number}"],
+                            ["reclaim"],
+                        )
+                    )
                 one.ask(*lines)
                 last = int(one.rows("checks .service")[0].split()[1])
                 states[last] = self.shown(one)
@@ -81,7 +98,9 @@ class RestoreTests(ServiceTest):
         moment = times[max(it for it in times if it <= numbers[27])]
         before = max(it for it in times if times[it] <= moment)
         ran = self.restore(backup, new, moment)
-        self.assertEqual((0, states[max(it for it in numbers if it <= before)]), (ran.returncode, self.shown_by(new)), ran.stderr)
+        self.assertEqual(
+            (0, states[max(it for it in numbers if it <= before)]), (ran.returncode, self.shown_by(new)), ran.stderr
+        )
 
     def test_many_batches_have_a_commit_now_and_then(self):
         self.start()
@@ -90,12 +109,18 @@ class RestoreTests(ServiceTest):
             for number in range(10):
                 one.ask("begin", f"put top 1 {number} a", f"put top 2 {number} a", "commit")
         self.stop()
-        with unittest.mock.patch("service.restore.LINES", 5), unittest.mock.patch("service.restore.commit", wraps=restore.commit) as commit:
-            found = restore.restored(f"{self.file}.backups/early", self.journal, [], f"{self.folder}/new", "", ALTCTL, print)
+        with unittest.mock.patch("service.restore.LINES", 5), unittest.mock.patch(
+            "service.restore.commit", wraps=restore.commit
+        ) as commit:
+            found = restore.restored(
+                f"{self.file}.backups/early", self.journal, [], f"{self.folder}/new", "", ALTCTL, print
+            )
         self.assertEqual((10, 10), found)
         # Two batches of two lines fit into five.
         self.assertEqual([2, 4, 6, 8, 10], [it.args[1] for it in commit.call_args_list])
-        self.assertEqual(20, len([it for it in self.shown_by(f"{self.folder}/new")["list top"] if it.startswith("record ")]))
+        self.assertEqual(
+            20, len([it for it in self.shown_by(f"{self.folder}/new")["list top"] if it.startswith("record ")])
+        )
 
     def test_what_cannot_be_restored(self):
         self.start()
@@ -120,5 +145,7 @@ class RestoreTests(ServiceTest):
         text = Path(self.journal).read_text()
         Path(self.journal).write_text(text.replace("put top 1 2 a", "remove top 1 2"))
         ran = self.restore(one, new, 2)
-        self.assertEqual((1, True), (ran.returncode, "batch 2: remove top 1 2: error 5 NoSuchRecord" in ran.stderr), ran.stderr)
+        self.assertEqual(
+            (1, True), (ran.returncode, "batch 2: remove top 1 2: error 5 NoSuchRecord" in ran.stderr), ran.stderr
+        )
         self.assertFalse(os.path.exists(f"{new}.part"))

@@ -28,10 +28,13 @@ class RulesTests(ServiceTest):
         berta = Person(2, "berta", frozenset(["north", "operators"]))
         owner = Person(os.geteuid(), "owner", frozenset())
         due = [
-            (anna, "change", b"north", None), (berta, "change", b"north", None), (carl, "change", b"north", ("change", "north")),
-            (anna, "change", b"north-2", None), (carl, "change", b"n2", None), (anna, "change", b"n2", ("change", "n*")),
+            (anna, "change", b"north", None), (berta, "change", b"north", None),
+            (carl, "change", b"north", ("change", "north")),
+            (anna, "change", b"north-2", None), (carl, "change", b"n2", None),
+            (anna, "change", b"n2", ("change", "n*")),
             (owner, "change", b"top", ("change", "top")), (owner, "change", b"south", ("change", "~")),
-            (berta, "post", b"south", None), (anna, "post", b"south", ("post", "*")), (berta, "drop", b"south", ("drop", "~")),
+            (berta, "post", b"south", None), (anna, "post", b"south", ("post", "*")),
+            (berta, "drop", b"south", ("drop", "~")),
             (berta, "grow", None, None), (anna, "grow", None, ("grow",)), (owner, "reclaim", None, ("reclaim",)),
         ]
         for person, right, alternative, denial in due:
@@ -39,7 +42,9 @@ class RulesTests(ServiceTest):
 
     def test_without_rules_the_user_of_the_service_may_change(self):
         rules = Rules(f"{self.file}.rules")
-        for right, alternative in [("change", b"top"), ("post", b"a"), ("drop", b"a"), ("grow", None), ("backup", None)]:
+        for right, alternative in [
+            ("change", b"top"), ("post", b"a"), ("drop", b"a"), ("grow", None), ("backup", None),
+        ]:
             self.assertIsNone(rules.denial(Person(os.geteuid(), "a", frozenset()), right, alternative))
             self.assertEqual((right, "~"), rules.denial(Person(os.geteuid() + 1, "a", frozenset()), right, alternative))
 
@@ -54,7 +59,10 @@ class RulesTests(ServiceTest):
             self.rules('reclaim = ["*"]\n[change]\n"*" = ["*"]')
             self.service.send_signal(signal.SIGHUP)
             self.until(lambda: one.ask("reclaim") == ["ok"])
-            due = ["ok", "ok", *[f"error 90 Denied {it}" for it in ("drop ~", "post ~", "grow")], "ok", "error 90 Denied backup"]
+            due = [
+                "ok", "ok", *[f"error 90 Denied {it}" for it in ("drop ~", "post ~", "grow")], "ok",
+                "error 90 Denied backup",
+            ]
             self.assertEqual(due, one.ask(*lines))
             self.rules("[change")
             self.service.send_signal(signal.SIGHUP)
@@ -84,10 +92,15 @@ class RulesTests(ServiceTest):
         with self.planner() as one:
             # A design of one's own, but not below what one may not change.
             due = ["ok", "ok", "error 90 Denied change ~", "error 90 Denied post ~", "error 90 Denied post ~"]
-            self.assertEqual(due, one.ask("new mine-1 top", "new mine-2 mine-1", "new mine-3 south", "post mine-1", "post mine-0"))
+            self.assertEqual(
+                due, one.ask("new mine-1 top", "new mine-2 mine-1", "new mine-3 south", "post mine-1", "post mine-0")
+            )
             self.assertEqual(["ok", "ok"], one.ask("put mine-2 7 1 a", "post mine-2"))
             # Only when it is carried out it is known whose child it is.
-            lines = ["begin", "new mine-4 mine-1", "drop mine-4", "new mine-4 top", "put mine-4 7 1 b", "post mine-4", "commit"]
+            lines = [
+                "begin", "new mine-4 mine-1", "drop mine-4", "new mine-4 top", "put mine-4 7 1 b", "post mine-4",
+                "commit",
+            ]
             self.assertEqual("error 90 Denied post ~", one.ask(*lines)[5])
             self.assertEqual(["end 0"], one.rows("list top"))
             self.rules('[change]\n"mine*" = ["*"]\n[post]\n"mine*" = ["*"]\ntop = ["*"]\n[new]\nsouth = ["*"]')
@@ -98,7 +111,10 @@ class RulesTests(ServiceTest):
 
     @unittest.skipUnless(HAS_TOML, NEEDS_TOML)
     def test_an_office_has_its_own_names_and_nothing_else(self):
-        self.rules('[office]\nanna = ["*"]\nberta = []\n"ca*" = ["@root", "*"]\n[change]\n"north*" = ["*"]\n[new]\nnorth = ["*"]')
+        self.rules(
+            '[office]\nanna = ["*"]\nberta = []\n"ca*" = ["@root", "*"]\n'
+            '[change]\n"north*" = ["*"]\n[new]\nnorth = ["*"]'
+        )
         made = ["new north top", "new south top", "checkpoint south .office.berta.1", "put top 7 1 a"]
         self.assertEqual(["ok"] * 5, self.altctl(*made, "commit"))
         self.start()
@@ -109,13 +125,20 @@ class RulesTests(ServiceTest):
                 "checkpoint north monday", "drop .office.anna", "new .office.carl top", "checkpoint top .office.carl.1",
             ]
             self.assertEqual(["ok"] * len(may), one.ask(*may))
-            self.assertEqual(["ok"] * 4, one.ask("begin", "uncheck top .office.anna.0a", "checkpoint top .office.anna.0b", "commit"))
+            self.assertEqual(
+                ["ok"] * 4, one.ask("begin", "uncheck top .office.anna.0a", "checkpoint top .office.anna.0b", "commit")
+            )
             may_not = [
-                ("checkpoint top monday", "change"), ("checkpoint top .office.anna", "change"), ("checkpoint top .office.berta.1", "change"),
-                ("uncheck south .office.berta.1", "change"), ("checkpoint top .office.", "change"), ("checkpoint top xoffice.anna.1", "change"),
-                ("put top 7 1 b", "change"), ("back top .office.anna.0b", "change"), ("drop south", "drop"), ("post .office.carl", "post"),
-                ("new .office.berta top", "change"), ("new .office.anna south", "change"), ("new .office.anna.x top", "change"),
-                ("put .office.carl 65535 0 a", "change"), ("back .office.carl 1", "change"), ("new below .office.carl", "change"), ("new top2 top", "change"), ("drop .office.berta", "drop"),
+                ("checkpoint top monday", "change"), ("checkpoint top .office.anna", "change"),
+                ("checkpoint top .office.berta.1", "change"),
+                ("uncheck south .office.berta.1", "change"), ("checkpoint top .office.", "change"),
+                ("checkpoint top xoffice.anna.1", "change"),
+                ("put top 7 1 b", "change"), ("back top .office.anna.0b", "change"), ("drop south", "drop"),
+                ("post .office.carl", "post"),
+                ("new .office.berta top", "change"), ("new .office.anna south", "change"),
+                ("new .office.anna.x top", "change"),
+                ("put .office.carl 65535 0 a", "change"), ("back .office.carl 1", "change"),
+                ("new below .office.carl", "change"), ("new top2 top", "change"), ("drop .office.berta", "drop"),
             ]
             for line, right in may_not:
                 self.assertEqual([f"error 90 Denied {right} "], [it[: len(right) + 17] for it in one.ask(line)], line)
@@ -157,7 +180,10 @@ class RulesTests(ServiceTest):
             self.start()
             with self.planner() as one:
                 self.assertEqual(["error 102 TooManyEntries 3"], one.ask("new c top"))
-                self.assertEqual(["ok", "ok", "ok", "ok", "ok"], one.ask("drop b", "drop a", "new c top", "checkpoint c one", "drop c"))
+                self.assertEqual(
+                    ["ok", "ok", "ok", "ok", "ok"],
+                    one.ask("drop b", "drop a", "new c top", "checkpoint c one", "drop c"),
+                )
             self.stop()
         self.start()
         with self.planner() as one:
@@ -167,7 +193,9 @@ class RulesTests(ServiceTest):
         self.assertEqual(["ok"] * 3, self.altctl("uncheck b one", "drop b", "commit"))
         self.start()
         with self.planner() as one:
-            self.assertEqual(["ok", "ok", "error 102 TooManyEntries 3"], one.ask("new c a", "checkpoint c one", "checkpoint c two"))
+            self.assertEqual(
+                ["ok", "ok", "error 102 TooManyEntries 3"], one.ask("new c a", "checkpoint c one", "checkpoint c two")
+            )
 
     @unittest.skipUnless(HAS_TOML, NEEDS_TOML)
     def test_a_rule_with_other_bytes_is_told_in_one_line(self):
@@ -179,11 +207,16 @@ class RulesTests(ServiceTest):
         self.rules('[change]\n"to[p\\n \u00fc%]" = []')
         self.start()
         with self.planner() as one:
-            self.assertEqual(["error 90 Denied change to[p%0A%20%C3%BC%25]", "none"], one.ask("put top 1 1 a", "get top 1 1"))
+            self.assertEqual(
+                ["error 90 Denied change to[p%0A%20%C3%BC%25]", "none"], one.ask("put top 1 1 a", "get top 1 1")
+            )
 
     @unittest.skipUnless(HAS_TOML, NEEDS_TOML)
     def test_rules_that_are_none(self):
-        for text in ["[change", "[fly]\na = []", "office = []", "[office]\nanna = 1", 'grow = "anna"', "grow = 1", "change = []", "[change]\na = [1]", "[grow]\na = []", "entries = 3", "[entries]\na = true", "[entries]\na = -1"]:
+        for text in [
+            "[change", "[fly]\na = []", "office = []", "[office]\nanna = 1", 'grow = "anna"', "grow = 1", "change = []",
+            "[change]\na = [1]", "[grow]\na = []", "entries = 3", "[entries]\na = true", "[entries]\na = -1",
+        ]:
             self.rules(text)
             status, said = self.failed()
             self.assertEqual((1, True), (status, said.startswith(f"altserve: {self.file}.rules: ")), said)
@@ -207,7 +240,9 @@ class RulesTests(ServiceTest):
                 os.setuid(uid)
                 try:
                     with self.planner() as one:
-                        one.send("put top 1 1 a", "begin", "put top 1 1 a", "commit", "get top 1 1", "backup a", "whoami")
+                        one.send(
+                            "put top 1 1 a", "begin", "put top 1 1 a", "commit", "get top 1 1", "backup a", "whoami"
+                        )
                         os.write(writes, "\n".join(one.rest()).encode())
                 except PermissionError:
                     os.write(writes, b"kept out")
@@ -224,7 +259,10 @@ class RulesTests(ServiceTest):
         self.stop()
         self.start("--group", "nogroup")
         denied = "error 90 Denied change ~"
-        due = [denied, "ok", denied, "error 91 NotDone 1", "none", "error 90 Denied backup ~", f"planner nobody {NOBODY} nogroup"]
+        due = [
+            denied, "ok", denied, "error 91 NotDone 1", "none", "error 90 Denied backup ~",
+            f"planner nobody {NOBODY} nogroup",
+        ]
         self.assertEqual(due, ask())
         self.stop()
         # A user and a group without a name are told by their numbers.
@@ -237,7 +275,9 @@ class RulesTests(ServiceTest):
             self.start("--group", "nogroup")
             due = ["ok", "ok", "ok", "ok", "value a", "error 90 Denied backup", f"planner nobody {NOBODY} nogroup"]
             self.assertEqual(due, ask())
-            self.assertEqual(["1 nobody", "2 nobody"], [f"{it['batch']} {it['who']}" for it in kept_batches(self.journal)])
+            self.assertEqual(
+                ["1 nobody", "2 nobody"], [f"{it['batch']} {it['who']}" for it in kept_batches(self.journal)]
+            )
 
 
 class ActingTests(ServiceTest):
@@ -280,7 +320,7 @@ class ActingTests(ServiceTest):
         self.rules('act = ["*"]\n[change]\n"*" = ["@planners", "1000"]')
         self.start()
         with self.planner() as one:
-            for name in ("@planners", "1000", "*", "a/b", "x" * 65, "", "anna berta", "%41"):
+            for name in ("@planners", "1000", ".service", "*", "a/b", "x" * 65, "", "anna berta", "%41"):
                 due = ["error 22 BadLine", "error 90 Denied change *"]
                 self.assertEqual(due, one.ask(f"for {name}".rstrip(), "new north top"), name)
 

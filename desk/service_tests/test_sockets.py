@@ -23,7 +23,9 @@ class SocketTests(ServiceTest):
             self.assertEqual(["ok"], one.ask("put top 1 1 a"))
 
     def test_a_group_that_is_none(self):
-        self.assertEqual((1, f"altserve: {self.socket}: there is no group of-nobody\n"), self.failed("--group", "of-nobody"))
+        self.assertEqual(
+            (1, f"altserve: {self.socket}: there is no group of-nobody\n"), self.failed("--group", "of-nobody")
+        )
 
     def test_what_stands_where_the_socket_is_to_be(self):
         Path(self.socket).write_text("a file")

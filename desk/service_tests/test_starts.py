@@ -16,7 +16,9 @@ NO_FILE = "it is neither a file nor a block device"
 
 def starts(program):
     """Whether what a program needs is installed."""
-    return not subprocess.run([str(DESK / program), "--help"], stdout=subprocess.DEVNULL, stderr=subprocess.DEVNULL).returncode
+    return not subprocess.run(
+        [str(DESK / program), "--help"], stdout=subprocess.DEVNULL, stderr=subprocess.DEVNULL
+    ).returncode
 
 
 class StartTests(unittest.TestCase):
@@ -40,11 +42,15 @@ class StartTests(unittest.TestCase):
         for words, due in {
             (self.none,): (1, f"{self.none}: the service cannot start", f"{self.none}: {missing}"),
             ("--socket", f"{self.none}/a", self.store): (1, f"{self.none}/a: no socket can be made there", missing),
-            ("--program", self.none, self.store): (3, f"{self.store}: altctl cannot be started", f"{self.none}: {missing}"),
+            ("--program", self.none, self.store): (
+                3, f"{self.store}: altctl cannot be started", f"{self.none}: {missing}",
+            ),
             ("status", self.store): (1, "no service is to be reached", f"{self.store}.sock: {missing}"),
             ("log", self.store): (1, "there is no journal to read", f"{self.store}.journal: {missing}"),
             ("restore", self.store, self.none, "new"): (1, "new was not made", f"{self.none}: {missing}"),
-            ("archive", "--until", "1", self.store, "a"): (1, f"{self.store}: nothing was archived", f"{self.store}.journal: {missing}"),
+            ("archive", "--until", "1", self.store, "a"): (
+                1, f"{self.store}: nothing was archived", f"{self.store}.journal: {missing}",
+            ),
         }.items():
             self.assertEqual((due[0], [f"altserve: {it}" for it in due[1:]]), self.said("altserve", *words), words)
         status, lines = self.said("altserve", f"{self.folder}/text")
@@ -64,18 +70,31 @@ class StartTests(unittest.TestCase):
         missing, no_file = "No such file or directory", f"altctl: cannot open /dev/null: {NO_FILE}"
         for words, altctl, due in (
             (("status", self.none), ALTCTL, (1, f"{self.none} cannot be opened", f"{self.none}: {missing}")),
-            (("clone", f"{self.folder}/text", "new"), ALTCTL, (1, f"{self.folder}/text cannot be opened", "altctl: 19 NotAStore")),
+            (
+                ("clone", f"{self.folder}/text", "new"), ALTCTL,
+                (1, f"{self.folder}/text cannot be opened", "altctl: 19 NotAStore"),
+            ),
             (("clone", self.store, "new"), self.none, (1, f"{self.store} cannot be opened", f"{self.none}: {missing}")),
             (("status", "/dev/null"), ALTCTL, (1, "/dev/null cannot be opened", no_file)),
         ):
-            self.assertEqual((due[0], [f"altcarry: {it}" for it in due[1:]]), self.said("altcarry", *words, altctl=altctl), words)
+            self.assertEqual(
+                (due[0], [f"altcarry: {it}" for it in due[1:]]), self.said("altcarry", *words, altctl=altctl), words
+            )
 
     @unittest.skipUnless(starts("altgis"), "python3-gdal is not installed")
     def test_of_altgis(self):
-        self.assertEqual((1, [f"altgis: {self.none}: No such file or directory"]), self.said("altgis", "layers", self.none))
-        self.assertEqual((1, ["altgis: refused: 6 IsTop", "altgis: the line was: conflicts top"]), self.said("altgis", "merge", self.store, "top"))
+        self.assertEqual(
+            (1, [f"altgis: {self.none}: No such file or directory"]), self.said("altgis", "layers", self.none)
+        )
+        self.assertEqual(
+            (1, ["altgis: refused: 6 IsTop", "altgis: the line was: conflicts top"]),
+            self.said("altgis", "merge", self.store, "top"),
+        )
         status, lines = self.said("altgis", "export", f"{self.folder}/text", "top", "out.gpkg")
-        self.assertEqual((1, [f"altgis: {self.folder}/text: altctl ended with status 1", "altgis: altctl: 19 NotAStore"]), (status, lines))
+        self.assertEqual(
+            (1, [f"altgis: {self.folder}/text: altctl ended with status 1", "altgis: altctl: 19 NotAStore"]),
+            (status, lines),
+        )
 
     @unittest.skipUnless(starts("altdesk"), "python3-aiohttp or python3-gdal is not installed")
     def test_of_altdesk(self):

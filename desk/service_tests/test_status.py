@@ -13,7 +13,9 @@ from service_tests.support import ALTSERVE, DESK, HAS_TOML, NEEDS_TOML, ServiceT
 
 class StatusTests(ServiceTest):
     def status(self, *options):
-        ran = subprocess.run([sys.executable, ALTSERVE, "status", *options, self.file], stdout=subprocess.PIPE, stderr=subprocess.PIPE)
+        ran = subprocess.run(
+            [sys.executable, ALTSERVE, "status", *options, self.file], stdout=subprocess.PIPE, stderr=subprocess.PIPE
+        )
         return ran.returncode, ran.stdout.decode(), ran.stderr.decode()
 
     def test_the_figures(self):
@@ -52,14 +54,20 @@ class StatusTests(ServiceTest):
 
     def test_the_page_names_each_figure(self):
         text = (DESK.parent / "docs" / "PLANNERS.md").read_text()
-        self.assertEqual({*FIGURES}, {it for row in re.findall(r"^\| (`[a-z_`, ]+`) \|", text, re.M) for it in re.findall(r"\w+", row)} & {*FIGURES})
+        self.assertEqual(
+            {*FIGURES},
+            {it for row in re.findall(r"^\| (`[a-z_`, ]+`) \|", text, re.M) for it in re.findall(r"\w+", row)}
+            & {*FIGURES},
+        )
 
     @unittest.skipUnless(HAS_TOML, NEEDS_TOML)
     def test_what_is_told(self):
         self.rules('[change]\nnorth = ["*"]')
         self.start(change="from service import batches\nbatches.SLOW_SECONDS = 0.3")
         with self.planner() as one:
-            one.ask("put top 1 1 a", "begin", "new north top", "put top 1 1 a", "commit", "begin", "new north top", "commit")
+            one.ask(
+                "put top 1 1 a", "begin", "new north top", "put top 1 1 a", "commit", "begin", "new north top", "commit"
+            )
             with self.halted():
                 one.send("put north 1 1 a")
                 time.sleep(0.5)

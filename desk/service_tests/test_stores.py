@@ -174,7 +174,9 @@ class StoreTests(ServiceTest):
             self.start(*options)
             with self.planner() as one:
                 answers = one.ask(*(f"put top 1 {n} {LONG}" for n in range(60)))
-                self.assertEqual(["ok"] * 60 if due == 160 else ["error 13 Full"], answers if due == 160 else answers[-1:])
+                self.assertEqual(
+                    ["ok"] * 60 if due == 160 else ["error 13 Full"], answers if due == 160 else answers[-1:]
+                )
                 self.assertEqual([f"blocks {due}"], one.ask("blocks"))
             self.stop()
         self.assertEqual(60, sum(it.startswith("record") for it in self.altctl("list top")))

@@ -4,8 +4,8 @@ after each session: `tools/faults/compare.py [-n FILES] [-s SEED] [--plain] [ALT
 
 Of the file every byte is compared where no written block waits (half of the files), and else those of header, slots and
 each block that a committed version reaches, since blocks that nobody needs are not written then. Now and then the file
-is copied to another size, after a session or between two of its lines, and each byte of the copy is compared. At the end
-it spoils bytes of the file, and compares what opening it is answered. The model goes by docs/MODEL.md and
+is copied to another size, after a session or between two of its lines, and each byte of the copy is compared. At the
+end it spoils bytes of the file, and compares what opening it is answered. The model goes by docs/MODEL.md and
 docs/FORMATS.md, and shares nothing with the store. It stands beside the gate."""
 import argparse
 import os
@@ -25,7 +25,8 @@ CHILD, FAN = 14, 256
 # So many blocks have to be spare for each record that is changed.
 MARGIN = 17
 LETTERS = {*b"ABCDEFGHIJKLMNOPQRSTUVWXYZabcdefghijklmnopqrstuvwxyz0123456789_-."}
-NAMES = "NoSuchAlternative AlternativeExists NoSuchCheckpoint CheckpointExists NoSuchRecord IsTop HasChildren NotMerged Unsettled"
+NAMES = "NoSuchAlternative AlternativeExists NoSuchCheckpoint CheckpointExists NoSuchRecord IsTop HasChildren"
+NAMES += " NotMerged Unsettled"
 NAMES = [None, *NAMES.split(), "NotInConflict", "SettledTwice", "TooMany", "Full", "Deep", "Device", "Memory", "Failed"]
 NAMES += ["Damaged", "NotAStore", "AlreadyAStore", "BadSize"]
 
@@ -61,12 +62,14 @@ def records_in(text, count):
 
 def children_in(text, count):
     """So many children of an inner block."""
-    return [((table, number), child) for table, number, child in struct.iter_unpack("<HQI", text[16 : 16 + CHILD * count])]
+    return [
+        ((table, number), child) for table, number, child in struct.iter_unpack("<HQI", text[16 : 16 + CHILD * count])
+    ]
 
 
 def leaves_of(records, key, is_new):
-    """The records of a leaf, of which the one with this key came last, in one leaf or as many as they need: two, of which
-    the larger one is as small as it can be, or three. A new record behind all others gets a leaf of its own."""
+    """The records of a leaf, of which the one with this key came last, in one leaf or as many as they need: two, of
+    which the larger one is as small as it can be, or three. A new record behind all others gets a leaf of its own."""
     *sums, total = accumulate(ENTRY + len(value) for _, value in records)
     if total <= LEAF_ROOM:
         return [records]
@@ -80,7 +83,8 @@ def leaves_of(records, key, is_new):
 
 
 class Alternative:
-    """An entry of the slot, with its owner: the parent, or the alternative of a checkpoint. Maps are numbers of roots."""
+    """An entry of the slot, with its owner: the parent, or the alternative of a checkpoint. Maps are numbers of
+    roots."""
 
     def __init__(self, tag, name, owner, current, base):
         self.tag, self.name, self.owner, self.current, self.base = tag, name, owner, current, base
@@ -99,8 +103,8 @@ def header(version):
 
 
 class Store:
-    """A file: blocks are bytes, and trees are decoded from them anew for each use. The file may have more blocks than the store,
-    which has as many as the last commit said, and in a session those of its growths."""
+    """A file: blocks are bytes, and trees are decoded from them anew for each use. The file may have more blocks than
+    the store, which has as many as the last commit said, and in a session those of its growths."""
 
     def __init__(self, blocks):
         self.disk, self.kept, self.blocks = [bytes(BLOCK)] * blocks, blocks, blocks
@@ -137,7 +141,8 @@ class Store:
         self.committed, self.kept = [it.copy() for it in self.working], self.blocks
 
     def rollback(self):
-        """Blocks that came by a growth since the last commit are no blocks of the store any more, whether held or free."""
+        """Blocks that came by a growth since the last commit are no blocks of the store any more, whether held or
+        free."""
         self.working, self.blocks = [it.copy() for it in self.committed], self.kept
         self.held = {it for it in self.held if it < self.kept}
 
@@ -245,8 +250,8 @@ class Store:
     # --- copies
 
     def copied(self, blocks):
-        """The store that a copy of what was committed is. Each block that a version reaches gets the next number: the versions in
-        order, the current records before the base, and each block after those that it names."""
+        """The store that a copy of what was committed is. Each block that a version reaches gets the next number: the
+        versions in order, the current records before the base, and each block after those that it names."""
         copy, numbers = Store(blocks), {}
         copy.working, copy.held = [it.copy() for it in self.committed], set()
         for it in copy.working:
@@ -308,7 +313,8 @@ class Store:
         return [it for it in values if it[1] != it[2] and it[1] != it[3] and it[2] != it[3]]
 
     def merge(self, alt, settled, side=None):
-        """A merge with these settlements, and with this side, if one is given, for each conflict that has none of them."""
+        """A merge with these settlements, and with this side, if one is given, for each conflict that has none of
+        them."""
         it, parent, base, theirs, own = self.sides(alt)
         conflicts = {key for key, *_ in self.in_conflict(base, theirs, own)}
         keys = [key for key, _ in settled]
@@ -355,7 +361,9 @@ class Store:
                 raise Refused(6)
             if any(other.tag == b"A" and other.owner == rest[0] for other in self.working):
                 raise Refused(7)
-            self.working = [other for other in self.working if other is not it and (other.tag, other.owner) != (b"C", rest[0])]
+            self.working = [
+                other for other in self.working if other is not it and (other.tag, other.owner) != (b"C", rest[0])
+            ]
         elif verb == "put":
             it = self.find(rest[0])
             self.demand(1)
@@ -454,7 +462,8 @@ class Store:
 
 
 def within(part, keys):
-    """Those of the keys that are in a part: a table, a table with its first number and its last one, or all without words."""
+    """Those of the keys that are in a part: a table, a table with its first number and its last one, or all without
+    words."""
     table, low, high = (*part, 0, 2**64 - 1)[:3] if part else (None, 0, 0)
     return [it for it in keys if table is None or it[0] == table and low <= it[1] <= high]
 
@@ -509,7 +518,10 @@ def slot_in(disk, slot):
         owned = is_top or any(e.tag == b"A" and e.name == owner for e in entries)
         if it[:1] not in (b"A", b"C") or name is None or owner is None or any(it[75:]) or same or not owned:
             raise Damaged(slot)
-        if is_top and (it[:1], name, owner) != (b"A", "top", "") or base and (is_top or it[:1] == b"C" and owner == "top"):
+        if (
+            is_top and (it[:1], name, owner) != (b"A", "top", "")
+            or base and (is_top or it[:1] == b"C" and owner == "top")
+        ):
             raise Damaged(slot)
         entries.append(Alternative(it[:1], name, owner, current, base))
     return blocks, entries
@@ -521,7 +533,11 @@ def is_leaf(text, count):
         return False
     ends = [end for _, _, end in struct.iter_unpack("<HQH", text[16 : 16 + ENTRY * count])]
     sizes = [end - begin for begin, end in zip([0, *ends], ends)]
-    return all(0 <= it <= LONGEST for it in sizes) and ENTRY * count + ends[-1] <= LEAF_ROOM and not any(text[16 + ENTRY * count + ends[-1] :])
+    return (
+        all(0 <= it <= LONGEST for it in sizes)
+        and ENTRY * count + ends[-1] <= LEAF_ROOM
+        and not any(text[16 + ENTRY * count + ends[-1] :])
+    )
 
 
 def is_node(text, level, count):
@@ -530,8 +546,8 @@ def is_node(text, level, count):
 
 
 class Walk:
-    """A walk through the trees under roots, each block once. Of each block that was met it keeps the level, and the lowest
-    and the highest key under it."""
+    """A walk through the trees under roots, each block once. Of each block that was met it keeps the level, and the
+    lowest and the highest key under it."""
 
     def __init__(self, disk, blocks):
         self.disk, self.blocks, self.met = disk, blocks, {}
@@ -540,7 +556,10 @@ class Walk:
         """The level and the items of a block: records or children."""
         text = self.disk[block]
         level, count, zero = struct.unpack_from("<III", text, 4)
-        if zero or not (text[:4] == b"LEF3" and level == 0 and is_leaf(text, count) or text[:4] == b"NODE" and is_node(text, level, count)):
+        if zero or not (
+            text[:4] == b"LEF3" and level == 0 and is_leaf(text, count)
+            or text[:4] == b"NODE" and is_node(text, level, count)
+        ):
             raise Damaged(block)
         items = (children_in if level else records_in)(text, count)
         if any(one >= other for (one, _), (other, _) in zip(items, items[1:])):
@@ -572,7 +591,10 @@ def refusal(disk):
     """What opening a file of these blocks is answered, if it is refused."""
     if len(disk) < 64 or disk[0] != header(3):
         is_earlier = disk[0] in (header(1), header(2))
-        return "19 NotAStore" + "\naltctl: the file is of an earlier format: tools/upgrade.py OLD NEW carries it over" * is_earlier
+        return (
+            "19 NotAStore"
+            + "\naltctl: the file is of an earlier format: tools/upgrade.py OLD NEW carries it over" * is_earlier
+        )
     try:
         blocks, entries = slot_in(disk, 18 if disk[1][0] & 1 else 2)
         if blocks > len(disk):
@@ -598,7 +620,9 @@ def spoiled_place(rng, text):
     entries = 16 + ENTRY * count
     values = entries + struct.unpack_from("<H", text, entries - 2)[0]
     entry = 16 + ENTRY * rng.choice([0, count - 1, rng.randrange(count)])
-    place = rng.choice([3, 8, 9, entry + rng.choice([2, 9, 10, 10, 11, 11]), entries - 1, entries, values - 1, values, values + 1])
+    place = rng.choice(
+        [3, 8, 9, entry + rng.choice([2, 9, 10, 10, 11, 11]), entries - 1, entries, values - 1, values, values + 1]
+    )
     return min(place, BLOCK - 1)
 
 
@@ -621,7 +645,9 @@ def spoiled(rng, disk):
             text[at] = rng.choice([0, 1, 33, 34, 35, rng.randrange(256)])
         elif text[:4] == b"LEF3" and rng.random() < 0.7:
             at = spoiled_place(rng, text)
-            text[at] = rng.choice([0, 1, 15, 16, 255, text[at] ^ 1, (text[at] + 1) % 256, text[at] - 1 & 255, rng.randrange(256)])
+            text[at] = rng.choice(
+                [0, 1, 15, 16, 255, text[at] ^ 1, (text[at] + 1) % 256, text[at] - 1 & 255, rng.randrange(256)]
+            )
         elif block in (2, 18) and rng.random() < 0.2:
             text[4] = rng.choice([0, 1, 2, 4, 255])
         elif block in (2, 18) and rng.random() < 0.4:
@@ -639,7 +665,9 @@ def opened(altctl, rng, file, disk):
         blocks = spoiled(rng, disk)
         with open(file, "wb") as it:
             it.write(b"".join(blocks))
-        ran = subprocess.run([altctl, "run", file], input=b"alts\nlist top\nfree\n", stdout=subprocess.PIPE, stderr=subprocess.PIPE)
+        ran = subprocess.run(
+            [altctl, "run", file], input=b"alts\nlist top\nfree\n", stdout=subprocess.PIPE, stderr=subprocess.PIPE
+        )
         why, answers = refusal(blocks), ""
         if why is None:
             store = Store(64)
@@ -664,16 +692,24 @@ def checked(altctl, file, store):
     return None if came == (0, wanted, "") else f"a check says {came}, and not {wanted!r}"
 
 
-# Sizes of values: of all kinds; two and three of which just fill a leaf, or just do not; which a leaf has beside a largest one.
-SIZES = [[60, 300, 1000, 4000], [1348, 1349, 2027, 2028, 2029, 3000], [0, 44, 55, 56, 57, 68, 3999, 4000], range(LONGEST + 1)]
+# Sizes of values: of all kinds; two and three of which just fill a leaf, or just do not; which a leaf has beside a
+# largest one.
+SIZES = [
+    [60, 300, 1000, 4000],
+    [1348, 1349, 2027, 2028, 2029, 3000],
+    [0, 44, 55, 56, 57, 68, 3999, 4000],
+    range(LONGEST + 1),
+]
 
 
 class Editor:
-    """Makes random lines, each with its meaning: None for no answer, a text for an answer that never changes, or words for the store."""
+    """Makes random lines, each with its meaning: None for no answer, a text for an answer that never changes, or words
+    for the store."""
 
     def __init__(self, rng, is_plain=False):
         self.rng, self.is_plain = rng, is_plain
-        # How often a value is one of those sizes that fill a leaf with a few others, so that it has to become two or three.
+        # How often a value is one of those sizes that fill a leaf with a few others, so that it has to become two or
+        # three.
         self.large, self.sizes = rng.choice([0, 0.02, 0.1, 0.4, 0.9]), rng.choice(SIZES)
         self.names = ["top", "top", "a", "b", "c", "d-1", "e.f_G"]
         self.marks = ["k", "l", "m" * 32]
@@ -699,13 +735,19 @@ class Editor:
         """The words of a page: mostly from a key that may be there."""
         table, number = self.key()
         table = self.rng.choice([table] * 5 + [0, 2, 6, 8, 65535])
-        return [table, self.rng.choice([number, number, 0, 2**64 - 1]), self.rng.choice([0, 1, 2, 16, 17, 100, 2**32 - 1])]
+        return [
+            table,
+            self.rng.choice([number, number, 0, 2**64 - 1]),
+            self.rng.choice([0, 1, 2, 16, 17, 100, 2**32 - 1]),
+        ]
 
     def query(self, store, name):
         """A query of rows, or of numbers. `plain.c` has no versions and no parts."""
         if self.is_plain:
             return [self.rng.choice(["list", "changes", "conflicts", "checks"]), name]
-        verb = self.rng.choice(["list", "list", "next", "next", "diff", "diff", "changes", "conflicts", "tally", "checks"])
+        verb = self.rng.choice(
+            ["list", "list", "next", "next", "diff", "diff", "changes", "conflicts", "tally", "checks"]
+        )
         if verb == "list":
             return [verb, self.version(store), *self.part()]
         if verb == "next":
@@ -746,15 +788,43 @@ class Editor:
         return gap(0) + "".join(it + gap(1) for it in words[:-1]) + words[-1] + gap(0) + self.rng.choice(["\n", "\r\n"])
 
     def odd(self):
-        bad = ["PUT top 1 1 a", "get top x 1", "get top 65536 1", "get top 1 18446744073709551616", "commit now", "rollback now", "put top 1 1", "put top 1 1 %z1"]
-        bad += ["put top 1 1 " + self.rng.choice(["x", "%61"]) * 4001, "new a", "new a~ top", "new a top c!", "new a top c d", "new " + "n" * 33 + " top", "merge", "merge top 1:1=ours", "merge top all=ours", "merge top 1:1=mine all=mine", "merge top all=mine all=mine", "get\ttop 1 1", "free\r\r"]
-        bad += ["grow", "grow 4294967296", "grow 18446744073709551616", "grow " + "0" * 20 + "1", "grow -1", "grow +70", "grow 70 80", "grow many"]
-        bad += ["get @ 1 1", "get top@~ 1 1", "get top @ 1 1", "list top@@", "list @k", "diff", "diff top@", "diff top @k", "diff top top@ x"]
-        bad += ["list top 1 2", "list top 1 2 3 4", "list top 65536", "list top x", "list top 1 -1 2", "list top 1 0 18446744073709551616", "list"]
-        bad += ["next", "next top", "next top 1", "next top 1 2", "next top 1 2 3 4", "next top 65536 0 1", "next top 1 0 4294967296"]
-        bad += ["next top 1 0 -1", "next top 1 0 x", "next top@@ 1 0 1", "next @k 1 0 1", "next top 1 18446744073709551616 1", "NEXT top 1 0 1"]
-        bad += ["diff top top 1 2", "diff top top 1 2 3 4", "diff top top 65536", "diff top 1 2 3 x", "diff top top 1 18446744073709551616 0"]
-        bad += ["put top@ 1 1 a", "remove top@k 1 1", "changes top@", "merge top@", "tally", "tally top@", "blocks 1", "checks top@k"]
+        bad = [
+            "PUT top 1 1 a", "get top x 1", "get top 65536 1", "get top 1 18446744073709551616", "commit now",
+            "rollback now", "put top 1 1", "put top 1 1 %z1",
+        ]
+        bad += [
+            "put top 1 1 " + self.rng.choice(["x", "%61"]) * 4001, "new a", "new a~ top", "new a top c!",
+            "new a top c d", "new " + "n" * 33 + " top", "merge", "merge top 1:1=ours", "merge top all=ours",
+            "merge top 1:1=mine all=mine", "merge top all=mine all=mine", "get\ttop 1 1", "free\r\r",
+        ]
+        bad += [
+            "grow", "grow 4294967296", "grow 18446744073709551616", "grow " + "0" * 20 + "1", "grow -1", "grow +70",
+            "grow 70 80", "grow many",
+        ]
+        bad += [
+            "get @ 1 1", "get top@~ 1 1", "get top @ 1 1", "list top@@", "list @k", "diff", "diff top@", "diff top @k",
+            "diff top top@ x",
+        ]
+        bad += [
+            "list top 1 2", "list top 1 2 3 4", "list top 65536", "list top x", "list top 1 -1 2",
+            "list top 1 0 18446744073709551616", "list",
+        ]
+        bad += [
+            "next", "next top", "next top 1", "next top 1 2", "next top 1 2 3 4", "next top 65536 0 1",
+            "next top 1 0 4294967296",
+        ]
+        bad += [
+            "next top 1 0 -1", "next top 1 0 x", "next top@@ 1 0 1", "next @k 1 0 1",
+            "next top 1 18446744073709551616 1", "NEXT top 1 0 1",
+        ]
+        bad += [
+            "diff top top 1 2", "diff top top 1 2 3 4", "diff top top 65536", "diff top 1 2 3 x",
+            "diff top top 1 18446744073709551616 0",
+        ]
+        bad += [
+            "put top@ 1 1 a", "remove top@k 1 1", "changes top@", "merge top@", "tally", "tally top@", "blocks 1",
+            "checks top@k",
+        ]
         if self.rng.random() < 0.3:
             return self.rng.choice(["", "# note", "   ", "  #x"]) + "\n", None
         return self.rng.choice(bad) + "\n", "error 22 BadLine"
@@ -795,11 +865,13 @@ class Editor:
         elif draw < 0.91:
             words = ["post", name]
         else:
-            words = [self.rng.choice(["commit", "commit", "rollback", "reclaim", "free", "free", "alts", "free" if self.is_plain else "blocks"])]
+            others = ["commit", "commit", "rollback", "reclaim", "free", "free", "alts"]
+            words = [self.rng.choice([*others, "free" if self.is_plain else "blocks"])]
         return self.spaced(words), words
 
     def merged(self, store, name):
-        """A merge that mostly settles what is in conflict, now and then by a side for all conflicts. `plain.c` has no such side."""
+        """A merge that mostly settles what is in conflict, now and then by a side for all conflicts. `plain.c` has no
+        such side."""
         try:
             found = [key for key, *_ in store.in_conflict(*store.sides(name)[2:])]
         except Refused:
@@ -834,7 +906,12 @@ def read(file):
 def copies(altctl, rng, file, store, options):
     """Copies a file to a random size, and says what differs from the model."""
     to, used = f"{file}.copy", FIRST + len(store.reached(store.committed))
-    chosen = rng.choice([None, None, used - 1, used, used, used + 1, max(used, LEAST) + rng.randrange(300), 2 * store.kept, 63, 64, MOST + 1])
+    chosen = rng.choice(
+        [
+            None, None, used - 1, used, used, used + 1, max(used, LEAST) + rng.randrange(300), 2 * store.kept, 63, 64,
+            MOST + 1,
+        ]
+    )
     blocks, before = store.kept if chosen is None else chosen, read(file)
     came = started(altctl, "copy", *options, file, to, *([] if chosen is None else [str(chosen)]))
     what = f"a copy to {chosen} blocks"
@@ -891,7 +968,9 @@ class Session:
         except BrokenPipeError:
             return
         late = time.monotonic() + self.PATIENCE
-        while os.fstat(self.answers.fileno()).st_size < size and self.program.poll() is None and time.monotonic() < late:
+        while (
+            os.fstat(self.answers.fileno()).st_size < size and self.program.poll() is None and time.monotonic() < late
+        ):
             time.sleep(0.001)
 
     def end(self):
@@ -919,8 +998,8 @@ def random_lines(store, editor, count):
 
 
 def session(altctl, rng, options, file, store, editor):
-    """Runs a session of random lines, in some of them with a copy of the file between two lines. Gives the number of lines, the
-    lines, and what differs from the model."""
+    """Runs a session of random lines, in some of them with a copy of the file between two lines. Gives the number of
+    lines, the lines, and what differs from the model."""
     count, talk = rng.choice([10, 100, 400]), Session(altctl, options, file)
     first = rng.randrange(count) if not editor.is_plain and rng.random() < 0.3 else count
     lines, answers = random_lines(store, editor, first)
@@ -984,8 +1063,12 @@ def main():
     words = argparse.ArgumentParser(description=__doc__)
     words.add_argument("-n", type=int, default=200, help="so many files")
     words.add_argument("-s", type=int, default=1, help="the first seed")
-    words.add_argument("--plain", action="store_true", help="only what plain.c knows: neither versions nor parts, nor copies")
-    words.add_argument("altctl", nargs="?", default=os.path.join(os.path.dirname(os.path.abspath(__file__)), "..", "..", "altctl"))
+    words.add_argument(
+        "--plain", action="store_true", help="only what plain.c knows: neither versions nor parts, nor copies"
+    )
+    words.add_argument(
+        "altctl", nargs="?", default=os.path.join(os.path.dirname(os.path.abspath(__file__)), "..", "..", "altctl")
+    )
     said = words.parse_args()
     lines = 0
     with tempfile.TemporaryDirectory() as folder:
@@ -995,7 +1078,10 @@ def main():
                 print(f"compare: seed {seed}: {found}", file=sys.stderr)
                 return 1
             lines += found
-    print(f"{said.n} files, {lines} lines, {12 * said.n} spoiled files: all answers, and all bytes that are due, are as the model has them")
+    print(
+        f"{said.n} files, {lines} lines, {12 * said.n} spoiled files: "
+        "all answers, and all bytes that are due, are as the model has them"
+    )
     return 0
 
 

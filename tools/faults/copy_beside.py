@@ -97,7 +97,11 @@ def try_session(altctl, folder, options):
     text, used = copy(altctl, ["--no-lock"], file, to, SMALLER)
     expect("a copy of what was committed at last", puts.records, records_in(text))
     expect("its alternatives and checkpoints", ["top", "before"], [it.name for it in opened(text).working])
-    expect("the end", (0, puts.size, b""), [(status, len(said), faults) for status, said, faults in [puts.session.end()]][0])
+    expect(
+        "the end",
+        (0, puts.size, b""),
+        [(status, len(said), faults) for status, said, faults in [puts.session.end()]][0],
+    )
     os.remove(file)
 
 
@@ -130,7 +134,11 @@ def try_entries(altctl, folder):
     rng, lines = random.Random(2), []
     for number in range(1, ENTRIES):
         kind = f"new a{number} top" if number % 3 else f"checkpoint top c{number}"
-        lines += [f"put top {rng.randrange(3)} {rng.randrange(40)} {chr(97 + number % 26) * rng.choice([1, 240, 2100, 4000])}", kind]
+        lines += [
+            f"put top {rng.randrange(3)} {rng.randrange(40)} "
+            f"{chr(97 + number % 26) * rng.choice([1, 240, 2100, 4000])}",
+            kind,
+        ]
         if number % 3 and rng.random() < 0.3:
             lines.append(f"put a{number} 7 1 {'%00' * rng.choice([1, 300, 4000])}")
     session, size = Session(altctl, [], file), 3 * len(lines) + 3

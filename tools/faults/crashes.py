@@ -2,18 +2,18 @@
 """Tries what a crash of the machine may leave of the program's writes: `tools/faults/crashes.py [-n SESSIONS] [-s SEED]
 [-i IMAGES]`. Where something is lost, it says so and ends with status 1.
 
-A session is random lines, given one at a time, and each call that changes the file, or makes it last, is recorded. For each
-moment, before, in and after each of these calls, files are made as a crash then may leave them: with all that was synced, any
-bytes in the blocks that were written since, and as much of a growth as may be. The program opens each of them, and has to show
-what the last commit that was acknowledged made, or the one that was under way. The next lines of the session are run over one of
-these files. So are the calls of a copy of the store: up to the header's write each of these files is no store, in it no store or
-the whole copy. The model is that of `tools/faults/compare.py`.
+A session is random lines, given one at a time, and each call that changes the file, or makes it last, is recorded. For
+each moment, before, in and after each of these calls, files are made as a crash then may leave them: with all that was
+synced, any bytes in the blocks that were written since, and as much of a growth as may be. The program opens each of
+them, and has to show what the last commit that was acknowledged made, or the one that was under way. The next lines of
+the session are run over one of these files. So are the calls of a copy of the store: up to the header's write each of
+these files is no store, in it no store or the whole copy. The model is that of `tools/faults/compare.py`.
 
-With `--broken` the files are made wrongly, so that it has to fail: `block` forgets a block that was synced, and `sync` takes
-every second sync for none.
+With `--broken` the files are made wrongly, so that it has to fail: `block` forgets a block that was synced, and `sync`
+takes every second sync for none.
 
-It needs a C compiler, and a program that is linked against glibc. It stands beside the gate: the store is proved against crashes
-of a modelled disk, this tries the calls that the system gets.
+It needs a C compiler, and a program that is linked against glibc. It stands beside the gate: the store is proved
+against crashes of a modelled disk, this tries the calls that the system gets.
 """
 import argparse
 import os
@@ -106,7 +106,8 @@ class Disk:
         self.length = max(self.length, call.place + call.size)
 
     def is_rewritten(self, block, written):
-        """Whether the selector is written as it was synced, which every opening does: that leaves it as it is, torn or not."""
+        """Whether the selector is written as it was synced, which every opening does: that leaves it as it is, torn or
+        not."""
         return block == SELECTOR and block not in self.held and written == self.lasting(block)
 
     def lengthen(self, length):
@@ -208,7 +209,8 @@ def exchange(program, store, line, words):
 
 
 def talk(chance, editor, file, options, variables, count):
-    """Has the program run random lines over a file, and gives the commits. The first is the one that the file showed at first."""
+    """Has the program run random lines over a file, and gives the commits. The first is the one that the file showed at
+    first."""
     store = opened(blocks_of(read(file)))
     commits = [Commit(0, 0, store.disk)]
     program = Program(PROGRAM, file, options, variables)
@@ -252,7 +254,8 @@ class Crashes:
             self.try_moment(disk, done, done, f"after call {number}")
 
     def try_moment(self, disk, done, begun, when):
-        """Looks at files that a crash may leave at a moment: so much of the record is done then, and so much is begun."""
+        """Looks at files that a crash may leave at a moment: so much of the record is done then, and so much is
+        begun."""
         last = max(n for n, it in enumerate(self.commits) if it.last <= done)
         under_way = [it for it in self.commits[last + 1 :] if it.first < begun]
         allowed = [self.commits[last], *under_way]
@@ -310,7 +313,9 @@ def copy_store(chance, file, to, variables):
     store, before = opened(blocks_of(read(file))), read(file)
     used = FIRST + len(store.reached(store.committed))
     blocks = max(LEAST, used + chance.choice([0, 0, 1, 40]))
-    ran = subprocess.run([PROGRAM, "copy", file, to, str(blocks)], capture_output=True, text=True, env=variables, timeout=60)
+    ran = subprocess.run(
+        [PROGRAM, "copy", file, to, str(blocks)], capture_output=True, text=True, env=variables, timeout=60
+    )
     if (ran.returncode, ran.stdout, ran.stderr) != (0, f"copied {blocks}, {used} used\n", ""):
         raise Failure(f"a copy: {ran}")
     if read(file) != before:
@@ -326,7 +331,8 @@ class CopyCrashes:
         self.seen = set()
 
     def try_calls(self, disk, calls):
-        """Looks at the moments in each call and after it. The last but one writes the header, and the last one makes it last."""
+        """Looks at the moments in each call and after it. The last but one writes the header, and the last one makes it
+        last."""
         for number, call in enumerate(calls, 1):
             self.count["calls of copies"] += 1
             if call.kind != SYNC:
@@ -397,7 +403,9 @@ def main():
     parser = argparse.ArgumentParser(description=__doc__.split(":")[0])
     parser.add_argument("-n", type=int, default=12, help="so many sessions")
     parser.add_argument("-s", type=int, default=1, help="the first seed")
-    parser.add_argument("-i", type=int, default=3, help="so many files at most for a moment, three times as many in a commit")
+    parser.add_argument(
+        "-i", type=int, default=3, help="so many files at most for a moment, three times as many in a commit"
+    )
     parser.add_argument("--broken", choices=["block", "sync"], help="make the files wrongly, so that it fails")
     said = parser.parse_args()
     count = Counter()

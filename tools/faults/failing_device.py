@@ -2,12 +2,13 @@
 """Fails device calls of the program over real files: `tools/faults/failing_device.py`. Where something is lost, it says
 so and ends with status 1.
 
-One list of lines is run over a store, which grows in it, and one of its reads, writes and syncs fails, the first, the second
-and so on; or that one and all after it. So it is where written blocks wait in memory, too, up to two or to 64. A write that
-fails leaves nothing, half a block or one block. Then the store has to open again with what was acknowledged, and the rest of
-the lines ends as usual. And each block of a store with a tree of two levels can't be read once it was opened: what lies in it
-is answered with `error 15 Device`, and everything else as usual. Each call of a copy fails, too, on the store or on the new
-file: the store stays as it was, and nothing has the name of the copy. Where no hard link can be made, a copy is named all the same.
+One list of lines is run over a store, which grows in it, and one of its reads, writes and syncs fails, the first, the
+second and so on; or that one and all after it. So it is where written blocks wait in memory, too, up to two or to 64. A
+write that fails leaves nothing, half a block or one block. Then the store has to open again with what was acknowledged,
+and the rest of the lines ends as usual. And each block of a store with a tree of two levels can't be read once it was
+opened: what lies in it is answered with `error 15 Device`, and everything else as usual. Each call of a copy fails,
+too, on the store or on the new file: the store stays as it was, and nothing has the name of the copy. Where no hard
+link can be made, a copy is named all the same.
 
 It needs a C compiler, and a program that is linked against glibc. It stands beside the gate, as `tools/faults/space.py`
 does.
@@ -34,7 +35,8 @@ def try_calls(folder, library, fails_on, torn, options):
     while is_there:
         call += 1
         create(ALTCTL, file)
-        how = f"call {call}{' and those after it' * fails_on} failed, a write after {torn} bytes, {options or 'no options'}"
+        how = f"call {call}{' and those after it' * fails_on} failed, a write after {torn} bytes, "
+        how += f"{options or 'no options'}"
         variables = preloaded(library, failed=failed, fail_call=call, fail_on=fails_on, fail_torn=torn)
         stopped = run_and_finish(ALTCTL, file, how, program=PROGRAM, options=options, variables=variables)
         is_there = os.path.exists(failed)
@@ -81,8 +83,9 @@ def try_blocks(folder, library):
 
 
 def try_merges(folder, library):
-    """Fails one call after another of a merge that settles all conflicts by a side, alone or with all after it. It ends the session if
-    it is answered that the device failed, and otherwise it is done, or refused and nothing has changed. Gives how many were."""
+    """Fails one call after another of a merge that settles all conflicts by a side, alone or with all after it. It ends
+    the session if it is answered that the device failed, and otherwise it is done, or refused and nothing has changed.
+    Gives how many were."""
     file, failed = os.path.join(folder, "store"), os.path.join(folder, "failed")
     create(ALTCTL, file)
     lines = ["put top 1 1 a", "new x top", "put top 1 1 b", "put x 1 1 c", "commit"]
@@ -114,7 +117,8 @@ def try_merges(folder, library):
 
 
 def try_locks(folder, library):
-    """Fails the lock of a file: nothing is done without it, unless the words say so. Gives how many runs were refused."""
+    """Fails the lock of a file: nothing is done without it, unless the words say so. Gives how many runs were
+    refused."""
     file, failed, refused = os.path.join(folder, "store"), os.path.join(folder, "failed"), 0
     create(ALTCTL, file)
     before = read(file)
@@ -124,7 +128,11 @@ def try_locks(folder, library):
         for words in [*jobs, *([words[0], "--wait", *words[1:]] for words in jobs)]:
             how = f"{words}, where a lock fails by error {error}"
             expect(how, (1, [], f"altctl: cannot lock {file}\n"), start(PROGRAM, words, variables=variables))
-            expect(f"{how}: the file, and a copy", (before, ["store"]), (read(file), [it for it in os.listdir(folder) if "store" in it]))
+            expect(
+                f"{how}: the file, and a copy",
+                (before, ["store"]),
+                (read(file), [it for it in os.listdir(folder) if "store" in it]),
+            )
             expect(f"{how}: it failed", True, os.path.exists(failed))
             os.remove(failed)
             refused += 1
@@ -135,8 +143,8 @@ def try_locks(folder, library):
 
 
 def make_copied(file):
-    """Makes a store with a tree of two levels. Gives its bytes, the blocks that its trees have, and the bytes of a copy, by the
-    model."""
+    """Makes a store with a tree of two levels. Gives its bytes, the blocks that its trees have, and the bytes of a
+    copy, by the model."""
     create(ALTCTL, file)
     lines = [f"put top 1 {number} {VALUE}" for number in range(1, RECORDS + 1)]
     expect("puts", (0, ["ok"] * (RECORDS + 2), ""), start(ALTCTL, ["run", file], [*lines, "new x top", "commit"]))
@@ -147,7 +155,8 @@ def make_copied(file):
 
 
 def copy_failing(folder, file, variables, how):
-    """Copies a store while calls fail. Gives what came, whether a call failed, and the bytes of each file that was made."""
+    """Copies a store while calls fail. Gives what came, whether a call failed, and the bytes of each file that was
+    made."""
     to, failed = os.path.join(folder, "copy"), os.path.join(folder, "failed")
     before = read(file)
     came = start(PROGRAM, ["copy", file, to], variables={**variables, "FAILED": failed})
@@ -172,13 +181,17 @@ def try_copy_calls(folder, library, fails_on, torn):
         variables = preloaded(library, fail_call=len(ends) + 1, fail_on=fails_on, fail_torn=torn)
         came, is_there, made = copy_failing(folder, file, variables, how)
         ends.append((came, made))
-    expect(f"{how}: none failed", ((0, [f"copied {BLOCKS}, {FIRST + len(reached)} used"], ""), {"copy": whole}), ends.pop())
-    # The opening of the store, then the making of the file, which stays as far as it came, then the copying: that file is removed.
+    expect(
+        f"{how}: none failed", ((0, [f"copied {BLOCKS}, {FIRST + len(reached)} used"], ""), {"copy": whole}), ends.pop()
+    )
+    # The opening of the store, then the making of the file, which stays as far as it came, then the copying: that file
+    # is removed.
     said = (1, "15 Device", []), (1, f"cannot create {folder}/copy.part", ["copy.part"]), (3, "stopped", [])
     due = [((status, [], f"altctl: {text}\n"), names) for status, text, names in said]
     phases = [(kind, len([*calls])) for kind, calls in groupby((came, [*made]) for came, made in ends)]
     expect("copies with failing calls: how they end", due, [kind for kind, _ in phases])
-    # A sync and a read of block 0, a read and a write of each block, then the slot, the selector, a sync, the header, a sync.
+    # A sync and a read of block 0, a read and a write of each block, then the slot, the selector, a sync, the header, a
+    # sync.
     expect("calls of the copying", 2 + 2 * len(reached) + 5, phases[-1][1])
     os.remove(file)
     return len(ends)
@@ -227,7 +240,10 @@ def main():
     except Failure as failure:
         print(f"failing_device: {failure}", file=sys.stderr)
         return 1
-    print(f"failing_device: nothing is lost: {stops} runs and {copies} copies were stopped at a call, {blocks} blocks could not be read,")
+    print(
+        f"failing_device: nothing is lost: {stops} runs and {copies} copies were stopped at a call, "
+        f"{blocks} blocks could not be read,"
+    )
     print(f"    {merges} merges met a fault, and {locks} runs got no lock")
     return 0
 

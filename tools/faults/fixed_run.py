@@ -19,7 +19,10 @@ BOTH = ["alternative top ~", "alternative x top", "end 2"]
 # What the store shows once so many of the lines are committed.
 SHOWN = {
     0: ["alternative top ~", "end 1", "end 0", *NONE, "free 30"],
-    5: [*BOTH, "record 1 1 a", "end 1", "record 1 1 b", "end 1", "change 1 1 a b", "end 1", "checkpoint c", "end 1", "free 28"],
+    5: [
+        *BOTH, "record 1 1 a", "end 1", "record 1 1 b", "end 1", "change 1 1 a b", "end 1", "checkpoint c", "end 1",
+        "free 28",
+    ],
     10: [*BOTH, *["record 1 1 b", f"record 1 2 {LARGEST}", "end 2"] * 2, "end 0", "end 0", "free 29"],
     # A root over two leaves, and the leaf of x.
     14: [
@@ -41,7 +44,9 @@ def expect(what, due, came):
 def start(altctl, words, lines=(), prepare=None, variables=None):
     """Starts the program, and gives its status, the lines of its output, and its standard error."""
     text = "".join(line + "\n" for line in lines)
-    ran = subprocess.run([altctl, *words], input=text, capture_output=True, text=True, preexec_fn=prepare, env=variables, timeout=60)
+    ran = subprocess.run(
+        [altctl, *words], input=text, capture_output=True, text=True, preexec_fn=prepare, env=variables, timeout=60
+    )
     return ran.returncode, ran.stdout.splitlines(), ran.stderr
 
 
@@ -55,7 +60,8 @@ def usual(n):
 
 
 def allowed(answers):
-    """After how many lines the state is that may be shown: what was acknowledged, or what the commit commits that was stopped."""
+    """After how many lines the state is that may be shown: what was acknowledged, or what the commit commits that was
+    stopped."""
     last = max([n + 1 for n, answer in enumerate(answers) if LINES[n] == "commit" and answer == "ok"], default=0)
     if answers and answers[-1] == "error 15 Device" and LINES[len(answers) - 1] == "commit":
         return {last, len(answers)}
@@ -63,8 +69,8 @@ def allowed(answers):
 
 
 def check_answers(file, status, answers, faults, how):
-    """Looks whether lines were answered as usual up to the end, or up to one that the device failed. The answers may lack
-    where the opening failed. Gives whether the run was stopped."""
+    """Looks whether lines were answered as usual up to the end, or up to one that the device failed. The answers may
+    lack where the opening failed. Gives whether the run was stopped."""
     due = [usual(n) for n in range(min(len(answers), len(LINES)))]
     if status == 0:
         expect(f"{how}: the answers", ([usual(n) for n in range(len(LINES))], ""), (answers, faults))
@@ -80,8 +86,8 @@ def check_answers(file, status, answers, faults, how):
 
 
 def shown_after(altctl, file, answers, how):
-    """Opens a file again, and gives after how many lines the state is that it shows. A growth that was stopped may have left some
-    of its blocks."""
+    """Opens a file again, and gives after how many lines the state is that it shows. A growth that was stopped may have
+    left some of its blocks."""
     blocks = os.path.getsize(file) / BLOCK
     if not BLOCKS <= blocks <= MORE:
         raise Failure(f"{how}: the file has {blocks} blocks")
@@ -102,8 +108,8 @@ def finish(altctl, file, after, how):
 
 
 def run_and_finish(altctl, file, how, program=None, options=(), **started):
-    """Runs the lines in a way that may stop them, looks at what is shown then, and runs the rest as usual. Gives whether they
-    were stopped."""
+    """Runs the lines in a way that may stop them, looks at what is shown then, and runs the rest as usual. Gives
+    whether they were stopped."""
     status, answers, faults = start(program or altctl, ["run", *options, file], LINES, **started)
     stopped = check_answers(file, status, answers, faults, how)
     finish(altctl, file, shown_after(altctl, file, answers, how), how)

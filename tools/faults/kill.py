@@ -352,7 +352,10 @@ def pick(chance, entries, others):
 def change(chance, state, merges):
     """A random line that changes an alternative or the number of blocks, or is refused."""
     tree = state.tree
-    verbs = {"put": 60, "remove": 14, "new": 6, "drop": 3, "checkpoint": 5, "uncheck": 3, "back": 3, "rollback": 1, "reclaim": 1, "grow": 2}
+    verbs = {
+        "put": 60, "remove": 14, "new": 6, "drop": 3, "checkpoint": 5, "uncheck": 3, "back": 3, "rollback": 1,
+        "reclaim": 1, "grow": 2,
+    }
     if merges:
         verbs |= {"merge": 2, "post": 3}
     verb = chance.choices(list(verbs), list(verbs.values()))[0]
@@ -381,7 +384,9 @@ def changes(chance, state, merges, most):
 
 def part_query(chance, tree):
     """A random query of a part or of a page, mostly of versions that are there."""
-    at, other = (pick(chance, tree, NAMES) + chance.choice(["", "@", f"@{chance.choice(CHECKPOINTS)}"]) for _ in range(2))
+    at, other = (
+        pick(chance, tree, NAMES) + chance.choice(["", "@", f"@{chance.choice(CHECKPOINTS)}"]) for _ in range(2)
+    )
     table, first, last = chance.choice(TABLES), chance.choice(NUMBERS), chance.choice(NUMBERS)
     part = chance.choice([f"{table}", f"{table} {first} {last}"])
     return chance.choice([f"list {at} {part}", f"next {at} {table} {first} {last}", f"diff {at} {other} {part}"])

@@ -35,7 +35,9 @@ def expect(what, due, came):
 def make_store(altctl, file):
     expect("create", (0, f"created {BLOCKS}\n", ""), started(altctl, "create", file, str(BLOCKS)))
     lines = [*(f"put top 1 {number} {number}" for number in range(RECORDS)), "commit"]
-    ran = subprocess.run([altctl, "run", file], input="".join(f"{it}\n" for it in lines), capture_output=True, text=True)
+    ran = subprocess.run(
+        [altctl, "run", file], input="".join(f"{it}\n" for it in lines), capture_output=True, text=True
+    )
     expect("puts", (0, "ok\n" * len(lines), ""), (ran.returncode, ran.stdout, ran.stderr))
 
 
@@ -54,7 +56,9 @@ class Copies:
 
     def kill_one(self, chance):
         """Kills a copy after a while, and looks at what is there."""
-        copy = subprocess.Popen([self.altctl, "copy", self.file, self.to], stdout=subprocess.DEVNULL, stderr=subprocess.PIPE)
+        copy = subprocess.Popen(
+            [self.altctl, "copy", self.file, self.to], stdout=subprocess.DEVNULL, stderr=subprocess.PIPE
+        )
         time.sleep(chance.uniform(0, self.time))
         copy.kill()
         _, said = copy.communicate()
@@ -74,8 +78,14 @@ class Copies:
     def look_at_part(self, is_named):
         """Copies again, over which nothing may happen to what is there."""
         left, taken = read(self.part), self.to if is_named else self.part
-        expect("a copy beside a part", (1, "", f"altctl: cannot create {taken}\n"), started(self.altctl, "copy", self.file, self.to))
-        expect("the part is as it was, and the name", (True, is_named), (read(self.part) == left, os.path.lexists(self.to)))
+        expect(
+            "a copy beside a part",
+            (1, "", f"altctl: cannot create {taken}\n"),
+            started(self.altctl, "copy", self.file, self.to),
+        )
+        expect(
+            "the part is as it was, and the name", (True, is_named), (read(self.part) == left, os.path.lexists(self.to))
+        )
         os.remove(self.part)
         if is_named:
             expect("the name is whole without the part", True, read(self.to) == self.whole)

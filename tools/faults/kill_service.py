@@ -1,10 +1,10 @@
 #!/usr/bin/env python3
-"""Kills the service and its program at random moments while planners write, and looks each time whether each batch that was
-acknowledged is in the store whole, each other one whole or not at all, and whether the journal agrees:
+"""Kills the service and its program at random moments while planners write, and looks each time whether each batch that
+was acknowledged is in the store whole, each other one whole or not at all, and whether the journal agrees:
 `tools/faults/kill_service.py [ALTCTL] [COUNT] [SEED]`. If not, the status is 1. It stands beside the gate.
 
-After each kill the lines of the journal are carried out by the model of `kill.py`, and the store has to show what the model has
-then. The journal is read here by a reader of its own."""
+After each kill the lines of the journal are carried out by the model of `kill.py`, and the store has to show what the
+model has then. The journal is read here by a reader of its own."""
 import argparse
 import json
 import os
@@ -69,7 +69,8 @@ class Connection:
 
 
 class Planner:
-    """Sends batches until the service is gone. Each has a put with a unique value, which identifies it in the journal."""
+    """Sends batches until the service is gone. Each has a put with a unique value, which identifies it in the
+    journal."""
 
     def __init__(self, number, chance):
         self.name, self.chance = f"p{number}", chance
@@ -169,7 +170,9 @@ class Trial:
                 return Connection(f"{self.file}.sock")
             except OSError:
                 if self.service.poll() is not None or time.monotonic() > late:
-                    raise Failure("the service did not start: " + Path(f"{self.folder}/said").read_text()[-2000:]) from None
+                    raise Failure(
+                        "the service did not start: " + Path(f"{self.folder}/said").read_text()[-2000:]
+                    ) from None
                 time.sleep(0.01)
 
     def kill_program(self):
@@ -183,9 +186,12 @@ class Trial:
         return bool(children)
 
     def life(self):
-        """One service, from its start until it is killed, with planners at work. Its program may be killed before, or with it."""
+        """One service, from its start until it is killed, with planners at work. Its program may be killed before, or
+        with it."""
         is_over = threading.Event()
-        work = [threading.Thread(target=it.work, args=(f"{self.file}.sock", is_over, self.state)) for it in self.planners]
+        work = [
+            threading.Thread(target=it.work, args=(f"{self.file}.sock", is_over, self.state)) for it in self.planners
+        ]
         self.start()
         for it in work:
             it.start()
@@ -262,7 +268,9 @@ class Trial:
         self.same("alts", answered(self.state, "alts")[0][:-1], rows)
         for name in self.state.tree:
             for verb in ("list", "checks", *(["changes"] if name != "top" else [])):
-                self.same(f"{verb} {name}", answered(self.state, f"{verb} {name}")[0], connection.rows(f"{verb} {name}"))
+                self.same(
+                    f"{verb} {name}", answered(self.state, f"{verb} {name}")[0], connection.rows(f"{verb} {name}")
+                )
         self.same(f"checks {OWN}", [f"checkpoint {self.journal.last}", "end 1"], connection.rows(f"checks {OWN}"))
 
     def same(self, line, due, came):

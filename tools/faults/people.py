@@ -56,11 +56,11 @@ class History:
 
     def fault(self, top):
         """What is wrong with the records that `top` shows in the end, or None. Each value that was put is there, or
-        what is there supersedes it, or a removal does. No removal supersedes what is there, unless that supersedes it, too:
-        two people who settle the same at the same time may each keep what the other gives up, and then either may be
-        there. So it says nothing either that a removal supersedes something which supersedes what is there, if what is
-        there supersedes that. Two removals are one change, and to put and to remove again is none, so a removal need not
-        be superseded."""
+        what is there supersedes it, or a removal does. No removal supersedes what is there, unless that supersedes it,
+        too: two people who settle the same at the same time may each keep what the other gives up, and then either may
+        be there. So it says nothing either that a removal supersedes something which supersedes what is there, if what
+        is there supersedes that. Two removals are one change, and to put and to remove again is none, so a removal need
+        not be superseded."""
         for key, known in self.changes.items():
             shown, removals = self.seen(key, top.get(key)), self.seen(key, None)
             if not shown or not shown <= known.keys():

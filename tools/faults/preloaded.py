@@ -1,5 +1,5 @@
-"""The program as it is built, and small C libraries that are loaded before the C library of a program, to stand in the way of its
-calls. They need a C compiler, and a program that is linked against glibc."""
+"""The program as it is built, and small C libraries that are loaded before the C library of a program, to stand in the
+way of its calls. They need a C compiler, and a program that is linked against glibc."""
 import os
 import subprocess
 

@@ -42,8 +42,8 @@ def gathered(descriptor, into):
 
 
 def run(words, lines, slow, on_terminal, answers_too=False):
-    """Runs the program with its standard error on a terminal, and its output too where that is asked for, or on pipes. Gives its
-    status, its output, and what came on the standard error."""
+    """Runs the program with its standard error on a terminal, and its output too where that is asked for, or on pipes.
+    Gives its status, its output, and what came on the standard error."""
     variables = {**os.environ, **slow}
     text = "".join(line + "\n" for line in lines).encode()
     if not on_terminal:
@@ -54,7 +54,9 @@ def run(words, lines, slow, on_terminal, answers_too=False):
     reader = threading.Thread(target=gathered, args=(here, came))
     reader.start()
     output = there if answers_too else subprocess.PIPE
-    with subprocess.Popen([PROGRAM, *words], stdin=subprocess.PIPE, stdout=output, stderr=there, env=variables) as program:
+    with subprocess.Popen(
+        [PROGRAM, *words], stdin=subprocess.PIPE, stdout=output, stderr=there, env=variables
+    ) as program:
         os.close(there)
         answers, _ = program.communicate(text, timeout=120)
     reader.join(60)
@@ -79,8 +81,8 @@ def screen(written):
 
 
 def expect_progress(what, written, jobs, totals):
-    """Looks whether the terminal told how far so many jobs are, each with rising numbers, of these numbers of blocks or, for 0, of no
-    number, and is blank after."""
+    """Looks whether the terminal told how far so many jobs are, each with rising numbers, of these numbers of blocks
+    or, for 0, of no number, and is blank after."""
     told = [(int(it[1]), int(it[2] or 0)) for it in LINE.finditer(written)]
     begun = sum(n == 0 or told[n - 1][0] >= blocks for n, (blocks, _) in enumerate(told))
     expect(f"{what}: jobs that were told", jobs, begun)
@@ -90,8 +92,8 @@ def expect_progress(what, written, jobs, totals):
 
 
 def try_job(what, words, lines, slow, jobs, totals=frozenset({BLOCKS}), prepare=None):
-    """Runs one job with its standard error on a pipe, on a terminal with its output, and on a terminal alone. Where the job changes
-    the file, `prepare` is called before each time."""
+    """Runs one job with its standard error on a pipe, on a terminal with its output, and on a terminal alone. Where the
+    job changes the file, `prepare` is called before each time."""
     came = {}
     for how in ("pipe", "screen", "terminal"):
         if prepare:

@@ -44,7 +44,8 @@ static void append(const void *from, size_t count)
 static void record(int file, uint64_t kind, uint64_t place, uint64_t size, const void *bytes)
 {
     struct stat it;
-    if (recorded < 0 || !find_store() || fstat(file, &it) != 0 || it.st_dev != store.st_dev || it.st_ino != store.st_ino)
+    if (recorded < 0 || !find_store() || fstat(file, &it) != 0 || it.st_dev != store.st_dev ||
+        it.st_ino != store.st_ino)
         return;
     uint64_t head[] = {kind, place, size};
     append(head, sizeof head);

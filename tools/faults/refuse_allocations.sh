@@ -11,7 +11,8 @@
 # or with `error 16 Memory`. After that the store is as before the line, the file is as long, and the same line gets
 # its usual answer. In the end the file shows the usual, with the usual slots byte by byte: a block that no version
 # needs may have other bytes, since it is written where there is no memory for it to wait. A run that ends before its
-# first line leaves the file as it was, and the file opens again. Nor does a run write beside one that has locked the file.
+# first line leaves the file as it was, and the file opens again. Nor does a run write beside one that has locked the
+# file.
 #
 # It needs a C compiler, and programs that are linked against glibc. Its verdict is its exit status.
 set -eu
@@ -198,7 +199,8 @@ run_refused() {
 check_end() {
     case "$answered: $status $(cat "$room/faults")" in
         "$count: 0 ")
-            cmp -s -n $((34 * 4096)) "$room/store" "$room/usual" && shown "$room/store" | cmp -s - "$room/usual_shown" ||
+            cmp -s -n $((34 * 4096)) "$room/store" "$room/usual" &&
+                shown "$room/store" | cmp -s - "$room/usual_shown" ||
                 fail "allocation $1: the file shows something else"
             ;;
         '0: 1 altctl: 16 Memory' | '0: 3 altctl: stopped')
@@ -210,8 +212,8 @@ check_end() {
     esac
 }
 
-# Runs a session over a new store, with each of its allocations refused: of an alternative, in a store of that many blocks,
-# of which as many may wait as the third word says, or as usual if it is empty.
+# Runs a session over a new store, with each of its allocations refused: of an alternative, in a store of that many
+# blocks, of which as many may wait as the third word says, or as usual if it is empty.
 run_session() {
     alt=$1
     buffer=$3
@@ -287,7 +289,8 @@ run_checks() {
     run_reads check
 }
 
-# Copies the store that a session left, with each allocation refused. It has so many blocks, all but the free ones in use.
+# Copies the store that a session left, with each allocation refused. It has so many blocks, all but the free ones in
+# use.
 run_copies() {
     cp "$room/usual" "$room/store"
     spare=$(echo free | "$program" run "$room/store")
@@ -327,7 +330,8 @@ began_as_usual() {
 do_all_lines() {
     printf '%s\n' ok ok ok 'ok 1' 'record 1 1 x' 'record 1 9 y' 'end 2' ok >"$room/usual_answers"
     do_lines 0
-    [ "$status" = 0 ] && cmp -s "$room/shown" "$room/usual_answers" || fail "do: it is $(cat "$room/shown" "$room/said")"
+    [ "$status" = 0 ] && cmp -s "$room/shown" "$room/usual_answers" ||
+        fail "do: it is $(cat "$room/shown" "$room/said")"
     cp "$room/store" "$room/usual"
     : >"$room/ends"
     number=0
@@ -362,8 +366,8 @@ hold_lock() {
     until [ -s "$room/held" ]; do sleep 0.1; done
 }
 
-# Has lines carried out beside a session that holds the lock, with each allocation refused: none of them writes. Each end is
-# met at least once.
+# Has lines carried out beside a session that holds the lock, with each allocation refused: none of them writes. Each
+# end is met at least once.
 try_locked() {
     cp "$room/empty" "$room/store"
     hold_lock
@@ -374,7 +378,8 @@ try_locked() {
         rm -f "$room/refused"
         status=0
         timeout 60 env LD_PRELOAD="$room/refuse.so" REFUSE="$number" REFUSED="$room/refused" \
-            "$program" do "$room/store" 'put top 1 1 x' commit >"$room/shown" 2>"$room/said" </dev/null 5>&- || status=$?
+            "$program" do "$room/store" 'put top 1 1 x' commit >"$room/shown" 2>"$room/said" </dev/null 5>&- ||
+            status=$?
         echo "$status $(cat "$room/said")" >>"$room/ends"
         case $(tail -n 1 "$room/ends") in
             "1 altctl: $room/store is in use" | '3 altctl: stopped') [ ! -s "$room/shown" ] ;;

@@ -67,7 +67,8 @@ start_cluster() {
         gluster volume info >/dev/null 2>&1 && break
         sleep 1
     done
-    gluster --mode=script volume create kept replica 3 "$address:$folder/1" "$address:$folder/2" "$address:$folder/3" force \
+    gluster --mode=script volume create kept replica 3 \
+        "$address:$folder/1" "$address:$folder/2" "$address:$folder/3" force \
         >"$folder/said" 2>&1 || skip "no volume can be made here: $(cat "$folder/said")"
     run_gluster volume start kept
     mount_volume "$mount"
@@ -102,8 +103,8 @@ compare_bricks() {
     mount_volume "$mount"
 }
 
-# The load: batches of 100 puts, a commit after each. `load FILE COUNT [PROCESS ..]` kills these processes in the middle, and
-# appends the numbers of the acknowledged batches to those of earlier loads.
+# The load: batches of 100 puts, a commit after each. `load FILE COUNT [PROCESS ..]` kills these processes in the
+# middle, and appends the numbers of the acknowledged batches to those of earlier loads.
 load() {
     python3 - "$altctl" "$folder/acknowledged" "$@" <<'PYTHON'
 import os, signal, sys, time
@@ -129,7 +130,8 @@ with open(acknowledged, "a", buffering=1) as log:
                 after += bool(victims) and batch >= first + int(count) // 2
     except (Ended, Refusal) as fault:
         print(f"    stopped: {fault}")
-print(f"    {done} of {count} batches acknowledged, {after} of them after the kill, {done / (time.monotonic() - begun):.0f} a second")
+rate = done / (time.monotonic() - begun)
+print(f"    {done} of {count} batches acknowledged, {after} of them after the kill, {rate:.0f} a second")
 open(f"{acknowledged}.after", "w").write(str(after))
 PYTHON
 }

@@ -2,13 +2,14 @@
 """Tries what the program does where there is no room for a file: `tools/faults/space.py [ALTCTL]`. Where something is
 lost, it says so and ends with status 1.
 
-Room is wanting in two ways: by a limit on the size of a file, for each number of blocks; and in a small file system of its own,
-in memory, that has each number of blocks left. Each time one list of lines is run over a store, which grows in it. It may stop
-with `error 15 Device`; then the store has to open again with what was acknowledged, in a file that is no shorter than it was,
-and the rest of the lines, with room, ends as usual. Where there is no room for a growth, it is that line which is answered so,
-and no later one. A copy for which there is no room is not made. The small file system is mounted in a namespace of its own;
-where the machine does not allow that, this part is left out, and the last line says so. It stands beside the gate: a full
-device is a device that fails, over which the store is proved; this tries files and the program.
+Room is wanting in two ways: by a limit on the size of a file, for each number of blocks; and in a small file system of
+its own, in memory, that has each number of blocks left. Each time one list of lines is run over a store, which grows in
+it. It may stop with `error 15 Device`; then the store has to open again with what was acknowledged, in a file that is
+no shorter than it was, and the rest of the lines, with room, ends as usual. Where there is no room for a growth, it is
+that line which is answered so, and no later one. A copy for which there is no room is not made. The small file system
+is mounted in a namespace of its own; where the machine does not allow that, this part is left out, and the last line
+says so. It stands beside the gate: a full device is a device that fails, over which the store is proved; this tries
+files and the program.
 """
 import os
 import resource
@@ -17,7 +18,10 @@ import sys
 import tempfile
 
 sys.dont_write_bytecode = True
-from fixed_run import BLOCK, BLOCKS, LINES, MORE, QUERIES, SHOWN, Failure, check_answers, create, expect, finish, run_and_finish, shown_after, start
+from fixed_run import (
+    BLOCK, BLOCKS, LINES, MORE, QUERIES, SHOWN, Failure, check_answers, create, expect, finish, run_and_finish,
+    shown_after, start,
+)
 
 
 def limited_to(blocks):
@@ -26,7 +30,8 @@ def limited_to(blocks):
 
 
 def create_without_room(altctl, file, blocks, prepare=None):
-    """Has the program make a file for which there is room for so many blocks alone. What was written of it stays, and is no store."""
+    """Has the program make a file for which there is room for so many blocks alone. What was written of it stays, and
+    is no store."""
     came = start(altctl, ["create", file, str(BLOCKS)], prepare=prepare)
     expect(f"create, with room for {blocks} blocks", (1, [], f"altctl: cannot create {file}\n"), came)
     if os.path.getsize(file) > blocks * BLOCK:
@@ -38,8 +43,8 @@ def create_without_room(altctl, file, blocks, prepare=None):
 
 
 def copy_without_room(altctl, source, file, blocks, prepare=None):
-    """Has the program copy a store to a file, with room for this many blocks alone. Nothing gets its name, and what was written is no
-    store."""
+    """Has the program copy a store to a file, with room for this many blocks alone. Nothing gets its name, and what was
+    written is no store."""
     part = f"{file}.part"
     with open(source, "rb") as it:
         before = it.read()
@@ -88,12 +93,17 @@ def try_limits(altctl, folder):
 
 
 def try_growths(altctl, file, prepared):
-    """Grows a store where there is no room for it, to each number of blocks that is too many: it stops at the growth, with as much
-    of the file as there is room for. `prepared` makes the file, with room for 10 blocks more, and gives what limits the program, and
-    what gives the room back. Gives how many growths were stopped."""
+    """Grows a store where there is no room for it, to each number of blocks that is too many: it stops at the growth,
+    with as much of the file as there is room for. `prepared` makes the file, with room for 10 blocks more, and gives
+    what limits the program, and what gives the room back. Gives how many growths were stopped."""
     for more in range(11, 41):
         prepare, release = prepared()
-        came = start(altctl, ["run", file], ["put top 1 1 a", "commit", f"grow {BLOCKS + more}", "put top 1 2 b"], prepare=prepare)
+        came = start(
+            altctl,
+            ["run", file],
+            ["put top 1 1 a", "commit", f"grow {BLOCKS + more}", "put top 1 2 b"],
+            prepare=prepare,
+        )
         expect(f"a growth by {more} blocks", (3, ["ok", "ok", "error 15 Device"], "altctl: stopped\n"), came)
         expect(f"a growth by {more} blocks: blocks of the file", BLOCKS + 10, os.path.getsize(file) / BLOCK)
         due = (0, ["record 1 1 a", "end 1", "free 29", "error 21 BadSize", "ok", "free 39"], "")
@@ -159,10 +169,13 @@ def copy_with_holes(whole, file, first=2):
 
 
 def open_without_room(altctl, whole, file):
-    """Has the program open a store whose selector, block 1, is a hole, where no block is left: the opening writes it, and cannot."""
+    """Has the program open a store whose selector, block 1, is a hole, where no block is left: the opening writes it,
+    and cannot."""
     copy_with_holes(whole, file, 1)
     filler = leave_free(os.path.dirname(file), 0)
-    expect("an opening that needs a block", (1, [], f"altctl: cannot open {file}\n"), start(altctl, ["run", file], LINES))
+    expect(
+        "an opening that needs a block", (1, [], f"altctl: cannot open {file}\n"), start(altctl, ["run", file], LINES)
+    )
     expect("a look that needs none", (0, ["end 0"], ""), start(altctl, ["run", "--read-only", file], ["list top"]))
     os.remove(filler)
     os.remove(file)
@@ -216,7 +229,9 @@ def small_disk(altctl):
             return None
     except FileNotFoundError:
         return None
-    inside = subprocess.run([*unshare, sys.executable, os.path.abspath(__file__), "--inside", altctl], stdout=subprocess.PIPE, text=True)
+    inside = subprocess.run(
+        [*unshare, sys.executable, os.path.abspath(__file__), "--inside", altctl], stdout=subprocess.PIPE, text=True
+    )
     if inside.returncode:
         raise Failure("on a small file system, as said above")
     return int(inside.stdout)
@@ -238,7 +253,10 @@ def main():
         print(f"space: {failure}", file=sys.stderr)
         return 1
     told = "no small file system can be mounted here" if full is None else f"{full} on a small file system"
-    print(f"space: nothing is lost: {BLOCKS} files and as many copies were not made whole, {limited} runs were stopped by a limit, {told}")
+    print(
+        f"space: nothing is lost: {BLOCKS} files and as many copies were not made whole, "
+        f"{limited} runs were stopped by a limit, {told}"
+    )
     return 0
 
 

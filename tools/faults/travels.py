@@ -1,8 +1,8 @@
 #!/usr/bin/env python3
 """Lets offices work with `altcarry` over a bad link, which is cut, while both sides are killed, and looks in the end
 whether all show the same `top`, and whether each acknowledged change is in it, or was changed or settled by name, and
-none came back: `tools/faults/travels.py [ALTCTL] [ROUNDS] [SEED] [--worlds N]`. If not, the status is 1. It stands beside
-the gate.
+none came back: `tools/faults/travels.py [ALTCTL] [ROUNDS] [SEED] [--worlds N]`. If not, the status is 1. It stands
+beside the gate.
 
 HEAD is a service, and each of two offices has a clone, in some rounds with a service of its own. In each round people
 at HEAD and in the offices make designs, put, merge, settle and post, and the offices pull and push. The model knows

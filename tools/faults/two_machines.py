@@ -91,11 +91,20 @@ class Machine:
         shutil.copy(deb, self.root / "root/zonegrater.deb")
 
     def boot(self):
-        words = ["systemd-nspawn", "--quiet", "--register=no", "--keep-unit", f"--machine={self.name}", "-D", str(self.root)]
-        words += [f"--network-namespace-path=/run/netns/{NET}-{self.name}", "--capability=all", f"--bind={self.folder}/brick:/srv/brick"]
+        words = [
+            "systemd-nspawn", "--quiet", "--register=no", "--keep-unit", f"--machine={self.name}", "-D", str(self.root),
+        ]
+        words += [
+            f"--network-namespace-path=/run/netns/{NET}-{self.name}",
+            "--capability=all",
+            f"--bind={self.folder}/brick:/srv/brick",
+        ]
         words += ["--bind=/dev/fuse", "--boot"]
         self.process = subprocess.Popen(words, start_new_session=True, **QUIET)
-        until(lambda: self.leader() and self.tried("systemctl", "is-active", "--quiet", "multi-user.target"), f"{self.name} boots")
+        until(
+            lambda: self.leader() and self.tried("systemctl", "is-active", "--quiet", "multi-user.target"),
+            f"{self.name} boots",
+        )
 
     def leader(self):
         """The process of its systemd."""
@@ -110,7 +119,14 @@ class Machine:
         return self.leader() is not None and subprocess.run(self.words(*words), **QUIET, timeout=120).returncode == 0
 
     def said(self, *words):
-        ran = subprocess.run(self.words(*words), stdin=subprocess.DEVNULL, stdout=subprocess.PIPE, stderr=subprocess.STDOUT, text=True, timeout=300)
+        ran = subprocess.run(
+            self.words(*words),
+            stdin=subprocess.DEVNULL,
+            stdout=subprocess.PIPE,
+            stderr=subprocess.STDOUT,
+            text=True,
+            timeout=300,
+        )
         if ran.returncode:
             raise Failed(f"{self.name}: {' '.join(words)}: status {ran.returncode}: {ran.stdout.strip()}")
         return ran.stdout
@@ -129,8 +145,8 @@ class Machine:
 
 
 class Planners(threading.Thread):
-    """Planners at one machine, who put records with numbers of their own, one after another. A batch without an answer is
-    looked for before it is sent again."""
+    """Planners at one machine, who put records with numbers of their own, one after another. A batch without an answer
+    is looked for before it is sent again."""
 
     def __init__(self, machine, table, acknowledged):
         super().__init__(daemon=True)
@@ -188,7 +204,9 @@ def set_up(machines):
 
 def active(machines):
     """The machine at which the service is."""
-    return next((it for it in machines.values() if it.tried("systemctl", "is-active", "--quiet", "altserve@map.service")), None)
+    return next(
+        (it for it in machines.values() if it.tried("systemctl", "is-active", "--quiet", "altserve@map.service")), None
+    )
 
 
 def is_whole(machines):
@@ -227,7 +245,10 @@ def take_over(net, machines, number, acknowledged, planners):
     until(lambda: active(machines) is not None, "the service starts again")
     for it in planners.values():
         it.rests = False
-    say(f"{number}: {old.name} {'cut off' if is_cut else 'killed'}, {new.name} answered after {seconds:.1f} s; {len(acknowledged) - before} batches")
+    say(
+        f"{number}: {old.name} {'cut off' if is_cut else 'killed'}, {new.name} answered after {seconds:.1f} s; "
+        f"{len(acknowledged) - before} batches"
+    )
     return seconds
 
 
@@ -266,13 +287,18 @@ def try_all(root, deb, count, folder):
             it.ends = True
             it.join(60)
         compare(machines, acknowledged)
-        say(f"{count} take-overs, first answers after {times[0]:.1f} to {times[-1]:.1f} s, median {times[len(times) // 2]:.1f} s")
+        say(
+            f"{count} take-overs, first answers after {times[0]:.1f} to {times[-1]:.1f} s, "
+            f"median {times[len(times) // 2]:.1f} s"
+        )
 
 
 def root_of(folder):
     """A small Debian with the packages of the page, or None."""
     [installed] = re.findall(r"^apt-get install (?:--\S+ )*(.*) \./zonegrater\.deb$", PAGE.read_text(), re.M)
-    words = ",".join(("systemd", "systemd-sysv", "dbus", "python3", "adduser", "iproute2", "procps", *installed.split()))
+    words = ",".join(
+        ("systemd", "systemd-sysv", "dbus", "python3", "adduser", "iproute2", "procps", *installed.split())
+    )
     made = ["debootstrap", "--variant=minbase", f"--include={words}", "bookworm", str(folder / "debian")]
     if shutil.which("debootstrap") is None:
         say("skipped: no ROOT is given, and debootstrap is not installed")

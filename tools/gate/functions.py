@@ -1,5 +1,5 @@
-"""Finds the function around a place in a source file, as its layout shows it: each body ends with a brace that stands as far left as
-the function's first line. `wrong_bodies.py` uses it."""
+"""Finds the function around a place in a source file, as its layout shows it: each body ends with a brace that stands
+as far left as the function's first line. `wrong_bodies.py` uses it."""
 import re
 from dataclasses import dataclass
 
@@ -11,7 +11,8 @@ CYCLE = re.compile(r" *#\[cycle\((\w+)\)\]")
 
 @dataclass(frozen=True)
 class Function:
-    """A function: the modules that it stands in, its type with the trait (`FileDiskDisk`), its name, and its cycle of calls if it has one."""
+    """A function: the modules that it stands in, its type with the trait (`FileDiskDisk`), its name, and its cycle of
+    calls if it has one."""
 
     modules: tuple
     owner: str
@@ -33,7 +34,8 @@ def indent_of(line):
 
 
 def body_of(lines, first):
-    """The lines of the body of the function whose first line this is, if it has one: from its opening to its closing brace."""
+    """The lines of the body of the function whose first line this is, if it has one: from its opening to its closing
+    brace."""
     indent = indent_of(lines[first])
     for opening in range(first, len(lines)):
         line = lines[opening]
@@ -80,15 +82,17 @@ def owner_of(lines, first):
 
 
 def function_at(file, text, at, with_head=False):
-    """The function in whose body this line of the file's text stands, the first of which is 0, or None. With its head: the function of
-    this line."""
+    """The function in whose body this line of the file's text stands, the first of which is 0, or None. With its head:
+    the function of this line."""
     lines = text.split("\n")
     for first in range(at, -1, -1):
         found = FUNCTION.match(lines[first])
         body = body_of(lines, first) if found else None
         if body and (at in body or with_head and first <= at <= body[-1]):
             owner, inside = owner_of(lines, first)
-            of_file = [it for it in file.removeprefix("src/").removesuffix(".rt").split("/") if it not in ("lib", "mod")]
+            of_file = [
+                it for it in file.removeprefix("src/").removesuffix(".rt").split("/") if it not in ("lib", "mod")
+            ]
             above = [CYCLE.match(lines[it]) for it in range(max(0, first - 12), first)]
             cycle = next((it[1] for it in reversed(above) if it), "")
             return Function((*of_file, *inside), owner, found[2], cycle)

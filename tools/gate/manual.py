@@ -15,7 +15,8 @@ FAILED = "It failed, or was refused. Standard error says why."
 
 
 class Page(NamedTuple):
-    """What `--help` does not say: a line on the program, its other words, its statuses, its files, and where to read on."""
+    """What `--help` does not say: a line on the program, its other words, its statuses, its files, and where to read
+    on."""
 
     about: str
     words: Tuple[str, ...]
@@ -31,8 +32,10 @@ PAGES = {
         {0: "A signal ended the service, or the word was done.", 1: "It could not start, or the word failed.",
          2: "The arguments are wrong.", 3: "The store or its journal failed, or was moved, removed or replaced."},
         {"FILE.sock": "the socket, unless \\-\\-socket or systemd gives another one", "FILE.rules": "who may do what",
-         "FILE.journal": "who changed what, and when", "FILE.journal.index": "an index of it, made again if it is missing",
-         "FILE.owners": "who made which alternative", "FILE.backups/": "what backup NAME has copied", "FILE.archives/": "older entries of the journal",
+         "FILE.journal": "who changed what, and when",
+         "FILE.journal.index": "an index of it, made again if it is missing",
+         "FILE.owners": "who made which alternative", "FILE.backups/": "what backup NAME has copied",
+         "FILE.archives/": "older entries of the journal",
          "/var/lib/altserve/NAME.alt, /run/altserve/NAME.sock": "the store and the socket of the unit altserve@NAME",
          "/etc/default/altserve": 'options of these units, as OPTIONS="\\-\\-grow"'},
         "PLANNERS.md",

@@ -195,21 +195,34 @@ def three_way():
         else:
             it.box(470, y, 122, 42, [merged], GREEN_PALE, GREEN, mono=True, bold=True)
             it.text(606, y + 26, tells, 13, GREY)
-    it.text(24, 386, "The base is what mine last took in from the parent; a merge makes the parent's records the new base.", 12, GREY)
+    note = "The base is what mine last took in from the parent; a merge makes the parent's records the new base."
+    it.text(24, 386, note, 12, GREY)
     return it
 
 
 def merge_blocks():
     """Which blocks a merge and a post write, and which they give up."""
-    it = Picture("merge", 960, 430, "Where the blocks of a merge go: it writes what stays of north over the map of top, and a post writes nothing")
+    it = Picture(
+        "merge", 960, 430,
+        "Where the blocks of a merge go: it writes what stays of north over the map of top, and a post writes nothing",
+    )
     it.text(24, 36, "Where the blocks of a merge go", 18, bold=True)
     it.text(936, 36, "two leaves and a root: A, B, R", 13, GREY, at="end")
     names = ["A", "B", "R", "A'", "R'", "B*", "R*", "B+", "R+"]
     stages = [
-        (("north was made, then", "both sides changed"), "bbbttnn..", "top: A' B R';   north: A B* R*;   its base: A B R"),
-        (("merge north: its change", "is made over top's map"), "xsxttxxmm", "top: A' B R';   north: A' B+ R+;   its base: A' B R'"),
+        (
+            ("north was made, then", "both sides changed"), "bbbttnn..",
+            "top: A' B R';   north: A B* R*;   its base: A B R",
+        ),
+        (
+            ("merge north: its change", "is made over top's map"), "xsxttxxmm",
+            "top: A' B R';   north: A' B+ R+;   its base: A' B R'",
+        ),
         (("commit,", "and the next marking"), ".s.tt..mm", "the blocks that no version needs are free"),
-        (("post north: top shows", "what north shows"), ".x.sx..ss", "top, north and its base: A' B+ R+; no block is written"),
+        (
+            ("post north: top shows", "what north shows"), ".x.sx..ss",
+            "top, north and its base: A' B+ R+; no block is written",
+        ),
     ]
     looks = {
         "b": (PALE, GREY, ""), "t": (BLUE_PALE, BLUE, ""), "n": (ORANGE_PALE, ORANGE, ""), "m": (GREEN_PALE, GREEN, ""),
@@ -222,10 +235,15 @@ def merge_blocks():
             fill, line, dashes = looks[kind]
             it.rect(216 + at * 80, y, 72, 40, fill, line, dashes=dashes)
             name = "free" if kind == "." else names[at]
-            it.text(252 + at * 80, y + 25, name, 14, GREY if kind in ".x" else INK, at="middle", mono=True, bold=kind == "m")
+            it.text(
+                252 + at * 80, y + 25, name, 14, GREY if kind in ".x" else INK, at="middle", mono=True, bold=kind == "m"
+            )
         it.text(216, y + 58, needs, 12, GREY)
     x = 24
-    legend = [("b", "of the base"), ("t", "changed in top"), ("n", "changed in north"), ("m", "written by the merge"), ("x", "no longer needed")]
+    legend = [
+        ("b", "of the base"), ("t", "changed in top"), ("n", "changed in north"), ("m", "written by the merge"),
+        ("x", "no longer needed"),
+    ]
     for kind, tells in legend:
         fill, line, dashes = looks[kind]
         it.rect(x, 396, 22, 16, fill, line, dashes=dashes)
@@ -236,7 +254,9 @@ def merge_blocks():
 
 def commit():
     """Slots and selector around the two syncs of a commit."""
-    it = Picture("commit", 960, 424, "A commit: slot B, a sync, the selector, a sync; what a crash shows at each moment")
+    it = Picture(
+        "commit", 960, 424, "A commit: slot B, a sync, the selector, a sync; what a crash shows at each moment"
+    )
     it.text(24, 36, "A commit: a slot, a sync, the selector, a sync", 18, bold=True)
     left, step, top, row = 150, 158, 66, 58
     heads = [("before",), ("slot B is", "written"), ("the first sync", "is done")]

@@ -624,7 +624,8 @@ gzip -dc "$tools/old-stores/format-1.alt.gz" >earlier
 cp earlier earlier.before
 : >lines
 : >output
-for words in 'run earlier' 'run --read-only earlier' 'do earlier free' 'check earlier' 'tree earlier' 'copy earlier made'; do
+for words in 'run earlier' 'run --read-only earlier' 'do earlier free' 'check earlier' 'tree earlier' \
+    'copy earlier made'; do
     echo 'altctl: 19 NotAStore' >faults
     echo 'altctl: the file is of an earlier format: tools/upgrade.py OLD NEW carries it over' >>faults
     program "$words, of an earlier format" 1 $words
@@ -742,7 +743,8 @@ changed unmerged conflicts post
                                     * before
 END
 
-# Copies a store, which stays as it is, to a file: the number of its blocks, of those in use, and further words of the copy.
+# Copies a store, which stays as it is, to a file: the number of its blocks, of those in use, and further words of the
+# copy.
 copied() {
     cp "$1" before
     : >lines
@@ -1019,9 +1021,9 @@ redirected() {
     compare "$name: standard error" faults faults.came
 }
 
-# Starts the program with the words after the third, on the bytes in `lines`, with the standard descriptors closed that the
-# second names by their numbers. Compares its status with the third word, its output with `output`, and its standard error with
-# `faults`, as far as they are open.
+# Starts the program with the words after the third, on the bytes in `lines`, with the standard descriptors closed that
+# the second names by their numbers. Compares its status with the third word, its output with `output`, and its standard
+# error with `faults`, as far as they are open.
 closed() {
     name="$1, closed $2"
     input='<lines' out='>output.came' error='2>faults.came'
@@ -1132,7 +1134,8 @@ echo 1 >status
 cp spelled store
 for words in 'create made 64' 'run store' 'check store' 'tree store' 'copy store made'; do
     came=0
-    sh -c 'exec >&-; ulimit -n 3; exec "$0" "$@"' "$tools/../crates/altctl/out/altctl" $words <lines 2>faults.came || came=$?
+    sh -c 'exec >&-; ulimit -n 3; exec "$0" "$@"' "$tools/../crates/altctl/out/altctl" $words <lines 2>faults.came ||
+        came=$?
     echo "$came" >status.came
     echo 'altctl: cannot open store' >faults
     [ "$words" != 'create made 64' ] || echo 'altctl: cannot create made' >faults
@@ -1142,8 +1145,8 @@ done
 absent 'no descriptor is left' made
 compare 'no descriptor is left: the file' spelled store
 
-# The standard output is open on the store's own file, or the input, where it may be written: that is not opened, and stays
-# as it is.
+# The standard output is open on the store's own file, or the input, where it may be written: that is not opened, and
+# stays as it is.
 echo 1 >status
 echo 'altctl: cannot open store' >faults
 : >output
@@ -1459,7 +1462,8 @@ altctl: high could not be built
 END
 builds refused 1
 
-printf '%s\n' 'altctl: it is not built yet, and rt, the command of the Rattle toolchain that builds it, is not found' >faults.due
+printf '%s\n' \
+    'altctl: it is not built yet, and rt, the command of the Rattle toolchain that builds it, is not found' >faults.due
 mkdir built/few
 for name in awk cut dirname find mktemp readlink rm sed sha256sum sort touch xargs; do
     ln -s "$(command -v "$name")" built/few/
@@ -1544,7 +1548,8 @@ carried 'a start where nothing can be written'
 # --- the script that installs ------------------------------------------------------------------------
 
 for prefix in installed 'installed here/too'; do
-    printf 'install: %s\n' "$prefix/bin/altctl" "$prefix/share/man/man1/altctl.1" "$prefix/bin is not in PATH yet" >output
+    printf 'install: %s\n' "$prefix/bin/altctl" "$prefix/share/man/man1/altctl.1" \
+        "$prefix/bin is not in PATH yet" >output
     came=0
     "$tools/release/install.sh" "$prefix" >output.all || came=$?
     grep -E '(/bin/altctl|/altctl\.1|PATH yet)$' output.all >output.came

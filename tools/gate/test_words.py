@@ -182,7 +182,9 @@ class LinksTests(unittest.TestCase):
             (top / "crates/low/src").mkdir(parents=True)
             (top / "crates/low/src/lib.rt").touch()
             page = top / "page.md"
-            page.write_text("`low/src/lib.rt` `low/src/gone.rt` [there](page.md) [not](other.md) `crates/low/src/no.rt`\n")
+            page.write_text(
+                "`low/src/lib.rt` `low/src/gone.rt` [there](page.md) [not](other.md) `crates/low/src/no.rt`\n"
+            )
             with mock.patch.object(documents, "TOP", top):
                 found = list(documents.dead_links(page))
         gone = ("low/src/gone.rt", "other.md", "crates/low/src/no.rt")

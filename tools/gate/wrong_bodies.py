@@ -1,17 +1,18 @@
 #!/usr/bin/env python3
 """Has the prover refuse the wrong bodies in `crates/*/wrong-bodies`: `tools/gate/wrong_bodies.py [--anew] [CRATE..]`.
 
-Each is a file of the form that the gate takes in `must-fail`: a small change that turns what a function means. The gate (`rt ci`) tries
-those in `must-fail` one by one; here many share a check. In each round at most one place in a function is changed, and a wrong
-body counts as refused where its function is not proved for a reason of its own. What a round leaves open is tried again, at last
-alone, as the gate would try it. A line tells of each what came of it, and the last line counts them. The status is 1 where one is not
-refused, cannot be applied or is not seen to be tried.
+Each is a file of the form that the gate takes in `must-fail`: a small change that turns what a function means. The gate
+(`rt ci`) tries those in `must-fail` one by one; here many share a check. In each round at most one place in a function
+is changed, and a wrong body counts as refused where its function is not proved for a reason of its own. What a round
+leaves open is tried again, at last alone, as the gate would try it. A line tells of each what came of it, and the last
+line counts them. The status is 1 where one is not refused, cannot be applied or is not seen to be tried.
 
-What came of a wrong body is kept in the user's cache folder, by a checksum of all that it stands on: its text, the sources,
-definitions and proofs of the crate and of those below it, their lines in crates.txt, and the toolchain's name. Only what changed is
-tried again; `--anew` tries all.
+What came of a wrong body is kept in the user's cache folder, by a checksum of all that it stands on: its text, the
+sources, definitions and proofs of the crate and of those below it, their lines in crates.txt, and the toolchain's name.
+Only what changed is tried again; `--anew` tries all.
 
-It works with one job, and uses `rt` and its library as modules, as they are today: a later toolchain may ask for changes here.
+It works with one job, and uses `rt` and its library as modules, as they are today: a later toolchain may ask for
+changes here.
 """
 import contextlib
 import hashlib
@@ -34,8 +35,8 @@ from functions import function_at
 
 ROOT = pathlib.Path(__file__).resolve().parents[2]
 ONE_JOB = ["--jobs", "1"]
-# What came of a wrong body, where one is a bad edit that cannot be applied or does not compile. The first three are kept: they stay so
-# as long as nothing changes.
+# What came of a wrong body, where one is a bad edit that cannot be applied or does not compile. The first three are
+# kept: they stay so as long as nothing changes.
 REFUSED, PASSED, BROKEN, OPEN = "refused", "NOT REFUSED", "BAD EDIT", "NOT TRIED"
 # Part of each checksum: a change of how a result is found raises it.
 METHOD = "1"
@@ -95,7 +96,8 @@ def changes_of(text):
 
 
 def with_changes(changes, texts, folder):
-    """These texts, by file, with the changes made; None where one cannot be made. With them, the functions that are changed."""
+    """These texts, by file, with the changes made; None where one cannot be made. With them, the functions that are
+    changed."""
     texts, functions = dict(texts), set()
     for file, old, new in changes:
         text = texts[file] if file in texts else (folder / file).read_text()
@@ -139,7 +141,9 @@ class Results:
         """A checksum of all that a verdict on the crate stands on."""
         if crate.name not in self.sums:
             seen = hashlib.sha256(repr((METHOD, self.toolchain, crate.name, crate.said)).encode())
-            for file in sorted(it for part in ("src", "specs", "proofs") for it in pathlib.Path(crate.folder, part).rglob("*")):
+            for file in sorted(
+                it for part in ("src", "specs", "proofs") for it in pathlib.Path(crate.folder, part).rglob("*")
+            ):
                 if file.is_file():
                     seen.update(repr((str(file.relative_to(crate.folder)), file.read_bytes())).encode())
             seen.update(repr([self.sum_of(it) for it in crate.deps]).encode())
@@ -189,7 +193,8 @@ class Trial:
         self.checks = 0
 
     def prepare(self):
-        """Builds the libraries below, and proves the crate as it stands, over what earlier checks kept if that serves."""
+        """Builds the libraries below, and proves the crate as it stands, over what earlier checks kept if that
+        serves."""
         log = tempfile.TemporaryFile("w+", errors="replace")
         for below in self.crate.below():
             below.out = log
@@ -214,7 +219,8 @@ class Trial:
         raise Stop(f"{self.crate.name} is not proved as it stands, so no wrong body of it was tried\n{said[-2000:]}")
 
     def name_of(self, function):
-        """The name of a function that is changed, as a check prints it, or None where the check of the base printed none such."""
+        """The name of a function that is changed, as a check prints it, or None where the check of the base printed
+        none such."""
         name = function.name_in(self.crate.name)
         return name if name in self.names else None
 
@@ -228,7 +234,8 @@ class Trial:
             shutil.rmtree(over, ignore_errors=True)
 
     def verdicts(self, texts, names):
-        """What a check of these functions, over these texts, says of them, and its messages; None where it did not reach them."""
+        """What a check of these functions, over these texts, says of them, and its messages; None where it did not
+        reach them."""
         self.checks += 1
         flags = [*ONE_JOB, *(word for it in sorted(names) for word in ("--only", it))]
         ran = self.over_base(lambda over: self.rt.checked(self.crate, texts, flags, over))
@@ -242,7 +249,9 @@ class Trial:
         self.checks += 1
         kind, said = self.over_base(lambda over: self.rt.must_fail(self.crate, str(body.path), ONE_JOB, over))
         kinds = {self.rt.REFUSED: REFUSED, self.rt.AT_LIMIT: REFUSED, self.rt.MISSED: PASSED, self.rt.BAD: BROKEN}
-        said = re.sub(r"^(refused, as it must be|NOT REFUSED|BAD EDIT|NOT TRIED):? ", "", said.partition(f"{body.path.name}: ")[2])
+        said = re.sub(
+            r"^(refused, as it must be|NOT REFUSED|BAD EDIT|NOT TRIED):? ", "", said.partition(f"{body.path.name}: ")[2]
+        )
         return kinds.get(kind, OPEN), "alone: " + said
 
     def next_round(self, waiting):
@@ -259,8 +268,8 @@ class Trial:
         return chosen, left
 
     def try_together(self, chosen):
-        """Tries wrong bodies in one check, or in two halves where that reaches no verdict. Gives what was said of those that are
-        refused, and those that are left open."""
+        """Tries wrong bodies in one check, or in two halves where that reaches no verdict. Gives what was said of those
+        that are refused, and those that are left open."""
         texts = with_changes([it for body in chosen for it in body.changes], {}, self.folder)[0]
         names = {body.name: {self.name_of(it) for it in body.functions} for body in chosen}
         found = self.verdicts(texts, set().union(*names.values()))
@@ -277,8 +286,8 @@ class Trial:
         return refused, unsure
 
     def try_all(self, bodies):
-        """Tries wrong bodies, and gives for each in turn what came of it. What a round leaves open is tried in one more round, and then
-        alone."""
+        """Tries wrong bodies, and gives for each in turn what came of it. What a round leaves open is tried in one more
+        round, and then alone."""
         clear = lambda it: it.lies_in_functions and all(map(self.name_of, it.functions))
         waiting, alone = [it for it in bodies if clear(it)], [it for it in bodies if not clear(it)]
         once = set()
@@ -314,7 +323,8 @@ def tell(crate, name, kind, said, before=""):
 
 
 def try_new(rt, crate, bodies, results):
-    """Tries wrong bodies of which nothing is known, and tells what comes of each and what they took. Gives what came, by name."""
+    """Tries wrong bodies of which nothing is known, and tells what comes of each and what they took. Gives what came,
+    by name."""
     came, before, begun = {}, processor_time(), time.monotonic()
     trial = Trial(rt, crate)
     try:
@@ -326,8 +336,13 @@ def try_new(rt, crate, bodies, results):
             tell(crate, body.name, kind, said)
     finally:
         shutil.rmtree(trial.room, ignore_errors=True)
-    took = f"{processor_time() - proved:.0f} seconds of processor time, beside {proved - before:.0f} for the crate as it stands"
-    print(f"{crate.name}: {len(bodies)} tried in {trial.checks} checks: {took}; {time.monotonic() - begun:.0f} seconds in all", flush=True)
+    took = f"{processor_time() - proved:.0f} seconds of processor time, "
+    took += f"beside {proved - before:.0f} for the crate as it stands"
+    print(
+        f"{crate.name}: {len(bodies)} tried in {trial.checks} checks: {took}; "
+        f"{time.monotonic() - begun:.0f} seconds in all",
+        flush=True,
+    )
     return came
 
 

@@ -2,15 +2,15 @@
 # Measures the program over real files beside a store in the same format that is written by hand in C, without proofs
 # (`plain.c`), and prints tables in Markdown:
 # `tools/measure/measure.sh [-c] [-d DIVISOR] [--peers] [--long] [--pages] [--copies] [ALTCTL]`.
-# Both get the same lines, and all answers of both are compared with what is expected. A time is the middle one of three.
-# With -c it is the least one, and only that in which the process had a processor, which other work on the machine
-# disturbs less; a DIVISOR of 1 to 16 makes all of it that many times smaller. With --peers loads and gets are measured over LMDB
-# and SQLite, too (`peers.c`), where Debian's packages liblmdb-dev and libsqlite3-dev are installed. With --long values
-# of 2,000 bytes are measured instead; that needs about 2 GB for temporary files. With --pages parts of versions are
-# measured instead: pages, ranges and differences, by the program alone, with --peers pages of LMDB and SQLite, too. With
-# --copies copies are measured instead, beside `cp` and, with --peers, `mdb_copy -c` and `VACUUM INTO`, and openings of a
-# store from a cold disk before and after it was copied; that needs about 4 GB. How much a record takes is measured by
-# `measure_sizes.py`. It stands beside the gate: times are looked at, never tested.
+# Both get the same lines, and all answers of both are compared with what is expected. A time is the middle one of
+# three. With -c it is the least one, and only that in which the process had a processor, which other work on the
+# machine disturbs less; a DIVISOR of 1 to 16 makes all of it that many times smaller. With --peers loads and gets are
+# measured over LMDB and SQLite, too (`peers.c`), where Debian's packages liblmdb-dev and libsqlite3-dev are installed.
+# With --long values of 2,000 bytes are measured instead; that needs about 2 GB for temporary files. With --pages parts
+# of versions are measured instead: pages, ranges and differences, by the program alone, with --peers pages of LMDB and
+# SQLite, too. With --copies copies are measured instead, beside `cp` and, with --peers, `mdb_copy -c` and `VACUUM
+# INTO`, and openings of a store from a cold disk before and after it was copied; that needs about 4 GB. How much a
+# record takes is measured by `measure_sizes.py`. It stands beside the gate: times are looked at, never tested.
 set -eu
 
 usage() {
@@ -311,7 +311,7 @@ all_ok() {
     sed 's/.*/ok/' "$work/$1.lines" >"$work/$1.answers"
 }
 
-# The same line for each version, and the same answer for each.
+# The same line for each design, and the same answer for each.
 for_versions() {
     awk -v line="$2" -v count="$versions" \
         'BEGIN { for (i = 1; i <= count; i++) { it = line; sub(/ALT/, "v" i, it); print it } }' >"$work/$1.lines"
@@ -324,8 +324,8 @@ prepare_gets() {
     awk -v size="$3" '{ printf "value %0*d\n", size, $1 }' "$work/$2" >"$work/$1.answers"
 }
 
-# The lines on records of 200 bytes. Each version has changes of its own, and as many are made in the parent, of which
-# a tenth are in conflict with those of each version.
+# The lines on records of 200 bytes. Each design has changes of its own, and as many are made in the parent, of which
+# a tenth are in conflict with those of each design.
 prepare() {
     numbers "$records" random >"$work/random"
     numbers "$records" rising >"$work/rising"
@@ -379,7 +379,8 @@ prepare_long() {
     numbers "$long_records" random >"$work/long"
     { put_lines top 2000 0 <"$work/long" && echo commit; } | all_ok long_load
     prepare_gets long_gets long 2000
-    sort -n "$work/long" | awk '{ printf "record 1 %d %02000d\n", $1, $1 } END { print "end " NR }' >"$work/long_list.answers"
+    sort -n "$work/long" | awk '{ printf "record 1 %d %02000d\n", $1, $1 } END { print "end " NR }' \
+        >"$work/long_list.answers"
     echo list top >"$work/long_list.lines"
     yes reclaim | head -n $long_markings | all_ok long_markings
 }
@@ -405,7 +406,8 @@ prepare_pages() {
 
 # The lines that go through all of them by a thousand.
 prepare_walk() {
-    awk -v count="$1" 'BEGIN { for (i = 1; i <= count; i += 1000) printf "next top 1 %d 1000\n", i }' >"$work/walk.lines"
+    awk -v count="$1" 'BEGIN { for (i = 1; i <= count; i += 1000) printf "next top 1 %d 1000\n", i }' \
+        >"$work/walk.lines"
     awk -v count="$1" '
         BEGIN {
             for (i = 1; i <= count; i++) {
@@ -421,11 +423,12 @@ differing() {
     for _ in $(seq $many_diffs); do cat "$work/one"; done
 }
 
-# Two designs with changes of their own, half of them of the same records. The file `differ` has of each record its number
-# and its values in top, and in both.
+# Two designs with changes of their own, half of them of the same records. The file `differ` has of each record its
+# number and its values in top, and in both.
 prepare_designs() {
     head -n $design_changes "$work/numbers_$1" | awk '{ print $1, 1 }' >"$work/designs"
-    tail -n +$((design_changes / 2 + 1)) "$work/numbers_$1" | head -n $design_changes | awk '{ print $1, 2 }' >>"$work/designs"
+    tail -n +$((design_changes / 2 + 1)) "$work/numbers_$1" | head -n $design_changes | awk '{ print $1, 2 }' \
+        >>"$work/designs"
     {
         printf 'new d1 top\nnew d2 top\n'
         awk '{ printf "put d%d 1 %d %016d\n", $2, $1, $1 + $2 }' "$work/designs"
@@ -443,7 +446,8 @@ prepare_designs() {
     awk '$3 != $4 { print $1, $3, $4 }' "$work/differ" | differing >"$work/diff.answers"
     tenth=$(($1 / 10))
     same_line diff_part "diff d1 d2 1 1 $tenth"
-    awk -v last=$tenth '$1 <= last && $3 != $4 { print $1, $3, $4 }' "$work/differ" | differing >"$work/diff_part.answers"
+    awk -v last=$tenth '$1 <= last && $3 != $4 { print $1, $3, $4 }' "$work/differ" | differing \
+        >"$work/diff_part.answers"
 }
 
 same_line() {
@@ -461,10 +465,10 @@ measure_records() {
     measure refused "$of lines that are refused" "$records"
     measure list "a list of $of records" 1
     ask versions
-    measure changes "changes of a version, $changed on each side" "$versions"
-    measure conflicts "conflicts of a version, $((changed / 10)) of them" "$versions"
+    measure changes "changes of a design, $changed on each side" "$versions"
+    measure conflicts "conflicts of a design, $((changed / 10)) of them" "$versions"
     measure merges "a merge of $changed changes" "$versions"
-    measure posts 'a version made, changed at one record, posted and dropped' "$commits"
+    measure posts 'a design made, changed at one record, posted and dropped' "$commits"
     stop
     begin "$blocks"
     measure_load load_rising "$of puts by rising keys, one commit" "$records" "$blocks"
@@ -629,8 +633,8 @@ measure_peer() {
     rm -f "$work/store"*
 }
 
-# Compiles it over a store, with the words after the second, and has it measured by the function of the second, where the
-# store is installed.
+# Compiles it over a store, with the words after the second, and has it measured by the function of the second, where
+# the store is installed.
 try_peer() {
     name=$1
     program=$work/$1

@@ -1,7 +1,7 @@
-/* Loads and reads one store from C, for `measure_clients.py`: `measure_clients FILE RECORDS COMMITS [PROGRAM]`. It stands
-   on LMDB if it is compiled with -DLMDB, on SQLite with -DSQLITE, on libaltstore with -DMEMORY, and else on altctl, by the C client. It prints how many calls
-   a second each part had, and compares each value that it gets. SQLite has a WAL and synchronous=FULL, so that a commit is
-   durable there, too. */
+/* Loads and reads one store from C, for `measure_clients.py`: `measure_clients FILE RECORDS COMMITS [PROGRAM]`. It
+   stands on LMDB if it is compiled with -DLMDB, on SQLite with -DSQLITE, on libaltstore with -DMEMORY, and else on
+   altctl, by the C client. It prints how many calls a second each part had, and compares each value that it gets.
+   SQLite has a WAL and synchronous=FULL, so that a commit is durable there, too. */
 #define _GNU_SOURCE
 #include <stdint.h>
 #include <stdio.h>

@@ -121,7 +121,11 @@ def measure_python_memory(numbers, commits):
                 store.put("top", *row)
                 store.commit()
 
-        return {"puts": timed(len(rows), puts), "gets": timed(len(rows), gets), "commits": timed(commits, put_and_commit)}
+        return {
+            "puts": timed(len(rows), puts),
+            "gets": timed(len(rows), gets),
+            "commits": timed(commits, put_and_commit),
+        }
 
 
 def measure_python_sqlite(folder, numbers, commits):
@@ -163,7 +167,10 @@ def show(language, runs):
         return f"{statistics.median(found):,.0f}" if found else ""
 
     for part, what in ROWS.items():
-        cells = [cell("altctl", part), cell("altctl", f"{part}_ahead"), cell("memory", part), cell("SQLite", part), cell("LMDB", part)]
+        cells = [
+            cell("altctl", part), cell("altctl", f"{part}_ahead"), cell("memory", part), cell("SQLite", part),
+            cell("LMDB", part),
+        ]
         print(f"| {language}: {what} | {' | '.join(cells)} |")
 
 
@@ -176,7 +183,10 @@ def main():
     records, commits = RECORDS // said.divisor, COMMITS // said.divisor
     numbers = random.Random(7).sample(range(records), records)
     in_c, in_python = {}, {}
-    print(f"{platform.processor() or platform.machine()}, {os.cpu_count()} processors, Linux {platform.release()}, Python {platform.python_version()}, SQLite {sqlite3.sqlite_version}")
+    print(
+        f"{platform.processor() or platform.machine()}, {os.cpu_count()} processors, Linux {platform.release()}, "
+        f"Python {platform.python_version()}, SQLite {sqlite3.sqlite_version}"
+    )
     print(f"load at the beginning {os.getloadavg()[0]:.1f}", flush=True)
     with tempfile.TemporaryDirectory() as folder:
         programs = compile_all(folder)
@@ -192,7 +202,10 @@ def main():
             with tempfile.TemporaryDirectory() as place:
                 in_python.setdefault("SQLite", []).append(measure_python_sqlite(place, numbers, commits))
     print(f"load at the end {os.getloadavg()[0]:.1f}\n")
-    print("| Calls a second | altctl, one by one | altctl, written ahead | libaltstore | SQLite | LMDB |\n|---|---|---|---|---|---|")
+    print(
+        "| Calls a second | altctl, one by one | altctl, written ahead | libaltstore | SQLite | LMDB |\n"
+        "|---|---|---|---|---|---|"
+    )
     show("C", in_c)
     show("Python", in_python)
 

@@ -1,11 +1,11 @@
 #!/usr/bin/env python3
-"""Measures what merges take: `tools/measure/measure_merges.py [--blocks N] [--part PART] ALTCTL ..` writes a table with a
-column for each program. PART is `large`, `twelve`, `hundred` or `year`; without it all are measured. Figures are looked
-at, never tested.
+"""Measures what merges take: `tools/measure/measure_merges.py [--blocks N] [--part PART] ALTCTL ..` writes a table with
+a column for each program. PART is `large`, `twelve`, `hundred` or `year`; without it all are measured. Figures are
+looked at, never tested.
 
-The network has 220,000 features in 440,000 records, with values of 40 and of 100 bytes. Designs change records of their own, so
-nothing is in conflict. Blocks are counted by `free`, which nothing but taking them changes between two markings, and the blocks that
-a query reads by what the system says the program has read, without a cache."""
+The network has 220,000 features in 440,000 records, with values of 40 and of 100 bytes. Designs change records of their
+own, so nothing is in conflict. Blocks are counted by `free`, which nothing but taking them changes between two
+markings, and the blocks that a query reads by what the system says the program has read, without a cache."""
 import argparse
 import random
 import re

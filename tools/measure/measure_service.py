@@ -84,8 +84,9 @@ def in_processes(count, work):
 
 
 def load(path, count, seconds, text, due):
-    """Has `count` planners each write a text, wait for its `due` lines of answer, and write the next. Returns how long each took, in
-    milliseconds. Those who are connected last wait for all others first, so the first answers do not count."""
+    """Has `count` planners each write a text, wait for its `due` lines of answer, and write the next. Returns how long
+    each took, in milliseconds. Those who are connected last wait for all others first, so the first answers do not
+    count."""
     selector = selectors.DefaultSelector()
     planners = []
     for _ in range(count):
@@ -112,7 +113,8 @@ def load(path, count, seconds, text, due):
 
 
 def flood(path, count, seconds, text):
-    """Has `count` planners write a text again and again, and read the answers. Returns how many lines of answer each has read."""
+    """Has `count` planners write a text again and again, and read the answers. Returns how many lines of answer each
+    has read."""
     selector = selectors.DefaultSelector()
     for _ in range(count):
         planner = socket.socket(socket.AF_UNIX)
@@ -188,9 +190,14 @@ def service(altctl, folder, variables):
 
 
 def beside_floods(said):
-    """A table of how long lines of the other planners take, who come a second after those who flood, by what these send."""
+    """A table of how long lines of the other planners take, who come a second after those who flood, by what these
+    send."""
     count = said.planners[-1]
-    columns = "Others: half, 99 %, all take no longer, ms", "Answers a second of those who flood, at least", "on average"
+    columns = (
+        "Others: half, 99 %, all take no longer, ms",
+        "Answers a second of those who flood, at least",
+        "on average",
+    )
     yield shown(f"{said.flood} of {count} flood with", columns) + "\n" + "|---" * 4 + "|"
     with tempfile.TemporaryDirectory() as folder, contextlib.ExitStack() as stack:
         variables = slowed(said, folder)
@@ -247,7 +254,10 @@ def postgres(folder, variables):
         )
 
         def commits(count, seconds):
-            clients = ["-c", str(count), "-j", str(min(LOADERS, count)), "-T", str(seconds), "-l", f"--log-prefix={data}/times"]
+            clients = [
+                "-c", str(count), "-j", str(min(LOADERS, count)), "-T", str(seconds), "-l",
+                f"--log-prefix={data}/times",
+            ]
             text = run(pgbench, "-h", data, "-n", "-M", "prepared", "-f", script, *clients, "postgres")
             times = []
             for it in Path(data).glob("times.*"):
@@ -263,7 +273,8 @@ def postgres(folder, variables):
 
 
 def sqlite(folder, variables):
-    """A file of SQLite. Gives what measures commits: by processes started anew, since syncs are made slow from a start on."""
+    """A file of SQLite. Gives what measures commits: by processes started anew, since syncs are made slow from a start
+    on."""
     file = f"{folder}/sqlite"
     with contextlib.closing(sqlite3.connect(file)) as store, store:
         store.execute("PRAGMA journal_mode=WAL")
@@ -310,7 +321,8 @@ def shown(what, columns):
 
 def rates(found, planners):
     """How many a second."""
-    yield shown("A second, by planners", [*map(str, planners), f"{planners[-1]} to {planners[0]}"]) + "\n" + "|---" * (len(planners) + 2) + "|"
+    columns = [*map(str, planners), f"{planners[-1]} to {planners[0]}"]
+    yield shown("A second, by planners", columns) + "\n" + "|---" * (len(planners) + 2) + "|"
     for what, by_count in found.items():
         medians = [median(it.rate for it in by_count[count]) for count in planners]
         yield shown(what, [f"{it:,.0f}" for it in medians] + [f"{medians[-1] / medians[0]:.1f}"])
@@ -318,7 +330,8 @@ def rates(found, planners):
 
 def waits(found, planners):
     """How long all but the slowest took."""
-    yield shown("Milliseconds: half, 99 %, 99.9 % take no longer", map(str, planners)) + "\n" + "|---" * (len(planners) + 1) + "|"
+    head = shown("Milliseconds: half, 99 %, 99.9 % take no longer", map(str, planners))
+    yield head + "\n" + "|---" * (len(planners) + 1) + "|"
     for what, by_count in found.items():
         columns = []
         for count in planners:

@@ -1,7 +1,7 @@
 #!/usr/bin/env python3
-"""Measures what designs cost that travel: `tools/measure/measure_travels.py [ALTCTL] [FEATURES]`. A clone of a map, a pull
-and a push by `altcarry` through SSH with its compression, beside `git clone` of the same map as GeoJSON and copies of
-it as GeoPackage, over a link of 10 Mbit/s and 20 ms (bad_link.py). Bytes are those of all packets, both ways. Needs
+"""Measures what designs cost that travel: `tools/measure/measure_travels.py [ALTCTL] [FEATURES]`. A clone of a map, a
+pull and a push by `altcarry` through SSH with its compression, beside `git clone` of the same map as GeoJSON and copies
+of it as GeoPackage, over a link of 10 Mbit/s and 20 ms (bad_link.py). Bytes are those of all packets, both ways. Needs
 root, sshd, git, nc and python3-gdal."""
 import argparse
 import json

@@ -4,8 +4,8 @@
    peers run FILE
 
    It knows `put top TABLE NUMBER VALUE`, `get top TABLE NUMBER`, `next top TABLE NUMBER COUNT`, `commit` and `checks
-   top`, tests nothing of their form, and answers each line at once, as altctl does. A value has no escapes. What was not
-   committed is lost at the end. */
+   top`, tests nothing of their form, and answers each line at once, as altctl does. A value has no escapes. What was
+   not committed is lost at the end. */
 #define _GNU_SOURCE
 #include <stdbool.h>
 #include <stdint.h>
@@ -39,7 +39,8 @@ static void add_row(const unsigned char *key, const char *value, size_t length)
     uint64_t place = 0;
     for (int i = 2; i < KEY; i++)
         place = place << 8 | key[i];
-    rows_length += (size_t)sprintf(rows + rows_length, "record %d %llu ", key[0] << 8 | key[1], (unsigned long long)place);
+    rows_length += (size_t)sprintf(rows + rows_length, "record %d %llu ", key[0] << 8 | key[1],
+                                   (unsigned long long)place);
     memcpy(rows + rows_length, value, length);
     rows_length += length;
     rows[rows_length++] = '\n';
@@ -179,7 +180,8 @@ static uint64_t page(unsigned char *key, uint64_t count)
     must(sqlite3_bind_blob(paging, 1, key, KEY, SQLITE_STATIC));
     must(sqlite3_bind_int64(paging, 2, (sqlite3_int64)count));
     for (; sqlite3_step(paging) == SQLITE_ROW; number++)
-        add_row(sqlite3_column_blob(paging, 0), sqlite3_column_blob(paging, 1), (size_t)sqlite3_column_bytes(paging, 1));
+        add_row(sqlite3_column_blob(paging, 0), sqlite3_column_blob(paging, 1),
+                (size_t)sqlite3_column_bytes(paging, 1));
     must(sqlite3_reset(paging));
     return number;
 }

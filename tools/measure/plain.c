@@ -537,7 +537,8 @@ static int size_of(const struct coming *it, int count)
     if (count <= it->at)
         return ENTRY * count + end_before(it->leaf, count);
     int end = it->next + count - it->at - 1;
-    return ENTRY * count + end_before(it->leaf, it->at) + it->length + end_before(it->leaf, end) - end_before(it->leaf, it->next);
+    return ENTRY * count + end_before(it->leaf, it->at) + it->length + end_before(it->leaf, end) -
+           end_before(it->leaf, it->next);
 }
 
 /* How many of the records stand in the left of two leaves, of which the larger one is as small as it can be, and how
@@ -945,7 +946,8 @@ static bool has_values(const byte *leaf)
     for (int i = 0; i < count; from = end_before(leaf, ++i))
         if (end_before(leaf, i + 1) < from || end_before(leaf, i + 1) > from + VALUE)
             return false;
-    return ENTRY * count + from <= LEAF_ROOM && is_zero(row_at(leaf, 0, count) + from, (size_t)(LEAF_ROOM - ENTRY * count - from));
+    return ENTRY * count + from <= LEAF_ROOM &&
+           is_zero(row_at(leaf, 0, count) + from, (size_t)(LEAF_ROOM - ENTRY * count - from));
 }
 
 /* Whether the keys of a block rise, and nothing stands behind its rows or values. */

@@ -1,6 +1,6 @@
-/* The functions of the toolchain's own C that the program calls, for aarch64: the toolchain has them compiled for x86-64 alone.
-   Nothing proves them, and docs/TRUST.md names them as trusted: they owe what the kit's crates `libc` (heap.rt) and `os` (c.rt)
-   say of each. `tools/release/aarch64.sh` compiles this file. */
+/* The functions of the toolchain's own C that the program calls, for aarch64: the toolchain has them compiled for
+   x86-64 alone. Nothing proves them, and docs/TRUST.md names them as trusted: they owe what the kit's crates `libc`
+   (heap.rt) and `os` (c.rt) say of each. `tools/release/aarch64.sh` compiles this file. */
 #define _GNU_SOURCE
 #include <errno.h>
 #include <fcntl.h>

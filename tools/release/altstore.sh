@@ -34,7 +34,8 @@ trap 'rm -rf "$scratch"' EXIT
 (cd "$scratch" && ar x "$OLDPWD/$archive" && ar x "$(dirname "$(rt doc)")/c/liblibc_c.a")
 rm -f "$folder/libaltstore.a"
 ar rcsD "$folder/libaltstore.a" "$scratch"/*.o
-exported='altstore_new altstore_load altstore_load_bytes altstore_ask altstore_length altstore_answers altstore_save altstore_close'
+exported='altstore_new altstore_load altstore_load_bytes altstore_ask altstore_length altstore_answers
+    altstore_save altstore_close'
 {
     echo '{ global:'
     for it in $exported; do
@@ -42,7 +43,8 @@ exported='altstore_new altstore_load altstore_load_bytes altstore_ask altstore_l
     done
     echo 'local: *; };'
 } >"$scratch/exported"
-cc -shared -Wl,-soname,"$shared" -Wl,--build-id=none -Wl,-s -Wl,--version-script="$scratch/exported" -o "$folder/$shared" \
+cc -shared -Wl,-soname,"$shared" -Wl,--build-id=none -Wl,-s -Wl,--version-script="$scratch/exported" \
+    -o "$folder/$shared" \
     -Wl,--whole-archive "$folder/libaltstore.a" -Wl,--no-whole-archive
 echo libaltstore.a
 echo "$shared"

@@ -54,7 +54,8 @@ mv "$root/usr" "$scratch/$archive"
 # In an archive that is unpacked anywhere the folder of the libraries is told by the place of the file.
 sed -i 's,^prefix=.*,prefix=${pcfiledir}/../..,' "$scratch/$archive"/lib/pkgconfig/*.pc
 date_all "$scratch/$archive"
-tar -C "$scratch" --sort=name --format=ustar --owner=0 --group=0 --numeric-owner -cf - "$archive" | gzip -9n >"$folder/$archive.tar.gz"
+tar -C "$scratch" --sort=name --format=ustar --owner=0 --group=0 --numeric-owner -cf - "$archive" |
+    gzip -9n >"$folder/$archive.tar.gz"
 mv "$scratch/$archive" "$root/usr"
 sed -i 's,^prefix=.*,prefix=/usr,' "$root"/usr/lib/pkgconfig/*.pc
 

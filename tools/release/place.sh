@@ -53,8 +53,8 @@ END
     done
 }
 
-# The program that lies in out/ is that of these sources, as `./altctl` has seen to. If nothing can be written there, it is the
-# one of dist/.
+# The program that lies in out/ is that of these sources, as `./altctl` has seen to. If nothing can be written there, it
+# is the one of dist/.
 find_program() {
     ./altctl --version >"$scratch/version"
     program=crates/altctl/out/altctl

@@ -9,7 +9,8 @@ It also installs the package in a small Debian of its own, a copy of ROOT or one
 systemd-nspawn, and does there what a new user does: the sessions of the README, a service under systemd, an upgrade, a
 removal. This takes the rights of root.
 
-What is not installed is skipped, with a line that says so; all of it is if the program of these sources is not built."""
+What is not installed is skipped, with a line that says so; all of it is if the program of these sources is not
+built."""
 import os
 import re
 import shutil
@@ -75,7 +76,9 @@ def run(*words, **how):
 
 
 def is_there(*words):
-    return not any(subprocess.run(["sh", "-c", f"command -v {it}"], stdout=subprocess.DEVNULL).returncode for it in words)
+    return not any(
+        subprocess.run(["sh", "-c", f"command -v {it}"], stdout=subprocess.DEVNULL).returncode for it in words
+    )
 
 
 def is_built():
@@ -124,7 +127,8 @@ def copied(folder):
 
 
 class InRoot(documents.Run):
-    """The sessions of a document inside another root, where the program is installed. `enter` are the words that lead there."""
+    """The sessions of a document inside another root, where the program is installed. `enter` are the words that lead
+    there."""
 
     def __init__(self, root, enter):
         self.enter, self.status, self.differences = enter, 0, 0
@@ -157,7 +161,11 @@ class PackageTests(unittest.TestCase):
             archive.extractall(cls.unpacked)
             cls.entries = archive.getmembers()
         (cls.prefix,) = cls.unpacked.iterdir()
-        cls.variables = {**os.environ, "PATH": f"{cls.prefix}/bin{os.pathsep}{os.environ['PATH']}", "PYTHONDONTWRITEBYTECODE": "1"}
+        cls.variables = {
+            **os.environ,
+            "PATH": f"{cls.prefix}/bin{os.pathsep}{os.environ['PATH']}",
+            "PYTHONDONTWRITEBYTECODE": "1",
+        }
 
     @classmethod
     def tearDownClass(cls):
@@ -193,7 +201,11 @@ class PackageTests(unittest.TestCase):
     @unittest.skipUnless(is_there("pkg-config"), "pkg-config is not installed")
     def test_programs_are_built_and_run(self):
         (self.folder / "c.c").write_text(PROGRAM_IN_C)
-        found = {**self.variables, "PKG_CONFIG_PATH": f"{self.prefix}/lib/pkgconfig", "LD_LIBRARY_PATH": f"{self.prefix}/lib"}
+        found = {
+            **self.variables,
+            "PKG_CONFIG_PATH": f"{self.prefix}/lib/pkgconfig",
+            "LD_LIBRARY_PATH": f"{self.prefix}/lib",
+        }
         for name, words in ("shared", "--cflags --libs"), ("static", "--cflags --libs --static"):
             link = "-static" if name == "static" else ""
             run("sh", "-c", f"cc {link} -o {name} c.c $(pkg-config {words} altctl)", cwd=self.folder, env=found)
@@ -208,7 +220,11 @@ class PackageTests(unittest.TestCase):
         if not (self.prefix / "lib/libaltstore.a").exists():
             self.skipTest("the archive of libaltstore is not built")
         (self.folder / "memory.c").write_text(IN_MEMORY_IN_C)
-        found = {**self.variables, "PKG_CONFIG_PATH": f"{self.prefix}/lib/pkgconfig", "LD_LIBRARY_PATH": f"{self.prefix}/lib"}
+        found = {
+            **self.variables,
+            "PKG_CONFIG_PATH": f"{self.prefix}/lib/pkgconfig",
+            "LD_LIBRARY_PATH": f"{self.prefix}/lib",
+        }
         run("sh", "-c", "cc -o memory memory.c $(pkg-config --cflags --libs altstore)", cwd=self.folder, env=found)
         self.assertEqual("0\n", run(self.folder / "memory", env=found))
         found["PYTHONPATH"] = f"{self.prefix}/lib/python3/dist-packages"
@@ -309,7 +325,10 @@ class RootTests(unittest.TestCase):
 
     @classmethod
     def boot(cls):
-        words = ["systemd-nspawn", "--quiet", "--register=no", "--keep-unit", "--private-network", "-D", str(cls.root), "--boot"]
+        words = [
+            "systemd-nspawn", "--quiet", "--register=no", "--keep-unit", "--private-network", "-D", str(cls.root),
+            "--boot",
+        ]
         how = {"stdin": subprocess.DEVNULL, "stdout": subprocess.DEVNULL, "stderr": subprocess.DEVNULL}
         cls.machine = subprocess.Popen(words, start_new_session=True, **how)
         cls.addClassCleanup(cls.halt)
@@ -317,8 +336,8 @@ class RootTests(unittest.TestCase):
         while True:
             found = Path(f"/proc/{cls.machine.pid}/task/{cls.machine.pid}/children").read_text().split()
             cls.enter = ["nsenter", "-t", *found[:1], "-m", "-u", "-i", "-n", "-p", "-C", "env", *IN_ROOT_ENV]
-            is_up = found and subprocess.run([*cls.enter, "systemctl", "is-active", "--quiet", "multi-user.target"], **how).returncode == 0
-            if is_up:
+            asked = [*cls.enter, "systemctl", "is-active", "--quiet", "multi-user.target"]
+            if found and subprocess.run(asked, **how).returncode == 0:
                 return
             if cls.machine.poll() is not None or time.monotonic() > late:
                 raise unittest.SkipTest("the root cannot be booted here")
@@ -336,14 +355,18 @@ class RootTests(unittest.TestCase):
             cls.machine.wait()
 
     def said(self, *words, input=None, status=0):
-        ran = subprocess.run([*self.enter, *words], input=input, stdout=subprocess.PIPE, stderr=subprocess.STDOUT, text=True, timeout=300)
+        ran = subprocess.run(
+            [*self.enter, *words], input=input, stdout=subprocess.PIPE, stderr=subprocess.STDOUT, text=True, timeout=300
+        )
         self.assertEqual(status, ran.returncode, ran.stdout)
         return ran.stdout
 
     def ask(self, who, *lines, status=0):
         """The answers that a user gets at the socket."""
         text = "".join(f"{it}\n" for it in lines)
-        return self.said("runuser", "-u", who, "--", "nc", "-N", "-U", "/run/altserve/map.sock", input=text, status=status).splitlines()
+        return self.said(
+            "runuser", "-u", who, "--", "nc", "-N", "-U", "/run/altserve/map.sock", input=text, status=status
+        ).splitlines()
 
     def test_from_the_first_day_to_the_removal(self):
         self.said("dpkg", "--install", "/first.deb")
@@ -355,7 +378,9 @@ class RootTests(unittest.TestCase):
         self.assertIn("the stores in /var/lib/altserve are kept", self.said("dpkg", "--purge", "zonegrater"))
         self.said("systemctl", "is-active", "altserve@map.service", status=3)
         names = {it.name for it in (self.root / "var/lib/altserve").iterdir()}
-        self.assertLessEqual({"map.alt", "map.alt.journal", "map.alt.backups", "map.alt.archives", "map.alt.rules"}, names)
+        self.assertLessEqual(
+            {"map.alt", "map.alt.journal", "map.alt.backups", "map.alt.archives", "map.alt.rules"}, names
+        )
         # And installed again it goes on.
         self.said("dpkg", "--install", "/first.deb")
         self.said("systemctl", "start", "altserve@map.socket")
@@ -377,11 +402,17 @@ class RootTests(unittest.TestCase):
             self.said("useradd", "--create-home", name)
         for line in commands.splitlines():
             self.said("sh", "-c", line)
-        (self.root / "var/lib/altserve/map.alt.rules").write_text('backup = ["*"]\narchive = ["*"]\n[change]\n"*" = ["anna"]\n')
+        (self.root / "var/lib/altserve/map.alt.rules").write_text(
+            'backup = ["*"]\narchive = ["*"]\n[change]\n"*" = ["anna"]\n'
+        )
         self.assertEqual(["ok", "ok"], [it[:2] for it in self.ask("anna", "put top 1 1 a", "backup one")])
         self.assertIn("Permission denied", self.ask("berta", "blocks", status=1)[0])
-        processes = self.said("sh", "-c", "cat /sys/fs/cgroup/systemd/system.slice/system-altserve.slice/*/cgroup.procs || "
-                              "cat /sys/fs/cgroup/system.slice/system-altserve.slice/*/cgroup.procs").split()
+        processes = self.said(
+            "sh",
+            "-c",
+            "cat /sys/fs/cgroup/systemd/system.slice/system-altserve.slice/*/cgroup.procs || "
+            "cat /sys/fs/cgroup/system.slice/system-altserve.slice/*/cgroup.procs",
+        ).split()
         owner = self.said("stat", "-c", "%U", *(f"/proc/{it}" for it in processes if it.isdigit()))
         self.assertEqual({"altserve"}, set(owner.split()))
         self.assertIn("altserve: ", self.said("journalctl", "-u", "altserve@map", "--no-pager"))
@@ -398,7 +429,10 @@ class RootTests(unittest.TestCase):
         """A service that is at work goes on in the new version with all that it had."""
         before = self.said("systemctl", "show", "-P", "MainPID", "altserve@map")
         self.said("dpkg", "--install", "/second.deb")
-        self.assertEqual(["ok", "record 1 1 a", "record 1 2 b", "record 1 3 c", "end 3"], self.ask("anna", "put top 1 3 c", "list top"))
+        self.assertEqual(
+            ["ok", "record 1 1 a", "record 1 2 b", "record 1 3 c", "end 3"],
+            self.ask("anna", "put top 1 3 c", "list top"),
+        )
         self.assertNotEqual(before, self.said("systemctl", "show", "-P", "MainPID", "altserve@map"))
         self.assertIn("entry 2 ", self.ask("anna", "log")[0])
 
@@ -416,7 +450,9 @@ class Aarch64Tests(unittest.TestCase):
 
     @classmethod
     def setUpClass(cls):
-        if not all(any(TOP.glob(f"crates/{it}/out/rlib/stamp")) for it in run(TOP / "tools/sources.sh", "crates").split()[:-1]):
+        if not all(
+            any(TOP.glob(f"crates/{it}/out/rlib/stamp")) for it in run(TOP / "tools/sources.sh", "crates").split()[:-1]
+        ):
             raise unittest.SkipTest("the libraries for aarch64 are not built: tools/build.sh does it")
         cls.temporary = tempfile.TemporaryDirectory()
         cls.addClassCleanup(cls.temporary.cleanup)

@@ -11,9 +11,9 @@ use Rattle.vm_disk.specs.declared.disk.Disk.{Ghosts}
 use Rattle.vm_store.specs.Copies.{ComesBefore, IsOfCopy, in_blocks}
 use Rattle.vm_store.specs.NewStore.{IsBadSize}
 use Rattle.vm_store.specs.Recovery.{OpensWhole}
-use Rattle.vm_store.specs.Refused.{IsStore}
 use Rattle.vm_store.specs.Store.{disk_of}
 use Rattle.vm_store.specs.declared.store.Store.{Store}
+use Rattle.vm_cli.specs.Sessions.{IsAnyStore}
 use Rattle.vm_cli.specs.Copies.{ComesBack, CopiesOnto, DropsCopy, IsInUse, IsNamed, MakesCopy, NamesCopy, RefusesCopy, ToldOfCopy, used_of}
 use Rattle.vm_cli.specs.Exits.{Tells, copied_text, file_text, part_of, refused_text}
 use Rattle.vm_cli.specs.Places.{Creates, KeepsBut, KeepsOthers, Lacks, Links, PlaceState, Removes, TakesBack}
@@ -26,7 +26,7 @@ apart_from name other files contents there absent is = let no : None ≡ Some co
 
 -- why a copy is refused, from what its call says of each refusal
 pub why_none : (blocks : ℕ) (start end : DiskState) (refusal : Refusal) → IsOfCopy refusal → refusal ≢ Failed → (refusal ≡ BadSize → IsBadSize blocks start.blocks)
-    → (ComesBefore refusal → end ≡ start) → (refusal ≡ AlreadyAStore → IsStore start.now.contents) → refusal ≢ Device → refusal ≢ Full → RefusesCopy blocks start end refusal
+    → (ComesBefore refusal → end ≡ start) → (refusal ≡ AlreadyAStore → IsAnyStore start.now.contents) → refusal ≢ Device → refusal ≢ Full → RefusesCopy blocks start end refusal
 why_none blocks start end refusal of well size untouched already device enough = elim of [
   | inl is ↦ absurd (well is)
   | inr (inl is) ↦ subst (RefusesCopy blocks start end) (sym is) (size is, untouched (inr (inl is)))

@@ -11,14 +11,13 @@ use Rattle.vm_disk.specs.declared.disk.Disk.{Ghosts}
 use Rattle.vm_store.specs.Copies.{IsCopy, IsCopying, in_blocks}
 use Rattle.vm_store.specs.NewStore.{IsBadSize}
 use Rattle.vm_store.specs.Recovery.{OpensWhole}
-use Rattle.vm_store.specs.Refused.{IsStore}
 use Rattle.vm_store.specs.Rest.{spare_of}
 use Rattle.vm_store.specs.Store.{FromState, blocks_of, disk_of, free_of}
 use Rattle.vm_store.specs.declared.store.Store.{Store}
 use Rattle.vm_cli.specs.Exits.{Tells, copied_text, file_text, no_store_text, part_of, refused_text}
 use Rattle.vm_cli.specs.Places.{KeepsBut, KeepsOthers, PlaceState}
 use Rattle.vm_cli.specs.Openings.{HasRefused}
-use Rattle.vm_cli.specs.Sessions.{HasShown}
+use Rattle.vm_cli.specs.Sessions.{HasShown, IsAnyStore}
 use Rattle.vm_cli.specs.declared.program.Exit.{Exit}
 use Rattle.vm_cli.specs.declared.program.Exit.TheVariants.{Done, Refused, Stopped}
 use Rattle.vm_cli.specs.declared.program.opening.NoStore.{NoStore}
@@ -58,7 +57,7 @@ module _ {D : Type 0} (members : Ghosts D) where
 abbrev pub RefusesCopy : ℕ → DiskState → DiskState → Refusal → Type 0
 RefusesCopy blocks start end Memory = end ≡ start
 RefusesCopy blocks start end BadSize = IsBadSize blocks start.blocks × (end ≡ start)
-RefusesCopy blocks start end AlreadyAStore = IsStore start.now.contents
+RefusesCopy blocks start end AlreadyAStore = IsAnyStore start.now.contents
 RefusesCopy blocks start end refusal = ⊥
 
 -- the disk that came back last as the file of this name was in this state, and the file holds what it held

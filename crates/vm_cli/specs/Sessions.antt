@@ -1,15 +1,16 @@
 -- What becomes of a disk on which a store is made, or lines are answered.
-use Rattle.std.specs.Prelude.{◌≡◌, ◌↔◌, ℕ, Bool, List, true, false, Option, None, Result, Ok, Err}
+use Rattle.std.specs.Prelude.{◌≡◌, ◌↔◌, ℕ, ◌≤◌, Bool, List, length, true, false, Option, None, Result, Ok, Err}
+use Rattle.vm_types.specs.declared.sizes.TheConstants.{MIN_BLOCKS}
 use Rattle.vm_types.specs.declared.refusal.Refusal.{Refusal}
 use Rattle.vm_types.specs.declared.refusal.Refusal.TheVariants.{AlreadyAStore, BadSize, Device}
 use Rattle.vm_types.specs.State.{Seen, State, committed_of, opened}
-use Rattle.vm_disk.specs.Disk.{DiskState, Goes, NoCalls}
+use Rattle.vm_disk.specs.Disk.{Contents, DiskState, Goes, NoCalls, block}
 use Rattle.vm_disk.specs.Moments.{Leaves, Throughout}
 use Rattle.vm_disk.specs.declared.disk.Disk.{Ghosts}
-use Rattle.vm_store.specs.NewStore.{IsBadSize, IsFormatted}
+use Rattle.vm_store.specs.NewStore.{IsAnyHeader, IsBadSize, IsFormatted}
 use Rattle.vm_store.specs.Growth.{Grows}
 use Rattle.vm_store.specs.Recovery.{OpensAs}
-use Rattle.vm_store.specs.Refused.{IsAtMostSynced, IsNoStore, IsStore}
+use Rattle.vm_store.specs.Refused.{IsAtMostSynced}
 use Rattle.vm_store.specs.Shown.{Shows}
 use Rattle.vm_store.specs.Store.{Holds, disk_of, has_failed}
 use Rattle.vm_store.specs.declared.store.Store.{Store}
@@ -38,10 +39,15 @@ end_of on (Ok true) = end_refused on
 end_of on (Err Refused) = LineRefused
 end_of on (Err fault) = Stopped
 
+-- there are blocks enough for a store, and the first one is the header of one, of this format or an earlier one
+pub record IsAnyStore (x : Contents) : Type 0 where
+  pub least : MIN_BLOCKS ≤ length x
+  pub header : IsAnyHeader (block x 0)
+
 -- a store of so many blocks was made where there was none, and is shown
 pub record HasMade (old new : DiskState) (blocks : ℕ) : Type 0 where
   pub goes : Goes ⊥ old new
-  pub none : new.honest ≡ true → IsNoStore old.now.contents
+  pub none : new.honest ≡ true → IsAnyStore old.now.contents → ⊥
   pub shown : new.honest ≡ true → IsFormatted blocks new.now
 
 -- no store was made, for this reason, Device only where a call of this disk failed, and AlreadyAStore only where there is one: that stands
@@ -50,8 +56,8 @@ pub record HasMadeNone (old new : DiskState) (blocks : ℕ) (refusal : Refusal) 
   pub goes : Goes (refusal ≡ Device) old new
   pub size : refusal ≡ BadSize ↔ IsBadSize blocks old.blocks
   pub untouched : refusal ≡ BadSize → NoCalls old new
-  pub there : new.honest ≡ true → refusal ≡ AlreadyAStore → IsStore old.now.contents
-  pub stands : new.honest ≡ true → IsStore old.now.contents → new.now.contents ≡ old.now.contents
+  pub there : new.honest ≡ true → refusal ≡ AlreadyAStore → IsAnyStore old.now.contents
+  pub stands : new.honest ≡ true → IsAnyStore old.now.contents → new.now.contents ≡ old.now.contents
 
 -- this disk was opened as one that shows this, and came back: at each moment nothing has changed, or all is synced
 pub record HasShown (old new : DiskState) (seen : Seen) : Type 0 where
