@@ -1,18 +1,19 @@
-"""Bookends, which let an import fill leaves of the store whole.
+"""Bookends, which let an import fill leaves of the store.
 
-The store leaves a full leaf as it is if what comes is behind all of its records, and halves it otherwise. The last
-attributes of a layer share a leaf with its first geometry, or with the next layer: without bookends each further
-portion of attributes came before those, and left half leaves behind. A bookend is a record too large for a leaf with
-others. While a layer comes in, one stands behind its attributes and one behind its geometry."""
+The store keeps a full leaf as it is if a record comes that is behind all others in it, and halves it otherwise. An
+import puts a thousand features at a time, their attributes and then their geometry. The last attributes share a leaf
+with the first geometry, or with the layer of the next table, so without bookends the next thousand would come before
+those, and leave half-full leaves behind. A bookend is a record so long that hardly another one has room in its leaf.
+While features come in, one stands behind all attributes of their table, and one behind all geometry."""
 from typing import Dict, Tuple
 
 from maps.records import GEOMETRY, LONGEST
 
 BEHIND = 2**64 - 1  # No feature has so high a number.
-MANY = 100  # new features: for fewer, the two leaves that bookends may leave nearly empty are not worth it.
+MANY = 100  # New features of a thousand, at least. For fewer, the leaves that bookends cut in two cost too much.
 
 
 def bookends(store, alt: str, table: int) -> Dict[Tuple[int, int], bytes]:
-    """The bookends of a table, but for one whose place somebody has given to another record."""
+    """The bookends of a table. Where somebody has put a record in the place of one, it is left out."""
     keys = (table, BEHIND), (table + GEOMETRY, BEHIND)
     return {key: b"-" * LONGEST for key in keys if store.get(alt, *key) is None}

@@ -95,6 +95,7 @@ class Staging:
         return {it.name for it in self._store.alternatives()}
 
     def _make(self, alt, records):
+        """Removes and puts records in the order in which they were given."""
         for is_gone, its in itertools.groupby(records, lambda it: it[1] is None):
             if is_gone:
                 self._store.remove_many(alt, [key for key, _ in its])

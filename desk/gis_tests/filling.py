@@ -44,7 +44,7 @@ class FillingTests(AltgisCase):
             tables.setdefault(it.table, []).append(it)
         due = {at: count for table, count in counts.items() for at in (table, table + 100)}
         self.assertEqual({0: len(counts), **due}, {table: len(its) for table, its in tables.items()})
-        # Besides these a root, and leaves that an import has begun in the middle of another one, or bookends left.
+        # Besides these the blocks above them, and leaves that bookends or the next table have cut in two.
         most = sum(map(most_leaves, tables.values())) + 1 + 2 * len(tables)
         self.assertLess(self.in_use(), most)
 
