@@ -19,7 +19,7 @@ from itertools import accumulate
 
 BLOCK, FIRST = 4096, 34
 LEAST, MOST = 64, 1 << 20
-# A leaf has an entry of 12 bytes for each record and the values behind them, so many bytes in all at most.
+# A leaf has an entry of 12 bytes for each record and the values behind them: at most this many bytes.
 ENTRY, LEAF_ROOM, LONGEST = 12, 4080, 4000
 CHILD, FAN = 14, 256
 # So many blocks have to be spare for each record that is changed.
@@ -528,7 +528,7 @@ def slot_in(disk, slot):
 
 
 def is_leaf(text, count):
-    """Whether a block that begins like a leaf of so many records is one."""
+    """Whether a block that begins like a leaf of this many records is one."""
     if not 1 <= count <= LEAF_ROOM // ENTRY:
         return False
     ends = [end for _, _, end in struct.iter_unpack("<HQH", text[16 : 16 + ENTRY * count])]

@@ -88,8 +88,8 @@ def compared(programs, folder, records, steps, rounds):
 
 def main():
     words = argparse.ArgumentParser(description=__doc__.split(":")[0])
-    words.add_argument("-n", type=int, default=100000, help="so many records")
-    words.add_argument("-r", type=int, default=5, help="so many rounds")
+    words.add_argument("-n", type=int, default=100000, help="how many records")
+    words.add_argument("-r", type=int, default=5, help="how many rounds")
     words.add_argument("before")
     words.add_argument("after")
     said = words.parse_args()

@@ -90,7 +90,7 @@ def stores(altctl, folder):
 
 def main():
     words = argparse.ArgumentParser(description=__doc__.split(":")[0])
-    words.add_argument("-n", type=int, action="append", help="so many records, in place of 100,000 and a million")
+    words.add_argument("-n", type=int, action="append", help="how many records, in place of 100,000 and a million")
     words.add_argument("altctl", nargs="?", default=os.path.join(TOP, "altctl"))
     said = words.parse_args()
     with tempfile.TemporaryDirectory() as folder:
