@@ -12,7 +12,6 @@ from altctl import Refusal
 
 OWN, TABLE = ".designs", 1
 FIELDS = ("title", "owner", "status", "note")
-STATUSES = ("planned", "in work", "for approval", "approved", "built", "dropped")
 MOST = 500  # characters of a text
 NO_ALTERNATIVE, IS_THERE = 1, 2
 

@@ -94,7 +94,8 @@ class Designs:
         if verb == "post" and alt.startswith(maps.IMPORTS):
             return False
         if is_own_line(entry.line):
-            if alt == places.OWN and verb in ("renew", "new"):  # The index is made anew: where features lie is read again.
+            # The index is made anew: where features lie is read again.
+            if alt == places.OWN and verb in ("renew", "new"):
                 self.designs, self.indexes = {}, {}
             if alt == places.OWN:
                 self.indexed = entry.batch

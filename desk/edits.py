@@ -111,8 +111,10 @@ def describe(designs, alt, it, person):
 
 
 def send(designs, alt, update, text, person):
-    """Sends an update of records as a batch, and keeps how to undo it."""
+    """Sends an update of records as a batch, and keeps how to undo it. If nothing is to change there is none."""
     gone = update.gone()
+    if not update.put and not gone:
+        return
     before = dict(zip([*update.put, *gone], designs.store.get_many(alt, [*update.put, *gone])))
     after = {**update.put, **dict.fromkeys(gone)}
     put_records(designs, alt, after, person)

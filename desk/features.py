@@ -65,11 +65,13 @@ def read_all(store, at, features):
 
 
 def set_feature(update, layer, key, it):
-    """Gives a feature its attributes and its course. What is not said stays."""
+    """Gives a feature its attributes and its course. A field whose text is None gets no value, and what is not said
+    stays."""
     (table, number), names = key, maps.Fields(layer)
     attributes = names.named(maps.value_at(update.old, *key) or b"{}")
     for name, text in it.get("values", {}).items():
-        attributes[name] = typed(text, names.by_name.get(name), attributes.get(name))
+        old = attributes.get(name)
+        attributes[name] = None if text is None else typed(text, names.by_name.get(name), old)
     shape = table + GEOMETRY, number
     course = wkb_of(it["course"], layer) if "course" in it else maps.value_at(update.old, *shape)
     update.set(table, number, names.packed(attributes))

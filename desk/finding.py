@@ -1,8 +1,9 @@
-"""Finding features by what their fields say, and which values a field has. The attributes of a table lie in memory as one text,
-which is searched in a few hundredths of a second even if it has 200,000 features.
+"""Finding features by what their fields say, and which values a field has. The attributes of a table lie in memory as
+one text, which is searched in a few hundredths of a second even if it has 200,000 features.
 
-The text is that of the alternative `.places`, which nobody edits: what a design has otherwise `diff .places DESIGN` tells, so what is
-found is never out of date. Without an index the text is of the design itself, and is read anew after each change."""
+The text is that of the alternative `.places`, which nobody edits: what a design has otherwise `diff .places DESIGN`
+tells, so what is found is never out of date. Without an index the text is of the design itself, and is read anew after
+each change."""
 import bisect
 from typing import NamedTuple
 
@@ -65,7 +66,8 @@ def read_texts(store, source, layer, in_pieces):
 
 
 class Finder:
-    """The texts that were read. Reading one takes a few seconds for 200,000 features, so the desk does it beside its other work."""
+    """The texts that were read. Reading one takes a few seconds for 200,000 features, so the desk does it beside its
+    other work."""
 
     def __init__(self):
         self.texts = {}
@@ -98,7 +100,8 @@ class Finder:
         changed = {}
         if source.at != alt:
             rows = {(it.table, it.number): it.after for it in designs.store.diff(source.at, alt, source.table)}
-            records = maps.with_parts(designs.store, alt, {key: value for key, value in rows.items() if value is not None})
+            there = {key: value for key, value in rows.items() if value is not None}
+            records = maps.with_parts(designs.store, alt, there)
             changed = {key[1]: places.safe_value(records, key) for key in rows}
         found = []
         number = int(wanted) if wanted.isdigit() and len(wanted) < 20 else None
@@ -138,5 +141,7 @@ class Finder:
         for source in self.sources(designs, alt):
             if source.table == table and source in self.texts:
                 its = self.texts[source].values
-                return {name: sorted(known, key=known.get, reverse=True) for name, known in its.items() if known is not None}
+                return {
+                    name: sorted(known, key=known.get, reverse=True) for name, known in its.items() if known is not None
+                }
         return {}

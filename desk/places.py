@@ -1,17 +1,17 @@
 """An index of places: where the features of a map lie, so that a window of it is found by a few pages.
 
-The index is kept in an alternative of its own, `.places` under `top`: it describes the geometry that this alternative shows.
-So no design shows the index, merges it or is in conflict at it, and the index is never wrong: where a design has another geometry
-than `.places`, whoever has put it, `diff .places DESIGN` tells so. The fewer that are, the quicker the desk is, so an import into
-`top` renews the index, and the desk does once there are many.
+The index is kept in an alternative of its own, `.places` under `top`: it describes the geometry that this alternative
+shows. So no design shows the index, merges it or is in conflict at it, and the index is never wrong: where a design has
+another geometry than `.places`, whoever has put it, `diff .places DESIGN` tells so. The fewer that are, the quicker the
+desk is, so an import into `top` renews the index, and the desk does once there are many.
 
 | Record of `.places` | Its value |
 |---|---|
-| (65000 + T, n) | page n of table T: 166 features at most, each its number (u64) and its west, south, east and north (f32) |
+| (65000 + T, n) | page n of table T: 166 features at most, of each its number (u64), west, south, east, north (f32) |
 | (65100 + T, n) | the bounds of 250 pages, the first one of which is 250 n |
 
-Bounds are rounded outwards. Large features come first, and among those of like size the near ones are together, by the Morton code
-of their middles. All numbers are little-endian."""
+Bounds are rounded outwards. Large features come first, and among those of like size the near ones are together, by the
+Morton code of their middles. All numbers are little-endian."""
 import contextlib
 from array import array
 
@@ -33,8 +33,9 @@ PER_PAGE, PER_HEAD = maps.LONGEST // PAGE.itemsize, maps.LONGEST // HEAD.itemsiz
 MOST_PAGES = 120  # that one window reads
 FARTHEST = 1e12  # No coordinate system counts so far, and from 1e38 on a bound would be infinite.
 TRIES = 3  # of a renewal, if others change `top` meanwhile
-CHANGED = 103
-STRAIGHT = range(1, 8)  # Points to collections: of these the bounds are those of their points. A curve goes beyond them.
+NO_CHECKPOINT, DENIED, CHANGED = 3, 90, 103
+# Points to collections: of these the bounds are those of their points. A curve goes beyond them.
+STRAIGHT = range(1, 8)
 
 
 def geometry_of(value):
@@ -148,8 +149,8 @@ class Index:
         return union(self.pages)
 
     def window(self, *window):
-        """As `Places` has it. Where the window has too many pages, the first ones, of the largest features, are read, and of the
-        others some that are spread evenly."""
+        """As `Places` has it. Where the window has too many pages, the first ones, of the largest features, are read,
+        and of the others some that are spread evenly."""
         due = numpy.nonzero(touching(self.pages, *window))[0]
         some = due
         if len(due) > MOST_PAGES:
@@ -190,7 +191,8 @@ def scanned(store, at, table):
 
 
 def moved(store, old, new, table):
-    """The features with another geometry in a version than in an older one, and their bounds there, None where they have none."""
+    """The features with another geometry in a version than in an older one, and their bounds there, None where they
+    have none."""
     rows = {(it.table, it.number): it.after for it in store.diff(old, new, table + GEOMETRY)}
     records = maps.with_parts(store, new, {key: value for key, value in rows.items() if value is not None})
     return {key[1]: box_of(safe_value(records, key)) for key in rows}
@@ -220,7 +222,8 @@ def packed(numbers, boxes):
     entries["box"] = rounded
     pages = [entries[at : at + PER_PAGE] for at in range(0, len(entries), PER_PAGE)]
     heads = numpy.array([union(it["box"]) for it in pages], "<f4")
-    return [it.tobytes() for it in pages], [heads[at : at + PER_HEAD].tobytes() for at in range(0, len(heads), PER_HEAD)]
+    groups = [heads[at : at + PER_HEAD] for at in range(0, len(heads), PER_HEAD)]
+    return [it.tobytes() for it in pages], [it.tobytes() for it in groups]
 
 
 def spread(numbers):
@@ -235,6 +238,7 @@ def renew(store, is_service, fresh=None):
     """Makes the index anew for what `top` shows. Where the features of a table lie is told by `fresh`, or else by the
     old index and by what has moved since. For a service that is one batch, which is refused if `top` has changed since
     it was looked at: then it is looked at again."""
+    forget_mark(store)
     if OWN not in {it.name for it in store.alternatives()}:
         store.new(OWN, "top")  # So all of it can be read while others go on.
     fresh, seen = fresh or {}, {OWN: store.batches()} if is_service else {}
@@ -255,6 +259,17 @@ def renew(store, is_service, fresh=None):
             if refusal.number != CHANGED or refusal.detail.startswith(f"{OWN} ") or tries == 1:
                 raise
     store.commit()
+
+
+def forget_mark(store):
+    """Removes the checkpoint of `top` that an older desk has left if it was stopped while it made the index: it keeps
+    all blocks that `top` had then. Whoever may not change `top` leaves it for others to remove."""
+    if OWN in store.checkpoints("top"):
+        try:
+            store.uncheck("top", OWN)
+        except Refusal as refusal:
+            if refusal.number not in (NO_CHECKPOINT, DENIED):
+                raise
 
 
 def stored(store, table):

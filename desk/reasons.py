@@ -2,7 +2,6 @@
 line or the word that it was about, with what the system or the program said."""
 import os
 import sys
-from typing import Iterator
 
 # A line of the store may have a megabyte.
 LONGEST = 200
@@ -30,15 +29,25 @@ def why(fault: BaseException) -> str:
     return f"{said}: {reason}" if reason else said
 
 
-def owners(file: str) -> Iterator[str]:
-    """The processes that have a file's lock, as far as they can be seen."""
-    found = os.stat(file)
-    place = f"{os.major(found.st_dev):02x}:{os.minor(found.st_dev):02x}:{found.st_ino}"
-    with open("/proc/locks") as locks:
-        numbers = {it.split()[4] for it in locks if it.split()[5:6] == [place]}
-    for number in sorted(numbers):
-        try:
-            with open(f"/proc/{number}/comm") as name:
-                yield f"process {number} ({name.read().strip()})"
-        except OSError:
-            yield f"process {number}"
+def owners(file: str) -> str:
+    """Who has a file's lock, as far as that can be seen. It may be on another machine, and a service under systemd sees
+    no list of locks."""
+    try:
+        found = os.stat(file)
+        with open("/proc/locks") as locks:
+            rows = [it.split() for it in locks]
+    except OSError:
+        rows = []
+    else:
+        place = f"{os.major(found.st_dev):02x}:{os.minor(found.st_dev):02x}:{found.st_ino}"
+        rows = [it for it in rows if it[5:6] == [place]]
+    return ", ".join(map(process, sorted({it[4] for it in rows}))) or "a process that is not seen from here"
+
+
+def process(number: str) -> str:
+    """A process, with its name if that can be seen."""
+    try:
+        with open(f"/proc/{number}/comm") as name:
+            return f"process {number} ({name.read().strip()})"
+    except OSError:
+        return f"process {number}"

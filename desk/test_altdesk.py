@@ -36,12 +36,14 @@ from desk_tests.test_designs import DesignsTests, IndexedDesignsTests
 from desk_tests.test_door import DoorTests
 from desk_tests.test_drawing import DrawingTests
 from desk_tests.test_journal import JournalTests
+from desk_tests.test_late import LateTests
 from desk_tests.test_looking import LookingTests
 from desk_tests.test_office import OfficePageTests, OfficeTests
 from desk_tests.test_page import PageTests
 from desk_tests.test_people import TogetherTests, TwoPeopleTests, UnseenTests
 from desk_tests.test_pieces import PiecesTests, ReadingTests
-from desk_tests.test_renewals import RenewalRightsTests, RenewalTests
+from desk_tests.test_renewals import RenewalOfFileTests, RenewalRightsTests, RenewalTests
+from desk_tests.test_rounds import RoundsTests
 from desk_tests.test_service import ServicePageTests
 from desk_tests.test_window import ManyFeaturesTests, WhatIsNotDrawnTests
 

@@ -31,6 +31,7 @@ from gis.words import read_words
 from gis_tests.batches import BatchesTests
 from gis_tests.cases import ALTCTL, DUCTS, THREE, AltgisCase, change, field, polygon, program, system, write
 from gis_tests.bringing import BringingTests
+from gis_tests.filling import FillingTests
 from gis_tests.interrupting import InterruptionTests
 from gis_tests.planning import PlanningTests
 from gis_tests.postgis import PostgisTests

@@ -180,8 +180,8 @@ class Desk:
         return answer
 
     async def read_texts(self, alt):
-        """Reads the texts of a design's tables on a connection of their own: that may take a few seconds, so it stands still
-        while somebody asks."""
+        """Reads the texts of a design's tables on a connection of their own: that may take a few seconds, so it stands
+        still while somebody asks."""
 
         def read(missing):
             with Store(f"unix:{self.path}") as store:

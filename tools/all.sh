@@ -40,6 +40,9 @@ has_rt() {
 INTERRUPTIONS=25
 [ -z "$quick" ] || INTERRUPTIONS=2
 export INTERRUPTIONS
+# How many rounds two planners edit the same ducts in two browsers. 200 take half an hour.
+ROUNDS=${ROUNDS:-12}
+export ROUNDS
 # The program is there before the time of a script is taken.
 "$tools/../altctl" --help >/dev/null || { echo 'all: altctl could not be built'; exit 1; }
 try 600 gate/uncited.py
@@ -77,6 +80,7 @@ else
     try 300 faults/kill.py "$tools/../altctl" 60
     try 300 faults/kill_copy.py
     try 600 faults/crashes.py
+    try 600 faults/largest.py
     try 300 faults/space.py
     try 600 faults/failing_device.py
     try 600 faults/failed_sync.py

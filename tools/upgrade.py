@@ -32,7 +32,7 @@ import sys
 import tempfile
 from typing import BinaryIO, Dict, Iterable, Iterator, List, NamedTuple, Optional, Tuple
 
-BLOCK, FIRST, LEAST, MOST = 4096, 34, 64, 1 << 20
+BLOCK, FIRST, LEAST, MOST = 4096, 34, 64, 1 << 26
 HEAD, ROW, ROWS, SHORT, LONGEST, LONG_HEAD = 16, 252, 16, 240, 4000, 26
 CHILD, CHILDREN, LEVELS = 14, 256, 8
 CELL, ENTRIES = 128, 511

@@ -637,7 +637,7 @@ static int created(uint32_t blocks, alt_details *details)
 {
     if (details->status == 0)
         return ALT_OK;
-    if (details->status == 2 && (blocks < 64 || blocks > 1 << 20))
+    if (details->status == 2 && (blocks < 64 || blocks > 1 << 26))
         return ALT_BAD_SIZE;
     return details->status == 1 || details->status == 2 ? ALT_CANNOT_CREATE : end_of(details);
 }

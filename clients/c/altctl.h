@@ -153,7 +153,7 @@ typedef struct {
 
 /* --- opening and closing --------------------------------------------------------------------------- */
 
-/* Makes a store of 64 to 1,048,576 blocks of 4,096 bytes in a new file. */
+/* Makes a store of 64 to 67,108,864 blocks of 4,096 bytes in a new file. */
 int alt_create(const char *file, uint32_t blocks, const alt_options *options);
 
 typedef struct {

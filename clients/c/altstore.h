@@ -47,7 +47,7 @@ enum {
     ALTSTORE_FAILED = 17,        /* the store has failed: close it. Only a `grow` beyond its room makes it fail */
     ALTSTORE_DAMAGED = 18,       /* the image has a damaged block */
     ALTSTORE_NOT_A_STORE = 19,   /* the image is none of a store */
-    ALTSTORE_BAD_SIZE = 21,      /* a store has 64 to 1,048,576 blocks; or the image is cut short */
+    ALTSTORE_BAD_SIZE = 21,      /* a store has 64 to 67,108,864 blocks; or the image is cut short */
     ALTSTORE_CLOSED = 101,       /* there is no store behind the handle */
     ALTSTORE_OPEN = 102,         /* there is a store behind the handle already, which stays as it is */
     ALTSTORE_UNREAD = 103,       /* the descriptor gave no byte: it is not open for reading, or was at its end */
@@ -55,7 +55,7 @@ enum {
     ALTSTORE_LINE_REFUSED = 105  /* a line was refused: its answer says why */
 };
 
-/* Opens a new store of `blocks` blocks of 4,096 bytes, 64 to 1,048,576, which `grow` may lengthen up to `room` blocks.
+/* Opens a new store of `blocks` blocks of 4,096 bytes, 64 to 67,108,864, which `grow` may lengthen up to `room` blocks.
    Memory of the system is taken as blocks are written. */
 uint32_t altstore_new(altstore *store, uint32_t blocks, uint32_t room);
 

@@ -697,6 +697,7 @@ static void what_is_no_word_is_not_sent(void)
     for (size_t at = 0; at < sizeof words / sizeof *words; at++)
         SAME(ALT_BAD_WORD, alt_new(store, words[at], "top"));
     SAME(ALT_BAD_LINE, alt_new(store, "a+b", "top"));
+    SAME_TEXT("word 2: NAME is 1 to 32 of A-Za-z0-9_.-", alt_detail(store)->said);
     SAME(ALT_BAD_LINE, alt_new(store, "a23456789012345678901234567890123", "top"));
     SAME(ALT_OK, alt_new(store, "a.b", "top"));
     SAME(ALT_OK, alt_close(store));
@@ -1346,7 +1347,7 @@ static void what_cannot_be_copied_is_told(void)
     SAME(ALT_OK, alt_close(store));
     SAME(ALT_FULL, alt_copy(file, first_copy, 64, NULL, &options));
     SAME(ALT_BAD_SIZE, alt_copy(file, first_copy, 63, NULL, &options));
-    SAME(ALT_BAD_SIZE, alt_copy(file, first_copy, (1 << 20) + 1, NULL, &options));
+    SAME(ALT_BAD_SIZE, alt_copy(file, first_copy, (1 << 26) + 1, NULL, &options));
     SAME(ALT_SYSTEM, alt_copy("/nowhere/map.alt", first_copy, 0, NULL, &options));
     SAME(ENOENT, errno);
     alt_options wrong = {.program = "/nowhere/altctl"};

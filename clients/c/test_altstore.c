@@ -76,7 +76,7 @@ static void test_sizes(void)
 {
     altstore store = ALTSTORE_CLOSED_HANDLE;
     CHECK(altstore_new(&store, 63, 63) == ALTSTORE_BAD_SIZE && !store.is_open);
-    CHECK(altstore_new(&store, 1048577, 0) == ALTSTORE_BAD_SIZE && !store.is_open);
+    CHECK(altstore_new(&store, 67108865, 0) == ALTSTORE_BAD_SIZE && !store.is_open);
     CHECK(altstore_new(&store, 64, 0) == ALTSTORE_OK && store.is_open);
     CHECK(altstore_new(&store, 64, 0) == ALTSTORE_OPEN && store.is_open);
     CHECK(asks(&store, "blocks\nalts\n", false, ALTSTORE_OK, "blocks 64\nalternative top ~\nend 1\n"));

@@ -33,7 +33,7 @@ AHEAD, PIPE = 60, 4096
 # How many records a scan asks for at once. A number has 64 bits, and a table 16.
 PAGE, NUMBER_BITS, LAST_NUMBER, LAST_TABLE = 1000, 64, 2**64 - 1, 2**16 - 1
 # How many blocks a store has at least and at most.
-LEAST_BLOCKS, MOST_BLOCKS = 64, 2**20
+LEAST_BLOCKS, MOST_BLOCKS = 64, 2**26
 
 Row = TypeVar("Row")
 Key = Tuple[int, int]
@@ -44,7 +44,7 @@ Path = Union[str, bytes, "os.PathLike[str]", "os.PathLike[bytes]"]
 class Refusal(Exception):
     """A line that was refused: `error NUMBER NAME`, and behind it a count, a block or a key, where it has one. Of
     several lines that were given at once `at` tells which one it is, 0 for the first. `line` is the line itself, where
-    it is known, and `reason` which word of a bad line is wrong."""
+    it is known, and `reason` which word of a bad line is wrong, as the program tells it, or else as the line shows."""
 
     def __init__(
         self, number: int, name: str, detail: str = "", at: Optional[int] = None, line: Optional[str] = None
@@ -55,7 +55,9 @@ class Refusal(Exception):
 
     @property
     def reason(self) -> Optional[str]:
-        return what_is_bad(self.line) if self.number == 22 and self.line is not None else None
+        if self.number != 22:
+            return None
+        return self.detail or (what_is_bad(self.line) if self.line is not None else None)
 
 
 def refusal_of(words: Sequence[str], at: Optional[int] = None, line: Optional[str] = None) -> Refusal:
@@ -204,16 +206,19 @@ FORMS = {
     "next": ["AT TABLE NUMBER COUNT"],
     "diff": ["AT AT", "AT AT TABLE", "AT AT TABLE FIRST LAST"],
 }
+# The same for people, where there are several.
+SHOWN = {"new": "NAME PARENT [CHECKPOINT]", "merge": "ALT [SETTLEMENT ..]"}
+SHOWN.update({"list": "AT [TABLE [FIRST LAST]]", "diff": "AT AT [TABLE [FIRST LAST]]"})
 # The highest number that a word may be.
 HIGHEST = {"TABLE": LAST_TABLE, "COUNT": 2**32 - 1, "BLOCKS": 2**32 - 1}
 HIGHEST.update(dict.fromkeys(["NUMBER", "FIRST", "LAST"], LAST_NUMBER))
 # The form of other words, and the same for people.
-NAME, NAMED = "[A-Za-z0-9_.-]{1,32}", "1 to 32 letters, digits, _, - and ."
+NAME, NAMED = "[A-Za-z0-9_.-]{1,32}", "1 to 32 of A-Za-z0-9_.-"
 WORDS = {
     **dict.fromkeys(["NAME", "PARENT", "CHECKPOINT", "ALT"], (NAME, NAMED)),
-    "AT": (f"{NAME}(@({NAME})?)?", f"ALT, ALT@ or ALT@CHECKPOINT, each {NAMED}"),
-    "VALUE": ("(%[0-9A-Fa-f]{2}|[^%]){1,4000}", "4,000 bytes at most, with two hexadecimal digits behind each %"),
-    "SETTLEMENT": ("([0-9]+):([0-9]+)=(mine|theirs)", "TABLE:NUMBER=mine or =theirs, or first all=mine or all=theirs"),
+    "AT": (f"{NAME}(@({NAME})?)?", "ALT, ALT@ or ALT@CHECKPOINT"),
+    "VALUE": ("(%[0-9A-Fa-f]{2}|[^%]){1,4000}", "at most 4,000 bytes, % as %25"),
+    "SETTLEMENT": ("([0-9]+):([0-9]+)=(mine|theirs)", "TABLE:NUMBER=mine|theirs"),
 }
 MOST_TOLD = 40
 
@@ -229,7 +234,8 @@ def fits(kind: str, word: str) -> bool:
 
 
 def what_is_bad(line: str) -> Optional[str]:
-    """Which word makes a line a bad one (22 BadLine), and what was expected. None if it is one of the lines."""
+    """Which word makes a line a bad one (22 BadLine), and what was expected; the program says the same, with the word's
+    place for the word. None if it is one of the lines."""
     verb, *words = line.split()
     if verb not in FORMS:
         return f"{verb}: there is no such line"
@@ -240,11 +246,11 @@ def what_is_bad(line: str) -> Optional[str]:
         kinds = [["ALT", *["SETTLEMENT"] * (len(words) - 1)]]
     found = next((it for it in kinds if len(it) == len(words)), None)
     if found is None:
-        return f"{verb} takes {' or '.join(FORMS[verb]) or 'no other word'}"
+        return f"{verb} takes {SHOWN.get(verb) or FORMS[verb][0] or 'no other word'}"
     for kind, word in zip(found, words):
         if not fits(kind, word):
-            due = WORDS[kind][1] if kind in WORDS else f"a number from 0 to {HIGHEST[kind]}"
-            return f"{word if len(word) <= MOST_TOLD else word[:MOST_TOLD] + '..'} is no {kind}: {due}"
+            due = WORDS[kind][1] if kind in WORDS else f"0 to {HIGHEST[kind]}"
+            return f"{word if len(word) <= MOST_TOLD else word[:MOST_TOLD] + '..'}: {kind} is {due}"
     return None
 
 

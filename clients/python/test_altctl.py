@@ -6,6 +6,7 @@ import fcntl
 import io
 import os
 import random
+import re
 import shutil
 import signal
 import subprocess
@@ -24,11 +25,12 @@ sys.path.insert(0, str(HERE))
 import altctl
 import example
 from altctl import Alternative, Change, Conflict, Copied, Ended, FORMS, Record, Refusal, Store, Tally, Tunnel, decode
-from altctl import encode, what_is_bad
+from altctl import MOST_TOLD, encode, what_is_bad
 
 F_SETPIPE_SZ = 1031  # fcntl has the name from Python 3.10 on.
 ALTCTL = os.environ.get("ALTCTL", str(HERE.parent.parent / "altctl"))
-NAMED = "1 to 32 letters, digits, _, - and ."
+NAMED = "1 to 32 of A-Za-z0-9_.-"
+NO_NUMBER, NO_VALUE = f"word 4: NUMBER is 0 to {2**64 - 1}", "word 5: VALUE is at most 4,000 bytes, % as %25"
 # Words of lines, good and bad ones, by what stands for them in FORMS; and the lines with rows of answer.
 NAMES = ["top", "a" * 32, "a" * 33, "a/b", "-", "top@", "top@a", "top@a@", "@", "%41", "~", "1"]
 NUMBERS = ["0", "7", "0" * 20, "0" * 21, "1.5", "-1"]
@@ -96,7 +98,7 @@ class StoreTests(unittest.TestCase):
             for number, value in enumerate(values):
                 store.put("top", 65535, 2**64 - 1 - number, value)
             self.assertEqual(values[::-1], [it.value for it in store.list("top")])
-            self.refused(22, "BadLine", "", store.put, "top", 1, 1, bytes(4001))
+            self.refused(22, "BadLine", NO_VALUE, store.put, "top", 1, 1, bytes(4001))
 
     def test_a_long_value_is_merged_and_committed(self):
         course, other = b"2600010.5,1200020 " * 100, b"2600010.5,1200021 " * 100
@@ -150,7 +152,8 @@ class StoreTests(unittest.TestCase):
                 store.put("a", 7, number, b"hose")
             self.refused(9, "Unsettled", "3", store.merge, "a")
             self.refused(10, "NotInConflict", "7:9", store.merge, "a", {(7, 9): "mine"}, "mine")
-            self.refused(22, "BadLine", "", store.merge, "a", None, "ours")
+            due = "word 3: SETTLEMENT is TABLE:NUMBER=mine|theirs"
+            self.refused(22, "BadLine", due, store.merge, "a", None, "ours")
             self.assertEqual(2, store.merge("a", {(7, 2): "mine"}, all="theirs"))
             self.assertEqual([b"pipe", b"hose", b"pipe"], [record.value for record in store.list("a", 7, last=3)])
             self.assertEqual(0, store.merge("a", all="mine"))
@@ -179,7 +182,7 @@ class StoreTests(unittest.TestCase):
             self.refused(6, "IsTop", "", store.tally, "top")
             self.refused(3, "NoSuchCheckpoint", "", store.get, "top@before", 7, 1)
             self.refused(1, "NoSuchAlternative", "", store.diff, "south@before", "north@nope")
-            self.refused(22, "BadLine", "", store.put, "north@", 7, 1, b"x")
+            self.refused(22, "BadLine", f"word 2: ALT is {NAMED}", store.put, "north@", 7, 1, b"x")
 
     def test_parts_and_pages_are_those_of_a_dict(self):
         rng = random.Random(7)
@@ -282,26 +285,28 @@ class StoreTests(unittest.TestCase):
     def test_what_is_no_part_is_not_asked_for(self):
         with self.open() as store:
             store.put("top", 7, 1, b"a")
-            calls = [store.list, store.scan, lambda *it: store.diff("top@", *it), lambda *it: store.next(*it, 1, 1)]
-            for call in calls:
+            # The place of the table in the line, and a call that sends one.
+            calls = [(3, store.list), (3, store.scan), (3, lambda *it: store.next(*it, 1, 1))]
+            for place, call in [*calls, (4, lambda *it: store.diff("top@", *it))]:
                 for table in ("7", 7.0, b"7", [7]):
                     self.assertRaises(TypeError, call, "top", table)
                 for table in (-1, 65536, 2**70):
-                    self.refused(22, "BadLine", "", call, "top", table)
+                    self.refused(22, "BadLine", f"word {place}: TABLE is 0 to 65535", call, "top", table)
                 self.assertRaises(ValueError, call, "top 7", 7)
                 self.refused(1, "NoSuchAlternative", "", call, "south", 7)
                 self.refused(3, "NoSuchCheckpoint", "", call, "top@nope", 7)
             for words in ([7, "1", 2], [7, 1, 2.0], [7, b"1"]):
                 self.assertRaises(TypeError, store.list, "top", *words)
                 self.assertRaises(TypeError, store.diff, "top@", "top", *words)
-            for call in (store.list, lambda *it: store.diff("top@", *it)):
+            for place, call in ((5, store.list), (6, lambda *it: store.diff("top@", *it))):
                 self.assertRaises(ValueError, call, "top", None, 1)
                 self.assertRaises(ValueError, call, "top", None, None, 1)
-                self.refused(22, "BadLine", "", call, "top", 7, 0, 2**64)
+                self.refused(22, "BadLine", f"word {place}: LAST is 0 to {2**64 - 1}", call, "top", 7, 0, 2**64)
             self.assertRaises(TypeError, store.next, "top", 7, 1, "1")
             self.assertRaises(TypeError, store.next, "top", 7, 1, None)
-            for words in ([7, 2**64, 1], [7, 1, 2**32], [7, 1, -1]):
-                self.refused(22, "BadLine", "", store.next, "top", *words)
+            self.refused(22, "BadLine", NO_NUMBER, store.next, "top", 7, 2**64, 1)
+            for count in (2**32, -1):
+                self.refused(22, "BadLine", f"word 5: COUNT is 0 to {2**32 - 1}", store.next, "top", 7, 1, count)
             self.refused(1, "NoSuchAlternative", "", store.diff, "south", "top@nope", 7)
             self.assertEqual([Record(7, 1, b"a")], list(store.next("top", 0, 0, 2**32 - 1)))
 
@@ -346,10 +351,10 @@ class StoreTests(unittest.TestCase):
 
     def test_a_store_grows(self):
         with self.open() as store:
-            for blocks in (0, 63, 64, 2**20 + 1, 2**32 - 1):
+            for blocks in (0, 63, 64, 2**26 + 1, 2**32 - 1):
                 self.refused(21, "BadSize", "", store.grow, blocks)
             for blocks in (-1, 2**32, "many"):
-                self.refused(22, "BadLine", "", store.grow, blocks)
+                self.refused(22, "BadLine", f"word 2: BLOCKS is 0 to {2**32 - 1}", store.grow, blocks)
             store.grow(128)
             self.assertEqual(94, store.free())
         with self.open() as store:
@@ -455,7 +460,7 @@ class StoreTests(unittest.TestCase):
             gone = f"{self.file}.gone"
             self.refused(13, "Full", "", store.copy, gone, copied.used - 1)
             self.refused(13, "Full", "", store.copy, gone, 64)
-            for blocks in (63, 0, -1, 2**20 + 1):
+            for blocks in (63, 0, -1, 2**26 + 1):
                 self.refused(21, "BadSize", "", store.copy, gone, blocks)
             self.assertRaises(TypeError, store.copy, gone, "64")
             self.assertFalse(os.path.exists(gone))
@@ -570,8 +575,11 @@ class StoreTests(unittest.TestCase):
             self.assertEqual([value] * 300, list(store.get_many("top", ((65535, number) for number in numbers))))
             # Lines that are long and refused, among others with long answers.
             keys = [(65535, 10**1000 if it % 2 else numbers[0]) for it in range(200)]
-            self.refused(22, "BadLine", "", lambda: list(store.get_many("top", keys)))
-            self.refused(22, "BadLine", "", lambda: store.put_many("top", ((*it, value) for it in keys)))
+            self.refused(22, "BadLine", NO_NUMBER, lambda: list(store.get_many("top", keys)))
+            self.refused(22, "BadLine", NO_NUMBER, lambda: store.put_many("top", ((*it, value) for it in keys)))
+            # The longest answer to a put.
+            keys[:] = [(65535, numbers[0])] * 200
+            self.refused(22, "BadLine", NO_VALUE, lambda: store.put_many("top", ((*it, value + b"a") for it in keys)))
             self.refused(5, "NoSuchRecord", "", lambda: store.remove_many("top", ((1, it) for it in numbers)))
             self.assertEqual(300, len(list(store.list("top"))))
             # Answers to more lines than a pipe holds.
@@ -690,9 +698,9 @@ class StoreTests(unittest.TestCase):
     def test_which_word_of_a_line_is_bad(self):
         with self.open() as store:
             for call, words, reason in (
-                (store.put, ("top", 65536, 1, b""), "65536 is no TABLE: a number from 0 to 65535"),
-                (store.new, ("a/b", "top"), f"a/b is no NAME: {NAMED}"),
-                (store.list, ("top@a@",), f"top@a@ is no AT: ALT, ALT@ or ALT@CHECKPOINT, each {NAMED}"),
+                (store.put, ("top", 65536, 1, b""), "word 3: TABLE is 0 to 65535"),
+                (store.new, ("a/b", "top"), f"word 2: NAME is {NAMED}"),
+                (store.list, ("top@a@",), "word 2: AT is ALT, ALT@ or ALT@CHECKPOINT"),
             ):
                 with self.assertRaises(Refusal) as came:
                     call(*words)
@@ -700,17 +708,23 @@ class StoreTests(unittest.TestCase):
             with self.assertRaises(Refusal) as came:
                 store.post("top")
             self.assertIsNone(came.exception.reason)
-        value = "4,000 bytes at most, with two hexadecimal digits behind each %"
-        settlement = "TABLE:NUMBER=mine or =theirs, or first all=mine or all=theirs"
         for line, reason in {
             "touch top": "touch: there is no such line",
             "put top 7 1": "put takes ALT TABLE NUMBER VALUE",
-            "list top 7 1": "list takes AT or AT TABLE or AT TABLE FIRST LAST",
+            "list top 7 1": "list takes AT [TABLE [FIRST LAST]]",
             "commit now": "commit takes no other word",
-            "put top 7 1 " + "%zz" * 50: "%zz" * 13 + f"%.. is no VALUE: {value}",
-            "merge top 7:1=ours": f"7:1=ours is no SETTLEMENT: {settlement}",
+            "put top 7 1 " + "%zz" * 50: "%zz" * 13 + "%..: VALUE is at most 4,000 bytes, % as %25",
+            "merge top 7:1=ours": "7:1=ours: SETTLEMENT is TABLE:NUMBER=mine|theirs",
         }.items():
             self.assertEqual(reason, what_is_bad(line))
+            # A service does not say what is wrong with a line that it reads itself.
+            self.assertEqual(reason, Refusal(22, "BadLine", line=line).reason)
+
+    def named(self, told, line):
+        """What the program tells of a bad line, with the word itself in the place of its number."""
+        place, rest = re.fullmatch("word ([0-9]+)(.*)", told).groups()
+        word = line.split()[int(place) - 1]
+        return (word if len(word) <= MOST_TOLD else word[:MOST_TOLD] + "..") + rest
 
     def test_the_same_lines_are_bad_for_the_program(self):
         chance, seen = random.Random(7), set()
@@ -727,7 +741,7 @@ class StoreTests(unittest.TestCase):
                 is_bad = answer[:2] == ["error", "22"]
                 while verb in OF_ROWS and answer[0] not in ("end", "error"):
                     answer = store._read()
-                self.assertEqual(is_bad, what_is_bad(line) is not None, line)
+                self.assertEqual(self.named(" ".join(answer[3:]), line) if is_bad else None, what_is_bad(line), line)
                 seen.add((verb, is_bad))
         due = {(verb, is_bad) for verb in FORMS for is_bad in (True, False)}
         self.assertEqual(due | {("touch", True), ("PUT", True)}, seen)

@@ -32,7 +32,7 @@ ALTCTL = os.path.abspath(os.environ.get("ALTCTL", DESK.parent / "altctl"))
 PICTURES = DESK.parent / "docs" / "pictures"
 CHROMIUM, DRIVER = shutil.which("chromium"), shutil.which("chromedriver")
 WORDS = sys.argv[1:]
-LONGEST_WAIT = 30
+LONGEST_WAIT = 90  # A browser on a machine with six times the work takes a minute for its first page.
 IDLE = []  # Browsers, one for each test that goes on.
 MOST_BYTES = 150_000
 
@@ -126,7 +126,8 @@ class Browser:
         self.until(lambda: self.all("#tree button") and self.all("#map path, #map canvas"))
 
     def until(self, is_so):
-        late = time.monotonic() + LONGEST_WAIT
+        """Looks again and again, ever more seldom: each look takes time of the processors that the page waits for."""
+        late, pause = time.monotonic() + LONGEST_WAIT, 0.05
         while True:
             with contextlib.suppress(Exception):  # What it looks at may be shown anew just now.
                 found = is_so()
@@ -136,7 +137,8 @@ class Browser:
                 raise AssertionError(
                     f"waited in vain; the page says: {self.driver.find_element(By.TAG_NAME, 'body').text}"
                 )
-            time.sleep(0.05)
+            time.sleep(pause)
+            pause = min(1.2 * pause, 0.5)
 
     def all(self, selector):
         return self.driver.find_elements(By.CSS_SELECTOR, selector)
@@ -156,6 +158,10 @@ class Browser:
 
     def says(self, text, where="#said"):
         self.until(lambda: text in self.all(where)[0].text)
+
+    def shows(self, texts, where):
+        """Waits until what is there has these texts."""
+        self.until(lambda: [it.text for it in self.all(where)] == texts)
 
     def confirm(self, text=None):
         """Answers the question with yes."""
@@ -369,6 +375,16 @@ class PlanningTest(DeskTest):
         if twice:
             pointer.click()
         actions.perform()
+
+    def drag(self, browser, selector, to, by=(0, 0)):
+        """Drags what lies on the map to a place, or some pixels beside it."""
+        x, y = self.pixel(browser, to)
+        node = browser.one(selector)
+        box = node.rect
+        away = round(x - box["x"] - box["width"] / 2) + by[0], round(y - box["y"] - box["height"] / 2) + by[1]
+        # Leaflet takes the first few pixels for the beginning of a drag, and moves nothing by them.
+        actions = ActionChains(browser.driver).click_and_hold(node).move_by_offset(4, 4).pause(0.1)
+        actions.move_by_offset(*away).pause(0.1).release().perform()
 
     def press(self, browser, *keys):
         ActionChains(browser.driver).send_keys(*keys).perform()

@@ -114,7 +114,8 @@ class BehindTests(DeskTest):
 
     def test_who_gets_in(self):
         self.assertEqual(0o600, stat.S_IMODE(os.stat(self.path).st_mode))
-        for names in ((), ("",), ("anna", "berta"), ("@north",), ("1000",), (".service",), ("*",), ("a b",), ("x" * 65,)):
+        several = ("anna", "berta")
+        for names in ((), ("",), several, ("@north",), ("1000",), (".service",), ("*",), ("a b",), ("x" * 65,)):
             for path in ("/", "/api/state", "/desk.js"):
                 self.assertEqual((403, "The web server has not said who you are."), self.ask(path, *names), names)
         good = [{}, {"Origin": "https://desk.example"}, {"Sec_Fetch_Site": "same-origin"}]

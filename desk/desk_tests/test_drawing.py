@@ -3,8 +3,6 @@ import json
 import time
 
 from osgeo import ogr
-from selenium.webdriver.common.action_chains import ActionChains
-from selenium.webdriver.common.by import By
 from selenium.webdriver.common.keys import Keys
 
 import maps
@@ -78,20 +76,7 @@ class DrawingTests(PlanningTest):
         browser.find(5)
         browser.click("#whole")
         browser.click("#reshape")
-        x, y = self.pixel(browser, self.chamber(10))
-        bend = browser.one("#bend-0-1")
-        box = bend.rect
-        by = round(x - box["x"] - box["width"] / 2) + 4, round(y - box["y"] - box["height"] / 2) + 3
-        # Leaflet takes the first few pixels for the beginning of a drag, and moves nothing by them.
-        drag = (
-            ActionChains(browser.driver)
-            .click_and_hold(bend)
-            .move_by_offset(4, 4)
-            .pause(0.1)
-            .move_by_offset(*by)
-            .pause(0.1)
-        )
-        drag.release().perform()
+        self.drag(browser, "#bend-0-1", self.chamber(10), (4, 3))
         browser.click("#keep-course")
         browser.says("Moved ducts 5.")
         self.assertEqual(course(self.chamber(5), self.chamber(10)), store.get("north", 107, 5))
@@ -162,23 +147,25 @@ class DrawingTests(PlanningTest):
         self.assertEqual("110", caught.exception.now["7:5"]["attributes"]["dn"])
         self.assertEqual([], list(store.changes("north")))
 
-    def test_an_edit_that_comes_too_late_is_shown_beside_the_other(self):
-        browser, other = self.opened(), self.store()
-        browser.edit(5, dn=125)
-        browser.until(lambda: browser.all("#question-yes")[0].is_displayed())
-        other.put("north", 7, 5, attributes(dn=110, mat="HDPE"))
-        browser.confirm()
-        browser.says("it has changed meanwhile")
-        rows = [
-            [it.text for it in row.find_elements(By.CSS_SELECTOR, "th, td")] for row in browser.all("#late tbody tr")
-        ]
-        self.assertEqual([["dn", "110", "110", "125"], ["mat", "PVC", "HDPE", "PVC"]], sorted(rows))
-        chosen = {it.get_attribute("name"): it.get_attribute("value") for it in browser.all("#late input:checked")}
-        self.assertEqual({"dn": "mine", "mat": "theirs"}, chosen, "what one side alone changed is chosen")
-        browser.picture("desk-late")
-        browser.click("#late-save")
-        browser.says("Changed ducts 5.")
-        self.assertEqual({"dn": 125, "mat": "HDPE"}, json.loads(other.get("north", 7, 5)))
+    def test_an_edit_that_changes_nothing_is_no_step(self):
+        self.serve()
+        store = self.store()
+        designs, person = Designs(store), Person()
+        designs.refresh()
+        batch = store.batches()
+
+        def change(**values):
+            designs.refresh()
+            before = designs.feature("north", (7, 5))["now"]
+            its = {"table": 7, "number": "5", "before": before, "values": values}
+            carry_out(designs, {"at": "north", "do": "change", "features": [its]}, person)
+
+        change(dn="110")
+        self.assertEqual((batch, {"undo": {}, "redo": {}}), (store.batches(), person.told()))
+        # A field without a value is none that is empty.
+        change(dn="125", mat=None)
+        self.assertEqual(attributes(dn=125), store.get("north", 7, 5))
+        self.assertEqual({"undo": {"north": "changed ducts 5"}, "redo": {}}, person.told())
 
     def test_a_whole_task_by_keyboard(self):
         browser, store = self.opened(), self.store()

@@ -123,10 +123,8 @@ class PageTests(DeskTest):
         browser.edit(6, dn=125)
         browser.confirm()
         browser.says("Changed ducts 6.")
-        shown = [[it.text for it in browser.all(f"#view tbody {cell}")] for cell in ("th", "td:last-child")]
-        self.assertEqual(
-            {"dn": "125", "constructor": "–", "toString": "–", "__proto__": "mine"}, dict(list(zip(*shown))[:4])
-        )
+        browser.shows(["dn", "constructor", "toString", "__proto__", "mat", "course"], "#view tbody th")
+        browser.shows(["125", "–", "–", "mine", "–", "line, 3 points"], "#view tbody td:last-child")
         self.assertEqual(b'{"__proto__":"mine","dn":"125"}', self.store().get("north", 7, 6))
 
     def test_more_conflicts_than_are_shown(self):

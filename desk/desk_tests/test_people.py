@@ -29,9 +29,11 @@ class TwoPeopleTests(DeskTest):
         anna.says("Changed ducts 5.")
         berta.edit(5, dn=160)
         berta.confirm()
+        berta.says("Changed ducts 5.")
         berta.edit(6, mat="HDPE")
         berta.confirm()
         berta.says("Changed ducts 6.")
+        berta.until(lambda: len(berta.all("path.is-changed")) == 2)
         self.assertEqual([], berta.all("path.is-conflict"))
 
         # What is posted comes to the other one, who asked for nothing.
@@ -43,12 +45,12 @@ class TwoPeopleTests(DeskTest):
 
         berta.click("#do-merge")
         berta.says("1 conflicts have no choice yet.")
-        cells = [it.text for it in berta.all("fieldset > table tbody tr:first-child td")]
-        self.assertEqual(["110", "125", "160"], cells)
+        berta.shows(["110", "125", "160"], "fieldset > table tbody tr:first-child td")
         berta.click("#view fieldset button")
         berta.click("input[value=theirs]")
+        berta.until(lambda: berta.all("fieldset input:checked"))
         berta.click("#undo")
-        self.assertEqual([], [it for it in berta.all("fieldset input") if it.is_selected()])
+        berta.until(lambda: berta.all("fieldset input") and not berta.all("fieldset input:checked"))
         berta.click("input[value=mine]")
         berta.click("#do-merge")
         berta.confirm()
@@ -61,7 +63,7 @@ class TwoPeopleTests(DeskTest):
         anna.says("post south", "#news")
         anna.choose_design("top")
         anna.find(5)
-        self.assertEqual(["160", "160"], [it.text for it in anna.all("#view tbody tr:first-child td")])
+        anna.shows(["160", "160"], "#view tbody tr:first-child td")
         anna.click("#who")
         history = anna.until(lambda: [it.text for it in anna.all("#history li")])
         # The merge of south has kept its own value, so it changed nothing.

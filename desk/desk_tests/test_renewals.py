@@ -5,9 +5,9 @@ import unittest.mock
 from pathlib import Path
 
 import places
-from altctl import Refusal
+from altctl import Refusal, Store
 from designs import Designs
-from desk_tests.support import DeskTest, attributes, course
+from desk_tests.support import ALTCTL, DeskTest, attributes, course
 from maps.history import history
 
 ME = pwd.getpwuid(os.geteuid()).pw_name
@@ -49,6 +49,20 @@ class RenewalTests(DeskTest):
         designs.refresh()
         self.assertEqual((4, {}), (designs.indexed, designs.design("top").moved[7]))
         self.assertEqual([3], [it.batch for it in designs.news])
+
+    def test_the_checkpoint_that_an_older_desk_has_left_is_removed(self):
+        """It is of `top`, and has the index's name. Checkpoints of people stay, and nobody is told of it."""
+        designs = Designs(self.other)
+        designs.refresh()
+        for name in ("before", places.OWN):
+            self.other.checkpoint("top", name)
+        places.renew(self.other, True)
+        self.assertEqual(["before"], list(self.other.checkpoints("top")))
+        self.assertEqual((3, f"uncheck top {places.OWN}"), self.entries(planner=ME)[-1][::2])
+        places.renew(self.other, True)
+        self.assertEqual([".service"], [it[1] for it in self.entries(after=5)])
+        designs.refresh()
+        self.assertEqual(["checkpoint top before"], [it.line for it in designs.news])
 
     def changing(self, *changes):
         """The index is renewed, with one of these changes of another planner each time it was looked at."""
@@ -98,8 +112,23 @@ class RenewalTests(DeskTest):
         self.assertEqual(["renew .places 2"] * 2, [it[2] for it in self.entries(after=1, planner=".service")])
 
 
+class RenewalOfFileTests(DeskTest):
+    def test_the_checkpoint_that_an_older_desk_has_left_is_removed(self):
+        with Store(self.file, ALTCTL) as store:
+            store.checkpoint("top", places.OWN)
+            store.commit()
+            places.renew(store, False)
+        with Store(self.file, ALTCTL) as store:
+            self.assertEqual([], list(store.checkpoints("top")))
+            self.assertEqual(12, len(places.stored(store, 7).numbers))
+
+
 class RenewalRightsTests(DeskTest):
     def test_it_needs_rights_of_no_other_alternative(self):
+        """A checkpoint that an older desk has left stays for those who may change `top`."""
+        with Store(self.file, ALTCTL) as store:
+            store.checkpoint("top", places.OWN)
+            store.commit()
         Path(f"{self.file}.rules").write_text(f'[change]\n".places" = ["{ME}"]\n[drop]\n".places" = ["{ME}"]\n')
         self.serve()
         store = self.store()
@@ -110,3 +139,4 @@ class RenewalRightsTests(DeskTest):
         places.renew(store, True)
         due = [(1, "renew .places 0"), (2, "renew .places 2"), (3, "renew .places 2")]
         self.assertEqual(due, [(it.batch, it.line) for it in store.log(planner=".service")])
+        self.assertEqual([places.OWN], list(store.checkpoints("top")))

@@ -105,17 +105,17 @@ class ServicePageTests(AskingTest):
     def test_what_has_to_be_looked_at(self):
         browser = self.opened()
 
-        def give(spare, left, slowest):
+        def give(spare, left, disk_left, slowest):
             """Lets the page have these figures from now on."""
             its = {"blocks": 1000, "spare_blocks": spare, "seconds_left": left, "up_seconds": 1}
-            its["commit_seconds_slowest"] = slowest
+            its.update(disk_seconds_left=disk_left, commit_seconds_slowest=slowest)
             told = {"file": "/x/map.alt.sock", "figures": [figures.figure(*it) for it in its.items()]}
             browser.run("window.fetch = async () => new Response(arguments[0])", json.dumps(told))
 
-        give(99, 86399, 1.5)
-        browser.until(lambda: len(browser.all("#look .fault")) == 3)
+        give(99, 86399, 86399, 1.5)
+        browser.until(lambda: len(browser.all("#look .fault")) == 4)
         self.assertEqual("24 h", self.texts(browser, "seconds_left")[0])
-        give(100, 86400, 1)
+        give(100, 86400, 86400, 1)
         browser.until(lambda: browser.text("#look") == "Nothing.")
         its = "seconds_left", "commit_seconds_slowest", "spare_blocks"
         self.assertEqual(["1 d", "1 s", "100"], [self.texts(browser, it)[0] for it in its])

@@ -2,8 +2,8 @@
 from altctl import MOST_BLOCKS, Refusal
 
 FULL = 13
-# A leaf has room for so many bytes of records, of which about two thirds are in use. A record takes twelve besides its
-# value, and two of more than HALF do not fit in one leaf.
+# A leaf has room for so many bytes of records, of which two thirds are in use if features come in no order, and more
+# otherwise. A record takes twelve besides its value, and two of more than HALF do not fit in one leaf.
 LEAF_ROOM, RECORD, HALF = 4080, 12, 2028
 
 

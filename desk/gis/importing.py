@@ -11,6 +11,7 @@ from altctl import Refusal
 import maps
 import places
 from gis.changes import Changes
+from gis.filling import MANY, bookends
 from gis.formats import names_of, open_layer, open_source
 from gis.full import FULL, room
 from gis.sources import Source
@@ -150,7 +151,7 @@ class Import:
     def run(self, changes):
         """Puts the features of the layer, and removes those that are gone if that is asked for."""
         store, alt, table = self._store, self._alt, self.table
-        fields, firsts, seen, parts = Fields(self.layer), set(), array("Q"), set()
+        fields, firsts, seen, parts, ends = Fields(self.layer), set(), array("Q"), set(), None
         features = self._features(fields)
         update = maps.Update(maps.read(store, alt, [(0, table)]))
         update.set(0, table, maps.to_text(self.layer).encode())
@@ -165,11 +166,16 @@ class Import:
                     self.found.add(number, course, bounds)
             gone = update.gone()
             told.update((it, "changed") for it in ids_of(gone, table) if told[it] == "same")
+            added = [it for it, what in told.items() if what == "added"]
+            if ends is None and len(added) >= MANY:
+                ends = bookends(store, alt, table)
+                changes.make([], ends)
             changes.make(gone, update.put)
             self.counts.update(told.values())
-            self._highest = max([self._highest, *(it for it, what in told.items() if what == "added")])
+            self._highest = max([self._highest, *added])
             seen.extend(numbers_of)
             parts.update(it for it in gone if it[0] >= maps.PARTS)
+        changes.make(list(ends or ()), {})
         changes.wait()
         self._remove(changes, once(seen), firsts, parts)
 

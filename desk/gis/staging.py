@@ -4,6 +4,7 @@ an import, and one that ends before that has changed nothing. What it leaves is 
 into the same alternative."""
 import contextlib
 import hashlib
+import itertools
 import secrets
 
 from altctl import Refusal
@@ -94,8 +95,12 @@ class Staging:
         return {it.name for it in self._store.alternatives()}
 
     def _make(self, alt, records):
-        self._store.remove_many(alt, [key for key, value in records if value is None])
-        self._store.put_many(alt, ((*key, value) for key, value in records if value is not None))
+        """Removes and puts records in the order in which they were given."""
+        for is_gone, its in itertools.groupby(records, lambda it: it[1] is None):
+            if is_gone:
+                self._store.remove_many(alt, [key for key, _ in its])
+            else:
+                self._store.put_many(alt, ((*key, value) for key, value in its))
 
     def forget(self):
         """Drops what was not posted, if the service is still there."""

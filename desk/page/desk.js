@@ -1,7 +1,7 @@
 // The desk in the browser: it asks the server for what it shows, and sends each change as a batch. The server looks
 // whether what was seen still holds. Modules have the map, drawing, styles, features, finding, conflicts, designs and
 // printing.
-import { $, button, fill, make, sample, say, trying } from "./dom.js";
+import { $, answered, button, fill, make, sample, say, trying } from "./dom.js";
 import { showMap, unmark } from "./chart.js";
 import { fillConflicts, keepChoices, readChoices } from "./conflicts.js";
 import { fillAbout, fillCompared, rows, showActions, showTree } from "./designs.js";
@@ -56,6 +56,7 @@ export async function open(name) {
   desk.at = name;
   if (isOther) forget();
   const design = await ask("design", { at: name });
+  await answered();
   if (desk.at !== name) return;
   $("panel").inert = false;
   keepChoices(desk.design, design);
@@ -71,7 +72,8 @@ export async function open(name) {
 
 function forget() {
   Object.assign(desk,
-    { feature: null, edits: false, view: "changes", choices: new Map(), made: [], design: null, compared: null });
+    { feature: null, edits: false, late: false, asked: {}, view: "changes", choices: new Map(), made: [], design: null,
+      compared: null });
   drawing.tool.stop();
   unmark();
   $("panel").inert = true;
@@ -128,7 +130,7 @@ export const link = (feature) =>
   `#${new URLSearchParams({ design: desk.at, ...(feature ? { feature: `${feature.table}:${feature.number}` } : {}) })}`;
 
 export function showOther(view) {
-  Object.assign(desk, { view, edits: view === "feature" && desk.edits });
+  Object.assign(desk, { view, edits: view === "feature" && desk.edits, late: false, asked: {} });
   return showView();
 }
 

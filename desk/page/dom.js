@@ -50,6 +50,12 @@ export function question(text, yes, field) {
   });
 }
 
+// Waits until no question is open: what was seen with it is what counts.
+export const answered = () => new Promise((done) => {
+  if ($("question").open) $("question").addEventListener("close", done, { once: true });
+  else done();
+});
+
 export const button = (id, text, onclick, more = {}) =>
   make("button", { id, type: onclick ? "button" : "submit", onclick, ...more }, text);
 

@@ -13,7 +13,7 @@ const HELP = "Click, or Enter at the cross, sets a point; Backspace takes one ba
   + "a double click or F ends; Escape cancels.";
 const NUDGE = { ArrowLeft: [-1, 0], ArrowRight: [1, 0], ArrowUp: [0, -1], ArrowDown: [0, 1] };
 let mode = null; // what the tool does: draw, split or move
-let layer, points, course, sketch, handles;
+let layer, points, course, reshaped, sketch, handles;
 
 const kindOf = ({ geometry }) => (
   /Point/.test(geometry) ? "Point" : /Polygon|Surface/.test(geometry) ? "Polygon" : "LineString");
@@ -41,7 +41,7 @@ export function showTools() {
     layers.length && button("draw", "Draw", () => draw(Number(select.value)),
       { title: "Draw a new feature in this layer" }),
     layers.length && select,
-    button("reshape", "Move bends", reshape,
+    button("reshape", "Move bends", () => reshape(),
       { disabled: !isWhole, title: "Move the bends of the feature that is shown" }),
     button("split", "Split", () => begin("split"),
       { disabled: !isWhole || shape.type !== "LineString", title: "Split the line that is shown" }),
@@ -138,8 +138,9 @@ const listsOf = ({ type, coordinates }) => ({
   MultiLineString: () => coordinates, Polygon: () => coordinates, MultiPolygon: () => coordinates.flat(),
 })[type]();
 
-function reshape() {
-  course = structuredClone(desk.feature.now.course);
+// Moves the bends of the feature as it is shown now, whatever others make of it meanwhile.
+function reshape(feature = desk.feature, shape = structuredClone(feature.now.course)) {
+  [reshaped, course] = [feature, shape];
   begin("move");
   showHandles();
   handles.getLayers()[0]?.getElement()?.focus();
@@ -164,7 +165,7 @@ function showSketchOf(shape) {
     { style: PEN, interactive: false, pointToLayer: (_, at) => L.circleMarker(at, { ...PEN, radius: 6 }) }));
 }
 
-const KEY = () => `${desk.feature.table}:${desk.feature.number}`;
+const KEY = () => `${reshaped.table}:${reshaped.number}`;
 
 function handle(list, n, id, isRing) {
   const [lng, lat] = list[n];
@@ -211,10 +212,11 @@ function middle(list, n) {
   });
 }
 
+// What could not be sent is not lost.
 async function keep() {
-  const shape = course;
+  const [feature, shape] = [reshaped, course];
   stop();
-  await moved(desk.feature, shape);
+  if (!await moved(feature, shape) && !mode) reshape(feature, shape);
 }
 
 // --- the keyboard ---------------------------------------------------------------------------------------------

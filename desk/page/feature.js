@@ -1,8 +1,8 @@
-// A feature in the panel: before and now, its form, who changed it, and an edit that came too late beside what others
-// have made.
+// A feature in the panel: before and now, its form, and who changed it.
 import { $, button, fill, make, own, question, say, trying } from "./dom.js";
 import { mark, unmark } from "./chart.js";
 import { carryOut, link, showOther, showView } from "./desk.js";
+import { showLate } from "./late.js";
 import { ask } from "./server.js";
 import { desk, WORDS } from "./shared.js";
 import { SIDES, STATES } from "./styles.js";
@@ -13,30 +13,37 @@ const INPUTS = { Integer: { inputmode: "numeric", pattern: "-?[0-9]+" },
   Real: { inputmode: "decimal" }, Date: { type: "date" }, Time: { placeholder: "HH:MM:SS" },
   DateTime: { placeholder: "YYYY-MM-DDTHH:MM:SS" } };
 
-const name = ({ layer, number }) => (number ? `${layer} ${number}` : `a new feature of ${layer}`);
+export const name = ({ layer, number }) => (number ? `${layer} ${number}` : `a new feature of ${layer}`);
+export const isSame = (one, other) => JSON.stringify(one) === JSON.stringify(other);
+export const isShown = ({ table, number }) => (
+  desk.view === "feature" && desk.feature.table === table && desk.feature.number === number);
 const seen = ({ now }) => ({ attributes: now.attributes, course: now.course });
 
 const read = ({ table, number }, other) => ask("feature", { at: desk.at, table, number, ...(other ? { other } : {}) });
 
+// Shows a feature, unless another one was asked for before it has come.
 export async function show(feature, isToMove, other) {
-  desk.feature = await read(feature, other);
+  const asked = desk.asked = {};
+  const found = await read(feature, other);
+  if (desk.asked !== asked) return;
+  desk.feature = found;
   await showRead(isToMove);
 }
 
 async function showRead(isToMove) {
-  Object.assign(desk, { view: "feature", edits: false, late: null });
+  Object.assign(desk, { view: "feature", edits: false, late: false });
   markFeature(isToMove);
   await showView();
 }
 
 // Shows the feature once more, after something was undone or others have changed something, or the changes if it is
-// gone. What a person has asked for meanwhile stays.
+// gone. What a person has asked for meanwhile stays, and so does an edit that came too late.
 export async function showAgain() {
-  const { feature } = desk;
-  const isShown = () => desk.view === "feature" && desk.feature === feature && !desk.edits;
-  if (!isShown() || !feature.number) return;
+  const { feature, asked } = desk;
+  const stays = () => desk.feature !== feature || desk.asked !== asked || desk.edits || desk.late || !isShown(feature);
+  if (!feature?.number || stays()) return;
   const now = await read(feature, feature.other).catch(() => null);
-  if (!isShown()) return;
+  if (stays() || isSame(now, feature)) return;
   if (!now) return showOther("changes");
   desk.feature = now;
   return showRead(false);
@@ -78,7 +85,7 @@ export async function fillFeature() {
   const head = make("tr", {},
     ...["", other || "Before", other ? desk.at : "Now"].map((it) => make("th", { scope: "col" }, it)));
   const body = make("tbody", {}, ...lines, line("course", about(before), about(now)));
-  const form = make("form", { onsubmit: (event) => { event.preventDefault(); save(event.target); } },
+  const form = make("form", { onsubmit: once(save) },
     make("h3", {}, number ? `${name(feature)}: ${WORDS[status]}` : name(feature)),
     make("table", {}, make("thead", {}, head), body),
     make("p", { class: "buttons" }, ...buttons(now && fields.length)));
@@ -130,12 +137,21 @@ async function showHistory() {
 
 // --- edits ------------------------------------------------------------------------------------------------
 
+// Sends a form, and not once more before that has come to an end.
+export const once = (work) => async (event) => {
+  const form = event.target;
+  event.preventDefault();
+  if (form.isSent) return;
+  form.isSent = true;
+  await work(form).finally(() => { form.isSent = false; });
+};
+
 // A course that was drawn, for which the form is shown.
 export async function drawn(layer, course) {
   const { table, fields, name: its } = layer;
   const now = { attributes: {}, course, bad: [], is_whole: true };
   desk.feature = { table, number: null, layer: its, status: "added", before: null, now, fields, bounds: null };
-  Object.assign(desk, { view: "feature", edits: true, late: null });
+  Object.assign(desk, { view: "feature", edits: true, late: false, asked: {} });
   markFeature(false);
   await showView();
   $("view").querySelector("input, #save")?.focus();
@@ -169,58 +185,25 @@ async function save(form) {
   return change(feature, { values }, `Changed ${name(feature)}.`);
 }
 
-// Sends a change of a feature. If somebody was faster, both are shown.
-async function change(feature, it, done) {
+// Sends a change of a feature. If somebody was faster, both are shown. False if it could not be sent.
+export async function change(feature, it, done) {
   const { table, number } = feature;
   const before = number ? { before: seen(feature) } : {};
-  const told = await carryOut({ do: "change", features: [{ table, number, ...before, ...it }] }, done,
-    (now) => showLate(feature, it, now));
-  if (!told || desk.feature !== feature) return;
-  if (number && !it.remove) return trying(() => show(feature, false));
+  const { asked } = desk;
+  let isLate = false;
+  const told = await carryOut({ do: "change", features: [{ table, number, ...before, ...it }] }, done, (now) => {
+    isLate = true;
+    showLate(feature, it, now[`${table}:${number}`]);
+  });
+  if (told) desk.late = false;
+  if (!told || !isShown(feature) || desk.asked !== asked) return Boolean(told) || isLate;
+  await trying(() => (number && !it.remove ? show(feature, false) : leave()));
+  return true;
+}
+
+export function leave() {
   unmark();
-  await showOther("changes");
-}
-
-// --- an edit that came too late -------------------------------------------------------------------------------
-
-// Shows field by field what was seen, what others have made of it, and what was to be.
-async function showLate(feature, it, found) {
-  const now = found?.[`${feature.table}:${feature.number}`];
-  const late = $("late") || $("view").appendChild(make("div", { id: "late" }));
-  if (!now) return fill(late, make("p", {}, "Somebody has deleted it meanwhile. Your edit is not made."));
-  const mine = { ...feature.now.attributes, ...it.values };
-  const names = [...new Set([...Object.keys(now.attributes), ...Object.keys(mine)])];
-  const rows = names.map((title) => lateRow(title, own(feature.now, title), own(now, title),
-    own({ attributes: mine }, title)));
-  if (it.course) rows.push(lateRow("course", about(feature.now), about(now), about({ course: it.course }), true));
-  const head = make("tr", {},
-    ...["", "As you saw it", "Theirs, now", "Yours"].map((text) => make("th", { scope: "col" }, text)));
-  const table = make("table", {}, make("thead", {}, head), make("tbody", {}, ...rows.filter(Boolean)));
-  fill(late, make("form", { onsubmit: (event) => { event.preventDefault(); resolve(event.target, feature, it, now); } },
-    make("h3", {}, "Somebody was faster"), table,
-    make("p", { class: "buttons" }, button("late-save", "Save what is chosen"),
-      button("late-drop", "Leave it as theirs", () => trying(() => show(feature, false))))));
-  late.querySelector("input:checked, button")?.focus();
-  return late;
-}
-
-// A row of a field that somebody changed. What both have changed has to be chosen; else the changed side is.
-function lateRow(title, saw, theirs, mine, isCourse = false) {
-  const [isTheirs, isMine] = [saw !== theirs, isCourse || saw !== mine];
-  if (!isTheirs && !isMine) return null;
-  const radio = (side, text, checked) => make("td", { class: checked ? "" : "differs" }, make("label", {},
-    make("input", { type: "radio", name: isCourse ? " course" : title, value: side, required: true, checked }),
-    ` ${text ?? "–"}`));
-  return make("tr", {}, make("th", { scope: "row" }, title), make("td", {}, saw ?? "–"),
-    radio("theirs", theirs, isTheirs && !isMine), radio("mine", mine, isMine && !isTheirs));
-}
-
-async function resolve(form, feature, it, now) {
-  const chosen = new FormData(form);
-  const values = Object.fromEntries(Object.entries(it.values || {}).filter(([title]) => chosen.get(title) === "mine"));
-  const course = it.course && chosen.get(" course") === "mine" ? { course: it.course } : {};
-  await change({ ...feature, now }, { values, ...course }, `Changed ${name(feature)}.`);
-  await trying(() => show(feature, false));
+  return showOther("changes");
 }
 
 export const linkOf = () => link(desk.feature?.number && desk.view === "feature" ? desk.feature : null);

@@ -10,6 +10,7 @@ const HEIGHT = 28;
 const TO_LOOK_AT = [
   [(its) => its.spare_blocks < its.blocks / 10, "Less than a tenth of the blocks is spare. Let the store grow."],
   [(its) => its.seconds_left < 86400, "At this rate the spare blocks last less than a day."],
+  [(its) => its.disk_seconds_left < 86400, "At this rate the disk is full in less than a day."],
   [(its) => its.commit_seconds_slowest > 1, "A commit took more than a second."],
 ];
 

@@ -7,6 +7,8 @@ export const desk = {
   office: null, // what the store as a field office has ahead and behind, if it is a clone
   feature: null, // the feature in the panel
   edits: false, // whether its form is open
+  late: false, // whether an edit that came too late is shown beside what others have made
+  asked: {}, // what was asked for last: another object each time
   choices: new Map(), // for conflicts
   made: [], // earlier choices, to be taken back
 };

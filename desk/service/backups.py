@@ -13,7 +13,8 @@ from typing import Callable, Iterable, List, Tuple
 from service import pacing
 from service.batch import Batch
 from service.journal import sync_folder
-from service.limits import refusal
+from service.limits import SMALL_LINES, refusal
+from service.program import Ended
 from service.store import Store
 
 NAME = re.compile(rb"[A-Za-z0-9_][A-Za-z0-9_.-]{0,31}")
@@ -29,8 +30,10 @@ MARGIN = 17
 # How a program is started that signals to the service do not reach. What it says is little.
 QUIETLY = {"stdin": subprocess.DEVNULL, "stdout": subprocess.DEVNULL, "stderr": subprocess.PIPE}
 QUIETLY["start_new_session"] = True
-# How often a copy is made beside batches before it is made while they wait.
+# How often a copy is made beside batches before they have to wait for it.
 TRIES = 2
+# How much work a group may be then.
+LAST_WORK = SMALL_LINES
 
 
 class Backups:
@@ -77,8 +80,9 @@ class Copy:
     That is safe as long as no block of that state is written again. A commit writes only free blocks and the slot that
     is not in use, so one commit may come before the second program has read the slot. Blocks become free only when the
     program marks, and that it does for a line `reclaim`, or if fewer than 17 blocks are free for each record that is to
-    change. So the free blocks are watched: if there may have been too few, the copy is made again, at last while
-    nothing else is done."""
+    change. So it marks before a copy, and the free blocks are watched: if there may have been too few, the copy is made
+    again. In the last try batches wait for it instead, each a little: of the free blocks no more are used than the copy
+    has made progress."""
 
     def __init__(self, store: Store, part: str, name: str):
         self.store, self.part, self.name, self.begun, self.tries = store, part, name, time.monotonic(), 0
@@ -88,7 +92,8 @@ class Copy:
         """Starts the second program. `end` can be read once that has ended, and what it has made is durable."""
         if not self.store.is_in_place():
             raise OSError(errno.ESTALE, "another file has the name of the store")
-        self.free, self.commits, self.is_spoiled, self.starts = free_blocks(self.store), 0, False, self.store.starts
+        self.free, self.commits, self.is_spoiled, self.starts = marked(self.store), 0, False, self.store.starts
+        self.is_last, self.spare = self.tries >= TRIES, self.free
         # How much the second program had read when it had opened the store, and whether it has read the slot.
         self.before, self.is_open = None, False
         self.size, self.fault, self.said, self.tries = 0, None, "", self.tries + 1
@@ -109,7 +114,7 @@ class Copy:
     def _follow(self, program: int, ended: int) -> None:
         """Has the second program hold up nobody, and syncs the copy, so that no other work waits for that."""
         try:
-            pacing.pace(program, names_of(self.part))
+            pacing.pace(program, names_of(self.part), lambda: pacing.written_by(self.process.pid))
             with self.process.stderr as stream:
                 self.said = text_of(stream.read())
             self.size = synced(self.part)
@@ -121,7 +126,30 @@ class Copy:
 
     def may_commit(self) -> bool:
         """Whether a group of batches may be carried out now."""
-        return self.commits == 0 or self.is_open or self._has_read_slot() or self.process.poll() is not None
+        has_ended = self.process.poll() is not None
+        is_read = self.commits == 0 or self.is_open or self._has_read_slot()
+        return has_ended or is_read and (not self.is_last or self._has_blocks())
+
+    def admits(self, batch: Batch) -> bool:
+        """Whether a batch may be in that group. Beside the last try that is no large one, and none that may mark."""
+        marks = (b"merge", b"reclaim")
+        return not self.is_last or batch.is_small() and all(it.split(b" ", 1)[0] not in marks for it in batch.lines)
+
+    def work(self, work: int) -> int:
+        """How much work that group may be."""
+        return min(work, LAST_WORK) if self.is_last else work
+
+    def _has_blocks(self) -> bool:
+        """Whether enough blocks are free for a group, and for others until the copy is whole. The last batch of a group
+        may have as many lines as all before it."""
+        least = MARGIN + 2 * MARGIN * (2 * LAST_WORK + 1)
+        return self.free - least >= max(0, self.spare - least) * (1 - self._progress())
+
+    def _progress(self) -> float:
+        """How much of its work the second program has done at least: it reads the blocks, reads them again, and writes
+        them."""
+        done = pacing.transferred(self.process.pid)
+        return min(1.0, done / (3 * os.fstat(self.store.lock).st_size))
 
     def _has_read_slot(self) -> bool:
         # It makes its file only after it has read the whole tree of blocks.
@@ -160,7 +188,7 @@ class Copy:
     def is_to_be_made_again(self) -> bool:
         """Whether the copy may be none of a state that was committed, and is to be made beside batches once more."""
         status = self.process.wait()
-        return status != STOPPED and self.tries < TRIES and self._is_worthless(status)
+        return status != STOPPED and not self.is_last and self._is_worthless(status)
 
     def _is_worthless(self, status: int) -> bool:
         # The opening of a program that was started again has marked.
@@ -218,6 +246,15 @@ def at_end_killed(words: List[str]) -> List[str]:
     """The words of a program that ends with the service, however that ends: it may stand still just then."""
     setpriv = shutil.which("setpriv")
     return ([setpriv, "--pdeathsig", "KILL", "--"] if setpriv else []) + words
+
+
+def marked(store: Store) -> int:
+    """Has the program mark, and returns the number of free blocks: all that are spare."""
+    try:
+        store.program.ask([b"reclaim"])
+        return free_blocks(store)
+    except Ended as ended:
+        raise OSError(errno.EIO, str(ended)) from None
 
 
 def free_blocks(store: Store) -> int:

@@ -5,7 +5,7 @@ import errno
 import os
 import time
 import weakref
-from typing import Callable, Iterable, Iterator, List, NamedTuple, Optional, Tuple
+from typing import Callable, Iterable, Iterator, List, NamedTuple, Optional, Sequence, Tuple
 
 from service.batch import Batch, refused_place
 from service.archives import archived, refused, remove_parts
@@ -201,7 +201,7 @@ class Batches:
         try:
             work(batches)
         except Ended as ended:
-            self._reopen()
+            self._reopen(ended.answers)
             asked = self.asked
             if asked is None:
                 refuse_last(self.sent, ended.answers)
@@ -209,9 +209,12 @@ class Batches:
                 self._take(asked)
         self.asked = None
 
-    def _reopen(self) -> None:
-        """Starts the program again, and journals which batches are in the store."""
+    def _reopen(self, answers: Sequence[bytes] = ()) -> None:
+        """Starts the program again, and journals which batches are in the store. A refusal may have been its last
+        answer."""
+        last = answers[-1].decode() if answers and answers[-1].startswith(b"error ") else "without a refusal"
         self.store.reopen()
+        self.teller.tell("altctl ended", f"{last}; it was started again, after batch {self.store.kept}")
         try:
             self.journal.opened(self.store.kept)
         except (OSError, Broken) as fault:
@@ -278,6 +281,8 @@ class Batches:
             return None, place
         else:
             refused = answers[place]
+        if refused == FULL:
+            self.teller.tell("full", f"{self.store.file} has no block for a change of {batch.person.name}")
         self.commits.refused += 1
         batch.has_disturbed = effect is not None or len(answers) > 1
         batch.refuse(place, refused)
@@ -293,6 +298,7 @@ class Batches:
             refuse_all(commit.done, refusal(97, "EIO"))
             raise Fatal(f"{self.path}: {fault}") from None
         except OSError as fault:
+            self.teller.tell("not journaled", f"{self.path}: {os.strerror(fault.errno)}")
             self.store.undo()
             refuse_all(commit.done, refusal(97, errno.errorcode[fault.errno]))
             return

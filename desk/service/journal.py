@@ -1,8 +1,8 @@
 """The journal of a store: who changed what, and when, in lines of JSON.
 
-The line of a batch is synced before its commit is asked for, and `done` follows the commit. `opened` is written whenever the
-program has been started. It names the last batch in the store: of the batches above it, those with higher numbers are not in the
-store. So journal and store agree wherever a crash came."""
+The line of a batch is synced before its commit is asked for, and `done` follows the commit. `opened` is written
+whenever the program has been started. It names the last batch in the store: of the batches above it, those with higher
+numbers are not in the store. So journal and store agree wherever a crash came."""
 import os
 import re
 import time
@@ -35,8 +35,8 @@ def now() -> str:
 
 
 def settle(file: int) -> None:
-    """Has the next reader of a file see what the device has. After a sync that failed, Linux takes the pages for written, and
-    shows them until they are dropped from its cache."""
+    """Has the next reader of a file see what the device has. After a sync that failed, Linux takes the pages for
+    written, and shows them until they are dropped from its cache."""
     try:
         os.fsync(file)
     finally:
@@ -70,7 +70,9 @@ class Journal:
                 cut.write(os.pread(self.file, min(PART, self.end - at), at))
             cut.flush()
             os.fsync(cut.fileno())
-        self.say(f"{self.path}: its last {count} bytes are not a whole line, and are cut off. They are in {self.path}.cut")
+        self.say(
+            f"{self.path}: its last {count} bytes are not a whole line, and are cut off. They are in {self.path}.cut"
+        )
         os.ftruncate(self.file, whole)
         self.end = whole
 
@@ -82,20 +84,22 @@ class Journal:
         self._sync()
 
     def write(self, batches: Iterable[Tuple[int, Batch, Iterable[str], int]], last: int) -> None:
-        """Makes the lines of batches durable: of each its number, its alternatives and how many records it changed. `last` is
-        their highest number. Raises OSError if there is no space for them, and nothing of them stays then."""
+        """Makes the lines of batches durable: of each its number, its alternatives and how many records it changed.
+        `last` is their highest number. Raises OSError if there is no space for them, and nothing of them stays then."""
         self._append(parts_of(now(), batches))
         self._sync()
         self.next = last + 1
 
     def done(self, number: int) -> None:
-        """Notes that this batch is committed. The line need not be durable: a start reads the number from the store. If there is
-        no space for it, it comes with the next line."""
+        """Notes that this batch is committed. The line need not be durable: a start reads the number from the store. If
+        there is no space for it, it comes with the next line."""
         self.untold = number
         try:
             self._append([])
         except OSError as fault:
-            self.say(f"{self.path}: {fault}: until there is space, only the service itself lists batch {number} in its log")
+            self.say(
+                f"{self.path}: {fault}: until there is space, only the service itself lists batch {number} in its log"
+            )
 
     def _append(self, parts: Iterable[bytes]) -> None:
         """Writes a text, or nothing of it."""

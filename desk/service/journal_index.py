@@ -1,6 +1,6 @@
-"""An index of a journal: for each part of some 128 KiB the numbers of its batches, and which planners, alternatives and records
-are in it, as a Bloom filter. It lies in FILE.journal.index, has a twentieth of the journal's size, and is made again from the
-journal if it is missing or does not fit."""
+"""An index of a journal: for each part of some 128 KiB the numbers of its batches, and which planners, alternatives and
+records are in it, as a Bloom filter. It lies in FILE.journal.index, has a twentieth of the journal's size, and is made
+again from the journal if it is missing or does not fit."""
 import os
 import re
 import struct
@@ -57,7 +57,8 @@ WITH_BIT = [with_bit(it) for it in range(8)]
 
 
 def that_may_have(text: bytes, wanted: Groups) -> Iterator[int]:
-    """Which of the records in a text may have one key of each group: all of them at once, a byte each in a long number."""
+    """Which of the records in a text may have one key of each group: all of them at once, a byte each in a long
+    number."""
     count = len(text) // RECORD
     found = int.from_bytes(b"\1" * count, "big")
     for group in wanted:
@@ -156,7 +157,8 @@ class Index:
         return begin == before and end > begin and self._checksum(begin, end) == check
 
     def _checksum(self, begin: int, end: int) -> int:
-        return zlib.crc32(os.pread(self.journal, CHECKED, begin) + os.pread(self.journal, CHECKED, max(begin, end - CHECKED)))
+        first = os.pread(self.journal, CHECKED, begin)
+        return zlib.crc32(first + os.pread(self.journal, CHECKED, max(begin, end - CHECKED)))
 
     def _part(self, number: int) -> Part:
         return part_of(os.pread(self.file, FORM.size, number * RECORD))
@@ -175,9 +177,11 @@ class Index:
         self.count, self.end = self.count + 1, end
         return True
 
-    def parts(self, size: int, begin: int = 0, is_backwards: bool = False, wanted: Groups = ()) -> Iterator[Optional[Part]]:
-        """The parts of a journal of this size that end behind `begin` and may have what is wanted, in their order or the other
-        one; and None now and then, as there may be none for long."""
+    def parts(
+        self, size: int, begin: int = 0, is_backwards: bool = False, wanted: Groups = ()
+    ) -> Iterator[Optional[Part]]:
+        """The parts of a journal of this size that end behind `begin` and may have what is wanted, in their order or
+        the other one; and None now and then, as there may be none for long."""
         # Whoever takes them may have others indexed in between.
         count, indexed_end = self.count, self.end
         numbers = range(self._before(lambda it: it.end <= begin), count, PORTION)

@@ -1,5 +1,5 @@
-"""Reads a journal: which of its batches the store holds, and who changed what. It reads the parts of a journal that the index
-names, and a part at a time, so it takes little memory and can stop after each."""
+"""Reads a journal: which of its batches the store holds, and who changed what. It reads the parts of a journal that the
+index names, and a part at a time, so it takes little memory and can stop after each."""
 import json
 import os
 import re
@@ -7,7 +7,19 @@ from bisect import bisect_right
 from typing import Iterator, List, NamedTuple, Optional, Tuple
 
 from service.journal import DONE, OPENED, PART, line_feed_before
-from service.journal_index import HEADS, OPENINGS, OVERLAP, WIDE, WIDE_VERBS, Index, Part, part_end, pieces, places, record_key
+from service.journal_index import (
+    HEADS,
+    OPENINGS,
+    OVERLAP,
+    WIDE,
+    WIDE_VERBS,
+    Index,
+    Part,
+    part_end,
+    pieces,
+    places,
+    record_key,
+)
 from service.lines import word
 from service.renewals import is_told_in_one_line, summary
 
@@ -21,9 +33,9 @@ LAST = Part(0, 0)
 
 
 class Filter(NamedTuple):
-    """Which lines are wanted: those of a planner, about an alternative, that may change a record, of batches above a number; and
-    only the last ones, as many as this. A renewal of the index of places is told in one line, unless all are wanted in full,
-    and changes no record."""
+    """Which lines are wanted: those of a planner, about an alternative, that may change a record, of batches above a
+    number; and only the last ones, as many as this. A renewal of the index of places is told in one line, unless all
+    are wanted in full, and changes no record."""
 
     planner: Optional[str] = None
     alternative: Optional[str] = None
@@ -55,7 +67,8 @@ class Filter(NamedTuple):
 
     def of_line(self) -> "re.Pattern[bytes]":
         """What a line about the record begins with."""
-        return re.compile(rb'"(?<!\\")(?:(?:put|remove) [^ "]+ 0*%d 0*%d[ "]|(?:%s) )' % (*self.record, b"|".join(WIDE_VERBS)))
+        words = (*self.record, b"|".join(WIDE_VERBS))
+        return re.compile(rb'"(?<!\\")(?:(?:put|remove) [^ "]+ 0*%d 0*%d[ "]|(?:%s) )' % words)
 
 
 def filter_of(words: List[str]) -> Filter:
@@ -136,8 +149,8 @@ class Log:
         return 0
 
     def ranges(self, size: int, kept: int) -> List[Tuple[int, int]]:
-        """The ranges of numbers of the batches that the store holds. Each opening begins a range of numbers, and tells which
-        batch came before the first of them: so it goes back from the last one, from range to range."""
+        """The ranges of numbers of the batches that the store holds. Each opening begins a range of numbers, and tells
+        which batch came before the first of them: so it goes back from the last one, from range to range."""
         openings = [*self._indexed_openings(), *self._openings_in(self.index.end, size)]
         found = []
         for last, first in reversed([(0, 0), *openings]):
@@ -242,7 +255,8 @@ def next_head(text: bytes, at: int, wanted: Filter, ranges) -> Optional[Head]:
 
 
 def take_lines(text: bytes, at: int, head: Head, wanted: Filter, found: List[bytes]) -> Tuple[int, bool]:
-    """Adds the wanted lines of a batch, from a position on. Returns where it stopped, and whether that is the batch's end."""
+    """Adds the wanted lines of a batch, from a position on. Returns where it stopped, and whether that is the batch's
+    end."""
     if not wanted.is_in_full and is_told_in_one_line(head.who, head.alternatives):
         return take_renewal(text, at, head, wanted, found)
     of_line = wanted.of_line() if wanted.record is not None else None

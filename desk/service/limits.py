@@ -63,4 +63,5 @@ def refusal(number: int, *details: object) -> bytes:
 
 
 BAD_LINE = b"error 22 BadLine"
+NO_SUCH_LINE = BAD_LINE + b" word 1: there is no such line"
 LONG_LINE = b"error 23 LongLine"

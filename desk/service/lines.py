@@ -55,8 +55,8 @@ NAME = re.compile(rb"[A-Za-z0-9_.-]{1,32}")
 # are for.
 OFFICE = re.compile(rb"\.office\.([A-Za-z0-9_-]{1,15})")
 MARK = re.compile(OFFICE.pattern + rb"\.[A-Za-z0-9_.-]+")
-# A person for whom another one acts. Digits alone would be the number of a user, a group has `@` before its name, and under
-# the name of its alternative the service itself stands in the journal.
+# A person for whom another one acts. Digits alone would be the number of a user, a group has `@` before its name, and
+# under the name of its alternative the service itself stands in the journal.
 PERSON = re.compile(rb"(?![0-9]+$|%s$)[A-Za-z0-9_.-][A-Za-z0-9_.@+-]{0,63}" % re.escape(OWN))
 SEEN = re.compile(rb"([A-Za-z0-9_.-]{1,32})=([0-9]{1,19})")
 
@@ -88,6 +88,17 @@ def alternative_of(words: List[bytes]) -> Optional[bytes]:
         return None
     names = words[1:3] if words[0] == b"new" else words[1:2]
     return words[1] if names and all(map(NAME.fullmatch, names)) else b""
+
+
+def why_bad(words: List[bytes]) -> bytes:
+    """Why a change is bad that does not name its alternatives, as the program says it: their number is wrong, or else
+    the first one that is no name."""
+    form = LINES[words[0]].words
+    least, kinds = len(form.split("[")[0].split()), re.findall(r"[A-Z]+|\.\.", form)
+    if len(words) - 1 < least or len(words) - 1 > len(kinds) and ".." not in kinds:
+        return b"word 1 takes %s" % form.encode()
+    place = next(it for it in (1, 2) if not NAME.fullmatch(words[it]))
+    return b"word %d: %s is 1 to 32 of A-Za-z0-9_.-" % (place + 1, kinds[place - 1].encode())
 
 
 def names_own(words: List[bytes]) -> bool:

@@ -8,7 +8,7 @@ import signal
 import stat
 import threading
 import time
-from typing import Callable, List, Optional
+from typing import Callable, Iterator, List, Optional, Tuple
 
 try:
     import ctypes
@@ -18,18 +18,22 @@ try:
 except (ImportError, AttributeError, OSError, MemoryError):
     _sync_file_range = None
 
-# How long a program writes before what it has written goes to the device, in milliseconds.
+# How long a program writes before what it has written goes to the device, in milliseconds. If the processors have other
+# work, it is longer.
 SLICE = 2
+# How much goes to the device at once: so long a sync of others waits for it.
+PIECE = 1 << 20
 # Linux' numbers for sync_file_range: write what is not written, and wait for it.
 WRITE, WAIT_AFTER = 2, 4
 # How much of a file is removed at once.
 STEP = 4 << 20
 
 
-def pace(program: int, paths: List[str]) -> None:
+def pace(program: int, paths: List[str], count: Callable[[], Optional[int]]) -> None:
     """Lets the program of a descriptor (pidfd) run until it has ended. What it writes into the first of these files
-    that is there goes to the device bit by bit, and it stands still meanwhile."""
-    file = None
+    that is there goes to the device bit by bit, and it stands still meanwhile. `count` tells how many bytes it has
+    written."""
+    file, before = None, 0
     ends = select.poll()
     ends.register(program, select.POLLIN)
     try:
@@ -37,14 +41,47 @@ def pace(program: int, paths: List[str]) -> None:
             file = opened(paths) if file is None else file
             if file is not None:
                 signal.pidfd_send_signal(program, signal.SIGSTOP)
+                now = count()
                 with contextlib.suppress(OSError):  # Its own sync tells of it.
-                    rested(write_out, file)
+                    for begin, length in pieces(os.fstat(file).st_size, before, now):
+                        rested(write_out, file, begin, length)
+                before = now
                 signal.pidfd_send_signal(program, signal.SIGCONT)
     except ProcessLookupError:
         pass  # It has ended.
     finally:
         if file is not None:
             os.close(file)
+
+
+def pieces(size: int, first: Optional[int], last: Optional[int]) -> Iterator[Tuple[int, int]]:
+    """Where in a file of this size the bytes lie that `altctl copy` has written, from its FIRST byte to its LAST: it
+    goes through the file once, from behind its first blocks, which are less than a piece. If they are not known, that is
+    the whole file, of which 0 is the length."""
+    if first is None or last is None:
+        yield 0, 0
+    elif first < last:
+        for at in range(first - first % PIECE, min(last + PIECE, size), PIECE):
+            yield at, PIECE
+
+
+def written_by(process: int) -> Optional[int]:
+    """How many bytes a process has written, or None if that cannot be seen."""
+    return counts_of(process)[1]
+
+
+def transferred(process: int) -> int:
+    """How many bytes a process has read and written, or 0 if that cannot be seen."""
+    return sum(it or 0 for it in counts_of(process))
+
+
+def counts_of(process: int) -> Tuple[Optional[int], Optional[int]]:
+    """How many bytes a process has read, and how many it has written."""
+    with contextlib.suppress(OSError, ValueError, IndexError):
+        with open(f"/proc/{process}/io") as file:
+            words = file.read().split()
+        return int(words[1]), int(words[3])
+    return None, None
 
 
 def opened(paths: List[str]) -> Optional[int]:
@@ -54,14 +91,14 @@ def opened(paths: List[str]) -> Optional[int]:
     return None
 
 
-def write_out(file: int) -> None:
-    """Has what was written into a file go to the device, and waits for it. Nothing is durable by that: a sync comes
-    later. What the device has need not stay in memory."""
+def write_out(file: int, begin: int, length: int) -> None:
+    """Has what was written into a part of a file go to the device, and waits for it. Nothing is durable by that: a sync
+    comes later. What the device has need not stay in memory."""
     if _sync_file_range is None:
         os.fdatasync(file)
     else:
-        _sync_file_range(file, 0, 0, WRITE | WAIT_AFTER)
-    os.posix_fadvise(file, 0, 0, os.POSIX_FADV_DONTNEED)
+        _sync_file_range(file, begin, length, WRITE | WAIT_AFTER)
+    os.posix_fadvise(file, begin, length, os.POSIX_FADV_DONTNEED)
 
 
 def rested(work: Callable, *words: object) -> None:

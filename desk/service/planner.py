@@ -7,9 +7,9 @@ from typing import Dict, List, Optional, Union
 
 from service import limits
 from service.batch import Batch
-from service.limits import BAD_LINE, LONG_LINE, refusal
+from service.limits import BAD_LINE, LONG_LINE, NO_SUCH_LINE, refusal
 from service.lines import OWN_WORDS, PERSON, RIGHTS, ROWS, SINGLE
-from service.lines import alternative_of, line_of, office_of, printable, seen_of, words_of
+from service.lines import alternative_of, line_of, office_of, printable, seen_of, why_bad, words_of
 from service.rules import acted_for
 from service.unread import Unread
 
@@ -192,7 +192,7 @@ class Planner:
         elif verb in OWN_WORDS:
             self._add(Word(words, self.person))
         else:
-            self._add(BAD_LINE + b"\n")
+            self._add(NO_SUCH_LINE + b"\n")
 
     def _act_for(self, name: str) -> bytes:
         """Takes the lines from now on as another person's, if the user at the other end may act for others. Gives the
@@ -233,7 +233,7 @@ class Planner:
         elif batch.refused is not None:
             self._refuse(batch.refused[1])
         elif verb not in RIGHTS:
-            self._refuse(refusal(93) if verb in SINGLE or verb in ROWS or verb in OWN_WORDS else BAD_LINE)
+            self._refuse(refusal(93) if verb in SINGLE or verb in ROWS or verb in OWN_WORDS else NO_SUCH_LINE)
         elif batch.count >= limits.BATCH_LINES or batch.bytes + len(line) > limits.BATCH_BYTES:
             self._refuse(refusal(94))
         elif not self.server.users.may_hold(self.person.uid, size):
@@ -284,7 +284,7 @@ class Planner:
         """Why the service refuses a change: its form, or a rule. None if the program is to decide."""
         alternative = alternative_of(words)
         if alternative == b"":
-            return BAD_LINE
+            return BAD_LINE + b" " + why_bad(words)
         if self.allowed_by is not self.server.rules or len(self.allowed) > MOST_ALLOWED:
             self.allowed, self.allowed_by = {}, self.server.rules
         # Parents change, so what depends on them is not remembered.

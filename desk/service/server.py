@@ -19,8 +19,8 @@ from service.limits import BAD_LINE, refusal
 from service.planner import LOOK_LONG, Forgotten, Planner, Query, Request, Word
 from service.rules import Person, Rules, Unreadable, person_of
 from service.signals import Signals
-from service.status import Value, memory, status_lines
-from service.turns import Pace, Turns, work_of
+from service.status import Disk, Value, memory, status_lines
+from service.turns import Pace, Taken, Turns, work_of
 from service.users import Users
 
 # How often planners are checked for timeouts, in seconds.
@@ -29,6 +29,8 @@ TICK = 1.0
 GATHER, GATHER_STEP = 0.1, 20e-6
 # How long a round looks at lines that make no request, and how long it reads the journal for planners.
 LOOK_SECONDS, LOG_SECONDS = 0.005, 0.005
+# How long a round lasts at least if nothing can be carried out for the sake of a backup.
+HELD_SECONDS = 0.001
 # How long the end may take for those who wait.
 END_SECONDS = 2.0
 # A planner to whom that much of a log is not sent yet has to read it first.
@@ -38,7 +40,7 @@ LOG_BYTES = 256 << 10
 class Server:
     def __init__(self, listener: socket.socket, batches: Batches, signals: Signals, say: Callable[[object], None]):
         self.listener, self.batches, self.signals, self.say = listener, batches, signals, say
-        self.backups = Backups(batches.store)
+        self.backups, self.disk = Backups(batches.store), Disk(batches.store.file)
         self.selector = selectors.DefaultSelector()
         self.users, self.planners = Users(), {}
         # Planners with requests, with lines that are not looked at yet, with answers to be sent, and with a log, each
@@ -152,6 +154,7 @@ class Server:
         self._listen()
         self.batches.save()
         self.batches.look_at_room()
+        self.disk.note(now)
 
     def _round(self) -> None:
         """Carries out requests: queries, then small batches together, then one that takes longer."""
@@ -195,7 +198,7 @@ class Server:
         """Carries out small batches and commits them together."""
         begun, commits = time.monotonic(), self.batches.commits
         count, seconds = commits.count, commits.seconds
-        group = self.groups.take(self.waiting, is_small, self.pace.work()) if self._may_commit() else []
+        group = self._group()
         if not group:
             return
         work = sum(work_of(batch) for _, batch in group)
@@ -212,11 +215,26 @@ class Server:
         self.expected = len({planner for planner, _ in group} | self.waiting.keys())
         self.gathers_until = now + GATHER * (now - begun)
 
+    def _group(self) -> List[Taken]:
+        """Small batches whose turn it is, if they may be carried out now."""
+        if self.copy is None:
+            return self.groups.take(self.waiting, is_small, self.pace.work())
+        copy, group = self.copy, []
+        if copy.may_commit():
+            fits = lambda it: is_small(it) and copy.admits(it)  # noqa: E731
+            group = self.groups.take(self.waiting, fits, copy.work(self.pace.work()))
+        if not group and any(it.is_ready() and isinstance(it.first, Batch) for it in self.waiting):
+            time.sleep(HELD_SECONDS)
+        return group
+
     def _carry_out_long(self) -> None:
         """Carries out one request that does not belong in a group."""
-        may_commit = self._may_commit()
+        copy = self.copy
+        may_commit = copy is None or copy.may_commit()
         fits = lambda it: (  # noqa: E731
-            not is_short(it) and not is_small(it) and (may_commit or not isinstance(it, Batch))
+            not is_short(it)
+            and not is_small(it)
+            and (not isinstance(it, Batch) or may_commit and (copy is None or copy.admits(it)))
         )
         for planner, request in self.long.take(self.waiting, fits, 1):
             if isinstance(request, Batch):
@@ -275,6 +293,8 @@ class Server:
             "free_blocks": room.free,
             "spare_blocks": room.spare(),
             "seconds_left": room.seconds_left(),
+            "disk_free_bytes": self.disk.free(),
+            "disk_seconds_left": self.disk.seconds_left(),
             "alternatives": len(batches.store.entries.parents) - 1,
             "last_batch": batches.store.kept,
             "batches_total": commits.batches,
@@ -323,9 +343,6 @@ class Server:
             self.batches.teller.tell("no backup", f"{name} could not be made\n{why(fault)}")
         planner.job = None
         planner.answer(answer + b"\n")
-
-    def _may_commit(self) -> bool:
-        return self.copy is None or self.copy.may_commit()
 
     def _carry_out(self, batches: List[Batch]) -> None:
         commits = self.batches.commits.count

@@ -10,6 +10,8 @@ FIGURES = {
     "free_blocks": ("gauge", "free blocks, as the line free gives them"),
     "spare_blocks": ("gauge", "blocks that were free after the last marking that was seen"),
     "seconds_left": ("gauge", "how long the spare blocks last, at the rate between the markings that were seen"),
+    "disk_free_bytes": ("gauge", "what is free on the disk of the store"),
+    "disk_seconds_left": ("gauge", "how long that lasts, at the rate of the last hour"),
     "alternatives": ("gauge", "alternatives, without the service's own"),
     "last_batch": ("gauge", "the number of the last batch"),
     "batches_total": ("counter", "batches that were committed"),
@@ -35,6 +37,8 @@ SLOW_SECONDS = 1.0
 MOST_TOLD = 5
 # How many markings are remembered.
 MARKINGS = 50
+# How often the disk is looked at, and how long that is remembered.
+DISK_SECONDS, DISK_REMEMBERED = 10, 3600
 
 
 class Room:
@@ -59,6 +63,35 @@ class Room:
         if len(self.markings) < 2:
             return None
         (first, before), (last, after) = self.markings[0], self.markings[-1]
+        return after * (last - first) / (before - after) if after < before else None
+
+
+class Disk:
+    """What is free on the disk of a file, and how that changes."""
+
+    def __init__(self, file: str) -> None:
+        self.folder = os.path.dirname(os.path.abspath(file))
+        self.seen: Deque[Tuple[float, int]] = deque(maxlen=DISK_REMEMBERED // DISK_SECONDS + 1)
+
+    def note(self, now: float) -> None:
+        if self.seen and now < self.seen[-1][0] + DISK_SECONDS:
+            return
+        free = self.free()
+        if free is not None:
+            self.seen.append((now, free))
+
+    def free(self) -> Optional[int]:
+        try:
+            found = os.statvfs(self.folder)
+        except OSError:
+            return None
+        return found.f_bavail * found.f_frsize
+
+    def seconds_left(self) -> Optional[float]:
+        """None if it is not known, or if nothing was used."""
+        if len(self.seen) < 2:
+            return None
+        (first, before), (last, after) = self.seen[0], self.seen[-1]
         return after * (last - first) / (before - after) if after < before else None
 
 

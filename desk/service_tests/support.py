@@ -32,6 +32,8 @@ sys.path[:0] = {path!r}
 sys.argv[0] = {file!r}
 runpy.run_path({file!r}, run_name="__main__")
 """
+# What the program says of a value that is too long, or has a % of its own, and of a name.
+LONG_VALUE, NAMED = "word 5: VALUE is at most 4,000 bytes, % as %25", "1 to 32 of A-Za-z0-9_.-"
 LONG = "%00" * 4000
 
 

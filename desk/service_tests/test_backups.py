@@ -89,8 +89,49 @@ class BackupTests(ServiceTest):
                 self.assertEqual(2, self.count() - before, lines)
                 self.assertEqual(["value a"], self.in_backup("a", "get top 1 3"))
 
+    def test_changes_beside_the_last_copy(self):
+        os.unlink(self.file)
+        self.create(8192)
+        self.start_slow()
+        with self.planner() as one, self.planner() as other, self.planner() as third:
+            other.ask("new a top")
+            one.send("backup a")
+            for number in (1, 2):
+                self.until(lambda: self.count() == number)
+                other.ask("reclaim", f"put top 1 {number} a")
+                self.go.with_name("next").write_text(str(number))
+                os.replace(self.go.with_name("next"), self.go)
+            self.until(lambda: self.count() == 3)
+            self.assertEqual(["ok"], other.ask("put top 1 3 a"))
+            # What may have blocks freed waits, and whoever asks does not.
+            other.send("merge a", "put top 1 4 a")
+            self.assertEqual(["value a"], third.ask("get top 1 3"))
+            time.sleep(0.5)
+            self.assertEqual(["none"], third.ask("get top 1 4"))
+            self.go.write_text("")
+            self.assertEqual(["ok 3", "ok"], other.read(2))
+            self.assertEqual("ok", one.read()[0].split()[0])
+        self.assertEqual(3, self.count())
+        self.assertEqual(["value a"], self.in_backup("a", "get top 1 2"))
+
+    def test_how_many_blocks_are_used_beside_the_last_copy(self):
+        copy = Copy.__new__(Copy)
+        # 17 for each change of 128 lines, twice, as many for one more, and 17: 4,403.
+        for spare, free, progress, due in (
+            (14403, 14403, 0.0, True),
+            (14403, 14402, 0.0, False),
+            (14403, 9403, 0.5, True),
+            (14403, 9402, 0.5, False),
+            (14403, 4403, 1.0, True),
+            (14403, 4402, 1.0, False),
+            (4402, 4402, 0.5, False),
+        ):
+            copy.spare, copy.free = spare, free
+            with mock.patch.object(Copy, "_progress", return_value=progress):
+                self.assertEqual(due, copy._has_blocks(), (spare, free, progress))
+
     def test_blocks_become_free_each_time(self):
-        """The third copy is made while all others wait."""
+        """The third copy is made while changes wait, as the store is small."""
         self.start_slow()
         with self.planner() as one, self.planner() as other:
             one.send("backup a")
@@ -165,9 +206,17 @@ class BackupTests(ServiceTest):
         self.assertEqual([], os.listdir(f"{self.file}.backups"))
 
     def test_each_copy_is_a_state_that_was_committed(self):
+        self.copy_beside_writers(15)
+
+    def test_a_copy_for_which_changes_wait_is_a_state_that_was_committed(self):
+        # None is made again, nor while nothing else is done.
+        change = "from service import backups\nbackups.TRIES, backups.Backups.copy_alone = 0, None"
+        self.copy_beside_writers(5, change=change)
+
+    def copy_beside_writers(self, count, **how):
         os.unlink(self.file)
         self.create(8192)
-        self.start()
+        self.start(**how)
         is_over = threading.Event()
 
         def write():
@@ -182,7 +231,7 @@ class BackupTests(ServiceTest):
             it.start()
         try:
             with self.planner() as one:
-                for number in range(15):
+                for _ in range(count):
                     self.assertEqual("ok", one.ask("backup a")[0].split()[0])
                     tables = [self.in_backup("a", f"list top {it}") for it in range(1, 6)]
                     # A batch puts the same into five tables.
@@ -220,6 +269,13 @@ def is_dead(process):
         return True
 
 
+def stopped(process):
+    """Waits until it stands still."""
+    while state_of(process) not in "TZ":
+        time.sleep(0.001)
+    return True
+
+
 class PacingTests(unittest.TestCase):
     """A program that writes, and files that go."""
 
@@ -235,8 +291,9 @@ class PacingTests(unittest.TestCase):
         with subprocess.Popen([sys.executable, "-c", text]) as process:
             program = os.pidfd_open(process.pid)
             try:
-                with mock.patch.object(pacing, "write_out", lambda file: write_out(process.pid, file)):
-                    pacing.pace(program, paths or [f"{self.path}.none", str(self.path)])
+                with mock.patch.object(pacing, "write_out", lambda file, *_: write_out(process.pid, file)):
+                    count = lambda: pacing.written_by(process.pid)  # noqa: E731
+                    pacing.pace(program, paths or [f"{self.path}.none", str(self.path)], count)
             finally:
                 os.close(program)
         return process.returncode
@@ -270,8 +327,48 @@ class PacingTests(unittest.TestCase):
             file.flush()
             for has_call in (True, False):
                 with mock.patch.object(pacing, "_sync_file_range", pacing._sync_file_range if has_call else None):
-                    pacing.write_out(file.fileno())
+                    pacing.write_out(file.fileno(), 0, 1 << 20)
             self.assertEqual(bytes(1 << 20), self.path.read_bytes())
+
+    def test_where_a_copy_has_written(self):
+        one = pacing.PIECE
+        for size, first, last, due in (
+            (one // 2, 0, one // 2, [0]),
+            (3 * one, one // 2, 3 * one, [0, 1, 2]),
+            (9 * one, 5 * one + 1, 7 * one, [5, 6, 7]),
+            (9 * one, 8 * one + 1, 9 * one, [8]),
+            (9 * one, 9 * one, 9 * one + 100, []),
+            (9 * one, 4 * one, 4 * one, []),
+        ):
+            self.assertEqual([(it * one, one) for it in due], list(pacing.pieces(size, first, last)), (first, last))
+        for first, last in ((None, 1), (1, None)):
+            self.assertEqual([(0, 0)], list(pacing.pieces(9 * one, first, last)))
+
+    def test_all_that_a_copy_writes_is_there(self):
+        store, part = f"{self.path}.alt", Path(f"{self.path}.part")
+        subprocess.run([ALTCTL, "create", store, "4096"], check=True, stdout=subprocess.DEVNULL)
+        lines = "".join(f"put top 1 {number} {LONG}\n" for number in range(2000)) + "commit\n"
+        subprocess.run([ALTCTL, "run", store], check=True, input=lines, text=True, stdout=subprocess.DEVNULL)
+        pieces, seen, outside = pacing.pieces, [b""], []
+
+        def watched(size, first, last):
+            """The pieces, which have to hold all that has changed since the last time. The first blocks come at last,
+            and are few."""
+            found, before, now = list(pieces(size, first, last)), seen[-1], part.read_bytes()
+            before = before.ljust(len(now), b"\0")  # New blocks are a hole.
+            blocks = [it for it in range(34 * 4096, len(now), 4096) if now[it : it + 4096] != before[it : it + 4096]]
+            changed = {it // pacing.PIECE for it in blocks}
+            outside.extend(changed - {begin // pacing.PIECE for begin, _ in found})
+            seen.append(now)
+            return found
+
+        with subprocess.Popen([ALTCTL, "copy", store, str(self.path)], stdout=subprocess.DEVNULL) as process:
+            program = os.pidfd_open(process.pid)
+            with mock.patch.object(pacing, "pieces", watched):
+                pacing.pace(program, [str(part)], lambda: stopped(process.pid) and pacing.written_by(process.pid))
+            os.close(program)
+        self.assertEqual((0, []), (process.returncode, outside))
+        self.assertGreater(len({*seen}), 4)
 
     def test_blocks_of_a_file_that_goes(self):
         with open(self.path, "wb") as file:

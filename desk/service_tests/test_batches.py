@@ -126,6 +126,7 @@ class BatchTests(ServiceTest):
                 other.send("begin", "put b 3 1 a", "put b 3 2 a", "commit")
             self.assertEqual(["none", "ok"], one.read(2))
             self.assertEqual(["ok"] * 4, other.read(4))
+        self.assertIn(f"full: {self.file} has no block for a change of ", self.said.read_text())
 
     def test_batches_of_one_planner_keep_their_order(self):
         os.unlink(self.file)
@@ -201,7 +202,8 @@ class BatchTests(ServiceTest):
             for line in ["get top 1 1", "list top", "free", "begin", "whoami", "log", "backup a"]:
                 due = ["ok", "error 91 NotDone 2", "error 93 NotInBatch", "error 91 NotDone 2"]
                 self.assertEqual(due, one.ask("begin", "put top 1 1 a", line, "commit"), line)
-            due = ["ok", "error 22 BadLine", "error 91 NotDone 1", "error 91 NotDone 1"]
+            bad = "error 22 BadLine word 1: there is no such line"
+            due = ["ok", bad, "error 91 NotDone 1", "error 91 NotDone 1"]
             self.assertEqual(due, one.ask("begin", "nonsense", "put top 1 1 a", "commit"))
             due = ["ok", "error 90 Denied post .service", "error 91 NotDone 1"]
             self.assertEqual(due, one.ask("begin", "post .service", "commit"))

@@ -8,7 +8,7 @@ import unittest
 from pathlib import Path
 
 from service import limits
-from service_tests.support import HAS_TOML, LONG, NEEDS_TOML, NOBODY, ServiceTest
+from service_tests.support import HAS_TOML, LONG, LONG_VALUE, NEEDS_TOML, NOBODY, ServiceTest
 
 
 class FairnessTests(ServiceTest):
@@ -111,8 +111,9 @@ class BoundTests(ServiceTest):
                 one.send("")
             answers = [one.read()[0] for one in planners]
             # A quarter of what may be held has room for seven or eight of them.
-            self.assertEqual({"error 22 BadLine", "error 94 TooLarge"}, set(answers))
-            self.assertIn(answers.count("error 22 BadLine"), (7, 8))
+            bad = f"error 22 BadLine {LONG_VALUE}"
+            self.assertEqual({bad, "error 94 TooLarge"}, set(answers))
+            self.assertIn(answers.count(bad), (7, 8))
             self.assertEqual(["ok"], planners[-1].ask("put top 1 2 a"))
         self.assertLess(self.memory(), 64 << 20)
 

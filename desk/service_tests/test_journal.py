@@ -212,3 +212,6 @@ class JournalTests(ServiceTest):
         log = self.log()
         self.assertEqual(made, log[:-1])
         self.assertEqual("put top 2 1 b", log[-1].split(" ", 1)[1])
+        said = self.said.read_text()
+        self.assertIn(f"not journaled: {self.journal}: No space left on device\n", said)
+        self.assertIn(f"altctl ended: error 15 Device; it was started again, after batch {len(made)}\n", said)

@@ -6,7 +6,7 @@ import unittest
 
 from service import limits
 from service.lines import LINES
-from service_tests.support import DESK, HAS_NC, LONG, ServiceTest
+from service_tests.support import DESK, HAS_NC, LONG, LONG_VALUE, NAMED, ServiceTest
 
 
 class LineTests(ServiceTest):
@@ -48,12 +48,20 @@ class LineTests(ServiceTest):
             "uncheck north before": "ok",
             "drop north": "ok",
             "drop top": "error 6 IsTop",
-            "nonsense": "error 22 BadLine",
-            "put top 7": "error 22 BadLine",
-            "put top 65536 1 a": "error 22 BadLine",
-            "put top 7 1 %2": "error 22 BadLine",
-            "put a/b 7 1 a": "error 22 BadLine",
-            "new": "error 22 BadLine",
+            "nonsense": "error 22 BadLine word 1: there is no such line",
+            "put top 7": "error 22 BadLine word 1 takes ALT TABLE NUMBER VALUE",
+            "put top 65536 1 a": "error 22 BadLine word 3: TABLE is 0 to 65535",
+            "put top 7 1 %2": f"error 22 BadLine {LONG_VALUE}",
+            "put a/b 7 1 a": f"error 22 BadLine word 2: ALT is {NAMED}",
+            "put a/b 7 1": "error 22 BadLine word 1 takes ALT TABLE NUMBER VALUE",
+            "merge a/b 7:1=ours": f"error 22 BadLine word 2: ALT is {NAMED}",
+            "new": "error 22 BadLine word 1 takes NAME PARENT [CHECKPOINT]",
+            "new a/b top": f"error 22 BadLine word 2: NAME is {NAMED}",
+            "new a top@ b": f"error 22 BadLine word 3: PARENT is {NAMED}",
+            "new a top b!": f"error 22 BadLine word 4: CHECKPOINT is {NAMED}",
+            "new a/b top b c": "error 22 BadLine word 1 takes NAME PARENT [CHECKPOINT]",
+            "back a/b c!": f"error 22 BadLine word 2: ALT is {NAMED}",
+            "post": "error 22 BadLine word 1 takes ALT",
             "put nowhere 7 1 a": "error 1 NoSuchAlternative",
             "list nowhere": "error 1 NoSuchAlternative",
             "grow 10": "error 21 BadSize",
@@ -101,7 +109,9 @@ class LineTests(ServiceTest):
             self.assertEqual(["blocks 256"], one.ask("blocks"))
             for verb, line in LINES.items():
                 answers = one.ask(verb.decode() + " x" * 9)
-                self.assertIn(answers, (["error 22 BadLine"], ["error 1 NoSuchAlternative"]), line)
+                due = f"word 1 takes {line.words or 'no other word'}"
+                due = "word 3: SETTLEMENT is TABLE:NUMBER=mine|theirs" if verb == b"merge" else due
+                self.assertEqual([f"error 22 BadLine {due}"], answers)
 
     def test_words_of_the_service(self):
         self.start()
@@ -151,7 +161,8 @@ class LineTests(ServiceTest):
     def test_how_long_a_line_may_be(self):
         self.start()
         with self.planner() as one:
-            for size, due in [(limits.LINE_BYTES, "error 22 BadLine"), (limits.LINE_BYTES + 1, "error 23 LongLine")]:
+            bad, long = f"error 22 BadLine {LONG_VALUE}", "error 23 LongLine"
+            for size, due in [(limits.LINE_BYTES, bad), (limits.LINE_BYTES + 1, long)]:
                 self.assertEqual([due, "ok"], one.ask("put top 7 1 ".ljust(size, "a"), "put top 7 1 a"))
 
     def test_many_lines_are_written_before_an_answer_is_read(self):

@@ -1,9 +1,11 @@
 """Wrong starts of the desk's programs: a second line says which file or line it was about, and what was said of it."""
+import fcntl
 import os
 import subprocess
 import sys
 import tempfile
 import unittest
+import unittest.mock
 from pathlib import Path
 
 import reasons
@@ -110,10 +112,21 @@ class ReasonTests(unittest.TestCase):
     def test_what_is_told(self):
         line = "put top 65536 1 a"
         bad = Refusal(22, "BadLine", line=line)
-        self.assertEqual(f"the line was: {line}\n65536 is no TABLE: a number from 0 to 65535", reasons.why(bad))
+        self.assertEqual(f"the line was: {line}\n65536: TABLE is 0 to 65535", reasons.why(bad))
         self.assertEqual(f"the line was: {line}", reasons.why(Refusal(13, "Full", line=line)))
         self.assertEqual("22 BadLine", reasons.why(Refusal(22, "BadLine")))
         said = "altctl: cannot open a"
         self.assertEqual(f"{said}: Permission denied", reasons.why(Ended(1, f"{said}\n", "Permission denied")))
         self.assertEqual("altctl: 19 NotAStore", reasons.why(Ended(1, "altctl: 19 NotAStore\n")))
         self.assertEqual("altserve: a\naltserve: b", reasons.named("altserve", "a\nb"))
+
+    def test_who_has_a_lock(self):
+        unseen = "a process that is not seen from here"
+        with tempfile.NamedTemporaryFile() as file:
+            self.assertEqual(unseen, reasons.owners(file.name))
+            fcntl.flock(file, fcntl.LOCK_EX)
+            self.assertRegex(reasons.owners(file.name), rf"^process {os.getpid()} \(\w+\)$")
+            # As under the unit of the package, which sees of /proc processes alone.
+            with unittest.mock.patch("builtins.open", side_effect=FileNotFoundError(2, "No such file", "/proc/locks")):
+                self.assertEqual(unseen, reasons.owners(file.name))
+        self.assertEqual(unseen, reasons.owners(file.name))

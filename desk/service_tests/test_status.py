@@ -7,7 +7,7 @@ import time
 import unittest
 import unittest.mock
 
-from service.status import FIGURES, MOST_TOLD, Commits, Room, Teller
+from service.status import FIGURES, MOST_TOLD, Commits, Disk, Room, Teller
 from service_tests.support import ALTSERVE, DESK, HAS_TOML, NEEDS_TOML, ServiceTest
 
 
@@ -40,7 +40,9 @@ class StatusTests(ServiceTest):
             self.assertGreaterEqual(found["commit_seconds_total"], found["sync_seconds_total"])
             self.assertGreaterEqual(found["commit_seconds_total"], found["commit_seconds_slowest"])
             self.assertEqual(["error 22 BadLine"], one.ask("status now"))
-        self.assertEqual({*FIGURES} - {"spare_blocks", "seconds_left"}, {*found})
+            disk = os.statvfs(self.folder)
+            self.assertLess(abs(found["disk_free_bytes"] - disk.f_bavail * disk.f_frsize), 1 << 30)
+        self.assertEqual({*FIGURES} - {"spare_blocks", "seconds_left", "disk_seconds_left"}, {*found})
 
     def test_the_command(self):
         self.assertEqual((1, ""), self.status()[:2])
@@ -51,6 +53,15 @@ class StatusTests(ServiceTest):
         form = r"# HELP altserve_(\w+) [^\n]+\n# TYPE altserve_\1 (?:gauge|counter)\naltserve_\1 [0-9.]+\n"
         self.assertRegex(text, f"^(?:{form})+$")
         self.assertIn("\naltserve_blocks 256\n", text)
+
+    def test_a_command_that_nobody_reads(self):
+        self.start()
+        reader, writer = os.pipe()
+        os.close(reader)
+        words = [sys.executable, ALTSERVE, "status", self.file]
+        ran = subprocess.run(words, stdout=writer, stderr=subprocess.PIPE, timeout=60)
+        os.close(writer)
+        self.assertEqual((0, b""), (ran.returncode, ran.stderr))
 
     def test_the_page_names_each_figure(self):
         text = (DESK.parent / "docs" / "PLANNERS.md").read_text()
@@ -91,6 +102,13 @@ class RoomTests(unittest.TestCase):
         self.assertEqual((80, 80), (room.spare(), room.seconds_left()))
         room.note(14, 512, 336)
         self.assertEqual((None, None), (room.spare(), room.seconds_left()))
+
+    def test_how_long_the_disk_lasts(self):
+        disk, free = Disk("map.alt"), iter((900, 800, None, 750, 760, 700))
+        with unittest.mock.patch.object(disk, "free", lambda: next(free)):
+            for now, due in ((0, None), (9, None), (10, 80), (20, 80), (30, 150), (40, 760 * 40 / 140), (50, 175)):
+                disk.note(now)
+                self.assertEqual(due, disk.seconds_left(), now)
 
     def test_the_slowest_commit(self):
         commits = Commits()

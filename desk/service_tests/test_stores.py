@@ -8,7 +8,7 @@ import subprocess
 import time
 from pathlib import Path
 
-from service_tests.support import ALTCTL, ALTSERVE, DESK, LONG, ServiceTest
+from service_tests.support import ALTCTL, ALTSERVE, DESK, LONG, NAMED, ServiceTest
 
 
 class StoreTests(ServiceTest):
@@ -223,7 +223,8 @@ class StoreTests(ServiceTest):
     def test_two_carriage_returns(self):
         lines = ["new a top\r", "new b .service\r\r", "put a 1 1 x\r\r", "get a 1 1\r"]
         due = self.altctl(*lines)
-        self.assertEqual(["ok", "error 22 BadLine", "ok", "value x%0D"], due)
+        bad = f"error 22 BadLine word 3: PARENT is {NAMED}"
+        self.assertEqual(["ok", bad, "ok", "value x%0D"], due)
         self.start()
         with self.planner() as one:
             self.assertEqual(due, one.ask(*lines))

@@ -5,8 +5,8 @@ after each session: `tools/faults/compare.py [-n FILES] [-s SEED] [--plain] [ALT
 Of the file every byte is compared where no written block waits (half of the files), and else those of header, slots and
 each block that a committed version reaches, since blocks that nobody needs are not written then. Now and then the file
 is copied to another size, after a session or between two of its lines, and each byte of the copy is compared. At the
-end it spoils bytes of the file, and compares what opening it is answered. The model goes by docs/MODEL.md and
-docs/FORMATS.md, and shares nothing with the store. It stands beside the gate."""
+end it spoils bytes of the file, and compares what a check and an opening for lines are answered. The model goes by
+docs/MODEL.md and docs/FORMATS.md, and shares nothing with the store. It stands beside the gate."""
 import argparse
 import os
 import random
@@ -18,7 +18,7 @@ import time
 from itertools import accumulate
 
 BLOCK, FIRST = 4096, 34
-LEAST, MOST = 64, 1 << 20
+LEAST, MOST = 64, 1 << 26
 # A leaf has an entry of 12 bytes for each record and the values behind them: at most this many bytes.
 ENTRY, LEAF_ROOM, LONGEST = 12, 4080, 4000
 CHILD, FAN = 14, 256
@@ -277,7 +277,7 @@ class Store:
 
     def grow(self, blocks):
         """Blocks that the file lacks are zeros; others keep the bytes that they have."""
-        if not self.blocks < blocks <= 1 << 20:
+        if not self.blocks < blocks <= MOST:
             raise Refused(21)
         self.disk += [bytes(BLOCK)] * (blocks - len(self.disk))
         self.blocks = blocks
@@ -507,7 +507,7 @@ def slot_in(disk, slot):
     form, blocks, count = struct.unpack_from("<III", head, 4)
     if head[:4] != b"SLOT" or form != 3 or any(head[16:]):
         raise Damaged(slot)
-    if not 64 <= blocks <= 1 << 20 or not 1 <= count <= 511:
+    if not LEAST <= blocks <= MOST or not 1 <= count <= 511:
         raise Damaged(slot)
     text, entries = b"".join(disk[slot : slot + (count + 32) // 32]), []
     for at in range(128, 128 * (count + 1), 128):
@@ -587,9 +587,50 @@ class Walk:
         return keys
 
 
-def refusal(disk):
-    """What opening a file of these blocks is answered, if it is refused."""
-    if len(disk) < 64 or disk[0] != header(3):
+class Opening(Walk):
+    """What an opening for lines finds under roots: the level of each, and by the inner blocks all that lies under them.
+    Of the leaves it reads only those that are a root."""
+
+    def __init__(self, disk, blocks, roots):
+        super().__init__(disk, blocks)
+        self.levels, self.found = {}, set()
+        for root in filter(None, roots):
+            if not FIRST <= root < blocks:
+                raise Damaged(root)
+            self.levels[root] = self.items(root)[0]
+        for root in filter(None, roots):
+            self.find(root, self.levels[root])
+
+    def find(self, block, level):
+        if not FIRST <= block < self.blocks:
+            raise Damaged(block)
+        if block in self.found and level:
+            return
+        self.found.add(block)
+        if level:
+            for _, child in self.items_of(block, level):
+                self.find(child, level - 1)
+
+    def items_of(self, block, level):
+        found, items = self.items(block)
+        if found != level:
+            raise Damaged(block)
+        return items
+
+    def rows(self, block, level):
+        """The records under a block of this level, in the order of the blocks."""
+        items = self.items_of(block, level)
+        return [row for _, it in items for row in self.rows(it, level - 1)] if level else items
+
+
+def roots_of(entries):
+    return [root for it in entries for root in (it.current, it.base)]
+
+
+def refusal(disk, is_whole):
+    """What opening a file of these blocks is answered, if it is refused: a whole opening, which reads every block, or
+    one for lines."""
+    if len(disk) < LEAST or disk[0] != header(3):
         is_earlier = disk[0] in (header(1), header(2))
         return (
             "19 NotAStore"
@@ -599,14 +640,29 @@ def refusal(disk):
         blocks, entries = slot_in(disk, 18 if disk[1][0] & 1 else 2)
         if blocks > len(disk):
             return "21 BadSize"
+        if not is_whole:
+            Opening(disk, blocks, roots_of(entries))
+            return None
         walk = Walk(disk, blocks)
-        for it in entries:
-            for root in (it.current, it.base):
-                if root:
-                    walk.visit(root, None)
+        for root in filter(None, roots_of(entries)):
+            walk.visit(root, None)
     except Damaged as damaged:
         return f"18 Damaged {damaged.args[0]}"
     return None
+
+
+def first_answers(disk):
+    """What the lines of `opened` are answered, over blocks that can be opened for lines. A leaf that is damaged is
+    named by the list."""
+    blocks, entries = slot_in(disk, 18 if disk[1][0] & 1 else 2)
+    opening, top = Opening(disk, blocks, roots_of(entries)), entries[0].current
+    alternatives = listed(f"alternative {it.name} {it.owner or '~'}" for it in entries if it.tag == b"A")
+    try:
+        rows = opening.rows(top, opening.levels[top]) if top else []
+        records = listed(f"record {key[0]} {key[1]} {spelled(value)}" for key, value in rows)
+    except Damaged as damaged:
+        records = f"error 18 Damaged {damaged.args[0]}"
+    return f"{alternatives}\n{records}\nfree {blocks - FIRST - len(opening.found)}\n"
 
 
 def count_in(text, most):
@@ -665,16 +721,15 @@ def opened(altctl, rng, file, disk):
         blocks = spoiled(rng, disk)
         with open(file, "wb") as it:
             it.write(b"".join(blocks))
+        why = refusal(blocks, is_whole=True)
+        came = started(altctl, "check", file)
+        if (came[0], came[2]) != ((1, f"altctl: {why}\n") if why else (0, "")):
+            return f"a spoiled file, left as spoiled.alt, is checked with {came}, and not {why}"
         ran = subprocess.run(
             [altctl, "run", file], input=b"alts\nlist top\nfree\n", stdout=subprocess.PIPE, stderr=subprocess.PIPE
         )
-        why, answers = refusal(blocks), ""
-        if why is None:
-            store = Store(64)
-            store.disk = blocks
-            store.open()
-            answers = "".join(store.apply(words) + "\n" for words in (["alts"], ["list", "top"], ["free"]))
-        wanted = (1, b"", f"altctl: {why}\n".encode()) if why else (0, answers.encode(), b"")
+        why = refusal(blocks, is_whole=False)
+        wanted = (1, b"", f"altctl: {why}\n".encode()) if why else (0, first_answers(blocks).encode(), b"")
         if (ran.returncode, ran.stdout, ran.stderr) != wanted:
             return f"a spoiled file, left as spoiled.alt, is answered {ran}, and not {wanted}"
     return None
@@ -700,6 +755,57 @@ SIZES = [
     [0, 44, 55, 56, 57, 68, 3999, 4000],
     range(LONGEST + 1),
 ]
+
+
+# Bad lines, by what is wrong with each: the word, by its place, and what was expected there.
+NAME = "1 to 32 of A-Za-z0-9_.-"
+BAD_LINES = {
+    "word 1: there is no such line": [
+        "PUT top 1 1 a", "NEXT top 1 0 1", "get\ttop 1 1", "free\r\r", "merges top", "put\r top 1 1 a",
+    ],
+    "word 1 takes no other word": ["commit now", "rollback now", "blocks 1", "free 1", "alts top"],
+    "word 1 takes ALT": ["tally", "drop", "post top top", "checks top 1"],
+    "word 1 takes ALT NAME": ["checkpoint top", "back top a b"],
+    "word 1 takes ALT TABLE NUMBER": ["remove top 1", "remove top 1 1 1"],
+    "word 1 takes ALT TABLE NUMBER VALUE": ["put top 1 1", "put top@ 65536 1 a b"],
+    "word 1 takes NAME PARENT [CHECKPOINT]": ["new a", "new a top c d"],
+    "word 1 takes ALT [SETTLEMENT ..]": ["merge"],
+    "word 1 takes BLOCKS": ["grow", "grow 70 80"],
+    "word 1 takes AT TABLE NUMBER": ["get top @ 1 1", "get top 1"],
+    "word 1 takes AT TABLE NUMBER COUNT": ["next", "next top", "next top 1", "next top 1 2", "next top 1 2 3 4"],
+    "word 1 takes AT [TABLE [FIRST LAST]]": ["list", "list top 1 2", "list top 1 2 3 4"],
+    "word 1 takes AT AT [TABLE [FIRST LAST]]": ["diff", "diff top@", "diff top top 1 2", "diff top top 1 2 3 4"],
+    f"word 2: NAME is {NAME}": ["new a~ top", "new " + "n" * 33 + " top"],
+    f"word 3: PARENT is {NAME}": ["new a top@"],
+    f"word 4: CHECKPOINT is {NAME}": ["new a top c!"],
+    f"word 3: NAME is {NAME}": ["checkpoint top c@"],
+    f"word 2: ALT is {NAME}": [
+        "put top@ 1 1 a", "remove top@k 1 1", "changes top@", "merge top@", "merge top@ 1:1=ours", "tally top@",
+        "checks top@k", "put top/ 65536 -1 %",
+    ],
+    "word 2: AT is ALT, ALT@ or ALT@CHECKPOINT": [
+        "get @ 1 1", "get top@~ 1 1", "list top@@", "list @k", "next top@@ 1 0 1", "next @k 1 0 1",
+    ],
+    "word 3: AT is ALT, ALT@ or ALT@CHECKPOINT": ["diff top @k"],
+    "word 3: TABLE is 0 to 65535": [
+        "get top x 1", "get top 65536 1", "list top 65536", "list top x", "next top 65536 0 1",
+    ],
+    "word 4: TABLE is 0 to 65535": ["diff top top@ x", "diff top top 65536"],
+    f"word 4: NUMBER is 0 to {2**64 - 1}": ["get top 1 18446744073709551616", "next top 1 18446744073709551616 1"],
+    f"word 4: FIRST is 0 to {2**64 - 1}": ["list top 1 -1 2"],
+    f"word 5: FIRST is 0 to {2**64 - 1}": ["diff top top 1 18446744073709551616 0"],
+    f"word 5: LAST is 0 to {2**64 - 1}": ["list top 1 0 18446744073709551616"],
+    f"word 6: LAST is 0 to {2**64 - 1}": ["diff top 1 2 3 x"],
+    f"word 5: COUNT is 0 to {2**32 - 1}": ["next top 1 0 4294967296", "next top 1 0 -1", "next top 1 0 x"],
+    f"word 2: BLOCKS is 0 to {2**32 - 1}": [
+        "grow 4294967296", "grow 18446744073709551616", "grow " + "0" * 20 + "1", "grow -1", "grow +70", "grow many",
+    ],
+    "word 5: VALUE is at most 4,000 bytes, % as %25": [
+        "put top 1 1 %z1", "put top 1 1 " + "x" * 4001, "put top 1 1 " + "%61" * 4001,
+    ],
+    "word 3: SETTLEMENT is TABLE:NUMBER=mine|theirs": ["merge top 1:1=ours", "merge top all=ours"],
+    "word 4: SETTLEMENT is TABLE:NUMBER=mine|theirs": ["merge top 1:1=mine all=mine", "merge top all=mine all=mine"],
+}
 
 
 class Editor:
@@ -788,51 +894,16 @@ class Editor:
         return gap(0) + "".join(it + gap(1) for it in words[:-1]) + words[-1] + gap(0) + self.rng.choice(["\n", "\r\n"])
 
     def odd(self):
-        bad = [
-            "PUT top 1 1 a", "get top x 1", "get top 65536 1", "get top 1 18446744073709551616", "commit now",
-            "rollback now", "put top 1 1", "put top 1 1 %z1",
-        ]
-        bad += [
-            "put top 1 1 " + self.rng.choice(["x", "%61"]) * 4001, "new a", "new a~ top", "new a top c!",
-            "new a top c d", "new " + "n" * 33 + " top", "merge", "merge top 1:1=ours", "merge top all=ours",
-            "merge top 1:1=mine all=mine", "merge top all=mine all=mine", "get\ttop 1 1", "free\r\r",
-        ]
-        bad += [
-            "grow", "grow 4294967296", "grow 18446744073709551616", "grow " + "0" * 20 + "1", "grow -1", "grow +70",
-            "grow 70 80", "grow many",
-        ]
-        bad += [
-            "get @ 1 1", "get top@~ 1 1", "get top @ 1 1", "list top@@", "list @k", "diff", "diff top@", "diff top @k",
-            "diff top top@ x",
-        ]
-        bad += [
-            "list top 1 2", "list top 1 2 3 4", "list top 65536", "list top x", "list top 1 -1 2",
-            "list top 1 0 18446744073709551616", "list",
-        ]
-        bad += [
-            "next", "next top", "next top 1", "next top 1 2", "next top 1 2 3 4", "next top 65536 0 1",
-            "next top 1 0 4294967296",
-        ]
-        bad += [
-            "next top 1 0 -1", "next top 1 0 x", "next top@@ 1 0 1", "next @k 1 0 1",
-            "next top 1 18446744073709551616 1", "NEXT top 1 0 1",
-        ]
-        bad += [
-            "diff top top 1 2", "diff top top 1 2 3 4", "diff top top 65536", "diff top 1 2 3 x",
-            "diff top top 1 18446744073709551616 0",
-        ]
-        bad += [
-            "put top@ 1 1 a", "remove top@k 1 1", "changes top@", "merge top@", "tally", "tally top@", "blocks 1",
-            "checks top@k",
-        ]
+        """A line without an answer, or a bad one, of which `plain.c` does not tell what is wrong with it."""
         if self.rng.random() < 0.3:
             return self.rng.choice(["", "# note", "   ", "  #x"]) + "\n", None
-        return self.rng.choice(bad) + "\n", "error 22 BadLine"
+        line, what = self.rng.choice([(line, what) for what, lines in BAD_LINES.items() for line in lines])
+        return line + "\n", "error 22 BadLine" + ("" if self.is_plain else f" {what}")
 
     def grown(self, store):
         """A growth by some blocks, or one that is refused."""
         more = self.rng.choice([0, -1, 1, 1, 2, 5, 16, 16, 40, 300])
-        blocks = self.rng.choice([store.blocks + more] * 6 + [0, 63, 64, 1048577, 2**32 - 1])
+        blocks = self.rng.choice([store.blocks + more] * 6 + [0, 63, 64, MOST + 1, 2**32 - 1])
         typed = self.rng.choice([str(blocks), str(blocks), str(blocks).rjust(20, "0")])
         return self.spaced(["grow", typed]), ["grow", blocks]
 

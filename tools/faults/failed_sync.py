@@ -28,6 +28,7 @@ from typing import Dict, List, Tuple
 sys.dont_write_bytecode = True
 from preloaded import ALTCTL, compiled, preloaded
 
+# A store has so many blocks at first, and some of its commits come after a growth.
 BLOCK, BLOCKS = 4096, 256
 KEYS = 60
 Records = Dict[int, str]
@@ -96,6 +97,8 @@ def draw_commits(rng: random.Random, records: Records, name: str) -> Tuple[List[
         for number in rng.sample(range(KEYS), rng.randint(1, 40)):
             records = {**records, number: f"{name}{commit}"}
             lines.append(f"put top 1 {number} {records[number]}")
+        if rng.random() < 0.3:
+            lines.insert(-1, f"grow {BLOCKS + rng.randint(1, 300)}")
         states.append(records)
         lines.append("commit")
     return lines, states

@@ -53,8 +53,17 @@ def read_queries(altctl, file, variables=None):
     return start(altctl, ["run", "--cache", "0", "--read-only", file], lines, variables=variables)
 
 
+def opening_reads(file):
+    """How often an opening for lines reads blocks, by the model: the root of two levels to find its level, and to find
+    what lies under it, and no leaf."""
+    text, store = read(file), Store(BLOCKS)
+    store.disk = [text[at : at + BLOCK] for at in range(0, len(text), BLOCK)]
+    store.open()
+    return {**dict.fromkeys(store.held, 0), store.committed[0].current: 2}
+
+
 def try_blocks(folder, library):
-    """Has each block fail from its second read on. Gives how many blocks were asked for again."""
+    """Has each block fail once the store is open. Gives how many blocks were asked for then."""
     file, failed = os.path.join(folder, "store"), os.path.join(folder, "failed")
     create(ALTCTL, file)
     puts = [f"put top 1 {number} {VALUE}" for number in range(1, RECORDS + 1)]
@@ -63,9 +72,11 @@ def try_blocks(folder, library):
         before = it.read()
     values, listed = [f"value {VALUE}"] * RECORDS, [f"record 1 {number} {VALUE}" for number in range(1, RECORDS + 1)]
     expect("queries", (0, [*values, *listed, f"end {RECORDS}", "free 27"], ""), read_queries(ALTCTL, file))
-    lost = {}
+    lost, before_lines = {}, opening_reads(file)
     for block in range(BLOCKS):
-        status, answers, faults = read_queries(PROGRAM, file, preloaded(library, failed=failed, fail_block=block))
+        reads = before_lines.get(block, 1)
+        variables = preloaded(library, failed=failed, fail_block=block, fail_after=reads)
+        status, answers, faults = read_queries(PROGRAM, file, variables)
         expect(f"block {block} fails: the end", (0, "", "free 27"), (status, faults, answers[-1]))
         if not os.path.exists(failed):
             expect(f"block {block} is not asked for", [*values, *listed, f"end {RECORDS}"], answers[:-1])

@@ -19,6 +19,8 @@ from typing import NamedTuple
 # A store begins with so many blocks, and grows by at most so many at once.
 BLOCKS = 256
 MOST_NEW = 40
+# A store has no more than so many.
+MOST = 67_108_864
 LONGEST_LIFE = 0.2
 # How many blocks may wait: as many as usual, or this many.
 OPTIONS = [[], ["--buffer", "1"], ["--buffer", "2"], ["--buffer", "64"]]
@@ -264,7 +266,7 @@ QUERIES["conflicts"] = conflict_rows
 
 
 def grown(state, blocks):
-    if not state.blocks < blocks <= 1048576:
+    if not state.blocks < blocks <= MOST:
         raise Refused("21 BadSize")
     return "ok", state._replace(blocks=blocks)
 

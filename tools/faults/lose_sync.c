@@ -9,8 +9,9 @@
    CUT_SYNC=N     the power is lost in the Nth sync: of each block that was to go to the device all goes there, or its
                   first half, or nothing, as SEED draws it, and the program is killed
 
-   Every other sync brings each dirty block to the device. The files of the device and the dirty blocks outlive the
-   program, as the device and the system do. */
+   Every other sync brings each dirty block to the device. A new length of the file is no block: file systems keep it in
+   their journal, so a sync that fails brings it all the same, and one in which the power is lost brings it or not. The
+   files of the device and the dirty blocks outlive the program, as the device and the system do. */
 #define _GNU_SOURCE
 #include <errno.h>
 #include <fcntl.h>
@@ -75,10 +76,21 @@ static void bring(int file, off_t block, size_t count)
     check(syscall(SYS_pwrite64, device, bytes, count, block * BLOCK), (long)count);
 }
 
+/* Has the device's file as long as the system's. */
+static void bring_length(int file)
+{
+    struct stat it, other;
+    check(fstat(file, &it) | fstat(device, &other), 0);
+    if (other.st_size < it.st_size)
+        check(syscall(SYS_ftruncate, device, it.st_size), 0);
+}
+
 /* Ends a sync for each dirty block: how many of its bytes go to the device is drawn if the power is lost. */
 static void end_sync(int file, int is_failing, int is_cut)
 {
     char is_dirty;
+    if (!is_cut || rand() % 2)
+        bring_length(file);
     for (off_t block = 0; syscall(SYS_pread64, dirty, &is_dirty, 1, block) == 1; block++) {
         if (!is_dirty)
             continue;

@@ -20,12 +20,14 @@ sys.dont_write_bytecode = True
 from fixed_run import Failure, expect
 from preloaded import PROGRAM, build_program, compiled, preloaded
 
-# As many blocks as take two seconds to write, sixteen at a time, and as many leaves as take three to read: one has nine
-# records, of values of 441 bytes.
+# A file is made longer by so many blocks at a time, and this many take two seconds. They are a hole.
+AT_ONCE = 16_384
+MANY = 400 * AT_ONCE
+# As many leaves as take three seconds to read: one has nine records, of values of 441 bytes.
 BLOCKS, RECORDS, SLOW = 6144, 5400, 6000
 VALUE = "v" * 441
 # Those of a copy: the store is opened in less than a second, the copy takes three.
-COPIED, FEW = 4096, 900
+COPIED, FEW = 256 * AT_ONCE, 900
 LINE = re.compile(rb"\raltctl: (\d+)(?: of (\d+))? blocks")
 
 
@@ -115,11 +117,14 @@ def main():
         file, small, grown = (os.path.join(folder, name) for name in ("store", "small", "grown"))
         try:
             remove = lambda: os.path.exists(file) and os.remove(file)
-            try_job("create", ["create", file, str(BLOCKS)], [], slow, 1, prepare=remove)
+            try_job("create", ["create", file, str(MANY)], [], slow, 1, {MANY}, remove)
+            remove()
+            run(["create", file, str(BLOCKS)], [], {}, False)
             puts = [f"put top 1 {number} {VALUE}" for number in range(RECORDS)]
             status, _, faults = run(["run", file], [*puts, "commit"], {}, True)
             expect("puts on a terminal", (0, b""), (status, faults))
-            try_job("open and list", ["run", "--cache", "0", file], ["list top"], slow, 2)
+            # The opening reads few blocks.
+            try_job("open and list", ["run", "--cache", "0", file], ["list top"], slow, 1)
             try_job("check", ["check", file], [], slow, 1)
             run(["create", small, "1024"], [], {}, False)
             run(["run", small], [*puts[:FEW], "commit"], {}, False)
@@ -129,7 +134,7 @@ def main():
             os.remove(small)
             run(["create", small, "64"], [], {}, False)
             # How many blocks there will be is not known where they are counted.
-            try_job("growth", ["run", grown], [f"grow {BLOCKS}"], slow, 1, {0}, lambda: shutil.copy(small, grown))
+            try_job("growth", ["run", grown], [f"grow {MANY}"], slow, 1, {0}, lambda: shutil.copy(small, grown))
         except Failure as it:
             print(f"progress: {it}")
             return 1

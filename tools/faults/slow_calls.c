@@ -1,5 +1,5 @@
-/* Has each block read and each write of a program take SLOW microseconds more, and each sync SLOW_SYNC. It is loaded
-   before the C library by LD_PRELOAD. */
+/* Has each block read, each write and each new length of a program's file take SLOW microseconds more, and each sync
+   SLOW_SYNC. It is loaded before the C library by LD_PRELOAD. */
 #define _GNU_SOURCE
 #include <stdlib.h>
 #include <sys/syscall.h>
@@ -22,6 +22,12 @@ ssize_t pwrite(int file, const void *from, size_t count, off_t offset)
 {
     wait_for_device("SLOW");
     return syscall(SYS_pwrite64, file, from, count, offset);
+}
+
+int ftruncate(int file, off_t length)
+{
+    wait_for_device("SLOW");
+    return (int)syscall(SYS_ftruncate, file, length);
 }
 
 int fsync(int file)

@@ -3,13 +3,14 @@
 lost, it says so and ends with status 1.
 
 Room is wanting in two ways: by a limit on the size of a file, for each number of blocks; and in a small file system of
-its own, in memory, that has each number of blocks left. Each time one list of lines is run over a store, which grows in
-it. It may stop with `error 15 Device`; then the store has to open again with what was acknowledged, in a file that is
-no shorter than it was, and the rest of the lines, with room, ends as usual. Where there is no room for a growth, it is
-that line which is answered so, and no later one. A copy for which there is no room is not made. The small file system
-is mounted in a namespace of its own; where the machine does not allow that, this part is left out, and the last line
-says so. It stands beside the gate: a full device is a device that fails, over which the store is proved; this tries
-files and the program.
+its own, in memory, that has each number of blocks left, of which a hole takes none. Each time one list of lines is run
+over a store, which grows in it. It may stop with `error 15 Device`; then the store has to open again with what was
+acknowledged, in a file that is no shorter than it was, and the rest of the lines, with room, ends as usual. Where a
+file may not be as long as a growth wants it, it is that line which is answered so, and no later one; in a full file
+system a growth is a hole, and a later commit is answered so. A copy for which there is no room is not made. The small
+file system is mounted in a namespace of its own; where the machine does not allow that, this part is left out, and the
+last line says so. It stands beside the gate: a full device is a device that fails, over which the store is proved; this
+tries files and the program.
 """
 import os
 import resource
@@ -18,10 +19,14 @@ import sys
 import tempfile
 
 sys.dont_write_bytecode = True
+from compare import MOST
 from fixed_run import (
-    BLOCK, BLOCKS, LINES, MORE, QUERIES, SHOWN, Failure, check_answers, create, expect, finish, run_and_finish,
+    BLOCK, BLOCKS, LARGEST, LINES, MORE, QUERIES, SHOWN, Failure, check_answers, create, expect, finish, run_and_finish,
     shown_after, start,
 )
+
+# So many blocks are written of a new store: the header, the selector and a slot; and of a copy that has two more.
+CREATED, COPIED = 3, 5
 
 
 def limited_to(blocks):
@@ -92,24 +97,38 @@ def try_limits(altctl, folder):
     return stops
 
 
-def try_growths(altctl, file, prepared):
-    """Grows a store where there is no room for it, to each number of blocks that is too many: it stops at the growth,
-    with as much of the file as there is room for. `prepared` makes the file, with room for 10 blocks more, and gives
-    what limits the program, and what gives the room back. Gives how many growths were stopped."""
+def stop_create(altctl, file, blocks):
+    """Has the program make a file of which so many blocks alone can be written. It stays, and is no store."""
+    came = start(altctl, ["create", file, str(BLOCKS)])
+    expect(f"create, with {blocks} blocks left", (1, [], "altctl: 15 Device\n"), came)
+    expect(f"run, with {blocks} blocks left", (1, [], "altctl: 19 NotAStore\n"), start(altctl, ["run", file], LINES))
+    os.remove(file)
+
+
+def stop_copy(altctl, source, file, blocks):
+    """The same of a copy. Nothing of it stays, and the store is as it was."""
+    with open(source, "rb") as it:
+        before = it.read()
+    came = start(altctl, ["copy", source, file])
+    expect(f"a copy, with {blocks} blocks left", (3, [], "altctl: stopped\n"), came)
+    expect("what stays of it", [], [it for it in (file, f"{file}.part") if os.path.lexists(it)])
+    with open(source, "rb") as it:
+        expect("the store that was copied is as it was", True, it.read() == before)
+
+
+def limited_growths(altctl, folder):
+    """Grows a store over a limit on the size of its file: it stops at the growth, and the file is as long as it was.
+    Gives how many growths were stopped."""
+    file, prepare = os.path.join(folder, "grown"), limited_to(BLOCKS + 10)
     for more in range(11, 41):
-        prepare, release = prepared()
-        came = start(
-            altctl,
-            ["run", file],
-            ["put top 1 1 a", "commit", f"grow {BLOCKS + more}", "put top 1 2 b"],
-            prepare=prepare,
-        )
+        create(altctl, file)
+        lines = ["put top 1 1 a", "commit", f"grow {BLOCKS + more}", "put top 1 2 b"]
+        came = start(altctl, ["run", file], lines, prepare=prepare)
         expect(f"a growth by {more} blocks", (3, ["ok", "ok", "error 15 Device"], "altctl: stopped\n"), came)
-        expect(f"a growth by {more} blocks: blocks of the file", BLOCKS + 10, os.path.getsize(file) / BLOCK)
+        expect(f"a growth by {more} blocks: blocks of the file", BLOCKS, os.path.getsize(file) / BLOCK)
         due = (0, ["record 1 1 a", "end 1", "free 29", "error 21 BadSize", "ok", "free 39"], "")
         queries = ["list top", "free", f"grow {BLOCKS}", f"grow {BLOCKS + 10}", "free"]
         expect(f"a growth by {more} blocks, opened again", due, start(altctl, ["run", file], queries, prepare=prepare))
-        release()
         due = (0, ["ok", f"free {29 + more}", "ok"], "")
         lines = [f"grow {BLOCKS + more}", "free", "commit"]
         expect(f"a growth by {more} blocks, with room", due, start(altctl, ["run", file], lines))
@@ -134,27 +153,36 @@ def leave_free(folder, blocks):
     return filler
 
 
-def limited_growths(altctl, folder):
-    """Growths over a limit on the size of a file."""
-    file = os.path.join(folder, "grown")
-
-    def prepared():
-        create(altctl, file)
-        return limited_to(BLOCKS + 10), lambda: None
-
-    return try_growths(altctl, file, prepared)
-
-
 def full_growths(altctl, folder):
-    """Growths over the end of a small file system."""
-    file = os.path.join(folder, "grown")
-
-    def prepared():
+    """Growths where the file system has 20 blocks left. They take none of them; a later change or commit finds no room,
+    and all commits before it last. Gives how many runs were stopped."""
+    file, sizes = os.path.join(folder, "grown"), (MORE, 2 * BLOCKS, 100_000, MOST)
+    for blocks in sizes:
         create(altctl, file)
-        filler = leave_free(folder, 10)
-        return None, lambda: os.remove(filler)
+        filler, how = leave_free(folder, 20), f"a growth to {blocks} blocks of a full disk"
+        puts = [[f"put top 1 {number} {LARGEST}", "commit"] for number in range(20)]
+        lines = [f"grow {blocks}", "commit", *(line for pair in puts for line in pair)]
+        status, answers, faults = start(altctl, ["run", file], lines)
+        expect(how, (3, "error 15 Device", "altctl: stopped\n"), (status, answers[-1], faults))
+        expect(f"{how}: what came before", {"ok"}, {*answers[:-1]})
+        expect(f"{how}: blocks of the file", blocks, os.path.getsize(file) / BLOCK)
+        done = answers.count("ok") // 2 - 1
+        status, shown, faults = start(altctl, ["run", file], ["blocks", "list top"])
+        # A commit that was answered so may be there.
+        may_show = [done, done + 1] if lines[len(answers) - 1] == "commit" else [done]
+        due = [[f"blocks {blocks}", *rows(records)] for records in may_show]
+        expect(f"{how}, opened again", (0, "", True), (status, faults, shown in due))
+        os.remove(filler)
+        rest = [line for pair in puts[done:] for line in pair]
+        expect(f"{how}, with room", (0, ["ok"] * len(rest), ""), start(altctl, ["run", file], rest))
+        expect(f"{how}: its end", (0, rows(len(puts)), ""), start(altctl, ["run", file], ["list top"]))
+        os.remove(file)
+    return len(sizes)
 
-    return try_growths(altctl, file, prepared)
+
+def rows(records):
+    """What `list top` shows of so many of those records."""
+    return [*(f"record 1 {number} {LARGEST}" for number in range(records)), f"end {records}"]
 
 
 def copy_with_holes(whole, file, first=2):
@@ -184,12 +212,13 @@ def open_without_room(altctl, whole, file):
 def try_small_disk(altctl, folder):
     """The same where the file system has each number of blocks left. The folder is mounted in memory."""
     file, whole, source = os.path.join(folder, "small"), os.path.join(folder, "whole"), make_copied(altctl, folder)
-    for blocks in range(BLOCKS):
+    for blocks in range(COPIED):
         filler = leave_free(folder, blocks)
-        create_without_room(altctl, file, blocks)
-        copy_without_room(altctl, source, file, blocks)
+        if blocks < CREATED:
+            stop_create(altctl, file, blocks)
+        stop_copy(altctl, source, file, blocks)
         os.remove(filler)
-    filler = leave_free(folder, BLOCKS)
+    filler = leave_free(folder, COPIED)
     copy_with_room(altctl, source, file)
     os.remove(filler)
     os.remove(source)

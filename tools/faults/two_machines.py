@@ -2,9 +2,10 @@
 """Takes the service over from one machine to the other, as docs/TWO-MACHINES.md has it: `tools/faults/two_machines.py
 [COUNT [ROOT]]`. Three Debians, each a copy of ROOT, or of one that debootstrap makes with the packages of the page, are
 booted by systemd-nspawn in network namespaces of their own, and do each command of the page. Then the machine of the
-service is killed, or cut off, in turn, COUNT times (4 if none is given) while planners write: each acknowledged batch
-has to be there, and none may be done twice. Planners also go on at the machine that is cut off, whose late writes have
-to be refused.
+service is killed, cut off, or frozen, in turn, COUNT times (6 if none is given) while planners write: after each time
+each acknowledged batch has to be there, and none may be done twice. One that is frozen, as a virtual machine that is
+halted, goes on in the middle of its work once the other machine has taken over, and so do its planners: what it still
+writes has to be refused.
 
 It is not one of the scripts of `tools/all.sh`: it takes a quarter of an hour, and has lost batches, as the page says.
 It takes the rights of root. If something is not installed or not allowed, it says so and ends with status 0."""
@@ -29,6 +30,13 @@ ENV = ("-i", "PATH=/usr/sbin:/usr/bin:/sbin:/bin", "LC_ALL=C.UTF-8", "HOME=/root
 QUIET = {"stdin": subprocess.DEVNULL, "stdout": subprocess.DEVNULL, "stderr": subprocess.DEVNULL}
 # How long a take-over, and the way back to three machines, may take.
 LATE_SECONDS = 300
+# How the machine of the service goes away, in turn.
+WAYS = ("killed", "cut off", "frozen")
+# Planners at each machine, and how long each rests between two batches.
+PLANNERS, REST_SECONDS = 3, 0.02
+# Where a machine's processes may have a control group of their own: with one in common a systemd would see, and try to
+# end, those of the other machines.
+GROUPS = [Path("/sys/fs/cgroup/systemd"), Path("/sys/fs/cgroup/unified"), Path("/sys/fs/cgroup")]
 
 
 class Failed(Exception):
@@ -43,12 +51,18 @@ def say(text):
     print(f"two_machines: {text}", flush=True)
 
 
-def until(is_so, what, seconds=LATE_SECONDS):
-    late = time.monotonic() + seconds
+def until(is_so, what, pause=0.2):
+    late = time.monotonic() + LATE_SECONDS
     while not is_so():
         if time.monotonic() > late:
-            raise Failed(f"{what}: not within {seconds} seconds")
-        time.sleep(0.2)
+            raise Failed(f"{what}: not within {LATE_SECONDS} seconds")
+        time.sleep(pause)
+
+
+def is_kept(group):
+    """Removes a control group with those in it, and tells whether it is there all the same."""
+    subprocess.run(["find", str(group), "-depth", "-type", "d", "-exec", "rmdir", "{}", ";"], **QUIET)
+    return group.exists()
 
 
 class Net:
@@ -81,6 +95,7 @@ class Machine:
         for it in ("upper", "work", "root", "brick"):
             (self.folder / it).mkdir(parents=True)
         self.root = self.folder / "root"
+        self.groups = [it / f"{NET}-{name}" for it in GROUPS if (it / "cgroup.procs").exists()]
         layers = f"lowerdir={root},upperdir={self.folder}/upper,workdir={self.folder}/work"
         run("mount", "-t", "overlay", "overlay", "-o", layers, self.root)
         hosts = "".join(f"10.99.1.{number} {it}\n" for number, it in enumerate(NAMES, 1))
@@ -91,7 +106,12 @@ class Machine:
         shutil.copy(deb, self.root / "root/zonegrater.deb")
 
     def boot(self):
-        words = [
+        for it in self.groups:
+            it.mkdir(exist_ok=True)
+        # The shell joins the groups, and becomes the program.
+        words = ["sh", "-c", 'while [ "$1" != -- ]; do echo $$ >"$1"; shift; done; shift; exec "$@"', "sh"]
+        words += [*(f"{it}/cgroup.procs" for it in self.groups), "--"]
+        words += [
             "systemd-nspawn", "--quiet", "--register=no", "--keep-unit", f"--machine={self.name}", "-D", str(self.root),
         ]
         words += [
@@ -131,8 +151,17 @@ class Machine:
             raise Failed(f"{self.name}: {' '.join(words)}: status {ran.returncode}: {ran.stdout.strip()}")
         return ran.stdout
 
+    def freeze(self, is_frozen):
+        """Has all processes of the machine stand still, or go on. Its kernel, which is that of all, goes on meanwhile,
+        so its network is to be cut off, too."""
+        self.freezers()[0].write_text(f"{int(is_frozen)}\n")
+
+    def freezers(self):
+        """The files by which that is done. An older system has none."""
+        return [it / "cgroup.freeze" for it in self.groups if (it / "cgroup.freeze").exists()]
+
     def kill(self):
-        """As by a power cut."""
+        """As by a power cut, but that what it has written and not synced stays."""
         with contextlib.suppress(ProcessLookupError, TypeError):
             os.kill(self.leader(), signal.SIGKILL)
         self.process.kill()
@@ -142,16 +171,21 @@ class Machine:
         if self.process is not None:
             self.kill()
         subprocess.run(["umount", "--lazy", str(self.root)], **QUIET)
+        # They are empty a moment after the last process has ended.
+        until(lambda: not any(map(is_kept, self.groups)), f"the groups of {self.name} go")
 
 
-class Planners(threading.Thread):
-    """Planners at one machine, who put records with numbers of their own, one after another. A batch without an answer
-    is looked for before it is sent again."""
+class Planner(threading.Thread):
+    """A planner at one machine, who puts records with numbers of a table of its own, one after another. A batch without
+    an answer is looked for before it is sent again."""
 
     def __init__(self, machine, table, acknowledged):
         super().__init__(daemon=True)
         self.machine, self.table, self.acknowledged = machine, table, acknowledged
-        self.number, self.first, self.ends, self.rests = 0, None, False, False
+        self.number, self.ends, self.rests = 0, False, False
+        # When a line was answered, by a service that was started when, and how, or `no answer`. What was read is
+        # `value`.
+        self.seen, self.started = [], 0.0
 
     def run(self):
         while not self.ends:
@@ -159,12 +193,29 @@ class Planners(threading.Thread):
                 with socket.socket(socket.AF_UNIX) as service:
                     service.settimeout(20)
                     service.connect(f"/proc/{self.machine.leader()}/root/run/altserve/map.sock")
-                    self.work(service, service.makefile("r"))
+                    answers = service.makefile("r")
+                    self.meet(service, answers)
+                    self.work(service, answers)
             time.sleep(0.1)
 
+    def meet(self, service, answers):
+        """Finds out when the service was started: one clock is that of all machines here."""
+        service.sendall(b"status\n")
+        for row in iter(answers.readline, ""):
+            if row.startswith("status up_seconds "):
+                self.started = time.monotonic() - float(row.split()[2])
+            if row.startswith("end "):
+                return
+        raise EOFError
+
     def ask(self, service, answers, line):
-        service.sendall(f"{line}\n".encode())
-        answer = answers.readline()
+        answer = ""
+        try:
+            service.sendall(f"{line}\n".encode())
+            answer = answers.readline()
+        finally:
+            if not answer.endswith("\n"):
+                self.see("no answer")
         if not answer.endswith("\n"):
             raise EOFError
         return answer.strip()
@@ -178,12 +229,20 @@ class Planners(threading.Thread):
             answer = "none" if is_new else self.ask(service, answers, f"get {line}")
             if answer == "none":
                 answer = self.ask(service, answers, f"put {line} x")
+            self.see(answer.split(" x")[0])
             if answer not in ("ok", "value x"):
                 raise ValueError(answer)
             self.acknowledged.add((self.table, self.number))
-            self.first = self.first or time.monotonic()
             self.number, is_new = self.number + 1, True
-            time.sleep(0.02)
+            time.sleep(REST_SECONDS)
+
+    def see(self, what):
+        self.seen.append((time.monotonic(), self.started, what))
+
+    def late(self, first, begun):
+        """What became of its lines after the first answer of another service, if the one that it had met was started
+        before the take-over began."""
+        return [what for when, started, what in list(self.seen) if when > first and started < begun]
 
 
 def blocks():
@@ -203,10 +262,18 @@ def set_up(machines):
 
 
 def active(machines):
-    """The machine at which the service is."""
-    return next(
-        (it for it in machines.values() if it.tried("systemctl", "is-active", "--quiet", "altserve@map.service")), None
-    )
+    """The machine whose service answers, or None."""
+    return next((machines[name] for name in ("one", "two") if has_answer(machines[name])), None)
+
+
+def has_answer(machine):
+    with contextlib.suppress(OSError):
+        with socket.socket(socket.AF_UNIX) as service:
+            service.settimeout(5)
+            service.connect(f"/proc/{machine.leader()}/root/run/altserve/map.sock")
+            service.sendall(b"batches\n")
+            return service.recv(100).startswith(b"batches ")
+    return False
 
 
 def is_whole(machines):
@@ -220,52 +287,117 @@ def is_whole(machines):
     return online is not None and len(online[1].split()) == 3 and healed.count("Number of entries: 0") == 3
 
 
+def first_answer(planners, moment):
+    """When the first batch was acknowledged after this moment, or None."""
+    found = (when for it in planners for when, _, what in list(it.seen) if when > moment and what == "ok")
+    return min(found, default=None)
+
+
+class TakeOver:
+    """One of them: when it began, after how many seconds the first batch was acknowledged by the other machine, and
+    what became of the old service's lines after that."""
+
+    def __init__(self, machines, number):
+        self.old = active(machines)
+        [self.new] = [it for it in machines.values() if it.name in ("one", "two") and it is not self.old]
+        ways = [it for it in WAYS if it != "frozen" or self.old.freezers()]
+        self.number, self.how, self.begun, self.late = number, ways[number % len(ways)], time.monotonic(), {}
+
+    def run(self, net, planners):
+        self.away(net)
+        until(lambda: first_answer(planners[self.new.name], self.begun), f"{self.new.name} goes on")
+        first = first_answer(planners[self.new.name], self.begun)
+        self.seconds = first - self.begun
+        time.sleep(5)
+        self.back(net)
+        if self.how != "killed":
+            # Its planners go on for a moment.
+            time.sleep(10)
+        for what in (what for it in planners[self.old.name] for what in it.late(first, self.begun)):
+            self.late[what] = self.late.get(what, 0) + 1
+
+    def away(self, net):
+        if self.how == "killed":
+            self.old.kill()
+            return
+        net.plug(self.old.name, False)
+        if self.how == "frozen":
+            self.old.freeze(True)
+
+    def back(self, net):
+        if self.how == "killed":
+            self.old.boot()
+            return
+        net.plug(self.old.name, True)
+        if self.how == "frozen":
+            self.old.freeze(False)
+
+    def told(self):
+        late = ", ".join(f"{count} {what}" for what, count in sorted(self.late.items())) or "none"
+        return (
+            f"{self.number}: {self.old.name} {self.how}, {self.new.name} answered after {self.seconds:.1f} s; "
+            f"late lines to {self.old.name}: {late}"
+        )
+
+
 def take_over(net, machines, number, acknowledged, planners):
-    old = active(machines)
-    [new] = [it for it in machines.values() if it.name in ("one", "two") and it is not old]
-    is_cut = number % 2 == 1
-    planners[new.name].first = None
+    one = TakeOver(machines, number)
     before = len(acknowledged)
-    begun = time.monotonic()
-    if is_cut:
-        net.plug(old.name, False)
-    else:
-        old.kill()
-    until(lambda: planners[new.name].first, f"{new.name} goes on")
-    seconds = planners[new.name].first - begun
-    time.sleep(5)
-    net.plug(old.name, True) if is_cut else old.boot()
-    # Planners at the one that was cut off go on for a moment. What is written is shown as not healed, so then all rest.
-    time.sleep(10)
-    for it in planners.values():
+    one.run(net, planners)
+    # What is written is shown as not healed, so all rest.
+    everybody = [it for those in planners.values() for it in those]
+    for it in everybody:
         it.rests = True
-    until(lambda: is_whole(machines), "all machines are there again")
+    until(lambda: is_whole(machines), "all machines are there again", 1)
+    # Where the service was found on both machines, Pacemaker ends both, and starts one of them.
+    machines["three"].said("crm_resource", "--wait")
     # The service has the store open at two copies alone until then.
     machines["three"].said("crm", "resource", "restart", "service")
+    machines["three"].said("crm_resource", "--wait")
     until(lambda: active(machines) is not None, "the service starts again")
-    for it in planners.values():
+    say(f"{one.told()}; {len(acknowledged) - before} batches")
+    compare(machines, acknowledged)
+    for it in everybody:
         it.rests = False
-    say(
-        f"{number}: {old.name} {'cut off' if is_cut else 'killed'}, {new.name} answered after {seconds:.1f} s; "
-        f"{len(acknowledged) - before} batches"
-    )
-    return seconds
+    return one
 
 
 def compare(machines, acknowledged):
     """Whether each acknowledged batch is there, and each one once in the journal."""
-    machine = active(machines)
-    with socket.socket(socket.AF_UNIX) as service:
-        service.connect(f"/proc/{machine.leader()}/root/run/altserve/map.sock")
-        service.sendall(b"list top\nlog\n")
-        service.shutdown(socket.SHUT_WR)
-        rows = service.makefile("r").read().splitlines()
-    there = {tuple(map(int, it.split()[1:3])) for it in rows if it.startswith("record ")}
-    done = [tuple(map(int, it.split()[6:8])) for it in rows if it.startswith("entry ") and it.split()[4] == "put"]
-    lost, twice = acknowledged - there, len(done) - len(set(done))
-    say(f"{len(acknowledged)} batches acknowledged, {len(lost)} lost, {twice} done twice")
-    if lost or twice or not acknowledged:
+    due, found = set(acknowledged), []
+    until(lambda: found.extend(rows_of(active(machines))) or found, "the service tells what is there")
+    there = {tuple(map(int, it.split()[1:3])) for it in found if it.startswith("record ")}
+    done = [tuple(map(int, it.split()[6:8])) for it in found if it.startswith("entry ") and it.split()[4] == "put"]
+    lost, twice = due - there, len(done) - len(set(done))
+    load = os.getloadavg()[0]
+    say(f"{len(due)} batches acknowledged, {len(lost)} lost, {twice} done twice; load {load:.0f}")
+    if lost or twice or not due:
         raise Failed(f"lost: {sorted(lost)[:9]}")
+
+
+def rows_of(machine):
+    """All records and the whole journal, or nothing if the service ended meanwhile."""
+    rows = []
+    with contextlib.suppress(OSError, AttributeError):  # There may be no machine.
+        with socket.socket(socket.AF_UNIX) as service:
+            service.connect(f"/proc/{machine.leader()}/root/run/altserve/map.sock")
+            service.sendall(b"list top\nlog\n")
+            service.shutdown(socket.SHUT_WR)
+            rows = service.makefile("r").read().splitlines()
+    return rows if sum(it.startswith("end ") for it in rows) == 2 else []
+
+
+def say_times(done):
+    """After how many seconds the other machine answered, for each way."""
+    for how in WAYS:
+        times = sorted(it.seconds for it in done if it.how == how)
+        if not times:
+            say(f"skipped: none was {how}")
+        else:
+            say(
+                f"{len(times)} {how}: first answers after {times[0]:.1f} to {times[-1]:.1f} s, "
+                f"median {times[len(times) // 2]:.1f} s"
+            )
 
 
 def try_all(root, deb, count, folder):
@@ -277,20 +409,22 @@ def try_all(root, deb, count, folder):
             all_of_it.callback(machines[name].clear)
             machines[name].boot()
         set_up(machines)
-        acknowledged = set()
-        planners = {name: Planners(machines[name], table, acknowledged) for table, name in enumerate(("one", "two"), 1)}
-        for it in planners.values():
-            it.start()
+        acknowledged, planners = set(), {}
+        for number, name in enumerate(("one", "two")):
+            tables = range(number * PLANNERS + 1, number * PLANNERS + PLANNERS + 1)
+            planners[name] = [Planner(machines[name], table, acknowledged) for table in tables]
+            for it in planners[name]:
+                it.start()
         until(lambda: len(acknowledged) > 20, "the first batches")
-        times = sorted(take_over(net, machines, number, acknowledged, planners) for number in range(count))
-        for it in planners.values():
-            it.ends = True
-            it.join(60)
-        compare(machines, acknowledged)
-        say(
-            f"{count} take-overs, first answers after {times[0]:.1f} to {times[-1]:.1f} s, "
-            f"median {times[len(times) // 2]:.1f} s"
-        )
+        done = []
+        try:
+            for number in range(count):
+                done.append(take_over(net, machines, number, acknowledged, planners))
+        finally:
+            say(f"{len(done)} take-overs of {count}")
+            say_times(done)
+            for it in (it for those in planners.values() for it in those):
+                it.ends = True
 
 
 def root_of(folder):
@@ -311,6 +445,7 @@ def root_of(folder):
 
 
 def main():
+    signal.signal(signal.SIGTERM, lambda *_: sys.exit(1))
     if len(sys.argv) > 3:
         sys.exit("usage: tools/faults/two_machines.py [COUNT [ROOT]]")
     missing = [it for it in ("systemd-nspawn", "nsenter", "ip", "mount", "dpkg-deb") if shutil.which(it) is None]
@@ -323,7 +458,7 @@ def main():
             return 0
         deb, _ = run(TOP / "tools/release/package.sh", f"{folder}/packages").split()
         try:
-            try_all(root, deb, int(sys.argv[1]) if len(sys.argv) > 1 else 4, Path(folder))
+            try_all(root, deb, int(sys.argv[1]) if len(sys.argv) > 1 else 6, Path(folder))
         except Failed as fault:
             say(fault)
             return 1

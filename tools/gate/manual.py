@@ -15,11 +15,9 @@ FAILED = "It failed, or was refused. Standard error says why."
 
 
 class Page(NamedTuple):
-    """What `--help` does not say: a line on the program, its other words, its statuses, its files, and where to read
-    on."""
+    """What `--help` does not say: a line on the program, its statuses, its files, and where to read on."""
 
     about: str
-    words: Tuple[str, ...]
     statuses: Dict[int, str]
     files: Dict[str, str]
     reading: str
@@ -28,7 +26,6 @@ class Page(NamedTuple):
 PAGES = {
     "altserve": Page(
         "a service over one map store, for many planners at once",
-        ("log", "status", "archive", "restore"),
         {0: "A signal ended the service, or the word was done.", 1: "It could not start, or the word failed.",
          2: "The arguments are wrong.", 3: "The store or its journal failed, or was moved, removed or replaced."},
         {"FILE.sock": "the socket, unless \\-\\-socket or systemd gives another one", "FILE.rules": "who may do what",
@@ -42,14 +39,12 @@ PAGES = {
     ),
     "altdesk": Page(
         "designs of a map store in a browser",
-        (),
         {0: "It was ended by Ctrl-C or TERM.", 1: FAILED, 2: "The arguments are wrong."},
         {},
         "../desk/README.md",
     ),
     "altcarry": Page(
         "designs that travel to an office with a poor network, and back",
-        ("clone", "pull", "push", "status", "forget"),
         {0: "It was done.", 1: FAILED, 2: "The arguments are wrong.",
          3: "The link, or a store's program, is gone. Do it again: nothing is done twice."},
         {},
@@ -57,7 +52,6 @@ PAGES = {
     ),
     "altgis": Page(
         "brings layers of maps into a map store and out of it",
-        ("import", "export", "diff", "merge", "layers", "index"),
         {0: "It was done.", 1: FAILED, 2: "The arguments are wrong.", 3: "Bad features were left out, and are named."},
         {},
         "MAPS.md",
@@ -71,6 +65,12 @@ def help_of(program: str, word: str) -> Optional[str]:
     settings = {**os.environ, "COLUMNS": "2000", "LC_ALL": "C.UTF-8"}
     ran = subprocess.run(words, stdout=subprocess.PIPE, stderr=subprocess.DEVNULL, env=settings, text=True)
     return ran.stdout if ran.returncode == 0 else None
+
+
+def words_of(program: str, text: str) -> List[str]:
+    """The other words of a program, in the order in which `--help` lists them."""
+    found = re.findall(rf"^    (\w+)  +\S|\b{program} (\w+) --help", text, re.M)
+    return [listed or named for listed, named in found]
 
 
 def roff(text: str) -> str:
@@ -128,13 +128,14 @@ def listed(title: str, rows: Dict[object, str]) -> List[str]:
 
 
 def page_of(program: str, page: Page) -> Optional[str]:
-    texts = {word: help_of(program, word) for word in ("", *page.words)}
-    if None in texts.values():
+    own = help_of(program, "")
+    texts = {} if own is None else {it: help_of(program, it) for it in words_of(program, own)}
+    if own is None or None in texts.values():
         return None
     lines = [f".\\\" Written by tools/gate/manual.py.\n.TH {program.upper()} 1 \"\" Zonegrater \"User Commands\""]
-    lines += [".SH NAME", f"{program} \\- {roff(page.about)}", ".SH DESCRIPTION", *section(texts[""] or "")]
-    for word in page.words:
-        lines += [f".SS {program} {word}", *section(texts[word] or "")]
+    lines += [".SH NAME", f"{program} \\- {roff(page.about)}", ".SH DESCRIPTION", *section(own)]
+    for word, text in texts.items():
+        lines += [f".SS {program} {word}", *section(text or "")]
     lines += [*listed("EXIT STATUS", page.statuses), *listed("FILES", page.files)]
     others = [f".BR {it} (1)" for it in ("altctl", *PAGES) if it != program]
     where = os.path.normpath(f"{DOCUMENTS}/docs/{page.reading}")

@@ -289,7 +289,7 @@ def strip():
     """The file as a strip of blocks."""
     it = Picture("file", 960, 420, "The file as a strip of blocks: header, selector, slot A, slot B, data")
     it.text(24, 36, "The file: blocks of 4,096 bytes", 18, bold=True)
-    it.text(936, 36, "64 to 1,048,576 blocks: 256 KiB to 4 GiB", 13, GREY, at="end")
+    it.text(936, 36, "64 to 67,108,864 blocks: 256 KiB to 256 GiB", 13, GREY, at="end")
     parts = [
         (24, 92, "0", "header", "ALTSTORE", 0, "#eef0f2", GREY),
         (116, 92, "1", "selector", "bit 0: A or B", 1, ORANGE_PALE, ORANGE),

@@ -15,7 +15,7 @@ def of_program() -> Refusals:
     sources = ((TOP / "crates" / it).read_text() for it in ("vm_types/src/refusal.rt", "vm_cli/src/answers/reply.rt"))
     of_store, of_lines = sources
     found = {int(number): name for name, number in re.findall(r"Refusal::(\w+)(?:\(_\))? => (\d+),", of_store)}
-    found.update({int(number): name for number, name in re.findall(r'b"error (\d+) (\w+)\\n"', of_lines)})
+    found.update({int(number): name for number, name in re.findall(r'b"error (\d+) (\w+)(?: |\\n)"', of_lines)})
     return found
 
 

@@ -22,6 +22,7 @@ from lines import TOP, Line, formats_rows, read_table
 
 ALTCTL = str(TOP / "altctl")
 MADE_UP = Line("touch ALT", "query", "touch north", "touch", "alt_touch")
+NO_LINE = "error 22 BadLine word 1: there is no such line"
 
 
 class LinesTests(unittest.TestCase):
@@ -35,7 +36,7 @@ class LinesTests(unittest.TestCase):
         self.assertEqual(
             [
                 "docs/FORMATS.md: no `touch ALT: query`",
-                "altctl: `touch north` is answered as error 22 BadLine, and not as query: `touch ALT`",
+                f"altctl: `touch north` is answered as {NO_LINE}, and not as query: `touch ALT`",
                 "altctl run --help: no `touch ALT`",
                 "docs/altctl.1: no `touch ALT`",
                 "clients/bash/altctl.bash: no `touch`",
@@ -43,7 +44,7 @@ class LinesTests(unittest.TestCase):
                 "clients/c/altctl.h: no alt_touch for `touch ALT`",
                 "tools/faults/compare.py: no `touch`",
                 "crates/cli_tests/data: no `touch`",
-                "desk/service: `touch ALT`, a query, is answered as error 22 BadLine",
+                f"desk/service: `touch ALT`, a query, is answered as {NO_LINE}",
             ],
             self.faults([*self.lines, MADE_UP]),
         )

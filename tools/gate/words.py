@@ -150,7 +150,7 @@ class Service:
         """The lines of an answer: all that come before the one of a bad line."""
         self.socket.sendall(f"{line}\nno such line\n".encode())
         answer = [self.input.readline().rstrip("\n")]
-        while (more := self.input.readline()) != "error 22 BadLine\n":
+        while (more := self.input.readline()) != "error 22 BadLine word 1: there is no such line\n":
             if not more:
                 return [*answer, "no more"]
             answer.append(more.rstrip("\n"))
@@ -172,7 +172,7 @@ def in_service(lines: list[Line], setup: list[str], altctl: str) -> Iterator[str
             # A service commits each command, so what comes after one may be refused, but is no bad line.
             for it in sorted(lines, key=lambda it: it.kind == "command"):
                 came = kind_of(service.ask(it.example))
-                if came != it.kind and (it.kind != "command" or came == "error 22 BadLine"):
+                if came != it.kind and (it.kind != "command" or came.startswith("error 22 BadLine")):
                     yield f"desk/service: `{it.form}`, a {it.kind}, is answered as {came}"
             # So that its journal has each kind of line.
             service.ask("archive old 1")

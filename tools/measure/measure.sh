@@ -479,16 +479,23 @@ measure_records() {
     stop
 }
 
+# How many blocks an opening reads.
+opening_reads() {
+    start >&2
+    echo $(($(count_of rchar) / 4096))
+    end
+}
+
 # A store of many records, put in one order: its openings, gets of every tenth record in the same order, markings.
 measure_order() {
     begin "$large_blocks"
     of=$(grouped "$large_records")
     measure_load "large_load_$1" "$1 keys: $of puts, one commit" "$large_records" "$large_blocks"
     stop
+    opened=$(opening_reads)
     for opening in $(seq $rounds); do
         times=$("$work/timed" run "$program" run "$work/store")
-        add "$1 keys: open" time 1 "$(echo "$times" | cut -d ' ' -f $clock)" \
-            "$((large_blocks - 34 - $(free_of_store) + 3))" 0
+        add "$1 keys: open" time 1 "$(echo "$times" | cut -d ' ' -f $clock)" "$opened" 0
         add "$1 keys: the greatest memory of that" memory 1 "$(echo "$times" | cut -d ' ' -f 3)" 0 0
     done
     start
@@ -554,7 +561,8 @@ measure_long() {
     measure long_markings "$(grouped $long_markings) markings" "$long_markings"
     stop
     times=$("$work/timed" run "$program" run "$work/store")
-    add 'open' time 1 "$(echo "$times" | cut -d ' ' -f $clock)" "$((long_blocks - 34 - $(free_of_store) + 3))" 0
+    opened=$(opening_reads)
+    add 'open' time 1 "$(echo "$times" | cut -d ' ' -f $clock)" "$opened" 0
     add 'the greatest memory of that' memory 1 "$(echo "$times" | cut -d ' ' -f 3)" 0 0
 }
 

@@ -4,9 +4,9 @@
     tools/measure/measure_backup.py [--mebibytes N] [--planners N] [--backups N] [--folder FOLDER] [--times FILE]
         [ALTCTL]
 
-The store is made here, in FOLDER, with long values. Each planner changes one record, waits for the answer, and changes
-the next. The first backup makes a file, and each other one replaces it. `--times` writes when each line was sent, and
-how long it took. Times are looked at, never tested."""
+The store is made here, in FOLDER, with values of a block each, and a tenth of it spare. Each planner changes one
+record, waits for the answer, and changes the next. The first backup makes a file, and each other one replaces it.
+`--times` writes when each line was sent, and how long it took. Times are looked at, never tested."""
 import argparse
 import os
 import random
@@ -21,8 +21,8 @@ from typing import Iterator, List, Tuple
 
 from measure_service import ALTSERVE, TOP, in_processes, until_served
 
-# Bytes of a value. It takes a block of its own, and a sixteenth of a leaf.
-VALUE = 400
+# Bytes of a value: its leaf has no place for another one.
+VALUE = 4000
 BLOCKS_OF_MEBIBYTE = 256
 # How long is measured without a backup, and after each one.
 SECONDS, PAUSE = 10, 3
@@ -33,7 +33,7 @@ LONG = 50
 def make_store(altctl: str, file: str, mebibytes: int) -> int:
     """Makes a store of about that size, with a tenth of it spare. Returns how many records it has."""
     blocks = mebibytes * BLOCKS_OF_MEBIBYTE
-    records = blocks * 3 // 4
+    records = blocks * 9 // 10
     subprocess.run([altctl, "create", file, str(blocks)], check=True, stdout=subprocess.DEVNULL)
     words = [altctl, "run", "--buffer", "65536", "--", file]
     with subprocess.Popen(words, stdin=subprocess.PIPE, stdout=subprocess.DEVNULL, text=True) as program:

@@ -17,7 +17,7 @@ import sys
 import tempfile
 
 TOP = os.path.join(os.path.dirname(os.path.abspath(__file__)), "..", "..")
-BLOCK, MOST = 4096, 1 << 20
+BLOCK, MOST = 4096, 1 << 26
 
 
 def mixture(rng):

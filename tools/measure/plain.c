@@ -21,7 +21,7 @@
 #include <sys/stat.h>
 #include <unistd.h>
 
-enum { FORMAT = 3, BLOCK = 4096, FIRST = 34, LEAST_BLOCKS = 64, MOST_BLOCKS = 1 << 20, AT_ONCE = 16 };
+enum { FORMAT = 3, BLOCK = 4096, FIRST = 34, LEAST_BLOCKS = 64, MOST_BLOCKS = 1 << 26 };
 enum { SLOT_A = 2, SLOT_B = 18, SLOT_BLOCKS = 16, CELL = 128, ENTRIES = 511, NAME = 33 };
 enum { HEAD = 16, LEAF_ROOM = BLOCK - HEAD, ENTRY = 12, FAN = 256, LEVELS = 8, CHILD = 14, VALUE = 4000 };
 enum { BLOCKS_A_CHANGE = 17, KEPT = 256, BUCKETS = 512, LINE = 1 << 20, CHUNK = 1 << 16 };
@@ -173,15 +173,14 @@ static void sync_file(void)
         refuse(DEVICE);
 }
 
-/* Writes zero blocks behind the others, so that there are so many. */
+/* Adds zero blocks behind the others, so that there are so many. They are a hole. */
 static void lengthen_file(uint32_t blocks)
 {
-    static const byte zeros[AT_ONCE * BLOCK];
-    while (file_blocks < blocks) {
-        uint32_t count = blocks - file_blocks < AT_ONCE ? blocks - file_blocks : AT_ONCE;
-        write_file(file_blocks, zeros, count);
-        file_blocks += count;
-    }
+    if (file_blocks >= blocks)
+        return;
+    if (ftruncate(file, (off_t)blocks * BLOCK) != 0)
+        refuse(DEVICE);
+    file_blocks = blocks;
 }
 
 static void begin_kept(void)
@@ -1029,8 +1028,66 @@ static void read_slot(uint32_t first)
         refuse(BAD_SIZE);
 }
 
-/* Opens the store in the file, as it was last committed. */
-static void open_store(void)
+/* Reads each block under the roots, and holds them. */
+static void visit_all(void)
+{
+    spans = calloc(blocks, sizeof *spans);
+    if (!spans)
+        stop();
+    for (int i = 0; i < working.count; i++) {
+        visit_root(&working.at[i].current);
+        visit_root(&working.at[i].base);
+    }
+    free(spans);
+}
+
+/* The top block of a tree gives its level and its lowest key. */
+static void find_root(struct root *root)
+{
+    if (root->block == 0)
+        return;
+    if (root->block < FIRST || root->block >= blocks)
+        damaged(root->block);
+    const byte *bytes = read_block(root->block);
+    root->level = level_of(bytes);
+    if (root->level < 0 || !has_form(bytes, root->level))
+        damaged(root->block);
+    root->low = key_of(row_at(bytes, root->level, 0));
+}
+
+/* Holds a block and all that lies under it, without reading a leaf. */
+static void find_below(uint32_t block, int level)
+{
+    if (block < FIRST || block >= blocks)
+        damaged(block);
+    if (is_set(held, block))
+        return;
+    set(held, block);
+    free_blocks--;
+    if (level > 0 && !has_form(tree_block(block, level), level))
+        damaged(block);
+    for (int i = 0, count = level == 0 ? 0 : count_of(read_block(block)); i < count; i++)
+        find_below(child_of(row_at(read_block(block), level, i)), level - 1);
+}
+
+/* Reads the top blocks and the inner blocks under the roots, and holds all that lies under them. */
+static void find_all(void)
+{
+    for (int i = 0; i < working.count; i++) {
+        find_root(&working.at[i].current);
+        find_root(&working.at[i].base);
+    }
+    for (int i = 0; i < working.count; i++) {
+        if (working.at[i].current.block)
+            find_below(working.at[i].current.block, working.at[i].current.level);
+        if (working.at[i].base.block)
+            find_below(working.at[i].base.block, working.at[i].base.level);
+    }
+}
+
+/* Opens the store in the file, as it was last committed: every block is read, or of the leaves those alone that are a
+   root. */
+static void open_store(bool is_whole)
 {
     byte block[BLOCK], header[BLOCK];
     sync_file();
@@ -1051,14 +1108,7 @@ static void open_store(void)
     marks = enlarged(NULL, words_of(blocks), sizeof *marks);
     begin_held(held);
     free_blocks = blocks - FIRST;
-    spans = calloc(blocks, sizeof *spans);
-    if (!spans)
-        stop();
-    for (int i = 0; i < working.count; i++) {
-        visit_root(&working.at[i].current);
-        visit_root(&working.at[i].base);
-    }
-    free(spans);
+    (is_whole ? visit_all : find_all)();
     kept_blocks = blocks;
     committed.count = working.count;
     memcpy(committed.at, working.at, (size_t)working.count * sizeof *working.at);
@@ -1416,6 +1466,8 @@ static uint64_t list_below(uint32_t block, int level)
     const byte *bytes = tree_block(block, level);
     int count = count_of(bytes);
     uint64_t records = 0;
+    if (level == 0 && !has_form(bytes, 0))
+        damaged(block);
     for (int i = 0; level > 0 && i < count; i++)
         records += list_below(child_of(row_at(read_block(block), level, i)), level - 1);
     for (int i = 0; level == 0 && i < count; i++) {
@@ -1857,7 +1909,7 @@ static void create(const char *name, uint32_t count)
     printf("created %u\n", count);
 }
 
-static void open_file(const char *name, int how)
+static void open_file(const char *name, int how, bool is_whole)
 {
     struct stat it;
     file = open(name, how);
@@ -1871,7 +1923,7 @@ static void open_file(const char *name, int how)
             fputs("altctl: the file is of an earlier format: tools/upgrade.py OLD NEW carries it over\n", stderr);
         exit(1);
     }
-    open_store();
+    open_store(is_whole);
 }
 
 static void check(void)
@@ -1893,11 +1945,11 @@ int main(int count, char **words)
             return 0;
         }
     } else if (strcmp(job, "run") == 0 && (count == 3 || has_buffer)) {
-        open_file(name, O_RDWR);
+        open_file(name, O_RDWR, false);
         answer_lines();
         return 0;
     } else if (strcmp(job, "check") == 0 && count == 3) {
-        open_file(name, O_RDONLY);
+        open_file(name, O_RDONLY, true);
         check();
         return 0;
     }

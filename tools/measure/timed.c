@@ -1,11 +1,15 @@
-/* Takes the times of a program: `tools/measure/measure.sh` compiles and calls it.
+/* Takes the times of a program: `measure.sh` and `measure_openings.py` here compile and call it.
 
    timed ask PID LINES ANSWERS BYTES   writes the file LINES to the descriptor 3, from which the process PID has its
                                        input, and waits until the file ANSWERS has so many bytes
    timed run PROGRAM WORDS ..          runs a program that has an empty input and nowhere to write
+   timed lines FILE PROGRAM WORDS ..   runs a program, and gives it one line of FILE after another, each once the one
+                                       before it has a line of answer
 
    It prints the nanoseconds that this took, those of them in which the process had a processor, and of a run the
-   greatest memory that it had, in units of 1,024 bytes. */
+   greatest memory that it had, in units of 1,024 bytes. For lines it prints the nanoseconds until each answer, for the
+   first one from the start of the program on, with the answer behind it; then the time from the end of the input to the
+   end of the program, the processor's time of all of it, and the greatest memory. */
 #define _GNU_SOURCE
 #include <fcntl.h>
 #include <stdint.h>
@@ -99,6 +103,13 @@ static int64_t nanoseconds(struct timeval time)
     return (int64_t)time.tv_sec * SECOND + time.tv_usec * 1000;
 }
 
+/* Prints the time of a program that has ended, or that it took to end, and what it used. */
+static void print_end(int64_t took, const struct rusage *used)
+{
+    printf("%lld %lld %ld\n", (long long)took, (long long)(nanoseconds(used->ru_utime) + nanoseconds(used->ru_stime)),
+        used->ru_maxrss);
+}
+
 static void run(char **words)
 {
     struct rusage used;
@@ -113,9 +124,51 @@ static void run(char **words)
     }
     if (child < 0 || wait4(child, &status, 0, &used) != child || status != 0)
         fail(words[0]);
-    int64_t took = now() - begun;
-    printf("%lld %lld %ld\n", (long long)took, (long long)(nanoseconds(used.ru_utime) + nanoseconds(used.ru_stime)),
-        used.ru_maxrss);
+    print_end(now() - begun, &used);
+}
+
+/* Starts a program, with pipes as its input and output. */
+static pid_t start(char **words, FILE **into, FILE **out_of)
+{
+    int input[2], output[2];
+    if (pipe2(input, O_CLOEXEC) != 0 || pipe2(output, O_CLOEXEC) != 0)
+        fail("pipe");
+    pid_t child = vfork();
+    if (child == 0) {
+        if (dup2(input[0], 0) < 0 || dup2(output[1], 1) < 0)
+            _exit(127);
+        execvp(words[0], words);
+        _exit(127);
+    }
+    close(input[0]);
+    close(output[1]);
+    *into = fdopen(input[1], "w");
+    *out_of = fdopen(output[0], "r");
+    if (child < 0 || !*into || !*out_of)
+        fail(words[0]);
+    return child;
+}
+
+static void lines(const char *name, char **words)
+{
+    static char line[1 << 16], answer[1 << 16];
+    FILE *from = fopen(name, "r"), *into, *out_of;
+    struct rusage used;
+    int status;
+    if (!from)
+        fail(name);
+    int64_t begun = now();
+    pid_t child = start(words, &into, &out_of);
+    while (fgets(line, sizeof line, from)) {
+        if (fputs(line, into) < 0 || fflush(into) != 0 || !fgets(answer, sizeof answer, out_of))
+            fail(line);
+        printf("%lld %s", (long long)(now() - begun), answer);
+        begun = now();
+    }
+    fclose(into);
+    if (wait4(child, &status, 0, &used) != child || status != 0)
+        fail(words[0]);
+    print_end(now() - begun, &used);
 }
 
 int main(int count, char **words)
@@ -124,8 +177,11 @@ int main(int count, char **words)
         ask(words[2], words[3], words[4], strtoull(words[5], NULL, 10));
     } else if (count > 2 && words[1][0] == 'r') {
         run(words + 2);
+    } else if (count > 3 && words[1][0] == 'l') {
+        lines(words[2], words + 3);
     } else {
-        fprintf(stderr, "usage: timed ask PID LINES ANSWERS BYTES | timed run PROGRAM WORDS ..\n");
+        fprintf(stderr, "usage: timed ask PID LINES ANSWERS BYTES | timed run PROGRAM WORDS .. | "
+                        "timed lines FILE PROGRAM WORDS ..\n");
         return 2;
     }
     return 0;

@@ -372,6 +372,7 @@ class RootTests(unittest.TestCase):
         self.said("dpkg", "--install", "/first.deb")
         self.sessions_of_the_readme()
         self.first_start()
+        self.store_in_use()
         self.upgrade()
         self.said("dpkg", "--remove", "zonegrater")
         self.assertFalse((self.root / "usr/bin/altctl").exists())
@@ -424,6 +425,18 @@ class RootTests(unittest.TestCase):
         (self.root / "var/lib/altserve/map.alt.rules").write_text('archive = ["*"]\n[change]\n"*" = ["*"]\n')
         self.said("systemctl", "kill", "--signal=KILL", "--kill-who=main", "altserve@map")
         self.assertEqual(["ok", "ok 1"], [it[:4] for it in self.ask("anna", "put top 1 2 b", "archive old 1")])
+
+    def store_in_use(self):
+        """A service whose store somebody else has says so, though its unit shows it no list of locks."""
+        file = "/var/lib/altserve/held.alt"
+        self.said("runuser", "-u", "altserve", "--", "altctl", "create", file, "64")
+        wait = f"flock {file} sleep 300 & systemctl start altserve@held.service; kept=$!; count=0; "
+        wait += "until journalctl -u altserve@held.service | grep 'in use by' || [ $count = 90 ]; do "
+        wait += "sleep 1; count=$((count + 1)); done; pkill -P $kept; systemctl stop altserve@held.service"
+        said = self.said("sh", "-c", f"{wait} altserve@held.socket; journalctl --no-pager -u altserve@held.service")
+        self.assertIn(f"{file}: another process has it", said)
+        self.assertIn("it is in use by a process that is not seen from here", said)
+        self.assertNotIn("Traceback", said)
 
     def upgrade(self):
         """A service that is at work goes on in the new version with all that it had."""

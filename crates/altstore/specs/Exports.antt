@@ -37,6 +37,6 @@ pub record SavesBehind (old : Slot) (code : ℕ) (new : Slot) : Type 0 where
       → (opened : Result Session Refusal) × OpensBlocks (blocks_of session) opened
       × (KeepsOpened opened code new ⊎ ((code ≡ UNWRITTEN) × KeepsOpened opened 0 new))
 
--- where the number tells that all was done, all blocks of the store behind the handle were written, one after another
+-- if the number tells that all was done, all blocks of the store behind the handle were written, one after another
 abbrev pub SavesTo : {W : Type 0} → (W → Option (List ℕ)) → Slot → ℕ → W → W → Type 0
 SavesTo contents old code writer writer' = code ≡ DONE → IfSome (behind old) (λ session. Gains contents (joined (blocks_of session)) writer writer')

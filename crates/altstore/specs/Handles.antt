@@ -26,7 +26,7 @@ abbrev pub opened_code : Result Session Refusal → ℕ
 opened_code (Ok session) = DONE
 opened_code (Err refusal) = code_of refusal
 
--- what was opened is behind a handle, with the number that tells it; or memory was wanting for that, and the handle is closed
+-- what was opened is behind a handle, with the number that tells it; or there was no memory for that, and the handle is closed
 abbrev pub KeepsOpened : Result Session Refusal → ℕ → Slot → Type 0
 KeepsOpened opened code slot =
     ((code ≡ opened_code opened) × (behind slot ≡ opened_session opened)) ⊎ ((code ≡ MEMORY) × (behind slot ≡ None))

@@ -27,12 +27,12 @@ KeepsBlocks old new = new.now.contents ≡ old.now.contents
 
 -- an opening of what these blocks show
 abbrev pub OpensBlocks : Contents → Result Session Refusal → Type 0
--- the store stands for what they show, committed and working alike, and just the spare blocks are free; and no answer is kept
+-- the store stands for what they show, committed and working alike, and exactly the spare blocks are free; and no answer is kept
 OpensBlocks contents (Ok session) = OpensAs contents session.store × (session.answers.items ≡ [])
--- it has its reason, and unless it is for the device or memory it comes where nothing is shown
+-- it has its reason, and unless it is for the device or memory it comes if nothing is shown
 OpensBlocks contents (Err refusal) = IsRefused contents refusal × (refusal ≢ Device → refusal ≢ Memory → ShowsNothing contents)
 
--- a loading of an image opens what its blocks show, or memory was wanting for them
+-- a loading of an image opens what its blocks show, or there was no memory for them
 abbrev pub Loads : List ℕ → Result Session Refusal → Type 0
 Loads image result = (result ≡ Err Memory) ⊎ ((contents : Contents) × HoldsImage image contents × OpensBlocks contents result)
 

@@ -11,7 +11,7 @@ use vm_disk::MemDisk;
 use vm_store::format;
 use vm_types::{MAX_BLOCKS, MIN_BLOCKS, Refusal};
 
-/// Makes a new store of 64 to 1,048,576 blocks. It may grow to as many as there is room for.
+/// Makes a new store of 64 to 67,108,864 blocks. It may grow to as many as there is room for.
 pub fn create(alloc: Global, blocks: u32, room: u32) -> Result<Session, Refusal>
     ensures { Creates blocks result }
 {

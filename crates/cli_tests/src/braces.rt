@@ -5,7 +5,7 @@ use std::alloc::Global;
 
 /// Appends what a text means: `{lf}`, `{cr}` and `{space}` are one character, `{}` is none, `{9 *
 /// x}` is nine times an x, and `{session}` the session.
-pub fn expand(to: &mut String, text: &str, session: &str) -> Result<()> {
+pub(crate) fn expand(to: &mut String, text: &str, session: &str) -> Result<()> {
     let mut parts = text.split('{');
     to.push_str(parts.next().unwrap_or(""))?;
     for part in parts {
@@ -37,7 +37,7 @@ fn repeat(to: &mut String, times: &str) -> Result<()> {
 }
 
 /// The words of a text, separated by spaces. One in single quotes may have spaces, or be empty.
-pub fn words(alloc: Global, text: &str) -> Result<Vec<String>> {
+pub(crate) fn words(alloc: Global, text: &str) -> Result<Vec<String>> {
     let mut words = Vec::new(alloc);
     let mut is_quoted = false;
     for part in text.split('\'') {

@@ -6,7 +6,7 @@ use std::fmt::Write;
 use std::str;
 
 /// Appends the differences of a step.
-pub fn push_differences(step: &Step, text: &mut String) -> Result<()> {
+pub(crate) fn push_differences(step: &Step, text: &mut String) -> Result<()> {
     let before = text.len();
     let due = &step.due;
     let output = str::from_utf8(step.output.taken.as_slice())?;

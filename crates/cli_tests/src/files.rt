@@ -27,7 +27,7 @@ fn number(words: &[String], n: usize) -> Result<u32> {
 }
 
 impl Files {
-    pub fn new(alloc: Global) -> Files {
+    pub(crate) fn new(alloc: Global) -> Files {
         Files {
             named: MemFiles::new(alloc),
             held: None,
@@ -35,7 +35,7 @@ impl Files {
     }
 
     /// Plays a step that uses only a file, or only the errors.
-    pub fn play(&mut self, alloc: Global, step: &mut Step) -> Result<()> {
+    pub(crate) fn play(&mut self, alloc: Global, step: &mut Step) -> Result<()> {
         let words = step.words.as_slice();
         let mut end = 0;
         match word(words, 0)? {

@@ -29,7 +29,7 @@ pub struct Output {
 }
 
 impl Output {
-    pub fn new(alloc: Global) -> Output {
+    pub(crate) fn new(alloc: Global) -> Output {
         Output {
             taken: Vec::new(alloc),
             room: None,

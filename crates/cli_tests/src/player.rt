@@ -13,7 +13,7 @@ use vm_disk::{FuseDisk, MemDisk};
 use vm_store::{Store, format, open};
 
 /// Plays a case, and says where it gave something other than expected.
-pub fn play(alloc: Global, mut case: Case<'_>) -> Result<String> {
+pub(crate) fn play(alloc: Global, mut case: Case<'_>) -> Result<String> {
     if case.steps.is_empty() || case.title.is_empty() {
         bail!("a case has no steps or no title");
     }
@@ -38,7 +38,7 @@ pub fn play(alloc: Global, mut case: Case<'_>) -> Result<String> {
     Ok(text)
 }
 
-/// Appends that a step gave just what was expected, though it should have differed.
+/// Appends that a step gave exactly what was expected, though it should have differed.
 fn look_for_differences(alloc: Global, step: &Step, text: &mut String) -> Result<()> {
     let mut differences = String::new(alloc);
     push_differences(step, &mut differences)?;
@@ -115,14 +115,14 @@ fn asked(alloc: Global, words: &[String]) -> Result<Vec<u8>> {
     Ok(asked.into_bytes())
 }
 
-/// How many written blocks may wait in stores of 64, 100,000 and 1,048,576 blocks.
+/// How many written blocks may wait in stores of 64, 100,000 and 67,108,864 blocks.
 fn buffers(alloc: Global, in_memory: InMemory) -> Result<String> {
     let said = in_memory.buffer;
     Ok(format!(in alloc;
         "{} {} {}",
         buffer_for(said, 64),
         buffer_for(said, 100_000),
-        buffer_for(said, 1_048_576)
+        buffer_for(said, 67_108_864)
     )?)
 }
 

@@ -57,7 +57,7 @@ fn device_calls(text: &str) -> Result<u32> {
 }
 
 /// The cases of a script.
-pub fn cases<'a>(alloc: Global, script: &'a str) -> Result<Vec<Case<'a>>> {
+pub(crate) fn cases<'a>(alloc: Global, script: &'a str) -> Result<Vec<Case<'a>>> {
     let mut cases = Vec::new(alloc);
     for (n, whole) in script.lines().enumerate() {
         let number = n.saturating_add(1);

@@ -44,7 +44,7 @@ pub struct Step {
 
 impl Step {
     /// A step of the words of this line, after a step that is shown so.
-    pub fn new(alloc: Global, line: &Line<'_>, session: &str) -> Result<Step> {
+    pub(crate) fn new(alloc: Global, line: &Line<'_>, session: &str) -> Result<Step> {
         Ok(Step {
             number: line.number,
             words: words(alloc, line.rest)?,
@@ -69,7 +69,7 @@ impl Step {
     }
 
     /// Takes a line of the script. One without a mark is a line of the output.
-    pub fn take(&mut self, alloc: Global, line: &Line<'_>) -> Result<()> {
+    pub(crate) fn take(&mut self, alloc: Global, line: &Line<'_>) -> Result<()> {
         match line.mark {
             "?" => self.due.end = String::from_str(alloc, line.rest)?,
             "@" => self.set(line.rest)?,

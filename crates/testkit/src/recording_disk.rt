@@ -122,7 +122,7 @@ impl RecordingDisk {
         RecordingDisk::new(alloc, self.inner.crash(&left))
     }
 
-    /// Starts counting reads anew.
+    /// Starts counting reads again from zero.
     pub fn start(&mut self)
         ensures inner { self.new.inner ≡ self.old.inner }
         ensures none { (n : ℕ) → slice_index_or self.new.reads.items n 0 ≡ 0 }

@@ -11,7 +11,7 @@ use Rattle.vm_alloc.specs.Marks.{is_marked}
 use Rattle.vm_alloc.proofs.FlagLemmas.{first_flags_length, first_flags_low, first_flags_high}
 use Rattle.vm_alloc.proofs.HeldLemmas.{free_first, free_longer, free_new, free_split, free_split_from, no_mark, unmarked_less, unmarked_more, unmarked_same_low, mark_same, unmark_same}
 
-pub counted_none : (blocks : ℕ) (marks : List Bool) → 64 ≤ blocks → blocks ≤ 1048576 → marks ≡ replicate blocks false → IsCounted marks (blocks - 34)
+pub counted_none : (blocks : ℕ) (marks : List Bool) → 64 ≤ blocks → blocks ≤ 67108864 → marks ≡ replicate blocks false → IsCounted marks (blocks - 34)
 counted_none blocks marks enough few none =
     let many : length marks ≡ blocks = ap length none ∙ length-replicate blocks false in
     record {
@@ -41,7 +41,7 @@ pub counted_again : (marks : List Bool) (unmarked n : ℕ) → IsCounted marks u
 counted_again marks unmarked n counted marked = rw (mark_same marks n marked) counted
 
 -- no more data blocks are unmarked than there are blocks
-pub counted_few : (marks : List Bool) (unmarked : ℕ) → IsCounted marks unmarked → unmarked ≤ 1048576
+pub counted_few : (marks : List Bool) (unmarked : ℕ) → IsCounted marks unmarked → unmarked ≤ 67108864
 counted_few marks unmarked counted = omega (arith, counted.count, counted.few, count_by-le-length not (drop 34 marks), length-drop 34 marks)
 
 pub counted_more : (marks : List Bool) (unmarked n : ℕ) → IsCounted marks unmarked → 34 ≤ n → n < length marks → is_marked marks n ≡ true → IsCounted (slice_set marks n false) (unmarked + 1)
@@ -52,7 +52,7 @@ counted_more marks unmarked n counted above inside marked = record {
 }
 
 -- more blocks, none of which is marked
-pub counted_longer : (marks longer : List Bool) (unmarked blocks more : ℕ) → IsCounted marks unmarked → longer ≡ marks ++ replicate (blocks - length marks) false → length marks ≤ blocks → blocks ≤ 1048576 → more ≡ blocks - length marks
+pub counted_longer : (marks longer : List Bool) (unmarked blocks more : ℕ) → IsCounted marks unmarked → longer ≡ marks ++ replicate (blocks - length marks) false → length marks ≤ blocks → blocks ≤ 67108864 → more ≡ blocks - length marks
     → IsCounted longer (unmarked + more)
 counted_longer marks longer unmarked blocks more counted is enough few many =
     let added : List Bool = replicate (blocks - length marks) false in
@@ -94,7 +94,7 @@ pub counted_still : (marks : List Bool) (unmarked n : ℕ) → IsCounted marks u
 counted_still marks unmarked n counted none = rw (unmark_same marks n none) counted
 
 -- the store's own blocks, and then the marked ones
-pub tallied_first : (held marks : List Bool) (free : ℕ) → held ≡ replicate 34 true ++ drop 34 marks → 64 ≤ length marks → length marks ≤ 1048576 → free ≡ free_count (drop 34 marks) → IsTallied held free 0
+pub tallied_first : (held marks : List Bool) (free : ℕ) → held ≡ replicate 34 true ++ drop 34 marks → 64 ≤ length marks → length marks ≤ 67108864 → free ≡ free_count (drop 34 marks) → IsTallied held free 0
 tallied_first held marks free is enough few count =
     let many : length held ≡ length marks = ap length is ∙ first_flags_length 34 marks (omega arith) in
     record {
@@ -105,7 +105,7 @@ tallied_first held marks free is enough few count =
       count = count ∙ sym (free_first 34 marks) ∙ ap (λ (h : List Bool). free_count h) (sym is);
     }
 
-pub tallied_new : (held : List Bool) (blocks : ℕ) → held ≡ replicate 34 true ++ drop 34 (replicate blocks false) → 64 ≤ blocks → blocks ≤ 1048576 → IsTallied held (blocks - 34) 0
+pub tallied_new : (held : List Bool) (blocks : ℕ) → held ≡ replicate 34 true ++ drop 34 (replicate blocks false) → 64 ≤ blocks → blocks ≤ 67108864 → IsTallied held (blocks - 34) 0
 tallied_new held blocks is enough few =
     let none = replicate blocks false in
     let many : length none ≡ blocks = length-replicate blocks false in

@@ -160,7 +160,7 @@ packed_copied words new count others packed same many = rw (same, many) packed
 
 -- ---- more flags, clear ones
 
-pub packed_longer : (words new : List ℕ) (count more m : ℕ) → IsPacked words count → count ≤ more → more ≤ 2 ^ 20 → new ≡ words ++ replicate m 0 → length new ≡ (more + 63) / 64 → IsPacked new more
+pub packed_longer : (words new : List ℕ) (count more m : ℕ) → IsPacked words count → count ≤ more → more ≤ 2 ^ 26 → new ≡ words ++ replicate m 0 → length new ≡ (more + 63) / 64 → IsPacked new more
 packed_longer words new count more m packed longer few is fits = record {
   few = few;
   fits = fits;

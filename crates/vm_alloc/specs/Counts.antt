@@ -2,13 +2,13 @@ use Rattle.std.specs.Prelude.{◌≡◌, ℕ, ◌<◌, ◌≤◌, Bool, List, le
 use Rattle.vm_types.specs.declared.sizes.TheConstants.{FIRST_DATA, MIN_BLOCKS, MAX_BLOCKS}
 use Rattle.vm_alloc.specs.Held.{IsHeld, free_count}
 
--- so many of the data blocks are not marked
+-- this many of the data blocks are not marked
 pub record IsCounted (marks : List Bool) (unmarked : ℕ) : Type 0 where
   pub enough : MIN_BLOCKS ≤ length marks
   pub few : length marks ≤ MAX_BLOCKS
   pub count : unmarked ≡ free_count (drop FIRST_DATA marks)
 
--- so many blocks are free, none of them the store's own nor before the lowest
+-- this many blocks are free, none of them the store's own nor before the lowest
 pub record IsTallied (held : List Bool) (free lowest : ℕ) : Type 0 where
   pub enough : MIN_BLOCKS ≤ length held
   pub few : length held ≤ MAX_BLOCKS

@@ -7,7 +7,7 @@ use Rattle.vm_alloc.specs.Words.{is_bit_set}
 unfoldable pub flags_of : List ℕ → ℕ → List Bool
 flags_of words count = map (is_bit_set words) (range_with_len 0 count)
 
--- there are just as many words as the flags need, and no bit behind the flags is set
+-- there are exactly as many words as the flags need, and no bit after the flags is set
 pub record IsPacked (words : List ℕ) (count : ℕ) : Type 0 where
   pub few : count ≤ MAX_BLOCKS
   pub fits : length words ≡ (count + 63) / 64

@@ -85,6 +85,16 @@ bounds_fit zero bytes small = tt
 bounds_fit (suc n) bytes small =
     (((little_from-lt 0 2 bytes small, little_from-lt 0 8 (drop 2 bytes) (small_drop 2 bytes small)), little_from-lt 0 2 (drop 10 bytes) (small_drop 10 bytes small)), bounds_fit n (drop 12 bytes) (small_drop 12 bytes small))
 
+-- entries whose values stay where they are
+moved_none : (bs : List Bound) → AllByRecursion BoundFits bs → map (moved 0 0) bs ≡ bs
+moved_none [] fit = refl
+moved_none (b ∷ bs) fit =
+    let end : min (b.end - 0 + 0) 65535 ≡ b.end = omega (arith, fit.0.1) in
+    ap₂ (λ e xs. record { key = b.key; end = e } ∷ xs) end (moved_none bs fit.1)
+
+pub bounds_kept : (n : ℕ) (bytes : List ℕ) → ((j : ℕ) → get_or bytes j 0 < 256) → 12 * n ≤ length bytes → take (12 * n) bytes ≡ flat_map bound_bytes (map (moved 0 0) (bounds_of n bytes))
+bounds_kept n bytes small room = bounds_spelled n bytes small room ∙ ap (flat_map bound_bytes) (sym (moved_none (bounds_of n bytes) (bounds_fit n bytes small)))
+
 -- # Those of records
 
 pub length-bounds_from : (from : ℕ) (rs : List Record) → length (bounds_from from rs) ≡ length rs

@@ -5,6 +5,7 @@ use Rattle.std.proofs.lemmas.List.{drop-drop}
 use Rattle.byteorder.specs.Endian.{little_bytes, little_number}
 use Rattle.vm_block.specs.Node.{IsNode, node_head}
 use Rattle.vm_block.specs.Head.{IsNodeHead}
+use Rattle.vm_block.specs.Leaf.{IsLeafHead, leaf_head}
 use Rattle.vm_block.specs.declared.node.Child.{Child}
 use Rattle.vm_block.proofs.NodeLemmas.{node_parts}
 use Rattle.vm_block.proofs.Pieces.{number_one, spelled_at, spelled_number}
@@ -74,6 +75,26 @@ pub node_head_only : (bytes : List ℕ) (a b c d level n : ℕ) → a < 2 ^ 32 �
 node_head_only bytes a b c d level n ha hb hc hd is head =
     let one = words_one a b c d 1162104654 level n 0 ha hb hc hd (omega arith) (omega (arith, head.low)) (omega (arith, head.few)) (omega arith) (sym is ∙ head.begins ∙ sym (node_words level n)) in
     ((one.0, omega (arith, head.above, one.1), omega (arith, head.low, one.1), omega (arith, head.some, one.2), omega (arith, head.few, one.2), one.3), one.1, one.2)
+
+-- the letters LEF3 as a number
+leaf_words : (n : ℕ) → words 860243276 0 n 0 ≡ leaf_head n
+unfolding leaf_head
+leaf_words n = refl
+
+-- the head of a leaf that was read
+pub leaf_head_found : (bytes : List ℕ) (a b c d : ℕ) → take 16 bytes ≡ words a b c d → (a ≡ 860243276) × (b ≡ 0) × (0 < c) × (c ≤ 340) × (d ≡ 0) → IsLeafHead bytes c
+leaf_head_found bytes a b c d is fits = record {
+  begins = is ∙ ap (λ z. words z b c d) fits.0 ∙ ap (λ z. words 860243276 z c d) fits.1 ∙ ap (λ z. words 860243276 0 c z) fits.4 ∙ leaf_words c;
+  some = fits.2;
+  few = fits.3;
+}
+
+-- and no other count is read
+pub leaf_head_only : (bytes : List ℕ) (a b c d n : ℕ) → a < 2 ^ 32 → b < 2 ^ 32 → c < 2 ^ 32 → d < 2 ^ 32 → take 16 bytes ≡ words a b c d → IsLeafHead bytes n
+    → ((a ≡ 860243276) × (b ≡ 0) × (0 < c) × (c ≤ 340) × (d ≡ 0)) × (c ≡ n)
+leaf_head_only bytes a b c d n ha hb hc hd is head =
+    let one = words_one a b c d 860243276 0 n 0 ha hb hc hd (omega arith) (omega arith) (omega (arith, head.few)) (omega arith) (sym is ∙ head.begins ∙ sym (leaf_words n)) in
+    ((one.0, one.1, omega (arith, head.some, one.2), omega (arith, head.few, one.2), one.3), one.2)
 
 -- numbers that are told are those that are told
 pub some_same : (n m : ℕ) → Some m ≡ Some n → m ≡ n

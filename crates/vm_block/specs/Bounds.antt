@@ -10,7 +10,7 @@ use Rattle.vm_block.specs.Row.{key_of}
 abbrev pub bound_of : List ℕ → Bound
 bound_of row = record { key = key_of row; end = little_number 2 (drop 10 row) }
 
--- so many entries, one behind the other
+-- this many entries, one after the other
 abbrev pub bounds_of : ℕ → List ℕ → List Bound
 bounds_of zero bytes = []
 bounds_of (suc n) bytes = bound_of bytes ∷ bounds_of n (drop 12 bytes)
@@ -33,6 +33,6 @@ abbrev pub last_end : ℕ → List Bound → ℕ
 last_end from [] = from
 last_end from (b ∷ bs) = last_end b.end bs
 
--- an entry whose value is moved: where it stood behind so many bytes of values, it stands behind others
+-- an entry whose value is moved: it stood after this many bytes of values, and now stands after that many
 abbrev pub moved : ℕ → ℕ → Bound → Bound
 moved from to b = record { key = b.key; end = min (b.end - from + to) 65535 }

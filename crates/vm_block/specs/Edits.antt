@@ -26,12 +26,12 @@ abbrev pub WritesChanged : Bool → List ℕ → ℕ → Part → ℕ → List �
 WritesChanged result old index middle next new =
     IfRecords old (λ rs. (ms : List Record) → IsPart middle ms → next ≤ length rs → IsWritten result (take index rs ++ (ms ++ drop next rs)) new)
 
--- what a record that was to be put in a leaf of these records leaves of its bytes
+-- what putting a record into a leaf of these records makes of its bytes
 abbrev pub IsAfterPut : Placed → Record → List Record → List ℕ → Type 0
 IsAfterPut Put r rs new = HasRecords new (with_record r rs)
 IsAfterPut TooBig r rs new = LEAF_ROOM < size_of (with_record r rs)
 
--- what a record that was to be taken out of it leaves
+-- what taking a record out of it makes of them
 abbrev pub IsAfterTake : Taken → ℕ → List Record → List ℕ → Type 0
 IsAfterTake Out p rs new = (value_at p rs ≢ None) × HasRecords new (without_place p rs)
 IsAfterTake Last p rs new = (value_at p rs ≢ None) × (without_place p rs ≡ [])

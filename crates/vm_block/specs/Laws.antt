@@ -50,6 +50,6 @@ WrittenNodesAreNodes =
 abbrev pub WrittenHeadsAreHeads : Type 0
 WrittenHeadsAreHeads = (limit n : ℕ) → HeadFits limit n → IsHead (head_bytes limit n) limit n
 
--- an entry that is written is that entry, where its names are names
+-- an entry that is written is that entry, if its names are names
 abbrev pub WrittenEntriesAreEntries : Type 0
 WrittenEntriesAreEntries = (e : Entry) → EntryFits e → IsEntry (entry_bytes e) e

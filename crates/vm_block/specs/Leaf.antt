@@ -27,12 +27,12 @@ key_bytes key = little_bytes 2 key.table ++ little_bytes 8 key.number
 unfoldable pub bound_bytes : Bound → List ℕ
 bound_bytes b = key_bytes b.key ++ little_bytes 2 b.end
 
--- the entries of records whose values stand behind so many bytes of values
+-- the entries of records whose values stand after this many bytes of values
 abbrev pub bounds_from : ℕ → List Record → List Bound
 bounds_from from [] = []
 bounds_from from (r ∷ rs) = record { key = r.0; end = from + length r.1 } ∷ bounds_from (from + length r.1) rs
 
--- the values, one behind the other
+-- the values, one after the other
 abbrev pub values_of : List Record → List ℕ
 values_of rs = flat_map (λ r. r.1) rs
 
@@ -60,7 +60,7 @@ pub record HasRecords (bytes : List ℕ) (rs : List Record) : Type 0 where
   pub fit : AllByRecursion RecordFits rs
   pub rising : RisesFrom 0 (places rs)
 
--- the bytes begin with the head of a leaf of so many records, from one to 340
+-- the bytes begin with the head of a leaf of this many records, from one to 340
 pub record IsLeafHead (bytes : List ℕ) (n : ℕ) : Type 0 where
   pub begins : take 16 bytes ≡ leaf_head n
   pub some : 0 < n

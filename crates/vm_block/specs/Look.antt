@@ -8,7 +8,7 @@ use Rattle.vm_block.specs.Changed.{without_place}
 use Rattle.vm_block.specs.Leaf.{Record}
 use Rattle.vm_block.specs.Leaf.{HasRecords, values_of}
 
--- P holds of the records, where the bytes are a leaf
+-- P holds of the records, if the bytes are a leaf
 abbrev pub IfRecords : List ℕ → (List Record → Type 0) → Type 0
 IfRecords bytes P = (rs : List Record) → HasRecords bytes rs → P rs
 

@@ -1,11 +1,11 @@
--- Bytes with zero bytes behind them.
+-- Bytes with zero bytes after them.
 use Rattle.std.specs.Prelude.{◌≡◌, ℕ, ◌-◌, List, ◌++◌, length, take, drop, replicate}
 
--- so many zero bytes
+-- this many zero bytes
 unfoldable pub zeros : ℕ → List ℕ
 zeros n = replicate n 0
 
--- the bytes, and zero bytes behind them, n in all
+-- the bytes, and zero bytes after them, n in all
 abbrev pub padded : ℕ → List ℕ → List ℕ
 padded n bytes = bytes ++ zeros (n - length bytes)
 

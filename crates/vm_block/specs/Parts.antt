@@ -25,11 +25,11 @@ PartFits part = HasBounds part × (part.count ≤ MAX_RECORDS) × (length part.v
 abbrev pub part_size : Part → ℕ
 part_size part = 12 * part.count + length part.values.now
 
--- P holds of the records of three parts, one behind the other
+-- P holds of the records of three parts, one after the other
 abbrev pub IfParts : Part → Part → Part → (List Record → Type 0) → Type 0
 IfParts front middle back P = (xs ys zs : List Record) → IsPart front xs → IsPart middle ys → IsPart back zs → P (xs ++ (ys ++ zs))
 
--- the records that were to be written, and the bytes: written if they have room
+-- whether these records were written, and the bytes: written if they have room
 abbrev pub IsWritten : Bool → List Record → List ℕ → Type 0
 IsWritten true all new = (size_of all ≤ LEAF_ROOM) × (new ≡ leaf_bytes all)
 IsWritten false all new = LEAF_ROOM < size_of all

@@ -17,7 +17,7 @@ abbrev pub tag_of : Kind → ℕ
 tag_of Alternative = 65
 tag_of Checkpoint = 67
 
--- a name in its 33 bytes: its length, and it, with zero bytes behind it
+-- a name in its 33 bytes: its length, and it, with zero bytes after it
 abbrev pub name_bytes : List ℕ → List ℕ
 name_bytes name = length name ∷ padded 32 name
 
@@ -102,17 +102,17 @@ abbrev pub IsLedger : List Entry → Type 0
 IsLedger [] = ⊥
 IsLedger (top ∷ es) = IsTopEntry top × Follows (top ∷ []) es
 
--- entries that a slot of a store of so many blocks may have
+-- entries that a slot of a store of this many blocks may have
 pub record SlotFits (limit : ℕ) (es : List Entry) : Type 0 where
   pub head : HeadFits limit (length es)
   pub each : AllByRecursion EntryFits es
   pub ledger : IsLedger es
 
--- how many blocks of a slot so many entries take
+-- how many blocks of a slot this many entries take
 abbrev pub used_blocks : ℕ → ℕ
 used_blocks n = (n + 32) / 32
 
--- the entries behind their head
+-- the entries after their head
 abbrev pub slot_bytes : ℕ → List Entry → List ℕ
 slot_bytes limit es = head_bytes limit (length es) ++ flat_map entry_bytes es
 

@@ -11,7 +11,7 @@ use Rattle.vm_block.specs.Leaf.{Record}
 use Rattle.vm_block.specs.Leaf.{HasRecords, leaf_bytes, size_of}
 use Rattle.vm_block.specs.Parts.{IsPart, IsWritten}
 
--- a record that is to come into a leaf, in the place of one or before one
+-- a record about to enter a leaf, in place of one or before one
 abbrev pub IsComing : Coming → Type 0
 IsComing c = (c.index ≤ c.next) × (c.next ≤ c.index + 1) × (c.next ≤ c.count) × (c.count ≤ MAX_RECORDS) × (c.len ≤ longest)
 
@@ -23,11 +23,11 @@ coming_count c = c.index + 1 + (c.count - c.next)
 abbrev pub with_coming : Coming → Record → List Record → List Record
 with_coming c r rs = take c.index rs ++ (r ∷ [] ++ drop c.next rs)
 
--- P holds of the records then, where the bytes are a leaf of as many records, and the one that comes is as long as it says
+-- P holds of the records then, if the bytes are a leaf of as many records, and the one that comes is as long as it says
 abbrev pub IfComing : List ℕ → Coming → (List Record → Type 0) → Type 0
 IfComing bytes c P = (rs : List Record) (r : Record) → HasRecords bytes rs → c.count ≡ length rs → length r.1 ≡ c.len → P (with_coming c r rs)
 
--- how many bytes the larger of two leaves takes, of which the first has so many of the records
+-- how many bytes the larger of two leaves takes, of which the first has this many of the records
 abbrev pub larger : ℕ → List Record → ℕ
 larger h all = max (size_of (take h all)) (size_of (drop h all))
 
@@ -44,13 +44,13 @@ abbrev pub WritesCut : Bool → List ℕ → Coming → Part → ℕ → List �
 WritesCut result bytes c part cut left right =
     (rs : List Record) (r : Record) → HasRecords bytes rs → c.count ≡ length rs → IsPart part (r ∷ []) → IsCutInto result cut (with_coming c r rs) left right
 
--- the records before the one that comes, that one, and those behind it are written
+-- the records before the one that comes, that one, and those after it are written
 abbrev pub WritesThree : List ℕ → Coming → Part → List ℕ → List ℕ → List ℕ → Type 0
 WritesThree bytes c part left middle right =
     (rs : List Record) (r : Record) → HasRecords bytes rs → c.count ≡ length rs → IsPart part (r ∷ []) → length r.1 ≤ longest
     → (left ≡ leaf_bytes (take c.index rs)) × (middle ≡ leaf_bytes (r ∷ [])) × (right ≡ leaf_bytes (drop c.next rs))
 
--- the records are in two leaves: those before a cut and those behind it. Where the one that came is behind all others, it is alone
+-- the records are in two leaves: those before a cut and those after it. If the one that came is after all others, it is alone
 -- in the right leaf; else no cut is more even
 pub record InTwo (r : Record) (rs all : List Record) (left right : List ℕ) : Type 0 where
   pub cut : ℕ

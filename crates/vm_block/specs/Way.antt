@@ -15,7 +15,7 @@ pub record IsChosen (places : List ℕ) (p i : ℕ) : Type 0 where
   pub reached : 0 < i → slice_index places i ≤ p
   pub last : i + 1 < length places → p < slice_index places (i + 1)
 
--- behind the head of a block stand rows of one size, which begin with the keys of these places
+-- after the head of a block stand rows of one size, which begin with the keys of these places
 abbrev pub KeysStand : List ℕ → ℕ → List ℕ → Type 0
 KeysStand bytes size ps = (i : ℕ) (key : Key) → i < length ps → KeyFits key → take 10 (drop (16 + size * i) bytes) ≡ key_bytes key → slice_index ps i ≡ place key
 
@@ -37,10 +37,10 @@ IsWay way = (0 < way.level) × (way.level ≤ 7) × (way.index < way.count) × (
 abbrev pub IsWayTo : ℕ → ℕ → List Child → Way → Type 0
 IsWayTo p level cs way = (way.level ≡ level) × (way.count ≡ length cs) × Takes cs p way.index way.child
 
--- where the bytes begin with the head of an inner block, a way tells the level and the count of it
+-- if the bytes begin with the head of an inner block, a way tells the level and the count of it
 abbrev pub TellsHead : List ℕ → Option Way → Type 0
 TellsHead bytes result = (level n : ℕ) → IsNodeHead bytes level n → IsSomeAnd result (λ way. (way.level ≡ level) × (way.count ≡ n))
 
--- of so many rows of one size this is the one that a descent to place p takes, whatever their keys are
+-- of this many rows of one size this is the one that a descent to place p takes, whatever their keys are
 abbrev pub ChoosesAmong : List ℕ → ℕ → ℕ → ℕ → ℕ → Type 0
 ChoosesAmong bytes size count p i = (ps : List ℕ) → length ps ≡ count → KeysStand bytes size ps → IsChosen ps p i

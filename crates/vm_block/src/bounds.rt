@@ -4,6 +4,7 @@ ghost use Rattle.std.specs.List.{flat_map};
 ghost use Rattle.vm_block.specs.Bounds.{BoundFits, IsNext, IsSound, bound_of, bounds_of, last_end, moved};
 ghost use Rattle.vm_block.specs.Leaf.{bound_bytes};
 
+use crate::bytes::put;
 use crate::keys::{read_key, write_key};
 use byteorder::{ByteOrder, LittleEndian};
 use vm_types::{Key, Value};
@@ -64,14 +65,18 @@ pub(crate) fn bounds_end(bytes: &[u8], count: usize) -> Option<usize>
     Some(from)
 }
 
-/// Writes `count` entries, of values that stood behind `from` bytes of values, for values that
-/// stand behind `to`.
+/// Writes `count` entries, of values that stood after `from` bytes of values, for values that
+/// stand after `to`.
 pub(crate) fn move_bounds(bytes: &[u8], count: usize, from: usize, to: usize, out: &mut [u8])
     requires there { 12 * count ≤ length bytes.now }
     requires room { 12 * count ≤ length out.old }
     requires small { to < 2 ^ 16 }
     ensures { out.new ≡ flat_map bound_bytes (map (moved from to) (bounds_of count bytes.now)) ++ drop (12 * count) out.old }
 {
+    if from == 0 && to == 0 {
+        put(&bytes[..12 * count], out);
+        return;
+    }
     for i in 0..count {
         let bound = read_bound(&bytes[12 * i..]);
         let end = usize::from(bound.end).saturating_sub(from) + to;

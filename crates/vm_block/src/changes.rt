@@ -12,7 +12,7 @@ use crate::parts::{Part, bound_alone, no_part, part_of, write_fitting, write_par
 use crate::sizes::MAX_RECORDS;
 use vm_types::{Block, Key};
 
-/// What became of a record that was to be put into a leaf.
+/// What became of a record put into a leaf.
 #[derive(Clone, Copy, Debug, PartialEq, Eq)]
 pub enum Placed {
     /// The leaf has it now.
@@ -21,7 +21,7 @@ pub enum Placed {
     TooBig,
 }
 
-/// What became of a record that was to be removed from a leaf.
+/// What became of a record removed from a leaf.
 #[derive(Clone, Copy, Debug, PartialEq, Eq)]
 pub enum Taken {
     /// The leaf no longer has it.

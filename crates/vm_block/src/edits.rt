@@ -1,4 +1,4 @@
-//! Edits of the children in the bytes of an inner block, without writing the whole block anew.
+//! Edits of the children in the bytes of an inner block, without rewriting the whole block.
 ghost use Rattle.std.specs.Prelude.{◌≡◌, ◌+◌, ◌<◌, ◌≤◌, take};
 ghost use Rattle.vm_block.specs.Changed.{DividesChild, DividesInThree, InsertsChild, SetsChild};
 

@@ -1,4 +1,4 @@
-//! The head of an inner block, compared as four numbers.
+//! The head of a leaf or of an inner block, as four numbers.
 ghost use Rattle.std.specs.Prelude.{◌≡◌, ℕ, ◌≤◌, ◌↔◌, Some, length, take, IsTrue, IfSome};
 ghost use Rattle.vm_block.specs.Head.{IsHeadOfNode, IsNodeHead, head_numbers};
 
@@ -11,14 +11,14 @@ const NODE: u32 = 0x4544_4F4E;
 
 /// The first 16 bytes of a block.
 #[derive(Clone, Copy)]
-struct Head {
-    letters: u32,
-    level: u32,
-    count: u32,
-    zero: u32,
+pub(crate) struct Head {
+    pub letters: u32,
+    pub level: u32,
+    pub count: u32,
+    pub zero: u32,
 }
 
-fn read_head(bytes: &[u8]) -> Head
+pub(crate) fn read_head(bytes: &[u8]) -> Head
     requires { 16 ≤ length bytes.now }
     ensures { take 16 bytes.now ≡ head_numbers result }
 {

@@ -1,13 +1,18 @@
 //! A leaf: the block of a tree that holds records. It has a head, an entry for each record, the
 //! values one after another, and zero bytes.
 ghost use Rattle.std.specs.Prelude.{◌≡◌, ℕ, ◌<◌, ◌≤◌, ◌++◌, ◌↔◌, Some, List, length, drop, IsTrue, IfSome};
+ghost use Rattle.vm_block.specs.Head.{IsHeadOfLeaf};
 ghost use Rattle.vm_block.specs.Leaf.{HasRecords, IsLeafHead, Record, leaf_head};
 
 use crate::bounds::bounds_end;
 use crate::bytes::{are_zero, put};
+use crate::head::{Head, read_head};
 use crate::sizes::MAX_RECORDS;
 use byteorder::{ByteOrder, LittleEndian};
 use vm_types::{BLOCK_SIZE, Block};
+
+/// The letters LEF3 as a number.
+const LEAF: u32 = 0x3346_454C;
 
 pub(crate) fn write_leaf_head(count: u32, out: &mut [u8])
     requires { 16 ≤ length out.old }
@@ -26,22 +31,25 @@ fn is_count(count: u32) -> bool
     (1..=MAX_RECORDS as u32).contains(&count)
 }
 
+/// Whether a leaf may have this head.
+fn is_head(head: Head) -> bool
+    ensures { IsTrue result ↔ IsHeadOfLeaf LEAF head }
+{
+    head.letters == LEAF && head.level == 0 && is_count(head.count) && head.zero == 0
+}
+
 /// How many records a leaf has, according to its head. None if the bytes do not begin with the head
 /// of a leaf.
 pub(crate) fn leaf_len(bytes: &Block) -> Option<usize>
     ensures found { IfSome result (IsLeafHead bytes.now) }
     ensures only { (n : ℕ) → IsLeafHead bytes.now n → result ≡ Some n }
 {
-    let count = LittleEndian::read_u32(&bytes[8..]);
-    if !is_count(count) {
-        return None;
+    let head = read_head(bytes);
+    if is_head(head) {
+        Some(head.count as usize)
+    } else {
+        None
     }
-    let mut head = [0; 16];
-    write_leaf_head(count, &mut head);
-    if !bytes.starts_with(&head) {
-        return None;
-    }
-    Some(count as usize)
 }
 
 /// Whether the bytes are a leaf.

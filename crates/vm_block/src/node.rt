@@ -113,7 +113,7 @@ fn read_children(bytes: &[u8], count: usize, children: &mut ArrayVec<Child, MAX_
     }
 }
 
-/// The `count` children that are spelled behind the head of an inner block. If the bytes are an
+/// The `count` children that are spelled after the head of an inner block. If the bytes are an
 /// inner block of `count` children, these are its children; otherwise they are whatever is there.
 pub fn spelled_children(bytes: &Block, count: usize) -> ArrayVec<Child, MAX_CHILDREN>
     requires { count ≤ MAX_CHILDREN }

@@ -14,7 +14,7 @@ use crate::look::{end_before, values_range};
 use crate::sizes::{LEAF_ROOM, MAX_RECORDS};
 use vm_types::{Block, Key};
 
-/// Records one behind the other.
+/// Records one after the other.
 #[derive(Clone, Copy, Debug)]
 pub(crate) struct Part<'a> {
     /// How many records.
@@ -56,7 +56,7 @@ pub(crate) fn no_part() -> Part<'static>
     }
 }
 
-/// The entry of a record that stands alone.
+/// The entry of a record on its own.
 pub(crate) fn bound_alone(key: Key, len: usize) -> [u8; 12]
     requires { len < 2 ^ 16 }
     ensures fits { KeyFits key }
@@ -73,7 +73,7 @@ pub(crate) fn bound_alone(key: Key, len: usize) -> [u8; 12]
     bound
 }
 
-/// Writes the entries of three parts, one behind the other.
+/// Writes the entries of three parts, one after the other.
 fn write_bounds(front: &Part<'_>, middle: &Part<'_>, back: &Part<'_>, out: &mut [u8])
     requires front { HasBounds front.now }
     requires middle { HasBounds middle.now }
@@ -101,7 +101,7 @@ fn write_bounds(front: &Part<'_>, middle: &Part<'_>, back: &Part<'_>, out: &mut 
     );
 }
 
-/// Writes the values of three parts, one behind the other.
+/// Writes the values of three parts, one after the other.
 fn write_values(front: &Part<'_>, middle: &Part<'_>, back: &Part<'_>, out: &mut [u8])
     requires { length front.now.values.now + length middle.now.values.now + length back.now.values.now ≤ length out.old }
     ensures { out.new ≡ ((front.now.values.now ++ middle.now.values.now) ++ back.now.values.now) ++ drop (length front.now.values.now + length middle.now.values.now + length back.now.values.now) out.old }
@@ -113,7 +113,7 @@ fn write_values(front: &Part<'_>, middle: &Part<'_>, back: &Part<'_>, out: &mut 
     put(back.values, &mut out[last..]);
 }
 
-/// Writes the leaf of three parts, one behind the other.
+/// Writes the leaf of three parts, one after the other.
 pub(crate) fn write_parts(front: &Part<'_>, middle: &Part<'_>, back: &Part<'_>, out: &mut Block)
     requires front { HasBounds front.now }
     requires middle { HasBounds middle.now }
@@ -129,7 +129,7 @@ pub(crate) fn write_parts(front: &Part<'_>, middle: &Part<'_>, back: &Part<'_>, 
     put_zeros(&mut out[16 + 12 * count + len..]);
 }
 
-/// Writes the leaf of three parts, one behind the other, if they have room in one.
+/// Writes the leaf of three parts, one after the other, if they fit in one.
 pub(crate) fn write_fitting(
     front: &Part<'_>,
     middle: &Part<'_>,

@@ -13,7 +13,7 @@ use crate::parts::{Part, bound_alone, no_part, part_of, write_fitting};
 use crate::sizes::LEAF_ROOM;
 use vm_types::{Block, Key};
 
-/// A record that is to come into a leaf of `count` records: in the place of those from `index` to
+/// A record about to enter a leaf of `count` records: in place of those from `index` to
 /// before `next`, of which there is one or none.
 #[derive(Clone, Copy, Debug)]
 pub(crate) struct Coming {
@@ -79,7 +79,7 @@ fn best_cut(bytes: &Block, coming: &Coming) -> usize
     best
 }
 
-/// Writes the records on both sides of a cut that is not behind the one that comes, if they fit.
+/// Writes the records on both sides of a cut that is not after the one that comes, if they fit.
 fn cut_before(
     bytes: &Block,
     coming: &Coming,
@@ -100,7 +100,7 @@ fn cut_before(
         && write_fitting(&middle, part, &back, right)
 }
 
-/// The same of a cut behind it, after so many more.
+/// The same of a cut after it, and after this many more.
 fn cut_behind(
     bytes: &Block,
     coming: &Coming,
@@ -143,7 +143,7 @@ fn write_cut(
 }
 
 /// How many records the left of two leaves gets: all those of the leaf, if the one that comes is
-/// behind them, or else as many as make the two even.
+/// after them, or else as many as make the two even.
 fn chosen_cut(bytes: &Block, coming: &Coming) -> usize
     requires { IsComing coming.now }
     ensures above { 0 < coming.now.count → 0 < result }
@@ -158,7 +158,7 @@ fn chosen_cut(bytes: &Block, coming: &Coming) -> usize
     }
 }
 
-/// Writes the records before the one that comes, that one, and those behind it.
+/// Writes the records before the one that comes, that one, and those after it.
 fn write_three(
     bytes: &Block,
     coming: &Coming,

@@ -19,20 +19,20 @@ use Rattle.vm_catalog.specs.declared.reader.Slot.{Slot}
 
 -- # Loading
 
--- a block that has a head, and behind it entries, is found to have them
+-- a block that has a head, and after it entries, is found to have them
 abbrev pub FindsFront : {T : Type 0} → Option T → List ℕ → Type 0
 FindsFront result block = (limit n : ℕ) → IsHead (take 128 block) limit n → ((i : ℕ) → i < min n 31 → HasEntry block (1 + i)) → IsSome result
 
--- the first block of this slot has this head, with these entries behind it
+-- the first block of this slot has this head, with these entries after it
 abbrev pub HasFront : DiskState → SlotName → SlotHead → List Entry → Type 0
 HasFront disk slot_name head es = disk.honest ≡ true → BeginsSlot (blocks_from disk.now.contents (slot_at slot_name) 1) head.blocks head.entries es
 
--- the first block of this slot had the head that is given, with these entries behind it
+-- the first block of this slot had the head that is given, with these entries after it
 abbrev pub ReadsFront : Result SlotHead LoadFault → DiskState → DiskState → SlotName → List Entry → Type 0
 ReadsFront result old new slot_name es =
     new.honest ≡ true → IfOk result (λ head. BeginsSlot (blocks_from old.now.contents (slot_at slot_name) 1) head.blocks head.entries es)
 
--- the used blocks of this slot had this head, with these entries behind it
+-- the used blocks of this slot had this head, with these entries after it
 abbrev pub ReadsOthers : {T : Type 0} → Result T LoadFault → DiskState → DiskState → SlotName → SlotHead → List Entry → Type 0
 ReadsOthers result old new slot_name head es =
     new.honest ≡ true → OnOk result (BeginsSlot (blocks_from old.now.contents (slot_at slot_name) (used_blocks head.entries)) head.blocks head.entries es)
@@ -59,7 +59,7 @@ ReadsUsed result old new = IfOk result (λ slot. new.reads ≡ old.reads + used_
 abbrev pub WritesSelector : {T : Type 0} → Result T DeviceFault → DiskState → DiskState → SlotName → Type 0
 WritesSelector result old new slot_name = new.honest ≡ true → Writes 1 (selector_bytes slot_name) result old new
 
--- the used blocks of this slot are those of these entries, of a store of so many blocks
+-- the used blocks of this slot are those of these entries, of a store of this many blocks
 abbrev pub WritesSlot : {T : Type 0} → Result T DeviceFault → DiskState → SlotName → ℕ → List Entry → Type 0
 WritesSlot result new slot_name blocks es =
     new.honest ≡ true → OnOk result (blocks_from new.now.contents (slot_at slot_name) (used_blocks (length es)) ≡ slot_blocks blocks es)
@@ -72,7 +72,7 @@ TouchesSlot old new slot_name es =
 -- # Publishing, from a disk at rest whose selector names one slot
 
 module _ (old new : DiskState) (in_use : SlotName) (blocks : ℕ) (entries : List Entry) where
-  -- P holds of the entries that were in use and the size of their store, where the new entries are such as a slot may have
+  -- P holds of the entries that were in use and the size of their store, if the new entries are such as a slot may have
   abbrev pub FromRest : (ℕ → List Entry → Type 0) → Type 0
   FromRest P = new.honest ≡ true → (limit : ℕ) (es : List Entry) → AtRest in_use old.now limit es → SlotFits blocks entries → P limit es
 

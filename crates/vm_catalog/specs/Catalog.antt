@@ -7,7 +7,7 @@ use Rattle.vm_block.specs.declared.slot.Entry.{Entry}
 use Rattle.vm_block.specs.declared.selector.SlotName.{SlotName}
 use Rattle.vm_catalog.specs.Place.{blocks_from, slot_at, selected, is_used}
 
--- this slot holds these entries, of a store of so many blocks
+-- this slot holds these entries, of a store of this many blocks
 abbrev pub SlotAt : Contents → SlotName → ℕ → List Entry → Type 0
 SlotAt x slot_name limit es = IsSlot (blocks_from x (slot_at slot_name) (used_blocks (length es))) limit es
 
@@ -22,7 +22,7 @@ pub record AtRest (slot_name : SlotName) (m : Medium) (limit : ℕ) (es : List E
   pub in_use : selected m.contents ≡ slot_name
   pub clean : (n : ℕ) → is_used slot_name (length es) n ≡ true → m.dirty n ≡ false
 
--- what is found in use: a slot that the selector names behind a header, or no header
+-- what is found in use: a slot that the selector names after a header, or no header
 abbrev pub Selects : Contents → Option SlotName → Type 0
 Selects x None = IsHeader (block x 0) → ⊥
 Selects x (Some slot_name) = IsHeader (block x 0) × (selected x ≡ slot_name)

@@ -6,12 +6,12 @@ use Rattle.vm_block.specs.Slot.{used_blocks}
 use Rattle.vm_block.specs.declared.selector.SlotName.{SlotName}
 use Rattle.vm_block.specs.declared.selector.SlotName.TheVariants.{A, B}
 
--- so many blocks, from block `at` on
+-- this many blocks, from block `at` on
 abbrev pub blocks_from : Contents → ℕ → ℕ → List (List ℕ)
 blocks_from x at zero = []
 blocks_from x at (suc k) = block x at ∷ blocks_from x (at + 1) k
 
--- whether block n is one of so many, from block `at` on
+-- whether block n is one of this many, from block `at` on
 abbrev pub region : ℕ → ℕ → ℕ → Bool
 region at count n = nat_le at n && nat_lt n (at + count)
 
@@ -24,10 +24,10 @@ slot_at B = 18
 abbrev pub selected : Contents → SlotName
 selected x = named_slot (block x 1)
 
--- whether block n is the header, the selector, or a used block of this slot, which has so many entries
+-- whether block n is the header, the selector, or a used block of this slot, which has this many entries
 abbrev pub is_used : SlotName → ℕ → ℕ → Bool
 is_used slot_name count n = nat_lt n 2 || region (slot_at slot_name) (used_blocks count) n
 
--- whether block n is the selector, or a used block of this slot, which has so many entries
+-- whether block n is the selector, or a used block of this slot, which has this many entries
 abbrev pub is_turned : SlotName → ℕ → ℕ → Bool
 is_turned slot_name count n = n == 1 || region (slot_at slot_name) (used_blocks count) n

@@ -9,7 +9,7 @@ use Rattle.vm_catalog.specs.declared.reader.Slot.{Slot}
 use Rattle.vm_catalog.specs.declared.reader.LoadFault.{LoadFault}
 use Rattle.vm_catalog.specs.declared.reader.LoadFault.TheVariants.{Device, Memory, Damaged}
 
--- these entries of a slot, of a store of so many blocks, were loaded, or the device or memory failed
+-- these entries of a slot, of a store of this many blocks, were loaded, or the device or memory failed
 abbrev pub Loads : Result Slot LoadFault → ℕ → List Entry → Type 0
 Loads (Ok slot) limit es = (slot.blocks ≡ limit) × (slot.entries.items ≡ es)
 Loads (Err Device) limit es = Unit {0}
@@ -25,7 +25,7 @@ pub record HasEntry (bytes : List ℕ) (i : ℕ) : Type 0 where
   pub entry : Entry
   pub here : IsEntry (cell_of bytes i) entry
 
--- so many entries, from a cell on, were read behind the old ones
+-- this many entries, from a cell on, were read after the old ones
 pub record HasTaken (bytes : List ℕ) (first count : ℕ) (old new : List Entry) : Type 0 where
   pub more : List Entry
   pub items : new ≡ old ++ more
@@ -33,7 +33,7 @@ pub record HasTaken (bytes : List ℕ) (first count : ℕ) (old new : List Entry
   pub each : AllByRecursion EntryFits more
   pub spelled : take (128 * count) (drop (128 * first) bytes) ≡ flat_map entry_bytes more
 
--- a head that fits, and as many of its entries as stand in so many blocks
+-- a head that fits, and as many of its entries as stand in this many blocks
 pub record FitsSoFar (limit n count : ℕ) (es : List Entry) : Type 0 where
   pub head : HeadFits limit n
   pub each : AllByRecursion EntryFits es

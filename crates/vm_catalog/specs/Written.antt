@@ -11,7 +11,7 @@ use Rattle.vm_block.specs.declared.selector.SlotName.{SlotName}
 use Rattle.vm_block.specs.declared.slot.Entry.{Entry}
 use Rattle.vm_catalog.specs.Place.{blocks_from, is_turned, slot_at}
 
--- pieces, one behind the other
+-- pieces, one after the other
 abbrev pub joined : List (List ℕ) → List ℕ
 joined pieces = flat_map (λ piece. piece) pieces
 
@@ -19,12 +19,12 @@ joined pieces = flat_map (λ piece. piece) pieces
 abbrev pub cells : ℕ → List Entry → List (List ℕ)
 cells limit es = head_bytes limit (length es) ∷ map entry_bytes es
 
--- so many blocks of 32 cells each, with zero bytes behind the last cell
+-- this many blocks of 32 cells each, with zero bytes after the last cell
 abbrev pub in_blocks : ℕ → List (List ℕ) → List (List ℕ)
 in_blocks zero pieces = []
 in_blocks (suc k) pieces = padded BLOCK_SIZE (joined (take 32 pieces)) ∷ in_blocks k (drop 32 pieces)
 
--- the used blocks of a slot with these entries, of a store of so many blocks
+-- the used blocks of a slot with these entries, of a store of this many blocks
 unfoldable pub slot_blocks : ℕ → List Entry → List (List ℕ)
 slot_blocks limit es = in_blocks (used_blocks (length es)) (cells limit es)
 
@@ -33,7 +33,7 @@ pub record IsAsWritten (x : Contents) (slot_name : SlotName) (limit : ℕ) (es :
   pub slot : blocks_from x (slot_at slot_name) (used_blocks (length es)) ≡ slot_blocks limit es
   pub selector : block x 1 ≡ selector_bytes slot_name
 
--- where it was done, this slot and the selector that names it are as they are written, byte by byte
+-- if it was done, this slot and the selector that names it are as they are written, byte by byte
 abbrev pub WritesBoth : {T E : Type 0} → Result T E → DiskState → SlotName → ℕ → List Entry → Type 0
 WritesBoth result new slot_name blocks es = new.honest ≡ true → OnOk result (IsAsWritten new.now.contents slot_name blocks es)
 

@@ -34,7 +34,7 @@ unfolding Subtree
 subtree_level sizes x limit zero b rs bs t = (rs, t.1)
 subtree_level sizes x limit (suc l) b rs bs t = (t.1, t.3)
 
-node_level : (bytes : List ℕ) (level : ℕ) (cs : List Child) → IsNode bytes level cs → HasLevel bytes level
+pub node_level : (bytes : List ℕ) (level : ℕ) (cs : List Child) → IsNode bytes level cs → HasLevel bytes level
 node_level bytes zero cs node = absurd (omega (arith, node.above))
 node_level bytes (suc l) cs node = (cs, node)
 

@@ -12,4 +12,5 @@ pub mod ReachedLemmas
 pub mod RenumberLemmas
 pub mod RootLemmas
 pub mod SpanLemmas
+pub mod TopLemmas
 pub mod WalkLemmas

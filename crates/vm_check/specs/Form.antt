@@ -11,7 +11,7 @@ use Rattle.vm_tree.specs.declared.faults.TreeFault.{TreeFault}
 use Rattle.vm_check.specs.declared.form.Form.{Form}
 use Rattle.vm_check.specs.declared.form.Form.TheVariants.{Leaf, Node}
 
--- these bytes are a leaf of so many records, or an inner block of this level with so many children
+-- these bytes are a leaf of this many records, or an inner block of this level with this many children
 abbrev pub IsForm : List ℕ → Form → Type 0
 IsForm bytes (Leaf count) = (rs : List Record) × HasRecords bytes rs × (length rs ≡ count)
 IsForm bytes (Node level count) = (cs : List Child) × IsNode bytes level cs × (length cs ≡ count)
@@ -25,7 +25,7 @@ IsFilled (Node level count) = (0 < level) × (level ≤ 7) × (0 < count) × (co
 abbrev pub OkUnlessDevice : {T : Type 0} → Result T TreeFault → Type 0
 OkUnlessDevice result = OkOrDevice result (λ _. Unit {0})
 
--- where the disk is honest after the call, the bytes are those of this block
+-- if the disk is honest after the call, the bytes are those of this block
 abbrev pub HasRead : {T : Type 0} → Result T TreeFault → DiskState → DiskState → ℕ → List ℕ → Type 0
 HasRead result old new b bytes = Finds result old new (λ x answer. bytes ≡ block x b)
 

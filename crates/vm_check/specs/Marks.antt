@@ -61,7 +61,7 @@ pub record MarksFit (blocks : ℕ) (x : DiskState) (marks : List Bool) : Type 0 
 abbrev pub PaysReads : DiskState → DiskState → List Bool → List Bool → Type 0
 PaysReads old new marks later = new.reads + unmarked later ≤ old.reads + unmarked marks
 
--- and just one
+-- and exactly one
 abbrev pub PaysJustReads : DiskState → DiskState → List Bool → List Bool → Type 0
 PaysJustReads old new marks later = new.reads + unmarked later ≡ old.reads + unmarked marks
 
@@ -69,7 +69,7 @@ PaysJustReads old new marks later = new.reads + unmarked later ≡ old.reads + u
 abbrev pub is_inner : List ℕ → Bool
 is_inner bytes = bytes_eq (take 4 bytes) (codes "NODE")
 
--- of the blocks from n on, to which these marks belong, so many begin as inner blocks and are not marked
+-- of the blocks from n on, to which these marks belong, this many begin as inner blocks and are not marked
 abbrev pub inner_from : Contents → ℕ → List Bool → ℕ
 inner_from x n [] = 0
 inner_from x n (m ∷ ms) = (if is_inner (block x n) && not m then 1 else 0) + inner_from x (suc n) ms
@@ -78,12 +78,12 @@ inner_from x n (m ∷ ms) = (if is_inner (block x n) && not m then 1 else 0) + i
 abbrev pub unmarked_inner : Contents → List Bool → ℕ
 unmarked_inner x marks = inner_from x 0 marks
 
--- where the disk is honest after the call, and the answer is Ok, for each block that was read an inner block was marked
+-- if the disk is honest after the call, and the answer is Ok, for each block that was read an inner block was marked
 abbrev pub PaysInner : {T : Type 0} → Result T TreeFault → DiskState → DiskState → List Bool → List Bool → Type 0
 PaysInner result old new marks later =
     new.honest ≡ true → OnOk result (new.reads + unmarked_inner old.now.contents later ≤ old.reads + unmarked_inner old.now.contents marks)
 
--- # What is marked of trees, where the disk is honest after the call
+-- # What is marked of trees, if the disk is honest after the call
 
 -- P holds of the blocks of the subtree that lies under a block of this level
 abbrev pub OnSubtree : DiskState → DiskState → ℕ → ℕ → ℕ → (List ℕ → Type 0) → Type 0
@@ -118,7 +118,7 @@ MarksOnlyUnder old new limit root marks later = OnTree old new limit root (λ bs
 abbrev pub MarksOnlyOn : DiskState → DiskState → List Root → List Bool → List Bool → Type 0
 MarksOnlyOn old new roots marks later = OnTrees old new (length marks) roots (λ bs. MarksOnly bs marks later)
 
--- where the marks were closed, they grow by exactly the blocks there, unless the device fails
+-- if the marks were closed, they grow by exactly the blocks there, unless the device fails
 abbrev pub CoversBelow : {T : Type 0} → Result T TreeFault → DiskState → DiskState → ℕ → ℕ → ℕ → List Bool → List Bool → Type 0
 CoversBelow result old new limit level b marks later =
     OnSubtree old new limit level b (λ bs. ClosedTo old.now.contents level marks → OkOrDevice result (λ _. MarksMore bs marks later))

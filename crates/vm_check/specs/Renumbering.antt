@@ -23,7 +23,7 @@ copies_of numbers = count_by (λ n. nat_lt 0 n) numbers.numbers.items
 abbrev pub next_of : Renumbering → ℕ
 next_of numbers = numbers.next
 
--- no block of so many was copied, and the first copy gets the number of the first data block
+-- none of this many blocks was copied, and the first copy gets the number of the first data block
 abbrev pub IsUnused : ℕ → Renumbering → Type 0
 IsUnused blocks numbers = (numbers.numbers.items ≡ replicate blocks 0) × (next_of numbers ≡ FIRST_DATA)
 

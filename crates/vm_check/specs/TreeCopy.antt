@@ -57,7 +57,7 @@ pub record NodeCopied (numbers : Renumbering) (bytes copy : List ℕ) : Type 0 w
 abbrev pub IsCopyOf : Renumbering → List ℕ → List ℕ → Type 0
 IsCopyOf numbers bytes copy = LeafCopied bytes copy ⊎ NodeCopied numbers bytes copy
 
--- in a store of so many blocks, of these contents, stands the copy of each block of the others that was copied
+-- in a store of this many blocks, of these contents, stands the copy of each block of the others that was copied
 pub record AreCopied (x y : Contents) (limit : ℕ) (numbers : Renumbering) : Type 0 where
   pub given : AreGiven numbers
   pub within : next_of numbers ≤ limit
@@ -72,7 +72,7 @@ pub record NumbersFit (blocks limit : ℕ) (s t : DiskState) (numbers : Renumber
   pub known : count_of numbers ≡ blocks
   pub least : FIRST_DATA ≤ next_of numbers
 
--- is this one of the blocks from the first number to the next one, in a store of so many blocks?
+-- is this one of the blocks from the first number to the next one, in a store of this many blocks?
 abbrev pub is_for_copies : (first next limit : ℕ) → ℕ → Bool
 is_for_copies first next limit n = nat_le first n && (nat_le n next && nat_lt n limit)
 
@@ -88,9 +88,9 @@ StaysUnsynced t t' = t'.honest ≡ true → NeverSyncs t t'
 abbrev pub ReadsBesideCopies : ℕ → DiskState → Renumbering → DiskState → Renumbering → Type 0
 ReadsBesideCopies more s old s' new = s'.reads + next_of old ≤ s.reads + next_of new + more
 
--- a step of copying, in which the source fails just where `source` holds, the target just where `target` does, and no number is left just where
+-- a step of copying, in which the source fails exactly if `source` holds, the target exactly if `target` does, and no number is left exactly if
 -- `none_left` does: the source was only read, of the target no block was touched but those of the copies, none was synced, and each copy has
--- kept its number; where it was done, for each block that was read one was copied
+-- kept its number; if it was done, for each block that was read one was copied
 pub record Steps (source target none_left done : Type 0) (limit : ℕ) (s t : DiskState) (old : Renumbering) (s' t' : DiskState) (new : Renumbering) : Type 0 where
   pub looks : Looks source s s'
   pub goes : Goes target t t'
@@ -104,7 +104,7 @@ pub record Steps (source target none_left done : Type 0) (limit : ℕ) (s t : Di
 abbrev pub StepsTo : {T : Type 0} → Result T CopyFault → ℕ → DiskState → DiskState → Renumbering → DiskState → DiskState → Renumbering → Type 0
 StepsTo result limit s t old s' t' new = Steps (result ≡ Err (Source Device)) (result ≡ Err Target) (result ≡ Err Full) (IsOk result) limit s t old s' t' new
 
--- P holds where both disks are honest after the step, and what was copied before it stood there
+-- P holds if both disks are honest after the step, and what was copied before it stood there
 abbrev pub WhereCopied : ℕ → DiskState → DiskState → Renumbering → DiskState → DiskState → Type 0 → Type 0
 WhereCopied limit s t old s' t' P =
     s'.honest ≡ true → t'.honest ≡ true → AreCopied s.now.contents t.now.contents limit old → P
@@ -130,19 +130,19 @@ abbrev pub CopiesBlock : Result ℕ CopyFault → ℕ → ℕ → DiskState → 
 CopiesBlock result limit n s t old s' t' new =
     WhereCopied limit s t old s' t' (IfOk result (λ number. AreCopied s.now.contents t'.now.contents limit new × IsNumberOf new n number))
 
--- what is copied is a leaf, or an inner block of this level at most, where the source is honest after it
+-- what is copied is a leaf, or an inner block of this level at most, if the source is honest after it
 abbrev pub CopiesUpTo : {T : Type 0} → ℕ → Result T CopyFault → DiskState → Renumbering → DiskState → Renumbering → Type 0
 CopiesUpTo level result s old s' new = s'.honest ≡ true → OnOk result (CopiesOnly (λ n. IsUpTo level (block s.now.contents n)) old new)
 
--- the children of an inner block of so many are copied
+-- this many children of an inner block are copied
 abbrev pub CopiesChildren : {T : Type 0} → Result T CopyFault → ℕ → ℕ → List ℕ → List ℕ → DiskState → DiskState → Renumbering → DiskState → DiskState → Renumbering → Type 0
 CopiesChildren result limit count bytes copy s t old s' t' new =
     (level : ℕ) (cs : List Child) → IsNode bytes level cs → count ≡ length cs
     → WhereCopied limit s t old s' t' (OnOk result (AreCopied s.now.contents t'.now.contents limit new × NodeCopied new bytes copy))
 
--- # Where no damage is found, if the source is honest after it
+-- # When no damage is found, if the source is honest after it
 
--- at the children of an inner block of so many, which are the tops of subtrees of this level
+-- at this many children of an inner block, which are the tops of subtrees of this level
 abbrev pub SoundChildrenCopy : {T : Type 0} → Result T CopyFault → ℕ → ℕ → ℕ → List ℕ → DiskState → DiskState → Type 0
 SoundChildrenCopy result limit level count bytes s s' =
     s'.honest ≡ true → (sizes : Sizes) (above : ℕ) (cs : List Child) (rs : List Record) (bs : List ℕ) → IsNode bytes above cs → count ≡ length cs
@@ -194,7 +194,7 @@ abbrev pub CopiesRoot : Result Root CopyFault → ℕ → Root → DiskState →
 CopiesRoot result limit root s t old s' t' new =
     WhereCopied limit s t old s' t' (IfOk result (λ copy. AreCopied s.now.contents t'.now.contents limit new × RootCopied new root copy))
 
--- under the root that is answered lies in a store of so many blocks the map that lay under the root, in the copies of its blocks
+-- under the root that is answered lies in a store of this many blocks the map that lay under the root, in the copies of its blocks
 abbrev pub CopiesMap : Result Root CopyFault → ℕ → ℕ → Root → DiskState → DiskState → Renumbering → DiskState → DiskState → Renumbering → Type 0
 CopiesMap result blocks limit root s t old s' t' new =
     WhereCopied limit s t old s' t'
@@ -214,8 +214,8 @@ pub record IsPut (limit n : ℕ) (bytes : List ℕ) (y y' : Contents) (old new :
   pub written : block y' number ≡ bytes
   pub others : (k : ℕ) → k ≢ number → block y' k ≡ block y k
 
--- what a write of a copy does on any disk: it touches no block but that of the next number, syncs none, and gives one number where it was
--- done, to no other block; if no number is left, the block has none, and where it finds damage, the block was copied
+-- what a write of a copy does on any disk: it touches no block except that of the next number, syncs none, and gives one number if it was
+-- done, to no other block; if no number is left, the block has none, and if it finds damage, the block was copied
 pub record Puts (target none_left done : Type 0) (damaged : ℕ → Type 0) (limit n : ℕ) (t : DiskState) (old : Renumbering) (t' : DiskState) (new : Renumbering) : Type 0 where
   pub goes : Goes target t t'
   pub touches : TouchesCopies limit t old t' new

@@ -24,7 +24,7 @@ AreRoots sizes x limit (n ∷ ns) [] bs = ⊥
 abbrev pub HaveTrees : Sizes → Contents → ℕ → List ℕ → Type 0
 HaveTrees sizes x limit ns = AllByRecursion (λ n. (m : Map) × (bs : List ℕ) × IsTree sizes x limit n m bs) ns
 
--- these roots were found, and just the blocks under them are marked
+-- these roots were found, and exactly the blocks under them are marked
 pub record Found (sizes : Sizes) (x : Contents) (limit : ℕ) (ns : List ℕ) (roots : List Root) (marks : List Bool) : Type 0 where
   pub blocks : List ℕ
   pub are : AreRoots sizes x limit ns roots blocks
@@ -32,10 +32,10 @@ pub record Found (sizes : Sizes) (x : Contents) (limit : ℕ) (ns : List ℕ) (r
   pub each : AllByRecursion (IsMarked marks) blocks
   pub only : (n : ℕ) → IsMarked marks n → Contains blocks n
 
--- where the disk is honest after the call, and each of the numbers has a tree, it is Ok, unless the device fails or no memory is found
+-- if the disk is honest after the call, and each of the numbers has a tree, it is Ok, unless the device fails or no memory is found
 abbrev pub AcceptsTrees : {T : Type 0} → Result T ListFault → Sizes → DiskState → DiskState → ℕ → List ℕ → Type 0
 AcceptsTrees result sizes old new limit ns = new.honest ≡ true → HaveTrees sizes old.now.contents limit ns → Lists result (λ _. Unit {0})
 
--- just as many blocks were read as are marked, of so many in the store
+-- exactly as many blocks were read as are marked, in a store of this many
 abbrev pub PaidFor : DiskState → DiskState → ℕ → List Bool → Type 0
 PaidFor old new limit marks = new.reads + unmarked marks + FIRST_DATA ≡ old.reads + limit

@@ -18,7 +18,7 @@ use Rattle.vm_check.specs.Form.{OkUnlessDevice}
 use Rattle.vm_check.specs.declared.verification.Span.{Span}
 use Rattle.vm_check.specs.declared.verification.Met.{Met}
 
--- the records have this highest key: they stand below a place exactly where it does
+-- the records have this highest key: they stand below a place exactly if it does
 pub record IsHighest (high : Key) (rs : List Record) : Type 0 where
   pub above : (p : ℕ) → place high < p → AllByRecursion (λ r. place r.0 < p) rs
   pub least : (p : ℕ) → AllByRecursion (λ r. place r.0 < p) rs → place high < p
@@ -63,12 +63,12 @@ pub record Whole (sizes : Sizes) (x : Contents) (limit : ℕ) (marks : List Bool
 abbrev pub AreFormed : Contents → List Bool → List Met → Type 0
 AreFormed x marks spans = (n : ℕ) → IsMarked marks n → HasLevel (block x n) (span_at spans n).level
 
--- of each marked block the level is known, and where it is at most this one, the block was found whole
+-- of each marked block the level is known, and if it is at most this one, the block was found whole
 pub record Known (sizes : Sizes) (x : Contents) (limit most : ℕ) (marks : List Bool) (spans : List Met) : Type 0 where
   pub formed : AreFormed x marks spans
   pub whole : (n : ℕ) → IsMarked marks n → (span_at spans n).level ≤ most → Whole sizes x limit marks n (span_at spans n)
 
--- what is new since: nothing is said anew of a block that was marked, and each block marked since is one of these, of at most this level
+-- what is new since: nothing new is said of a block that was marked, and each block marked since is one of these, of at most this level
 pub record Adds (most : ℕ) (bs : List ℕ) (marks : List Bool) (spans : List Met) (later : List Bool) (now : List Met) : Type 0 where
   pub grows : HoldsMore marks later
   pub kept : (n : ℕ) → IsMarked marks n → span_at now n ≡ span_at spans n
@@ -103,13 +103,13 @@ pub record RootVisited (sizes : Sizes) (x : Contents) (limit n : ℕ) (root : Ro
   pub adds : Adds (sizes.levels - 1) blocks marks spans later now
   pub known : Known sizes x limit (sizes.levels - 1) later now
 
--- a child of so many ends below the lowest key of the next one, if there is one
+-- one of this many children ends below the lowest key of the next one, if there is one
 abbrev pub EndsBelowNext : Key → List ℕ → ℕ → ℕ → Type 0 → Type 0
 EndsBelowNext high bytes count i answer =
     (above : ℕ) (cs : List Child) → IsNode bytes above cs → length cs ≡ count
     → answer ↔ (i + 1 < length cs → place high < slice_index_or (lows cs) (i + 1) 0)
 
--- # What a visit finds and takes for sound, where the disk is honest after it, by what was known before
+-- # What a visit finds and takes for sound, if the disk is honest after it, by what was known before
 
 -- at a block whose level lies in a range
 abbrev pub Visits : Result Span TreeFault → ℕ → DiskState → DiskState → ℕ → ℕ → ℕ → ℕ → List Bool → List Met → List Bool → List Met → Type 0
@@ -122,7 +122,7 @@ AcceptsSubtree result fan old new limit least most b marks spans =
     new.honest ≡ true → (levels l : ℕ) (rs : List Record) (bs : List ℕ) → Known (sizes_of fan levels) old.now.contents limit most marks spans
     → least ≤ l → l ≤ most → Subtree (sizes_of fan levels) old.now.contents limit l b rs bs → RisesFrom 0 (places rs) → OkUnlessDevice result
 
--- at so many children, of this level, of an inner block
+-- at this many children, of this level, of an inner block
 abbrev pub VisitsChildren : Result Key TreeFault → ℕ → DiskState → DiskState → ℕ → ℕ → List ℕ → ℕ → List Bool → List Met → List Bool → List Met → Type 0
 VisitsChildren result fan old new limit level bytes count marks spans later now =
     new.honest ≡ true → (levels above : ℕ) (cs : List Child) → IsNode bytes above cs → length cs ≡ count

@@ -191,7 +191,7 @@ create_rows : (rows : List Row) → Every (IsFilled create_level.rules) rows →
 create_rows rows filled file_given blocks_given =
     let file = given_row create_level create_known refl rows (codes "file") filled file_given in
     let blocks = given_row create_level create_known refl rows (codes "blocks") filled blocks_given in
-    let number = number_read create_level.rules blocks_place 64 1048576 rows blocks.0 (lit< tt) refl refl refl blocks.2 blocks.1 blocks.3 in
+    let number = number_read create_level.rules blocks_place 64 67108864 rows blocks.0 (lit< tt) refl refl refl blocks.2 blocks.1 blocks.3 in
     (create file.2.first number.0, rw (first_text create_level.rules rows (codes "file") file.0 file.2 file.1, number.1) refl)
 
 run_rows : (rows : List Row) → Every (IsFilled run_level.rules) rows → is_given (codes "file") rows ≡ true → has_row (codes "grow-to") rows ≡ true → has_row (codes "cache") rows ≡ true
@@ -199,7 +199,7 @@ run_rows : (rows : List Row) → Every (IsFilled run_level.rules) rows → is_gi
 run_rows rows filled file_given grow_held cache_held =
     let file = given_row run_level run_known refl rows (codes "file") filled file_given in
     let grow = held_row run_level run_known refl rows (codes "grow-to") filled grow_held in
-    let most = number_read run_level.rules grow_option 0 1048576 rows grow.0 (lit< tt) refl refl refl grow.2 grow.1 grow.3 in
+    let most = number_read run_level.rules grow_option 0 67108864 rows grow.0 (lit< tt) refl refl refl grow.2 grow.1 grow.3 in
     let cache = held_row run_level run_known refl rows (codes "cache") filled cache_held in
     let stay = number_read run_level.rules cache_option 0 65536 rows cache.0 (lit< tt) refl refl refl cache.2 cache.1 cache.3 in
     let command = command_with (is_set (first_of (codes "read-only") rows)) (is_set (first_of (codes "grow") rows)) most.0 in (
@@ -213,7 +213,7 @@ do_rows rows filled file_given line_given grow_held cache_held =
     let file = given_row do_level do_known refl rows (codes "file") filled file_given in
     let line = given_row do_level do_known refl rows (codes "line") filled line_given in
     let grow = held_row do_level do_known refl rows (codes "grow-to") filled grow_held in
-    let most = number_read do_level.rules grow_option 0 1048576 rows grow.0 (lit< tt) refl refl refl grow.2 grow.1 grow.3 in
+    let most = number_read do_level.rules grow_option 0 67108864 rows grow.0 (lit< tt) refl refl refl grow.2 grow.1 grow.3 in
     let cache = held_row do_level do_known refl rows (codes "cache") filled cache_held in
     let stay = number_read do_level.rules cache_option 0 65536 rows cache.0 (lit< tt) refl refl refl cache.2 cache.1 cache.3 in
     let command = command_with (is_set (first_of (codes "read-only") rows)) (is_set (first_of (codes "grow") rows)) most.0 in (
@@ -238,7 +238,7 @@ copy_rows : (rows : List Row) → Every (IsFilled copy_level.rules) rows → is_
 copy_rows rows filled file_given to_given =
     let file = given_row copy_level copy_known refl rows (codes "file") filled file_given in
     let to = given_row copy_level copy_known refl rows (codes "to") filled to_given in
-    (copy file.2.first to.2.first (number_by 64 1048576 (codes "blocks") rows), rw (first_text copy_level.rules rows (codes "file") file.0 file.2 file.1, first_text copy_level.rules rows (codes "to") to.0 to.2 to.1) refl)
+    (copy file.2.first to.2.first (number_by 64 67108864 (codes "blocks") rows), rw (first_text copy_level.rules rows (codes "file") file.0 file.2 file.1, first_text copy_level.rules rows (codes "to") to.0 to.2 to.1) refl)
 
 -- at the end of a level the default values stand where no word said others
 module _ (rows : List Row) where

@@ -10,7 +10,7 @@ use Rattle.vm_disk.specs.Disk.{Contents, DiskState, Goes}
 use Rattle.vm_disk.specs.declared.disk.Disk.{Ghosts}
 use Rattle.vm_store.specs.Copies.{ComesBefore, IsOfCopy, in_blocks}
 use Rattle.vm_store.specs.NewStore.{IsBadSize}
-use Rattle.vm_store.specs.Recovery.{OpensAs}
+use Rattle.vm_store.specs.Recovery.{OpensWhole}
 use Rattle.vm_store.specs.Store.{disk_of}
 use Rattle.vm_store.specs.declared.store.Store.{Store}
 use Rattle.vm_cli.specs.Sessions.{IsAnyStore}
@@ -298,12 +298,12 @@ names Denied part to blocks used given linked exit old back named new before aft
 }
 
 -- the blocks in use of a store that was opened are those of what its disk shows
-pub in_use_shown : {D : Type 0} (members : Ghosts D) (x : Contents) (store : Store D members) → (members.state (disk_of store)).now.contents ≡ x → (opens : OpensAs x store)
+pub in_use_shown : {D : Type 0} (members : Ghosts D) (x : Contents) (store : Store D members) → (members.state (disk_of store)).now.contents ≡ x → (opens : OpensWhole x store)
     → IsInUse members x opens.seen (used_of store)
 in_use_shown members x store over opens = record {
   store = store;
   over = over;
   opens = opens;
   shows = refl;
-  used_are = ap₂ (λ blocks free. blocks - free) opens.holds.rests.blocks (opens.free (opened opens.seen) opens.holds);
+  used_are = ap₂ (λ blocks free. blocks - free) opens.stands.holds.rests.blocks (opens.stands.free (opened opens.seen) opens.stands.holds);
 }

@@ -16,7 +16,7 @@ use Rattle.vm_disk.specs.Disk.{Contents}
 use Rattle.vm_disk.specs.declared.disk.Disk.{Ghosts}
 use Rattle.vm_store.specs.Answers.{IsDueOrMemory}
 use Rattle.vm_store.specs.Filed.{Filed, add, bare, with_filed, saved_of, with_saved}
-use Rattle.vm_store.specs.Recovery.{OpensAs}
+use Rattle.vm_store.specs.Recovery.{OpensWhole}
 use Rattle.vm_store.specs.Store.{Holds, disk_of, free_of}
 use Rattle.vm_store.specs.declared.store.Store.{Store}
 use Rattle.vm_store.proofs.FiledLemmas.{named_back}
@@ -192,7 +192,7 @@ pub is_err : {T E : Type 0} (P : E → Type 0) (result : Result T E) (x : E) →
 is_err P result x is p = subst (λ r. IfErr r P) is p
 
 -- the numbers of an opened store are those of what its disk shows
-pub counted_shown : {D : Type 0} (members : Ghosts D) (x : Contents) (store : Store D members) → (members.state (disk_of store)).now.contents ≡ x → (opens : OpensAs x store) → (counts : Counts)
+pub counted_shown : {D : Type 0} (members : Ghosts D) (x : Contents) (store : Store D members) → (members.state (disk_of store)).now.contents ≡ x → (opens : OpensWhole x store) → (counts : Counts)
     → (counts.alternatives ≡ length opens.seen.tree) × (counts.checkpoints ≡ checkpoint_count opens.seen.tree) × (counts.free ≡ free_of store)
     → IsCounted members x counts.alternatives counts.checkpoints counts.free
 counted_shown members x store over opens counts said = record {
@@ -201,5 +201,5 @@ counted_shown members x store over opens counts said = record {
   opens = opens;
   alternatives_are = said.0;
   checkpoints_are = said.1;
-  free_are = said.2 ∙ opens.free (opened opens.seen) opens.holds;
+  free_are = said.2 ∙ opens.stands.free (opened opens.seen) opens.stands.holds;
 }

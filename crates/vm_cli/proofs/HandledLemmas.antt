@@ -18,6 +18,7 @@ use Rattle.vm_cli.specs.Spaces.{words_of}
 use Rattle.vm_cli.specs.Talk.{Answered, AnsweredRequest, AnswersWithin, Done, FailsInLast, Failing, Handled, HandlesLine, Meets, Passes, SaysFailed, Stood, Stops, answer_text, error_text}
 use Rattle.vm_cli.specs.declared.lines.line.LineKind.TheVariants.{Kept, Long}
 use Rattle.vm_cli.specs.declared.lines.line.Line.{Line}
+use Rattle.vm_cli.specs.declared.lines.mistake.Mistake.{Mistake}
 use Rattle.vm_cli.specs.declared.answers.reply.Reply.{Reply}
 use Rattle.vm_cli.specs.declared.answers.reply.Reply.TheVariants as reply
 use Rattle.vm_cli.specs.Asking.{Request}
@@ -66,10 +67,10 @@ module _ {D : Type 0} {members : _} (store : Store D members) (s : State) where
       either (inr failed) = inr (failed, refl, refl, (refl, refl))
 
   -- a line that asks for nothing that there is
-  pub bad_handled : HandlesRequest store store s Request.Bad (reply_text reply.BadLine) false
-  bad_handled = unmoved false (AnsweredRequest store store s Request.Bad (reply_text reply.BadLine) false) (either (failed_or (has_failed store)))
+  pub bad_handled : (mistake : Mistake) → HandlesRequest store store s (Request.Bad mistake) (reply_text (reply.BadLine mistake)) false
+  bad_handled mistake = unmoved false (AnsweredRequest store store s (Request.Bad mistake) (reply_text (reply.BadLine mistake)) false) (either (failed_or (has_failed store)))
     where
-      either : (has_failed store ≡ false) ⊎ (has_failed store ≡ true) → AnsweredRequest store store s Request.Bad (reply_text reply.BadLine) false None
+      either : (has_failed store ≡ false) ⊎ (has_failed store ≡ true) → AnsweredRequest store store s (Request.Bad mistake) (reply_text (reply.BadLine mistake)) false None
       either (inl sound) = inl (sound, sym sound, (refl, sound, (refl, refl), tt))
       either (inr failed) = inr (failed, refl, refl, (refl, refl))
 
@@ -266,7 +267,7 @@ module _ {D : Type 0} {members : _} (old new : Store D members) (s : State) wher
   meets_led Request.Free text each meets = never_none each meets.0
   meets_led Request.Blocks text each meets = never_none each meets.0
   meets_led Request.Nothing text each meets = never_none each meets.0
-  meets_led Request.Bad text each meets = never_none each meets.0
+  meets_led (Request.Bad mistake) text each meets = never_none each meets.0
   meets_led Request.Forbidden text each meets = never_none each meets.0
 
 -- an answer that ends the talk
@@ -293,7 +294,7 @@ module _ {D : Type 0} {members : _} (old new : Store D members) (s : State) wher
   meets_stops Request.Free text was sound failed meets = absurd (never_both _ meets.1 failed)
   meets_stops Request.Blocks text was sound failed meets = absurd (never_both _ meets.1 failed)
   meets_stops Request.Nothing text was sound failed meets = absurd (never_both _ meets.1 failed)
-  meets_stops Request.Bad text was sound failed meets = absurd (never_both _ meets.1 failed)
+  meets_stops (Request.Bad mistake) text was sound failed meets = absurd (never_both _ meets.1 failed)
   meets_stops Request.Forbidden text was sound failed meets = absurd (never_both _ meets.1 failed)
 
   request_stops : (asked : Request) (text : List ℕ) (ends : Bool) (was : Done) → ends ≡ true → AnsweredRequest old new s asked text ends was → Stops old new

@@ -64,7 +64,7 @@ module _ {D : Type 0} {members : _} where
     meets_none Request.Free text was reads meets = meets.0
     meets_none Request.Blocks text was reads meets = meets.0
     meets_none Request.Nothing text was reads meets = meets.0
-    meets_none Request.Bad text was reads meets = meets.0
+    meets_none (Request.Bad mistake) text was reads meets = meets.0
     meets_none Request.Forbidden text was reads meets = meets.0
 
     request_none : (request : Request) (text : List ℕ) (ends : Bool) (was : Done) → is_reading request ≡ true → AnsweredRequest old new s request text ends was → was ≡ None

@@ -17,6 +17,7 @@ use Rattle.vm_cli.specs.Requests.{asked_in}
 use Rattle.vm_cli.specs.Talk.{Failing, Meets, Passes, SaysAnswer, SaysFailed, Stood, answer_text, error_text, list_lines}
 use Rattle.vm_cli.specs.declared.lines.list_query.ListQuery.{ListQuery}
 use Rattle.vm_cli.specs.declared.lines.list_query.ListQuery.TheVariants as listed
+use Rattle.vm_cli.specs.declared.lines.mistake.Mistake.{Mistake}
 use Rattle.vm_cli.specs.declared.talk.OnCommand.{OnCommand}
 use Rattle.vm_cli.specs.declared.talk.OnCommand.TheVariants.{CarryOut, GrowIfFull, Refuse}
 use Rattle.vm_cli.specs.declared.talk.Session.{Session}
@@ -79,8 +80,8 @@ module _ {D : Type 0} {members : _} where
       record { store = by; answers = λ s. carried old new s command answer applied (reply_text reply) (ends_talk reply) text by.last failed }
 
   -- a line that asks for nothing that there is
-  pub bad_asked : (store : Store D members) → AsksBy Request.Bad reply.BadLine store store
-  bad_asked store = record { store = nothing_asked store reply.BadLine refl; answers = λ s. bad_handled store s }
+  pub bad_asked : (store : Store D members) (mistake : Mistake) → AsksBy (Request.Bad mistake) (reply.BadLine mistake) store store
+  bad_asked store mistake = record { store = nothing_asked store (reply.BadLine mistake) refl; answers = λ s. bad_handled store s mistake }
 
   -- a request that has no answer
   pub nothing_by : (store : Store D members) (asked : Request) → asked ≡ Request.Nothing → AsksBy asked reply.Nothing store store

@@ -12,7 +12,6 @@ use Rattle.vm_store.specs.Refused.{IsAtMostSynced}
 use Rattle.vm_store.specs.Shown.{Shows}
 use Rattle.vm_store.specs.Store.{Holds, disk_of, has_failed}
 use Rattle.vm_store.specs.declared.store.Store.{Store}
-use Rattle.vm_store.proofs.ShownLemmas.{shown_one}
 use Rattle.vm_cli.specs.Keeps.{Keeps, answers_of, commands_of}
 use Rattle.vm_cli.specs.Talk.{Serves}
 use Rattle.vm_cli.specs.Exits.{MayEnd}
@@ -59,10 +58,9 @@ module _ {D : Type 0} {members : _} (old : DiskState) (first last : Store D memb
       → Keeps old (members.state (disk_of last)) (opened seen) (commands_of (serves (opened seen))) (answers_of (serves (opened seen)))
   session_keeps on result before then known serves honest seen leaves =
       let honest_first = goes.earlier honest in
-      let at_first = opens honest_first in
-      let same : at_first.seen ≡ seen = shown_one old.now.contents at_first.seen seen at_first.shown (leaves_held (λ x. Shows x seen) old.now leaves) in
+      let at_first = (opens honest_first).stands seen (leaves_held (λ x. Shows x seen) old.now leaves) in
       serves_keeps old (opened seen) first last (synced_keeping old (members.state (disk_of first)) seen leaves (synced honest_first)) honest well
-      (subst (λ t. Holds first (opened t)) same at_first.holds) on result before then known (serves (opened seen))
+      at_first.holds on result before then known (serves (opened seen))
 
   -- also on the disk that the store gives back
   pub session_kept : (on : Manner) (result : Result Bool ServeFault) (before then known : Option (List ℕ)) (serves : (s : State) → Serves first last s on result before then known)

@@ -1,5 +1,5 @@
 -- The first piece of a text, and the first word of a line.
-use Rattle.std.proofs.Common.{◌≡◌, ◌<◌, ◌+◌, ◌-◌, ◌==◌, ℕ, Bool, true, false, List, [], ◌∷◌, length, take, drop, get_or, zero, suc, refl, arith, add-one}
+use Rattle.std.proofs.Common.{◌≡◌, ◌<◌, ◌≤◌, ◌+◌, ◌-◌, ◌==◌, ℕ, Bool, true, false, List, [], ◌∷◌, length, take, drop, get_or, zero, suc, refl, arith, add-one}
 use Rattle.std.proofs.lemmas.List.{take_rest}
 use Rattle.std.specs.List.{slice_split, filter}
 use Rattle.vm_cli.specs.Pieces.{before_mark, behind_mark}
@@ -65,3 +65,19 @@ words_of-first bytes =
 pub words_of-pieces : (bytes piece rest : List ℕ) → piece ≡ before_mark 32 bytes → rest ≡ behind_mark 32 bytes
     → words_of bytes ≡ with_word piece (words_of rest)
 words_of-pieces bytes piece rest p r = rw (p, r) (words_of-first bytes)
+
+with_word-longer : (piece : List ℕ) (words : List (List ℕ)) → length words ≤ length (with_word piece words)
+with_word-longer [] words = omega arith
+with_word-longer (b ∷ piece) words = omega arith
+
+-- a line has no more words than bytes
+pub words_of-few : (bytes : List ℕ) → length (words_of bytes) ≤ length bytes
+words_of-few [] = omega arith
+words_of-few (b ∷ bytes) = go (b == 32) refl (split bytes) (words_of-few bytes)
+  where
+    go : (t : Bool) → (b == 32) ≡ t → Split bytes → length (words_of bytes) ≤ length bytes → length (words_of (b ∷ bytes)) ≤ suc (length bytes)
+    go true e parts few = rw e (omega (arith, few))
+    go false e parts few =
+        let with_piece = with_word-longer (before_mark 32 bytes) (words_of (behind_mark 32 bytes)) in
+        let longer = rw (← words_of-first bytes) at with_piece in
+        rw (e, parts.1, parts.2) (omega (arith, few, longer))

@@ -4,6 +4,7 @@ use Rattle.vm_types.specs.declared.at.At.{At}
 use Rattle.vm_types.specs.declared.command.Command.{Command as TheCommand}
 use Rattle.vm_types.specs.declared.command.Side.{Side}
 use Rattle.vm_types.specs.declared.key.Key.{Key}
+use Rattle.vm_cli.specs.declared.lines.mistake.Mistake.{Mistake}
 
 -- what a line asks for
 pub data Request : Type 0 where
@@ -16,7 +17,7 @@ pub data Request : Type 0 where
   List : At → Request
   -- those from one key to another, both included
   Part : At → Key → Key → Request
-  -- the first ones at a key and after it, at most so many
+  -- the first ones at a key and after it, at most this many
   Page : At → Key → ℕ → Request
   -- all alternatives, with their parents
   Alternatives : Request
@@ -36,12 +37,12 @@ pub data Request : Type 0 where
   Free : Request
   -- the number of blocks
   Blocks : Request
-  -- a command for which the store may grow, to so many blocks at most
+  -- a command for which the store may grow, to this many blocks at most
   Growing : ℕ → TheCommand → Request
-  -- a merge of an alternative with these settlements, and with this side for each other conflict; the store may grow for it where a number
+  -- a merge of an alternative with these settlements, and with this side for each other conflict; the store may grow for it if a number
   -- of blocks is given, to that many
   MergeAll : Option ℕ → ListOf ℕ → Side → ListOf (Key × Side) → Request
-  -- the line is none of those that there are
-  Bad : Request
-  -- the line is a command, where the store is only to be read
+  -- the line is none of the known ones, and this is wrong with it
+  Bad : Mistake → Request
+  -- the line is a command, but the store is only read
   Forbidden : Request

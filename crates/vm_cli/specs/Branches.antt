@@ -13,14 +13,14 @@ use Rattle.vm_types.specs.declared.refusal.Refusal.TheVariants.{Device, IsTop, M
 use Rattle.vm_store.specs.Tallies.{tally_in}
 use Rattle.vm_store.specs.declared.tally.Tally.{Tally}
 
--- what is drawn of an alternative: its name, its parent's, its numbers where it has a parent, and the names of its checkpoints
+-- what is drawn of an alternative: its name, its parent's, its numbers if it has a parent, and the names of its checkpoints
 pub record Branch : Type 0 where
   pub name : List ℕ
   pub parent : Option (List ℕ)
   pub tally : Option Tally
   pub checkpoints : List (List ℕ)
 
--- the numbers, where there are any
+-- the numbers, if there are any
 abbrev pub numbers : Result Tally Refusal → Option Tally
 numbers (Ok tally) = Some tally
 numbers (Err refusal) = None
@@ -43,7 +43,7 @@ IsDrawn s name parent branch =
     (branch.name ≡ name) × (branch.parent ≡ parent) × (branch.tally ≡ numbers (tally_in s.working name))
     × (Ok branch.checkpoints ≡ checkpoints_in s.working name)
 
--- an alternative of this name is not drawn in a state: the device failed, or memory was wanting, or it has no checkpoints to tell
+-- an alternative of this name is not drawn in a state: the device failed, or memory ran out, or it has no checkpoints to tell
 abbrev pub IsUndrawn : State → List ℕ → Refusal → Type 0
 IsUndrawn s name refusal = (refusal ≡ Device) ⊎ ((refusal ≡ Memory) ⊎ (Err refusal ≡ checkpoints_in s.working name))
 
@@ -70,7 +70,7 @@ post_text false = codes "no"
 abbrev pub columns_text : List ℕ → List ℕ → List ℕ → List ℕ → List ℕ
 columns_text changed unmerged conflicts post = at_right 7 changed ++ (at_right 9 unmerged ++ (at_right 10 conflicts ++ (at_right 5 post ++ codes "  ")))
 
--- the columns of an alternative, `-` in each where it has no numbers
+-- the columns of an alternative, `-` in each if it has no numbers
 abbrev pub columns_of : Option Tally → List ℕ
 columns_of None = columns_text (codes "-") (codes "-") (codes "-") (codes "-")
 columns_of (Some tally) = columns_text (decimal tally.changed) (decimal tally.unmerged) (decimal tally.conflicts) (post_text tally.can_post)

@@ -22,7 +22,7 @@ buffer_for (Some buffer) blocks = buffer
 buffer_for None blocks = min (max (blocks / 4) LEAST_BUFFER) MAX_BUFFER
 
 module _ {D : Type 0} (members : Ghosts D) where
-  -- a cache of so many blocks was made over the old disk, this was done with the cache, and the new disk is the one below it
+  -- a cache of this many blocks was made over the old disk, this was done with the cache, and the new disk is the one below it
   pub record IsDoneOverCache (capacity : ℕ) (IsDone : CachedDisk D members → CachedDisk D members → Type 0) (old new : D) : Type 0 where
     pub first : CachedDisk D members
     pub last : CachedDisk D members
@@ -33,19 +33,19 @@ module _ {D : Type 0} (members : Ghosts D) where
 
 module _ {D : Type 0} (members : Ghosts D) (cached : Ghosts (CachedDisk D members)) (late : Ghosts (DelayedDisk D members))
     (late_cached : Ghosts (DelayedDisk (CachedDisk D members) cached)) where
-  -- lines were answered over a disk, or over a cache of its blocks; either way with a late disk over that or without
+  -- lines were answered over a disk, or over a cache of its blocks; either way with a delayed disk over that or without
   abbrev pub IsServed : InMemory → Manner → D → D → Exit → Option (List ℕ) → Option (List ℕ) → Option (List ℕ) → Type 0
   IsServed in_memory on old new exit input before after =
       IsServedLate members late (buffer_for in_memory.buffer (members.state old).blocks) on old new exit input before after
       ⊎ IsDoneOverCache members in_memory.cache (λ first last. IsServedLate cached late_cached (buffer_for in_memory.buffer (members.state old).blocks) on first last exit input before after) old new
 
-  -- a disk was refused, itself or with a cache of its blocks over it; either way with a late disk over that or without
+  -- a disk was refused, itself or with a cache of its blocks over it; either way with a delayed disk over that or without
   abbrev pub IsNotServed : InMemory → D → D → NoStore → Type 0
   IsNotServed in_memory old new why =
       IsRefusedLate members late (buffer_for in_memory.buffer (members.state old).blocks) old new why
       ⊎ IsDoneOverCache members in_memory.cache (λ first last. IsRefusedLate cached late_cached (buffer_for in_memory.buffer (members.state old).blocks) first last why) old new
 
-  -- the commands among these lines, where the store stood for this state at first
+  -- the commands among these lines, if the store stood for this state at first
   abbrev pub commands_told : (in_memory : InMemory) {on : Manner} {old new : D} {exit : Exit} {input before after : Option (List ℕ)}
       → IsServed in_memory on old new exit input before after → State → List Command
   commands_told in_memory (inl served) s = commands_late members late served s

@@ -10,7 +10,7 @@ use Rattle.vm_disk.specs.Moments.{Throughout}
 use Rattle.vm_disk.specs.declared.disk.Disk.{Ghosts}
 use Rattle.vm_store.specs.Copies.{IsCopy, IsCopying, in_blocks}
 use Rattle.vm_store.specs.NewStore.{IsBadSize}
-use Rattle.vm_store.specs.Recovery.{OpensAs}
+use Rattle.vm_store.specs.Recovery.{OpensWhole}
 use Rattle.vm_store.specs.Rest.{spare_of}
 use Rattle.vm_store.specs.Store.{FromState, blocks_of, disk_of, free_of}
 use Rattle.vm_store.specs.declared.store.Store.{Store}
@@ -48,9 +48,9 @@ module _ {D : Type 0} (members : Ghosts D) where
   pub record IsInUse (x : Contents) (seen : Seen) (used : ℕ) : Type 0 where
     pub store : Store D members
     pub over : (members.state (disk_of store)).now.contents ≡ x
-    pub opens : OpensAs x store
+    pub opens : OpensWhole x store
     pub shows : opens.seen ≡ seen
-    pub used_are : used ≡ seen.blocks - spare_of opens.holds.rests
+    pub used_are : used ≡ seen.blocks - spare_of opens.stands.holds.rests
 
 -- why a copy of this many blocks is refused on a disk that went from the one state to the other: for want of memory, or since the disk
 -- has fewer, and no call was made of it; or it has a store
@@ -89,8 +89,8 @@ pub record DropsCopy (part : Text) (given : DiskState) (refusal : Refusal) (exit
   pub others : KeepsOthers part old new
   pub told : ((refusal ≡ Device) × (exit ≡ Stopped)) ⊎ ((refusal ≢ Device) × Tells Refused exit errors errors' (refused_text refusal))
 
--- a store was to be copied from a disk that went from the first to the second state to one that went from the third to the last, of a file
--- that is to have this name: what is told with this end, if the copy shows this and `used` blocks are in use, and what became of the name.
+-- the job was to copy a store from a disk that went from the first to the second state to one that went from the third to the last, of a
+-- file that gets this name: what is told with this end, if the copy shows this and `used` blocks are in use, and what became of the name.
 -- No file had it, it was copied, and the file has the name; or the place denied that; or it is told why it was not copied; or a call of one
 -- of the two disks failed, and the program stops
 abbrev pub ToldOfCopy : (Denied : Type 0) (to : Text) (seen : Seen) (used : ℕ) → DiskState → DiskState → DiskState → DiskState → Exit → PlaceState → PlaceState
@@ -112,7 +112,7 @@ pub record CopiesOnto (Denied : Type 0) (part to : Text) (seen : Seen) (used : �
   pub moments : Throughout start end (IsCopying seen start.now)
   pub told : ToldOfCopy Denied to seen used s s' start end exit old new before after errors errors'
 
--- a disk of zero blocks was made, as many as the copy has, under the name with `.part` behind it, the store was copied to it, and it came
+-- a disk of zero blocks was made, as many as the copy has, under the name with `.part` after it, the store was copied to it, and it came
 -- back under that name. Only then, and only if it is the copy, the file got the name that was asked for: until then no disk had that
 pub record LaysCopy (Denied : Text → Type 0) (to : Text) (seen : Seen) (used : ℕ) (s s' : DiskState) (exit : Exit) (old new : PlaceState)
     (before after errors errors' : Option (List ℕ)) : Type 0 where
@@ -171,7 +171,7 @@ module _ {P D : Type 0} (state : P → PlaceState) (disk_state : D → DiskState
       (state place').honest ≡ true → DropsCopy part (disk_state disk) refusal exit (state place) (state place') errors errors'
 
 module _ {P D : Type 0} (own : Ghosts D) (state : P → PlaceState) (denied : P → List Text) (to_write : P → ℕ) (place place' : P) where
-  -- a disk was opened, and came back beside this end: if both it and the place are honest after it, a file was asked for with a copy of the
+  -- a disk was opened, and came back with this end: if both it and the place are honest after it, a file was asked for with a copy of the
   -- store that it showed; or the disk was refused, and no call of the place was made
   abbrev pub TakesCopy : D → Exit × D → Text → Option ℕ → Option (List ℕ) → Option (List ℕ) → Option (List ℕ) → Option (List ℕ) → Type 0
   TakesCopy disk result name asked before after errors errors' =

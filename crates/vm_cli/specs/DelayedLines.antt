@@ -16,7 +16,7 @@ use Rattle.vm_cli.specs.declared.program.opening.NoStore.{NoStore}
 use Rattle.vm_cli.specs.declared.talk.Manner.{Manner}
 
 module _ {D : Type 0} (members : Ghosts D) where
-  -- a late disk on which so many blocks may wait was made over the old disk, this was done with it, and the new disk is the one below it, which followed
+  -- a delayed disk on which this many blocks may wait was made over the old disk, this was done with it, and the new disk is the one below it, which followed
   pub record IsDoneLate (buffer : ℕ) (IsDone : DelayedDisk D members → DelayedDisk D members → Type 0) (old new : D) : Type 0 where
     pub first : DelayedDisk D members
     pub last : DelayedDisk D members
@@ -27,20 +27,20 @@ module _ {D : Type 0} (members : Ghosts D) where
     pub follows : (delayed_state members.state last).honest ≡ true → FollowsBelow members.state last
 
 module _ {D : Type 0} (members : Ghosts D) (late : Ghosts (DelayedDisk D members)) where
-  -- a disk was refused, itself or with a late disk over it
+  -- a disk was refused, itself or with a delayed disk over it
   abbrev pub IsRefusedLate : ℕ → D → D → NoStore → Type 0
   IsRefusedLate buffer old new why =
       HasRefused (members.state old) (members.state new) why
       ⊎ IsDoneLate members buffer (λ first last. HasRefused (late.state first) (late.state last) why) old new
 
 module _ {D : Type 0} (members : Ghosts D) (late : Ghosts (DelayedDisk D members)) where
-  -- lines were answered over a disk itself, or over a late disk over it
+  -- lines were answered over a disk itself, or over a delayed disk over it
   abbrev pub IsServedLate : ℕ → Manner → D → D → Exit → Option (List ℕ) → Option (List ℕ) → Option (List ℕ) → Type 0
   IsServedLate buffer on old new exit input before after =
       HasServed members on old new exit input before after
       ⊎ IsDoneLate members buffer (λ first last. HasServed late on first last exit input before after) old new
 
-  -- the commands among these lines, where the store stood for this state at first
+  -- the commands among these lines, if the store stood for this state at first
   abbrev pub commands_late : {buffer : ℕ} {on : Manner} {old new : D} {exit : Exit} {input before after : Option (List ℕ)}
       → IsServedLate buffer on old new exit input before after → State → List Command
   commands_late (inl served) s = commands_of (served.serves s)

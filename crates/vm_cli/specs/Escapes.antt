@@ -35,7 +35,7 @@ unescaped (b ∷ c ∷ d ∷ rest) =
 abbrev pub short_enough : List ℕ → Option (List ℕ)
 short_enough bytes = if nat_le (length bytes) longest then Some bytes else None
 
--- the value that a word spells, where `-` is the empty one
+-- the value that a word spells, with `-` for the empty one
 abbrev pub value_of : List ℕ → Option (List ℕ)
 value_of word = if bytes_eq word (codes "-") then Some [] else option_and_then short_enough (unescaped word)
 

@@ -44,7 +44,7 @@ created_text blocks = codes "created " ++ (decimal blocks ++ 10 ∷ [])
 abbrev pub copied_text : ℕ → ℕ → List ℕ
 copied_text blocks used = codes "copied " ++ (decimal blocks ++ (codes ", " ++ (decimal used ++ (codes " used" ++ 10 ∷ []))))
 
--- what a store holds: so many alternatives, checkpoints and free blocks
+-- what a store holds: this many alternatives, checkpoints and free blocks
 abbrev pub check_text : ℕ → ℕ → ℕ → List ℕ
 check_text alternatives checkpoints free =
     codes "alternatives " ++ (decimal alternatives ++ (10 ∷ (codes "checkpoints " ++ (decimal checkpoints ++ (10 ∷ (codes "free " ++ (decimal free ++ 10 ∷ [])))))))
@@ -119,7 +119,7 @@ SaysNoCopy to text =
     (text ≡ file_text (codes "altctl: cannot create ") to)
     ⊎ ((text ≡ file_text (codes "altctl: cannot create ") (part_of to)) ⊎ ((why : NoStore) × (text ≡ no_store_text why)))
 
--- what is said where a job has no disk, or the disk is refused
+-- what is said if a job has no disk, or the disk is refused
 abbrev pub SaysRefused : Wanted → List ℕ → Type 0
 SaysRefused (create file blocks) text = (text ≡ file_text (codes "altctl: cannot create ") file) ⊎ ((refusal : Refusal) × IsOfFormat refusal × (text ≡ refused_text refusal))
 SaysRefused (run file in_memory on) text = (text ≡ file_text (codes "altctl: cannot open ") file) ⊎ ((why : NoStore) × (text ≡ no_store_text why))
@@ -149,7 +149,7 @@ AskTalk words on = (file : Text) × (in_memory : InMemory) × (IsJob words (run 
 abbrev pub AskLines : List Text → Type 0
 AskLines words = (on : Manner) × AskTalk words on
 
--- the words ask that lines are answered, and that it is told where one is refused
+-- the words ask that lines are answered, and that it is told if one is refused
 abbrev pub AskTold : List Text → Type 0
 AskTold words = (on : Manner) × (on.on_refusal ≢ Ignore) × AskTalk words on
 
@@ -159,7 +159,7 @@ MayEnd on exit = (exit ≡ Done) ⊎ ((exit ≡ Stopped) ⊎ ((exit ≡ LineRefu
 
 -- ---- ends
 
--- a text was meant for a writer, with this end: it was written whole, or begun where the program stopped
+-- a text was meant for a writer, with this end: it was written whole, or begun when the program stopped
 abbrev pub Tells : Exit → Exit → Option (List ℕ) → Option (List ℕ) → List ℕ → Type 0
 Tells meant exit before after text = ((exit ≡ meant) × Appends before after text) ⊎ ((exit ≡ Stopped) × WritesStart before after text)
 
@@ -180,7 +180,7 @@ abbrev pub DropEnds : {F : Type 0} → (F → Option (List ℕ)) → Refusal →
 DropEnds in_errors refusal exit errors errors' =
     ((exit ≡ Stopped) × (errors' ≡ errors)) ⊎ TellsOn in_errors Refused exit errors errors' (refused_text refusal)
 
--- the job may end so where lines are answered, and nothing was said to the errors; or the output is as it was, and the errors are told why the
+-- the job may end so if lines are answered, and nothing was said to the errors; or the output is as it was, and the errors are told why the
 -- disk was refused
 abbrev pub TalkEnds : {W F : Type 0} → (F → Option (List ℕ)) → OnRefusal → Exit → W → W → F → F → Type 0
 TalkEnds in_errors on exit output output' errors errors' =
@@ -190,7 +190,7 @@ TalkEnds in_errors on exit output output' errors errors' =
 abbrev pub IsCutShort : {F : Type 0} → (F → Option (List ℕ)) → List ℕ → F → F → Type 0
 IsCutShort {F} in_errors text errors errors' = (said : F) × WritesStart (in_errors errors) (in_errors said) text × WritesStart (in_errors said) (in_errors errors') stopped_text
 
--- the errors are told a text, and the status is the one that goes with it; or it is 3, where that could not be said
+-- the errors are told a text, and the status is the one that goes with it; or it is 3, if that could not be said
 abbrev pub EndsSaying : {F : Type 0} → (F → Option (List ℕ)) → ℕ → List ℕ → ℕ → F → F → Type 0
 EndsSaying in_errors meant text status errors errors' =
     ((status ≡ meant) × Appends (in_errors errors) (in_errors errors') text)
@@ -207,15 +207,15 @@ RefusesLock in_errors (InUse file) status errors errors' = EndsSaying in_errors 
 RefusesLock in_errors (CannotOpen file) status errors errors' = EndsSaying in_errors 1 (file_text (codes "altctl: cannot open ") file.now) status errors errors'
 RefusesLock in_errors (CannotLock file) status errors errors' = EndsSaying in_errors 1 (unlocked_text file.now) status errors errors'
 
--- where memory was wanting for the words, nothing was written to the output or said to the errors, and the program stops
+-- if there was no memory for the words, nothing was written to the output or said to the errors, and the program stops
 abbrev pub StopsUnsaid : {W F : Type 0} → Error → Exit → W → W → F → F → Type 0
 StopsUnsaid error exit output output' errors errors' = kind_of error ≡ OutOfMemory → (exit ≡ Stopped) × (output' ≡ output) × (errors' ≡ errors)
 
--- where help was asked for, the output is told some text, and nothing was said to the errors
+-- if help was asked for, the output is told some text, and nothing was said to the errors
 abbrev pub Helps : {W F : Type 0} → (W → Option (List ℕ)) → Error → Exit → W → W → F → F → Type 0
 Helps in_output error exit output output' errors errors' = IsHelp (kind_of error) → (errors' ≡ errors) × ((text : List ℕ) × TellsOn in_output Done exit output output' text)
 
--- where the error is no help, the errors are told some text, and the output is as it was
+-- if the error is no help, the errors are told some text, and the output is as it was
 abbrev pub Blames : {W F : Type 0} → (F → Option (List ℕ)) → Error → Exit → W → W → F → F → Type 0
 Blames in_errors error exit output output' errors errors' = (¬ IsHelp (kind_of error)) → (output' ≡ output) × ((text : List ℕ) × TellsOn in_errors WrongWords exit errors errors' text)
 
@@ -236,7 +236,7 @@ module _ {W F : Type 0} (in_output : W → Option (List ℕ)) (in_errors : F →
   abbrev pub IsWrong : List Text → W → W → F → F → Type 0
   IsWrong words output output' errors errors' = (output' ≡ output) × AreWrong words × ((text : List ℕ) × Appends (in_errors errors) (in_errors errors') text)
 
-  -- the program stopped with the output: nothing was written to it, as where memory for the words was wanting, though no reason is told;
+  -- the program stopped with the output: nothing was written to it, as when there was no memory for the words, though no reason is told;
   -- or a text for it was begun; or the words ask that lines are answered
   abbrev pub StopsOutput : List Text → W → W → Type 0
   StopsOutput words output output' = (output' ≡ output) ⊎ (((text : List ℕ) × IsNews words text × WritesStart (in_output output) (in_output output') text) ⊎ AskLines words)
@@ -291,7 +291,7 @@ module _ {W F : Type 0} (in_output : W → Option (List ℕ)) (in_errors : F →
   Checks exit output output' errors errors' =
       ((errors' ≡ errors) × TellsCounts exit output output') ⊎ ((output' ≡ output) × TellsWhy in_errors exit errors errors')
 
-  -- the same, where a drawing is told
+  -- the same, if a drawing is told
   abbrev pub DrawEnds : Exit → W → W → F → F → Type 0
   DrawEnds exit output output' errors errors' =
       ((errors' ≡ errors) × TellsDrawing exit output output') ⊎ ((output' ≡ output) × TellsWhy in_errors exit errors errors')

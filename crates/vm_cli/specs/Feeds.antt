@@ -26,7 +26,7 @@ use Rattle.vm_cli.specs.declared.talk.ServeFault.TheVariants as fault
 use Rattle.vm_cli.specs.declared.answers.output.WriteFault.{WriteFault}
 
 -- a reply ends an answer, and of what stands before it the rest is still to be written; `IsAnswer` tells of a text, and of whether
--- the talk ends with it, if it is the answer. The answer is that the line was refused where the reply is
+-- the talk ends with it, if it is the answer. The answer is that the line was refused if the reply is
 pub record Replied (IsAnswer : List ℕ → Bool → Type 0) (reply : Reply) (before after : Option (List ℕ)) (rest : List ℕ) : Type 0 where
   pub whole : List ℕ
   pub says : IsAnswer (whole ++ reply_text reply) (ends_talk reply)
@@ -45,7 +45,7 @@ abbrev pub Replies : (List ℕ → Bool → Type 0) → Result Reply WriteFault 
 Replies IsAnswer (Ok reply) before after rest = Replied IsAnswer reply before after rest
 Replies IsAnswer (Err fault) before after rest = Halted IsAnswer before after
 
--- the reply says why there is no answer, and ends the talk just where the store had failed before
+-- the reply says why there is no answer, and ends the talk exactly if the store had failed before
 pub record Refuses (refusal : Refusal) (reply : Reply) : Type 0 where
   pub text : reply_text reply ≡ error_text refusal
   pub last : refusal ≢ Failed → ends_talk reply ≡ false
@@ -55,15 +55,15 @@ pub record Refuses (refusal : Refusal) (reply : Reply) : Type 0 where
 abbrev pub joined : List (List ℕ) → List ℕ
 joined lines = flat_map (λ line. line) lines
 
--- a list is answered by its lines and its end, of which the rest is still to be written, or by why there is none; what the writer
--- has where it failed is a beginning of the lines
+-- a list is answered by its lines and its end, of which the rest is still to be written, or by why there is none; if the
+-- writer failed, it has a beginning of the lines
 abbrev pub ListReplied : {T : Type 0} → (T → List (List ℕ)) → Result T Refusal → Result Reply WriteFault → Option (List ℕ) → Option (List ℕ) → List ℕ → Type 0
 ListReplied lines (Ok list) (Ok reply) before after rest = (reply ≡ End (length (lines list))) × Carries before after rest (joined (lines list))
 ListReplied lines (Ok list) (Err fault) before after rest = WritesStart before after (joined (lines list))
 ListReplied lines (Err refusal) (Ok reply) before after rest = Refuses refusal reply × (after ≡ before) × (rest ≡ [])
 ListReplied lines (Err refusal) (Err fault) before after rest = ⊥
 
--- an answer was written whole, and the talk goes on or ends with it; or a beginning of it, where the writer failed
+-- an answer was written whole, and the talk goes on or ends with it; or a beginning of it, if the writer failed
 abbrev pub Writes : Manner → (List ℕ → Bool → Type 0) → Result Bool ServeFault → Option (List ℕ) → Option (List ℕ) → Type 0
 Writes on IsAnswer (Ok refused) before after =
     (text : List ℕ) × IsAnswer text false × (refused ≡ is_error text) × (on.on_refusal ≡ Stop → refused ≡ false) × Appends before after text
@@ -78,7 +78,7 @@ module _ {D : Type 0} {members : _} where
   abbrev pub HandlesRequest : Store D members → Store D members → State → Request → List ℕ → Bool → Type 0
   HandlesRequest old new s request text ends = Handled old new s ends (AnsweredRequest old new s request text ends)
 
-  -- a request is answered, or that memory was wanting, which leaves the store as it was and ends no talk
+  -- a request is answered, or that memory ran out, which leaves the store as it was and ends no talk
   abbrev pub AnsweredOrWanting : Store D members → Store D members → State → Request → List ℕ → Bool → Done → Type 0
   AnsweredOrWanting old new s request text ends done =
       ((new ≡ old) × (done ≡ None) × (ends ≡ false) × (text ≡ error_text Memory))
@@ -97,7 +97,7 @@ module _ {D : Type 0} {members : _} where
     pub told : refused ≡ talked.refused
     pub written : Appends before after text
 
-  -- a command was carried out, and the store grew where that was needed, as some list of commands tells
+  -- a command was carried out, and the store grew if that was needed, as some list of commands tells
   abbrev pub TriesSome : ℕ → ℕ → Command → Store D members → Store D members → List ℕ → Type 0
   TriesSome left most command old new text = (each : List (Command × Result Answer Refusal)) × Tries left most command old new text each
 
@@ -105,7 +105,7 @@ module _ {D : Type 0} {members : _} where
   abbrev pub AnswersBy : Request → Reply → Store D members → Store D members → Type 0
   AnswersBy request reply old new = (s : State) → HandlesRequest old new s request (reply_text reply) (ends_talk reply)
 
-  -- for each state, the request is answered by what the text has and this reply, and is refused where the reply says so
+  -- for each state, the request is answered by what the text has and this reply, and is refused if the reply says so
   abbrev pub AnswersWith : Request → Reply → List ℕ → Store D members → Store D members → Type 0
   AnswersWith request reply text old new =
       (s : State) → HandlesRequest old new s request (text ++ reply_text reply) (ends_talk reply) × (is_error (text ++ reply_text reply) ≡ is_error (reply_text reply))
@@ -162,7 +162,7 @@ module _ {D : Type 0} {members : _} where
     pub err : has_failed old ≡ false → IfErr result (StoreFails old new)
     pub left : has_failed old ≡ true → new ≡ old
 
--- a reply ends no talk where a command was answered neither that the device failed nor that the store had
+-- a reply ends no talk if a command was answered neither that the device failed nor that the store had
 abbrev pub TalkGoesOn : Result Answer Refusal → Reply → Type 0
 TalkGoesOn answer reply = answer ≢ Err Device → answer ≢ Err Failed → ends_talk reply ≡ false
 

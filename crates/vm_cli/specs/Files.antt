@@ -33,9 +33,9 @@ abbrev pub KeepsAll : PlaceState → PlaceState → Type 0
 KeepsAll old new = (name : List ℕ) → new.files name ≡ old.files name
 
 module _ {D : Type 0} (members : Ghosts D) where
-  -- a disk of so many zero blocks was made, a store was to be made on it, and the file of this name holds what it held when it came back:
+  -- a disk of this many zero blocks was made, for a store on it, and the file of this name holds what it held when it came back:
   -- at each moment it is as it was made, at most synced, or a crash shows at most the new store. The store was made, and that is told; or
-  -- it is told why it was not, and that the device failed only where a call of this disk did
+  -- it is told why it was not, and that the device failed only if a call of this disk did
   pub record LaysOut (name : List ℕ) (blocks : ℕ) (exit : Exit) (new : PlaceState) (before after errors errors' : Option (List ℕ)) : Type 0 where
     pub start : D
     pub end : D
@@ -46,7 +46,7 @@ module _ {D : Type 0} (members : Ghosts D) where
         ⊎ ((refusal : Refusal) × IsOfFormat refusal × HasMadeNone (members.state start) (members.state end) blocks refusal
         × Tells Refused exit errors errors' (refused_text refusal))
 
-  -- a file of this name was to be made, with a new store of so many blocks. `Denied` says that the place gave no disk of it; the last
+  -- the job was to make a file of this name, with a new store of this many blocks. `Denied` says that the place gave no disk of it; the last
   -- four are the output before and after, and the errors
   pub record Makes (Denied : Type 0) (name : List ℕ) (blocks : ℕ) (exit : Exit) (old new : PlaceState) (before after errors errors' : Option (List ℕ)) : Type 0 where
     -- at Done there was none, and now it shows the new store
@@ -59,7 +59,7 @@ module _ {D : Type 0} (members : Ghosts D) where
     pub others : KeepsOthers name old new
 
   -- the disk of the file of this name was found, it was refused for a reason that is told, and it was given back: that the device failed
-  -- is told only where a call of this disk did, and at each moment it was as it was found, at most synced
+  -- is told only if a call of this disk did, and at each moment it was as it was found, at most synced
   pub record Refuses (name : List ℕ) (exit : Exit) (old new : PlaceState) (errors errors' : Option (List ℕ)) : Type 0 where
     pub found : D
     pub back : D
@@ -69,7 +69,7 @@ module _ {D : Type 0} (members : Ghosts D) where
     pub refused : HasRefused (members.state found) (members.state back) why
     pub told : Tells Refused exit errors errors' (no_store_text why)
 
-  -- the store in the file of this name was to be served, counted or drawn, and no file changed: it is told that the place gave no disk of it, and
+  -- the job was to serve, count or draw the store in the file of this name, and no file changed: it is told that the place gave no disk of it, and
   -- none came back, or why its disk was refused
   pub record Declines (Denied : Type 0) (name : List ℕ) (exit : Exit) (old new : PlaceState) (errors errors' : Option (List ℕ)) : Type 0 where
     pub same : KeepsAll old new
@@ -115,7 +115,7 @@ module _ {D : Type 0} (members : Ghosts D) where
 
 module _ {D : Type 0} (members : Ghosts D) (cached : Ghosts (CachedDisk D members)) (late : Ghosts (DelayedDisk D members))
     (late_cached : Ghosts (DelayedDisk (CachedDisk D members) cached)) where
-  -- the lines of an input were answered over the file of this name, of which up to so many blocks stayed or waited in memory
+  -- the lines of an input were answered over the file of this name, of which up to this many blocks stayed or waited in memory
   pub record Answers (name : List ℕ) (in_memory : InMemory) (on : Manner) (exit : Exit) (old new : PlaceState) (input before after : Option (List ℕ)) : Type 0 where
     pub found : D
     pub back : D
@@ -125,21 +125,21 @@ module _ {D : Type 0} (members : Ghosts D) (cached : Ghosts (CachedDisk D member
     pub clean : IsClean (members.state found).now
     pub lent : WasLent name (members.state found) (members.state back) new
     pub others : KeepsOthers name old new
-    -- where the file showed something, the commands go on from it: a crash at any moment leaves what those so far keep, and so does the
+    -- if the file showed something, the commands go on from it: a crash at any moment leaves what those so far keep, and so does the
     -- file at the end
     pub kept : (seen : Seen) → Shows (members.state found).now.contents seen
         → Keeps (members.state found) (members.state back) (opened seen)
         (commands_told members cached late late_cached in_memory served (opened seen)) (answers_told members cached late late_cached in_memory served (opened seen))
 
   -- what a run of the program does to the files, where `Untouched` says that no call of the place was made, `Reads` that no file was made
-  -- or opened to be written, `Opens` that just one was to be, `OpensFor` that one or none was, by what is done with commands, and `Denied` that a call gave no disk of a name, which was the
-  -- only one. A job is left undone without a call
-  -- only where the program stops, as where memory for the words is wanting
+  -- or opened for writing, `Opens` that exactly one was asked for, `OpensFor` that one or none was, by what is done with commands, and
+  -- `Denied` that a call gave no disk of a name, which was the only one. A job is left undone without a call only if the program stops, as
+  -- when there is no memory for the words
   pub record Does (Untouched Reads Opens : Type 0) (OpensFor : OnCommand → Type 0) (Denied : Text → Type 0) (words : List Text) (exit : Exit) (old new : PlaceState) (input before after errors errors' : Option (List ℕ)) : Type 0 where
     -- words that ask for a new store make its file
     pub creates : (name : Text) (blocks : ℕ) → IsJob words (create name blocks)
         → (Opens × Makes members (Denied name) name blocks exit old new before after errors errors') ⊎ ((exit ≡ Stopped) × Untouched)
-    -- words that ask that lines are answered have them answered over the file, which is opened to be written unless commands are refused, or it is said why not
+    -- words that ask that lines are answered have them answered over the file, which is opened for writing unless commands are refused, or it is said why not
     pub runs : (name : Text) (in_memory : InMemory) (on : Manner) → IsJob words (run name in_memory on)
         → (OpensFor on.on_command × (Answers name in_memory on exit old new input before after ⊎ Declines members (Denied name) name exit old new errors errors')) ⊎ ((exit ≡ Stopped) × Untouched)
     -- so have words that give lines, whose input they are

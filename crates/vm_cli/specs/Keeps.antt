@@ -38,7 +38,7 @@ module _ {D : Type 0} {members : _} where
       → EndsTalk old new s on ends all text → List (Result Answer Refusal)
   answers_ended ended = ended.talked.answers ++ with_answer ended.handled.done []
 
-  -- the commands among the lines that a talk answered, also the last one where its answer wasn't written whole
+  -- the commands among the lines that a talk answered, even the last one if its answer wasn't written whole
   abbrev pub commands_of : {old new : Store D members} {s : State} {on : Manner} {result : Result Bool ServeFault}
       {before after known : Option (List ℕ)} → Serves old new s on result before after known → List Command
   commands_of {result = Ok refused} serves = serves.served.1.commands

@@ -2,10 +2,12 @@ pub mod Escapes
 pub mod Input
 pub mod Lines
 pub mod Listings
+pub mod Names
 pub mod Numbers
 pub mod Openings
 pub mod Pieces
 pub mod Asking
+pub mod Mistakes
 pub mod Requests
 pub mod Requested
 pub mod Spaces

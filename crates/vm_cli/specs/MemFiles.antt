@@ -45,7 +45,7 @@ IsIn name place = IsSomeAnd (get_by_text place.slots name) (λ slot. IsSome slot
 abbrev pub HasFile : List ℕ → MemFiles → Type 0
 HasFile name place = IsSome (get_by_text place.slots name)
 
--- for how many blocks a disk that is made has room, where it has no more of its own
+-- for how many blocks a disk that is made has room, if it has no more of its own
 abbrev pub room_given : MemFiles → ℕ
 room_given place = place.room
 

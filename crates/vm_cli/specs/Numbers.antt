@@ -15,7 +15,7 @@ digits_after n (d ∷ digits) = if is_digit d then digits_after (n * 10 + (d - 4
 abbrev pub at_most : ℕ → ℕ → Option ℕ
 at_most most n = if nat_le n most then Some n else None
 
--- the number that a word of 1 to 20 decimal digits says, where it is at most `most`
+-- the number that a word of 1 to 20 decimal digits says, if it is at most `most`
 abbrev pub number_of : ℕ → List ℕ → Option ℕ
 number_of most word =
     if nat_le 1 (length word) && nat_le (length word) 20 then option_and_then (at_most most) (digits_after 0 word) else None

@@ -9,9 +9,9 @@ use Rattle.vm_disk.specs.declared.history.History.{History}
 pub record PlaceState : Type 0 where
   -- it has kept these rules in every call so far, and so has each disk that came back kept those of a disk
   pub honest : Bool
-  -- what the disk of this name holds; None where there is no such file
+  -- what the disk of this name holds; None if there is no such file
   pub files : List ℕ → Option Contents
-  -- the disk of this name as it was when it came back last, under this name or before its file got it; None where none did
+  -- the disk of this name as it was when it came back last, under this name or before its file got it; None if none did
   pub came : List ℕ → Option DiskState
 
 -- all files but the one of this name are as they were
@@ -34,7 +34,7 @@ KeepsOthersCame name old new = (other : List ℕ) → other ≢ name → new.cam
 abbrev pub names_in : History (History ℕ) → List (List ℕ)
 names_in names = map (λ name. reverse (noted name)) (noted names)
 
--- a disk of so many zero blocks is made where there was no file of this name, and no moment of it is past; a file that was there stays as it was
+-- a disk of this many zero blocks is made where there was no file of this name, and no moment of it is past; a file that was there stays as it was
 pub record Creates (name : List ℕ) (blocks : ℕ) (made : Option DiskState) (old new : PlaceState) : Type 0 where
   pub absent : IfSome made (λ s. old.files name ≡ None)
   pub zero : IfSome made (λ s. s.honest ≡ true → (s.blocks ≡ blocks) × (s.now.contents ≡ replicate blocks (replicate BLOCK_SIZE 0)))
@@ -99,27 +99,27 @@ abbrev pub StaysHonest : PlaceState → PlaceState → Type 0
 StaysHonest old new = old.honest ≡ true → new.honest ≡ true
 
 module _ {P D : Type 0} (state : P → PlaceState) (disk_state : D → DiskState) where
-  -- where the place is honest after it, a disk of so many zero blocks is made under this name, or none is
+  -- if the place is honest after it, a disk of this many zero blocks is made under this name, or none is
   abbrev pub CreatesIn : List ℕ → ℕ → Option D → P → P → Type 0
   CreatesIn name blocks made old new = (state new).honest ≡ true → Creates name blocks (option_map disk_state made) (state old) (state new)
 
-  -- where the place is honest after it, the disk of this name is found, or none is
+  -- if the place is honest after it, the disk of this name is found, or none is
   abbrev pub FindsIn : List ℕ → Option D → P → P → Type 0
   FindsIn name found old new = (state new).honest ≡ true → Finds name (option_map disk_state found) (state old) (state new)
 
-  -- where the place is honest after it, a disk comes back under this name
+  -- if the place is honest after it, a disk comes back under this name
   abbrev pub TakesBackIn : List ℕ → D → P → P → Type 0
   TakesBackIn name given old new = (state new).honest ≡ true → TakesBack name (disk_state given) (state old) (state new)
 
 module _ {P : Type 0} (state : P → PlaceState) where
-  -- where the place is honest after it, it is known whether there is a file of this name
+  -- if the place is honest after it, it is known whether there is a file of this name
   abbrev pub LacksIn : List ℕ → Bool → P → P → Type 0
   LacksIn name lacks old new = (state new).honest ≡ true → Lacks name lacks (state old) (state new)
 
-  -- where the place is honest after it, a file has another name, or no file changes
+  -- if the place is honest after it, a file has another name, or no file changes
   abbrev pub LinksIn : List ℕ → List ℕ → Bool → P → P → Type 0
   LinksIn from to linked old new = (state new).honest ≡ true → Links from to linked (state old) (state new)
 
-  -- where the place is honest after it, the file of this name is gone, or as it was
+  -- if the place is honest after it, the file of this name is gone, or as it was
   abbrev pub RemovesIn : List ℕ → P → P → Type 0
   RemovesIn name old new = (state new).honest ≡ true → Removes name (state old) (state new)

@@ -37,11 +37,11 @@ abbrev pub is_absent : Option Contents → Bool
 is_absent None = true
 is_absent (Some contents) = false
 
--- the blocks of a file when so many had been opened, as the world says
+-- the blocks of a file when this many had been opened, as the world says
 abbrev pub blocks_held : (ℕ → List ℕ → Option (List ℕ)) → ℕ → List ℕ → Option Contents
 blocks_held held opened name = option_map whole_blocks (held opened name)
 
--- how often one was asked for that may be written, by what was done: each that was opened but to be read alone, and each that was
+-- how often a writable one was asked for, by what was done: each that was opened for more than reading, and each that was
 -- missed
 abbrev pub writes_after : {W : Type 0} → List (Event W) → ℕ
 writes_after [] = 0
@@ -53,7 +53,7 @@ writes_after (Lacking name ∷ events) = writes_after events
 writes_after (Linked from to ∷ events) = writes_after events
 writes_after (Removed name ∷ events) = writes_after events
 
--- how often the files of the system were asked for one that may be written
+-- how often the files of the system were asked for a writable one
 abbrev pub asked_to_write : {R W : Type 0} → RealFiles R W → ℕ
 asked_to_write place = writes_after (noted place.events)
 
@@ -65,13 +65,13 @@ names_denied place = names_in place.denied
 abbrev pub IsNext : {R W : Type 0} → RealFiles R W → List ℕ → SystemFile W → Type 0
 IsNext place name file = (name_of file ≡ name) × (opening_of file ≡ length (noted place.opened))
 
--- all that was done is that one was to be had which may be written, and was not; or that a file of this name was made, as the next one
+-- all that was done is that a writable one was asked for and was missing; or that a file of this name was made, as the next one
 abbrev pub NotesMade : {R W : Type 0} → List ℕ → RealFiles R W → RealFiles R W → Type 0
 NotesMade {W = W} name old new =
     (noted new.events ≡ Missed ∷ noted old.events)
     ⊎ ((file : Snapshot (SystemFile W)) × (noted new.events ≡ Made file ∷ noted old.events) × IsNext old name file.value)
 
--- the same, where a file of this name was found
+-- the same, if a file of this name was found
 abbrev pub NotesFound : {R W : Type 0} → List ℕ → RealFiles R W → RealFiles R W → Type 0
 NotesFound {W = W} name old new =
     (noted new.events ≡ Missed ∷ noted old.events)

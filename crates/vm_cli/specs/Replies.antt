@@ -6,6 +6,12 @@ use Rattle.vm_store.specs.declared.tally.Tally.{Tally as Numbers}
 use Rattle.vm_types.specs.Texts.{refusal_text}
 use Rattle.vm_cli.specs.Escapes.{value_text}
 use Rattle.vm_cli.specs.declared.answers.reply.Reply.{Reply}
+use Rattle.vm_cli.specs.declared.lines.mistake.LineForm.{LineForm}
+use Rattle.vm_cli.specs.declared.lines.mistake.LineForm.TheVariants as form
+use Rattle.vm_cli.specs.declared.lines.mistake.Mistake.{Mistake}
+use Rattle.vm_cli.specs.declared.lines.mistake.Mistake.TheVariants.{NoSuchLine, Takes, Wrong}
+use Rattle.vm_cli.specs.declared.lines.mistake.WordKind.{WordKind}
+use Rattle.vm_cli.specs.declared.lines.mistake.WordKind.TheVariants as kind
 use Rattle.vm_cli.specs.declared.answers.reply.Reply.TheVariants.{Nothing, Done, Merged, Free, Blocks, Tally, End, Refused, Last, BadLine, LongLine, ReadOnly}
 
 -- a yes or a no
@@ -13,10 +19,48 @@ abbrev pub yes_or_no : Bool → List ℕ
 yes_or_no true = codes "yes"
 yes_or_no false = codes "no"
 
--- the line of a tally: three numbers, each with a space (32) behind it, and whether a post is accepted
+-- the line of a tally: three numbers, each with a space (32) after it, and whether a post is accepted
 abbrev pub tally_text : Numbers → List ℕ
 tally_text t =
     codes "tally " ++ (decimal t.changed ++ (32 ∷ (decimal t.unmerged ++ (32 ∷ (decimal t.conflicts ++ (32 ∷ (yes_or_no t.can_post ++ 10 ∷ [])))))))
+
+-- the words that a form takes, each by the name of its kind, in brackets those that may be left out
+abbrev pub form_text : LineForm → List ℕ
+form_text form.Bare = codes "no other word"
+form_text form.Alt = codes "ALT"
+form_text form.AltAndName = codes "ALT NAME"
+form_text form.New = codes "NAME PARENT [CHECKPOINT]"
+form_text form.Put = codes "ALT TABLE NUMBER VALUE"
+form_text form.Remove = codes "ALT TABLE NUMBER"
+form_text form.Merge = codes "ALT [SETTLEMENT ..]"
+form_text form.Grow = codes "BLOCKS"
+form_text form.Get = codes "AT TABLE NUMBER"
+form_text form.List = codes "AT [TABLE [FIRST LAST]]"
+form_text form.Next = codes "AT TABLE NUMBER COUNT"
+form_text form.Diff = codes "AT AT [TABLE [FIRST LAST]]"
+
+-- what a word of a kind is
+abbrev pub kind_text : WordKind → List ℕ
+kind_text kind.Name = codes "NAME is 1 to 32 of A-Za-z0-9_.-"
+kind_text kind.Parent = codes "PARENT is 1 to 32 of A-Za-z0-9_.-"
+kind_text kind.Checkpoint = codes "CHECKPOINT is 1 to 32 of A-Za-z0-9_.-"
+kind_text kind.Alt = codes "ALT is 1 to 32 of A-Za-z0-9_.-"
+kind_text kind.At = codes "AT is ALT, ALT@ or ALT@CHECKPOINT"
+kind_text kind.Table = codes "TABLE is 0 to 65535"
+kind_text kind.Number = codes "NUMBER is 0 to 18446744073709551615"
+kind_text kind.First = codes "FIRST is 0 to 18446744073709551615"
+kind_text kind.Last = codes "LAST is 0 to 18446744073709551615"
+kind_text kind.Count = codes "COUNT is 0 to 4294967295"
+kind_text kind.Blocks = codes "BLOCKS is 0 to 4294967295"
+kind_text kind.Value = codes "VALUE is at most 4,000 bytes, % as %25"
+kind_text kind.FirstSettlement = codes "SETTLEMENT is TABLE:NUMBER=mine|theirs"
+kind_text kind.Settlement = codes "SETTLEMENT is TABLE:NUMBER=mine|theirs"
+
+-- what is wrong with a line: a word, by its place, and what was expected there
+abbrev pub mistake_text : Mistake → List ℕ
+mistake_text NoSuchLine = codes "word 1: there is no such line"
+mistake_text (Takes form) = codes "word 1 takes " ++ form_text form
+mistake_text (Wrong place kind) = codes "word " ++ (decimal place ++ (codes ": " ++ kind_text kind))
 
 -- the line of an answer, with the line feed (10) at its end
 abbrev pub reply_text : Reply → List ℕ
@@ -29,7 +73,7 @@ reply_text (Tally numbers) = tally_text numbers
 reply_text (End count) = codes "end " ++ (decimal count ++ 10 ∷ [])
 reply_text (Refused refusal) = codes "error " ++ (refusal_text refusal ++ 10 ∷ [])
 reply_text (Last refusal) = codes "error " ++ (refusal_text refusal ++ 10 ∷ [])
-reply_text BadLine = codes "error 22 BadLine" ++ 10 ∷ []
+reply_text (BadLine mistake) = codes "error 22 BadLine " ++ (mistake_text mistake ++ 10 ∷ [])
 reply_text LongLine = codes "error 23 LongLine" ++ 10 ∷ []
 reply_text ReadOnly = codes "error 24 ReadOnly" ++ 10 ∷ []
 

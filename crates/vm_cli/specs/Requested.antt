@@ -41,7 +41,7 @@ list_for (listed.Conflicts alt) = Request.Conflicts alt
 -- what a line asks for
 abbrev pub asks_for : Read → Request
 asks_for read.Nothing = Request.Nothing
-asks_for read.Bad = Request.Bad
+asks_for (read.Bad mistake) = Request.Bad mistake
 asks_for (read.Put alt key word) = put_asked alt key (value_of word.now)
 asks_for (read.Merge alt side settled) = merge_asked alt side settled
 asks_for (read.Small command) = Request.Command (command_for command)

@@ -1,30 +1,21 @@
 -- What a line asks for.
-use Rattle.std.specs.Prelude.{◌≡◌, ◌==◌, ◌&&◌, ◌||◌, ℕ, Bool, false, List, [], ◌∷◌, Option, Some, None, codes, if◌then◌else◌, length, nat_le, option_and_then, option_map, unwrap_or}
-use Rattle.std.specs.List.{list_all}
+use Rattle.std.specs.Prelude.{◌≡◌, ◌==◌, ℕ, Bool, false, List, [], ◌∷◌, Option, Some, None, codes, if◌then◌else◌, option_and_then, option_map, unwrap_or}
 use Rattle.std.specs.Str.{bytes_eq}
 use Rattle.vm_types.specs.declared.at.At.{At}
-use Rattle.vm_types.specs.declared.at.Of.{Of}
-use Rattle.vm_types.specs.declared.at.Of.TheVariants as meant
 use Rattle.vm_types.specs.declared.command.Command.{Command}
 use Rattle.vm_types.specs.declared.command.Side.{Side}
 use Rattle.vm_types.specs.declared.command.Command.TheVariants.{New, NewAt, Drop, Put, Remove, Checkpoint, Uncheck, Back, Merge, Post, Commit, Rollback, Reclaim, Grow}
 use Rattle.vm_types.specs.declared.key.Key.{Key}
 use Rattle.vm_cli.specs.Asking.{Request}
+use Rattle.vm_cli.specs.declared.lines.mistake.Mistake.TheVariants.{Wrong}
+use Rattle.vm_cli.specs.declared.lines.mistake.WordKind.TheVariants.{Value}
 use Rattle.vm_cli.specs.declared.talk.OnCommand.{OnCommand}
 use Rattle.vm_cli.specs.declared.talk.OnCommand.TheVariants.{GrowIfFull, Refuse}
 use Rattle.vm_cli.specs.Escapes.{value_of}
+use Rattle.vm_cli.specs.Mistakes.{mistake_of}
+use Rattle.vm_cli.specs.Names.{at_of, name_of}
 use Rattle.vm_cli.specs.Numbers.{key_of, number_of}
-use Rattle.vm_cli.specs.Pieces.{before_mark, behind_mark}
 use Rattle.vm_cli.specs.Settlements.{settled_of, side_for_all}
-
--- a byte may stand in a name: an ASCII letter or digit, `_`, `-` or `.`
-abbrev pub is_name_byte : ℕ → Bool
-is_name_byte b =
-    (nat_le 97 b && nat_le b 122) || ((nat_le 65 b && nat_le b 90) || ((nat_le 48 b && nat_le b 57) || (b == 95 || (b == 45 || b == 46))))
-
--- the name that a word is: 1 to 32 such bytes
-abbrev pub name_of : List ℕ → Option (List ℕ)
-name_of word = if nat_le 1 (length word) && (nat_le (length word) 32 && list_all is_name_byte word) then Some word else None
 
 -- `ALT TABLE NUMBER`
 abbrev pub record_of : List (List ℕ) → Option (List ℕ × Key)
@@ -40,19 +31,6 @@ named_of _ = None
 abbrev pub names_of : List (List ℕ) → Option (List ℕ × List ℕ)
 names_of (first ∷ second ∷ []) = option_and_then (λ a. option_map (λ b. (a, b)) (name_of second)) (name_of first)
 names_of _ = None
-
--- the records of an alternative that are meant by what stands behind the `@`: its base, or those of a checkpoint
-abbrev pub meant_behind : List ℕ → Option Of
-meant_behind [] = Some meant.Base
-meant_behind (b ∷ bytes) = option_map meant.Checkpoint (name_of (b ∷ bytes))
-
--- the records of an alternative that a word means: the current ones, where there is no `@` (64) in it
-abbrev pub meant_of : List ℕ → Option Of
-meant_of word = if length (before_mark 64 word) == length word then Some meant.Current else meant_behind (behind_mark 64 word)
-
--- the version that a word says: `ALT`, `ALT@` or `ALT@CHECKPOINT`
-abbrev pub at_of : List ℕ → Option At
-at_of word = option_and_then (λ a. option_map (λ of. record { alt = a; of = of }) (meant_of word)) (name_of (before_mark 64 word))
 
 -- `AT TABLE NUMBER`
 abbrev pub record_at_of : List (List ℕ) → Option (At × Key)
@@ -102,9 +80,9 @@ new_of (name ∷ parent ∷ checkpoint ∷ []) =
     option_and_then (λ n. option_and_then (λ p. option_map (λ c. NewAt n p c) (name_of checkpoint)) (name_of parent)) (name_of name)
 new_of _ = None
 
--- what a put asks for, where its last word spells this value, or none
+-- what a put asks for, if its last word, the fifth, spells this value, or none
 abbrev pub put_asked : List ℕ → Key → Option (List ℕ) → Request
-put_asked alt key None = Request.Bad
+put_asked alt key None = Request.Bad (Wrong 5 Value)
 put_asked alt key (Some value) = Request.Command (Put alt key value)
 
 -- `put ALT TABLE NUMBER VALUE`
@@ -123,7 +101,7 @@ abbrev pub merge_asked : List ℕ → Option Side → List (Key × Side) → Req
 merge_asked alt None settled = Request.Command (Merge alt settled)
 merge_asked alt (Some side) settled = Request.MergeAll None alt side settled
 
--- a merge of this alternative, where its first settlement is for all conflicts, or is not
+-- a merge of this alternative, if its first settlement is for all conflicts, or is not
 abbrev pub merge_by : List ℕ → Option Side → List ℕ → List (List ℕ) → Option Request
 merge_by alt (Some side) word words = option_map (merge_asked alt (Some side)) (settled_of words)
 merge_by alt None word words = option_map (merge_asked alt None) (settled_of (word ∷ words))
@@ -143,7 +121,7 @@ abbrev pub alone : {X : Type 0} → X → List (List ℕ) → Option X
 alone x [] = Some x
 alone x _ = None
 
--- the command that the words after the first complete, but for a put and a merge
+-- the command that the words after the first complete, except for a put and a merge
 abbrev pub command_of : List ℕ → List (List ℕ) → Option Command
 command_of verb words =
     if bytes_eq verb (codes "remove") then option_map (λ r. Remove r.0 r.1) (record_of words)
@@ -189,7 +167,7 @@ asked_by verb words =
     else (if bytes_eq verb (codes "merge") then merge_of words
     else command_or (command_of verb words) (query_of verb words))
 
--- a merge with further words after its alternative: to read a line takes memory only where it is one
+-- a merge with further words after its alternative: to read a line takes memory only if it is one
 abbrev pub IsLongMerge : List (List ℕ) → Type 0
 IsLongMerge (verb ∷ alt ∷ word ∷ words) = verb ≡ codes "merge"
 IsLongMerge _ = ⊥
@@ -202,9 +180,9 @@ is_comment (b ∷ bytes) = b == 35
 -- what a line of these words asks for
 abbrev pub request_of : List (List ℕ) → Request
 request_of [] = Request.Nothing
-request_of (verb ∷ words) = if is_comment verb then Request.Nothing else unwrap_or (asked_by verb words) Request.Bad
+request_of (verb ∷ words) = if is_comment verb then Request.Nothing else unwrap_or (asked_by verb words) (Request.Bad (mistake_of verb words))
 
--- what a line that asks for this asks for in a talk where this is done with commands: nothing that changes the store, if it is only read
+-- what a line that asks for this asks for in a talk in which this is done with commands: nothing that changes the store, if it is only read
 abbrev pub asked_in : OnCommand → Request → Request
 asked_in Refuse (Request.Command command) = Request.Forbidden
 asked_in Refuse (Request.Growing most command) = Request.Forbidden

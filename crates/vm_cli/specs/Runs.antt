@@ -31,7 +31,7 @@ pub record Disks (D : Type 0) : Type 1 where
 abbrev pub disks : {D : Type 0} → (own : Ghosts D) → (cached : Ghosts (CachedDisk D own)) → Ghosts (DelayedDisk D own) → Ghosts (DelayedDisk (CachedDisk D own) cached) → Disks D
 disks own cached late late_cached = record { own = own; cached = cached; late = late; late_cached = late_cached }
 
--- lines were to be answered over one of them, and the disk came back beside this end
+-- the job was to answer lines over one of them, and the disk came back with this end
 module _ {D : Type 0} (over : Disks D) (old : D) (result : Exit × D) (in_memory : InMemory) where
   -- they were, of the reader, to the writer
   abbrev pub AnswersInMemory : {R W : Type 0} → (R → Option (List ℕ)) → (W → Option (List ℕ)) → Manner → R → W → W → Type 0
@@ -45,7 +45,7 @@ module _ {D : Type 0} (over : Disks D) (old : D) (result : Exit × D) (in_memory
       × TellsOn in_errors Refused result.0 errors errors' (no_store_text why)
 
 module _ {P D : Type 0} (own : Ghosts D) (state : P → PlaceState) (denied : P → List Text) (place place' : P) where
-  -- a file was to be made, with a new store
+  -- the job was to make a file with a new store
   abbrev pub MakesIn : Text → ℕ → Exit → Option (List ℕ) → Option (List ℕ) → Option (List ℕ) → Option (List ℕ) → Type 0
   MakesIn name blocks exit before after errors errors' =
       (state place').honest ≡ true
@@ -55,34 +55,34 @@ module _ {P D : Type 0} (own : Ghosts D) (state : P → PlaceState) (denied : P 
   abbrev pub DeclinesIn : Text → Exit → Option (List ℕ) → Option (List ℕ) → Type 0
   DeclinesIn name exit errors errors' = Declines own (denied place' ≡ name ∷ denied place) name exit (state place) (state place') errors errors'
 
-  -- the store in a file was to be counted
+  -- the job was to count the store in a file
   abbrev pub CountsIn : Text → Exit → Option (List ℕ) → Option (List ℕ) → Option (List ℕ) → Option (List ℕ) → Type 0
   CountsIn name exit before after errors errors' =
       (state place').honest ≡ true
       → Counts own name exit (state place) (state place') before after ⊎ DeclinesIn name exit errors errors'
 
-  -- the tree that a file showed was to be drawn
+  -- the job was to draw the tree that a file showed
   abbrev pub DrawsIn : Text → Exit → Option (List ℕ) → Option (List ℕ) → Option (List ℕ) → Option (List ℕ) → Type 0
   DrawsIn name exit before after errors errors' =
       (state place').honest ≡ true
       → Draws own name exit (state place) (state place') before after ⊎ DeclinesIn name exit errors errors'
 
-  -- the store in a file was to be copied to another
+  -- the job was to copy the store in a file to another
   abbrev pub DuplicatesIn : (P → ℕ) → Text → Text → Option ℕ → Exit → Option (List ℕ) → Option (List ℕ) → Option (List ℕ) → Option (List ℕ) → Type 0
   DuplicatesIn to_write name to asked exit before after errors errors' =
       (state place').honest ≡ true
       → Duplicates own (to_write place' ≡ to_write place) (to_write place' ≡ to_write place + 1) (λ name. denied place' ≡ name ∷ denied place) name to asked exit (state place) (state place') before after errors errors'
       ⊎ ((to_write place' ≡ to_write place) × DeclinesIn name exit errors errors')
 
--- this status is that of an end of which this holds, and of what was said to the errors by then, which is all but where the program stopped:
--- behind it, then, it was begun to say so
+-- this status is that of an end of which this holds, and of what was said to the errors by then: all of it, unless the program stopped;
+-- then the errors also have the beginning of a message that says so
 abbrev pub EndsAs : {F : Type 0} → (F → Option (List ℕ)) → ℕ → F → (Exit → F → Type 0) → Type 0
 EndsAs {F} in_errors status errors' IsEnd =
     (exit : Exit) × (said : F) × (status ≡ status_of exit) × (exit ≢ Stopped → said ≡ errors')
     × (exit ≡ Stopped → WritesStart (in_errors said) (in_errors errors') stopped_text)
     × IsEnd exit said
 
--- lines are to be answered with this done with commands: a place is asked for one disk that may be written, or, if they are refused, for none
+-- the job is to answer lines, with this done with commands: a place is asked for one disk that may be written, or, if they are refused, for none
 abbrev pub AsksToWrite : OnCommand → ℕ → ℕ → Type 0
 AsksToWrite Refuse asked asked' = asked' ≡ asked
 AsksToWrite on asked asked' = asked' ≡ asked + 1
@@ -97,7 +97,7 @@ IsLook (draw file) = Unit {0}
 IsLook (copy file to blocks) = ⊥
 
 module _ {P D : Type 0} (over : Disks D) (state : P → PlaceState) (denied : P → List Text) (place place' : P) where
-  -- lines were to be answered over a file
+  -- the job was to answer lines over a file
   abbrev pub AnswersIn : Text → InMemory → Manner → Exit → Option (List ℕ) → Option (List ℕ) → Option (List ℕ) → Option (List ℕ) → Option (List ℕ) → Type 0
   AnswersIn name in_memory on exit input before after errors errors' =
       (state place').honest ≡ true
@@ -118,7 +118,7 @@ module _ {P D : Type 0} (over : Disks D) (state : P → PlaceState) (denied : P 
 
 -- on any place, whether it and its disks kept their rules or not
 module _ {P D : Type 0} (over : Disks D) (denied : P → List Text) (place place' : P) where
-  -- lines that were to be answered over a file were, over a disk that came back; or that was refused, and it is told why; or it is told
+  -- the job was to answer lines over a file: they were, over a disk that came back; or that was refused, and it is told why; or it is told
   -- that the place gave no disk of it
   abbrev pub ServesIn : Text → InMemory → Manner → Exit → Option (List ℕ) → Option (List ℕ) → Option (List ℕ) → Option (List ℕ) → Option (List ℕ) → Type 0
   ServesIn name in_memory on exit input before after errors errors' =
@@ -140,8 +140,8 @@ module _ {P D : Type 0} (over : Disks D) (denied : P → List Text) (place place
   ServesRun words status input before after in_errors errors errors' =
       EndsAs in_errors status errors' (λ exit said. ServesWords words exit input before after (in_errors errors) (in_errors said))
 
--- on any place: where the words ask for a check or a drawing, or for lines that are answered with commands refused, it is asked for no disk
--- that may be written, and where they ask for no job, for none at all
+-- on any place: if the words ask for a check or a drawing, or for lines that are answered with commands refused, it is asked for no disk
+-- that may be written, and if they ask for no job, for none at all
 abbrev pub LooksOnly : {P : Type 0} → (P → ℕ) → P → P → List Text → Type 0
 LooksOnly to_write place place' words =
     ((job : Wanted) → IsJob words job → IsLook job → to_write place' ≡ to_write place)

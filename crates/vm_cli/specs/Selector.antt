@@ -13,7 +13,7 @@ pub record IsRewrittenLast {W : Type 0} (offset : ℕ) (file : SystemFile W) : T
   pub earlier : List Call
   pub last : IsRewritten offset earlier (noted file.calls)
 
--- where a file is honest after it and holds a header and a block behind that, this block was written again as it stood, if there was no fault
+-- if a file is honest after it and holds a header and a block after that, this block was written again as it stood, if there was no fault
 abbrev pub RewritesSelector : {T W : Type 0} → (ℕ → List ℕ → Option (List ℕ)) → (ℕ → List ℕ → ℕ → List ℕ) → Result T DeviceFault → SystemFile W → SystemFile W → Type 0
 RewritesSelector held torn result old new =
     (system_state held torn new).honest ≡ true

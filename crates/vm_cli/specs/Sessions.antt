@@ -44,13 +44,13 @@ pub record IsAnyStore (x : Contents) : Type 0 where
   pub least : MIN_BLOCKS ≤ length x
   pub header : IsAnyHeader (block x 0)
 
--- a store of so many blocks was made where there was none, and is shown
+-- a store of this many blocks was made where there was none, and is shown
 pub record HasMade (old new : DiskState) (blocks : ℕ) : Type 0 where
   pub goes : Goes ⊥ old new
   pub none : new.honest ≡ true → IsAnyStore old.now.contents → ⊥
   pub shown : new.honest ≡ true → IsFormatted blocks new.now
 
--- no store was made, for this reason, Device only where a call of this disk failed, and AlreadyAStore only where there is one: that stands
+-- no store was made, for this reason, Device only if a call of this disk failed, and AlreadyAStore only if there is one: that stands
 -- as it was, and for a bad size no call was made
 pub record HasMadeNone (old new : DiskState) (blocks : ℕ) (refusal : Refusal) : Type 0 where
   pub goes : Goes (refusal ≡ Device) old new
@@ -72,7 +72,7 @@ module _ {D : Type 0} (members : Ghosts D) where
     pub counted : (members.state new).honest ≡ true → IsCounted members (members.state old).now.contents alternatives checkpoints free
     pub moments : (members.state new).honest ≡ true → Throughout (members.state old) (members.state new) (IsAtMostSynced (members.state old).now)
 
-  -- the store that the disk showed was opened, the lines of an input were answered, which is the reader's own where that is known,
+  -- the store that the disk showed was opened, the lines of an input were answered, which is the reader's own if that is known,
   -- and the disk came back as the store left it: it shows what was committed. The talk is told for each state, so for that of the
   -- opening, and each part as long as the disk is honest
   pub record HasServed (on : Manner) (old new : D) (exit : Exit) (input before after : Option (List ℕ)) : Type 0 where
@@ -84,7 +84,7 @@ module _ {D : Type 0} (members : Ghosts D) where
     pub well : has_failed first ≡ false
     pub opens : (members.state (disk_of first)).honest ≡ true → OpensAs (members.state old).now.contents first
     pub serves : (s : State) → Serves first last s on served before after input
-    -- where commands are refused the disk is only read
+    -- if commands are refused the disk is only read
     pub reads : on.on_command ≡ Refuse → Passes first last None
     pub ends : exit ≡ end_of on.on_refusal served
     pub given_back : new ≡ disk_of last
@@ -93,7 +93,7 @@ module _ {D : Type 0} (members : Ghosts D) where
     -- so does a crash after the talk
     pub left : (members.state new).honest ≡ true → has_failed last ≡ false → (s : State) → Holds last s
         → Leaves (λ x. Shows x (committed_of s)) (members.state new).now
-    -- where a crash before the opening leaves something shown, one at any moment since leaves what the commands so far keep
+    -- if a crash before the opening leaves something shown, one at any moment since leaves what the commands so far keep
     pub kept : (members.state new).honest ≡ true → (seen : Seen) → Leaves (λ x. Shows x seen) (members.state old).now
         → Keeps (members.state old) (members.state new) (opened seen)
         (commands_of (serves (opened seen))) (answers_of (serves (opened seen)))

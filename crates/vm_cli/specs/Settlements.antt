@@ -46,7 +46,7 @@ abbrev pub for_others : Side → List (Key × Side) → List Conflict → List (
 for_others side settled [] = []
 for_others side settled (c ∷ conflicts) = if is_settled settled c.key then for_others side settled conflicts else (c.key, side) ∷ for_others side settled conflicts
 
--- these settlements, and behind them one by this side for each other conflict
+-- these settlements, and after them one by this side for each other conflict
 abbrev pub for_all : Side → List (Key × Side) → List Conflict → List (Key × Side)
 for_all side settled conflicts = settled ++ for_others side settled conflicts
 

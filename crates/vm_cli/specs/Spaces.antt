@@ -7,11 +7,11 @@ abbrev pub is_some_byte : List ℕ → Bool
 is_some_byte [] = false
 is_some_byte (b ∷ bytes) = true
 
--- the words: what stands between spaces (32), where that is not nothing
+-- the words: what stands between spaces (32), if that is not nothing
 abbrev pub words_of : List ℕ → List (List ℕ)
 words_of bytes = filter is_some_byte (slice_split (λ b. b == 32) bytes)
 
--- a piece in front of words, where it is a word
+-- a piece in front of words, if it is a word
 abbrev pub with_word : List ℕ → List (List ℕ) → List (List ℕ)
 with_word [] words = words
 with_word (b ∷ bytes) words = (b ∷ bytes) ∷ words

@@ -9,11 +9,11 @@ use Rattle.vm_cli.specs.Branches.{Branch, branches_of, tree_text}
 use Rattle.vm_store.specs.Store.{Holds, IsHonest, has_failed}
 use Rattle.vm_store.specs.declared.store.Store.{Store}
 
--- the device failed, or memory was wanting
+-- the device failed, or memory ran out
 abbrev pub IsDeviceOrMemory : Refusal → Type 0
 IsDeviceOrMemory refusal = (refusal ≡ Device) ⊎ (refusal ≡ Memory)
 
--- memory was wanting
+-- memory ran out
 abbrev pub IsMemory : Refusal → Type 0
 IsMemory refusal = refusal ≡ Memory
 
@@ -34,6 +34,6 @@ module _ {D : Type 0} {members : _} where
   abbrev pub InListed : Store D members → List (List ℕ × Option (List ℕ)) → (State → Type 0) → Type 0
   InListed store listed Q = has_failed store ≡ false → (s : State) → Holds store s → listed ≡ shape s.working → Q s
 
-  -- Q holds for each state that the old store stood for, which had not failed, where the disk is honest under the new one and these were the names of its alternatives and of their parents
+  -- Q holds for each state that the old store stood for, which had not failed, if the disk is honest under the new one and these were the names of its alternatives and of their parents
   abbrev pub FromListed : Store D members → Store D members → List (List ℕ × Option (List ℕ)) → (State → Type 0) → Type 0
   FromListed old new listed Q = IsHonest new → has_failed old ≡ false → (s : State) → Holds old s → listed ≡ shape s.working → Q s

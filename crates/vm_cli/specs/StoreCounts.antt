@@ -3,7 +3,7 @@ use Rattle.std.specs.Prelude.{◌≡◌, ℕ, length, sum_by}
 use Rattle.vm_types.specs.Tree.{Tree}
 use Rattle.vm_disk.specs.Disk.{Contents}
 use Rattle.vm_disk.specs.declared.disk.Disk.{Ghosts}
-use Rattle.vm_store.specs.Recovery.{OpensAs}
+use Rattle.vm_store.specs.Recovery.{OpensWhole}
 use Rattle.vm_store.specs.Rest.{spare_of}
 use Rattle.vm_store.specs.Store.{disk_of, free_of}
 use Rattle.vm_types.specs.State.{State}
@@ -20,12 +20,12 @@ AreCounts store s counts =
     (counts.alternatives ≡ length s.working) × (counts.checkpoints ≡ checkpoint_count s.working) × (counts.free ≡ free_of store)
 
 module _ {D : Type 0} (members : Ghosts D) where
-  -- these contents show a tree of so many alternatives and checkpoints, and a store that stands for it on a disk that holds them has so
+  -- these contents show a tree of this many alternatives and checkpoints, and a store that stands for it on a disk that holds them has this
   -- many spare blocks, all of which are free
   pub record IsCounted (x : Contents) (alternatives checkpoints free : ℕ) : Type 0 where
     pub store : Store D members
     pub over : (members.state (disk_of store)).now.contents ≡ x
-    pub opens : OpensAs x store
+    pub opens : OpensWhole x store
     pub alternatives_are : alternatives ≡ length opens.seen.tree
     pub checkpoints_are : checkpoints ≡ checkpoint_count opens.seen.tree
-    pub free_are : free ≡ spare_of opens.holds.rests
+    pub free_are : free ≡ spare_of opens.stands.holds.rests

@@ -70,7 +70,7 @@ abbrev pub list_lines : {X : Type 0} → (X → List ℕ) → Result (List X) Re
 list_lines line (Ok list) = list_text line list
 list_lines line (Err refusal) = error_text refusal
 
--- the text is that of an answer to a query by a store that had not failed: it is Device only where `Fails`, it is never Failed, and
+-- the text is that of an answer to a query by a store that had not failed: it is Device only if `Fails`, it is never Failed, and
 -- `IsDue` holds of it
 pub record SaysAnswer {T : Type 0} (Fails : Type 0) (text_of : Result T Refusal → List ℕ) (IsDue : Result T Refusal → Type 0) (text : List ℕ) : Type 0 where
   pub answer : Result T Refusal
@@ -82,7 +82,7 @@ pub record SaysAnswer {T : Type 0} (Fails : Type 0) (text_of : Result T Refusal 
 -- what a store that had failed answers, and whether the talk ends with it
 abbrev pub SaysFailed : Request → List ℕ → Bool → Type 0
 SaysFailed Request.Nothing text ends = (text ≡ []) × (ends ≡ false)
-SaysFailed Request.Bad text ends = (text ≡ reply_text reply.BadLine) × (ends ≡ false)
+SaysFailed (Request.Bad mistake) text ends = (text ≡ reply_text (reply.BadLine mistake)) × (ends ≡ false)
 SaysFailed Request.Forbidden text ends = (text ≡ reply_text reply.ReadOnly) × (ends ≡ false)
 SaysFailed request text ends = (text ≡ error_text Failed) × (ends ≡ true)
 
@@ -129,7 +129,7 @@ module _ {D : Type 0} {members : _} where
   abbrev pub Failing : Store D members → Store D members → Type 0
   Failing old new = (members.state (disk_of old)).failures < (members.state (disk_of new)).failures
 
-  -- where the store had not failed before and has now, a device call failed on the way
+  -- if the store had not failed before and has now, a device call failed on the way
   abbrev pub FailsByDevice : Store D members → Store D members → Type 0
   FailsByDevice old new = has_failed old ≡ false → has_failed new ≡ true → Failing old new
 
@@ -150,7 +150,7 @@ module _ {D : Type 0} {members : _} where
     pub holds : Holds old s
 
   -- what a line did on any disk, and what it asked of the device: any but a command left the number of blocks, changed nothing of the
-  -- store but its disk, and, where the disk is honest after it, only read
+  -- store but its disk, and, if the disk is honest after it, only read
   pub record Passes (old new : Store D members) (done : Done) : Type 0 where
     pub goes : GrowsOn ⊥ old new
     pub as_long : done ≡ None → (members.state (disk_of new)).blocks ≡ (members.state (disk_of old)).blocks
@@ -169,7 +169,7 @@ module _ {D : Type 0} {members : _} where
       ((has_failed old ≡ false) × FailsInLast old new)
       ⊎ ((has_failed old ≡ true) × (new ≡ old))
 
-  -- the number of blocks that are not held is answered; where the store stands for the state, all of them are spare
+  -- the number of blocks that are not held is answered; if the store stands for the state, all of them are spare
   abbrev pub SaysFree : Store D members → State → List ℕ → Type 0
   SaysFree store s text = (text ≡ reply_text (reply.Free (free_of store))) × ((holds : Holds store s) → free_of store ≤ spare_of holds.rests)
 
@@ -177,13 +177,13 @@ module _ {D : Type 0} {members : _} where
   abbrev pub SaysBlocks : Store D members → State → List ℕ → Type 0
   SaysBlocks store s text = (text ≡ reply_text (reply.Blocks (blocks_of store))) × (Holds store s → blocks_of store ≡ s.blocks)
 
-  -- the text of the answer to a query that reads: on any disk it is Device only where a device call failed, and never Failed; and it is
-  -- due where the store stood for the state and the disk is honest after it
+  -- the text of the answer to a query that reads: on any disk it is Device only if a device call failed, and never Failed; and it is
+  -- due if the store stood for the state and the disk is honest after it
   abbrev pub SaysRead : {T : Type 0} → Store D members → Store D members → State → (Result T Refusal → List ℕ) → (Result T Refusal → Type 0) → List ℕ → Type 0
   SaysRead old new s text_of IsDue text = SaysAnswer (Failing old new) text_of (λ answer. Stood old new s → IsDue answer) text
 
   -- the text of the answer to a query for a list that makes no device call and leaves the store as it was, on any disk: it is never Device
-  -- nor Failed, and due where the store stood for the state
+  -- nor Failed, and due if the store stood for the state
   abbrev pub SaysNames : {X : Type 0} → Store D members → Store D members → State → (X → List ℕ) → Result (List X) Refusal → List ℕ → Type 0
   SaysNames old new s line due text = (new ≡ old) × SaysAnswer ⊥ (list_lines line) (λ answer. Holds old s → IsListing answer due) text
 
@@ -210,7 +210,7 @@ module _ {D : Type 0} {members : _} where
   Says old new s Request.Free text = (new ≡ old) × SaysFree old s text
   Says old new s Request.Blocks text = (new ≡ old) × SaysBlocks old s text
   Says old new s Request.Nothing text = (new ≡ old) × (text ≡ [])
-  Says old new s Request.Bad text = (new ≡ old) × (text ≡ reply_text reply.BadLine)
+  Says old new s (Request.Bad mistake) text = (new ≡ old) × (text ≡ reply_text (reply.BadLine mistake))
   Says old new s Request.Forbidden text = (new ≡ old) × (text ≡ reply_text reply.ReadOnly)
   Says old new s (Request.Command command) text = ⊥
   Says old new s (Request.Growing most command) text = ⊥
@@ -248,8 +248,8 @@ module _ {D : Type 0} {members : _} where
     pub size : grow ≡ Grow (larger most (blocks_of full))
     pub carries : CarriesOut full new grow grown
 
-  -- a command is carried out, and where it is answered Full the store grows and it is carried out again, so many times at most: the text is
-  -- that of its last answer, which is Full only where the store has the most blocks that it may have, or has grown so often; or that of the
+  -- a command is carried out, and if it is answered Full the store grows and it is carried out again, this many times at most: the text is
+  -- that of its last answer, which is Full only if the store has the most blocks that it may have, or has grown so often; or that of the
   -- refusal of a Grow
   abbrev pub Tries : ℕ → ℕ → Command → Store D members → Store D members → List ℕ → List (Command × Result Answer Refusal) → Type 0
   Tries left most command old new text [] = ⊥
@@ -267,7 +267,7 @@ module _ {D : Type 0} {members : _} where
   AnswersGrowing old new most command text None = ⊥
   AnswersGrowing old new most command text (Some each) = Tries GROWTHS most command old new text each
 
-  -- a command is answered so, for which the store may grow where a number of blocks is given
+  -- a command is answered so, for which the store may grow if a number of blocks is given
   abbrev pub AnswersWithin : Option ℕ → Store D members → Store D members → Command → List ℕ → Done → Type 0
   AnswersWithin None old new command text done = AnswersCommand old new command text done
   AnswersWithin (Some most) old new command text done = AnswersGrowing old new most command text done
@@ -303,14 +303,14 @@ module _ {D : Type 0} {members : _} where
   Meets old new s (Request.MergeAll limit alt side settled) text done = AnswersMerge limit old new s alt side settled text done
   Meets old new s query text done = (done ≡ None) × (has_failed new ≡ false) × Says old new s query text × ReadsFew old new query
 
-  -- a request is answered, and the talk ends with it where the device fails in a command, or the store had failed before, which is
+  -- a request is answered, and the talk ends with it if the device fails in a command, or the store had failed before, which is
   -- then left as it was
   abbrev pub AnsweredRequest : Store D members → Store D members → State → Request → List ℕ → Bool → Done → Type 0
   AnsweredRequest old new s request text ends done =
       ((has_failed old ≡ false) × (ends ≡ has_failed new) × Meets old new s request text done)
       ⊎ ((has_failed old ≡ true) × (new ≡ old) × (done ≡ None) × SaysFailed request text ends)
 
-  -- a line is answered that memory was wanting, or as too long if it has more than 1,048,576 bytes, or else as its words ask in a talk of
+  -- a line is answered that memory ran out, or as too long if it has more than 1,048,576 bytes, or else as its words ask in a talk of
   -- this manner; the first two leave the store as it was, and end no talk
   abbrev pub Answered : Store D members → Store D members → State → Manner → List ℕ → List ℕ → Bool → Done → Type 0
   Answered old new s on line text ends done =
@@ -318,8 +318,8 @@ module _ {D : Type 0} {members : _} where
       ⊎ (((MAX_BYTES < length line) × (new ≡ old) × (done ≡ None) × (ends ≡ false) × (text ≡ reply_text reply.LongLine))
       ⊎ ((length line ≤ MAX_BYTES) × AnsweredRequest old new s (asked_in on.on_command (request_of (words_of (without_return line)))) text ends done))
 
-  -- something was answered so: a store that hasn't failed stands for what is left, where it stood for the state before and the disk is
-  -- honest after it; and it fails only where the talk ends
+  -- something was answered so: a store that hasn't failed stands for what is left, if it stood for the state before and the disk is
+  -- honest after it; and it fails only if the talk ends
   pub record Handled (old new : Store D members) (s : State) (ends : Bool) (IsAnswer : Done → Type 0) : Type 0 where
     pub done : Done
     pub answers : IsAnswer done
@@ -342,8 +342,8 @@ module _ {D : Type 0} {members : _} where
       × (again : Bool) × (refused ≡ (is_error first || again))
       × Talks mid new (after_line s step.done) on lines rest later others again
 
-  -- lines were answered so, and the store, where it hasn't failed, stands for what their commands leave, if it stood for the state before
-  -- and the disk is honest after them. Where a refusal is to end the talk, none of them was refused
+  -- lines were answered so, and the store, if it hasn't failed, stands for what their commands leave, if it stood for the state before
+  -- and the disk is honest after them. If a refusal is to end the talk, none of them was refused
   pub record HasTalked (old new : Store D members) (s : State) (on : Manner) (lines : List (List ℕ)) (text : List ℕ) : Type 0 where
     pub commands : List Command
     pub answers : List (Result Answer Refusal)
@@ -353,7 +353,7 @@ module _ {D : Type 0} {members : _} where
     pub still : has_failed new ≡ has_failed old
     pub holds : Stood old new s → has_failed new ≡ false → Holds new (after s commands answers)
 
-  -- a talk over all these lines that ended with one of them: those before it were answered, then it was, and no other. Where its
+  -- a talk over all these lines that ended with one of them: those before it were answered, then it was, and no other. If its
   -- answer ends the talk, the store failed in it, from the state that the answers before it leave, or had failed before
   pub record EndsTalk (old new : Store D members) (s : State) (on : Manner) (ends : Bool) (all : List (List ℕ)) (text : List ℕ) : Type 0 where
     pub mid : Store D members
@@ -381,7 +381,7 @@ module _ {D : Type 0} {members : _} where
       (text : List ℕ) × (ended : EndsTalk old new s on false all text) × (is_error ended.last ≡ true) × (on.on_refusal ≡ Stop) × Appends before after text
   ServesLines old new s on (Err fault.Write) before after all = (text : List ℕ) × (ends : Bool) × EndsTalk old new s on ends all text × WritesStart before after text
 
-  -- a talk over some input, which is what the reader had to give, where that is known
+  -- a talk over some input, which is what the reader had to give, if that is known
   pub record Serves (old new : Store D members) (s : State) (on : Manner) (result : Result Bool ServeFault) (before after : Option (List ℕ)) (known : Option (List ℕ)) : Type 0 where
     pub input : List ℕ
     pub own : IfSome known (λ bytes. bytes ≡ input)

@@ -21,7 +21,7 @@ use Rattle.vm_cli.specs.declared.talk.Manner.{Manner}
 abbrev pub FormatsOnly : ℕ → DiskState → DiskState → Type 0
 FormatsOnly blocks old new = Throughout old new (IsFormatting blocks old.now)
 
--- a store was to be made of so many blocks on a disk, which came back in this state: what is told with this end
+-- the job was to make a store of this many blocks on a disk, which came back in this state: what is told with this end
 module _ {W F : Type 0} (in_output : W → Option (List ℕ)) (in_errors : F → Option (List ℕ)) (blocks : ℕ) (old new : DiskState) (exit : Exit) where
   -- it was made, the output is told so, and nothing was said to the errors
   abbrev pub TellsMade : W → W → F → F → Type 0
@@ -34,11 +34,11 @@ module _ {W F : Type 0} (in_output : W → Option (List ℕ)) (in_errors : F →
       (output' ≡ output)
       × ((refusal : Refusal) × IsOfFormat refusal × HasMadeNone old new blocks refusal × TellsOn in_errors Refused exit errors errors' (refused_text refusal))
 
-  -- the one or the other
+  -- one or the other
   abbrev pub MakesStore : W → W → F → F → Type 0
   MakesStore output output' errors errors' = TellsMade output output' errors errors' ⊎ TellsMadeNone output output' errors errors'
 
--- a disk was opened, and came back beside this end: what is told a writer
+-- a disk was opened, and came back with this end: what is told a writer
 module _ {D W : Type 0} (members : Ghosts D) (contents : W → Option (List ℕ)) (old : D) (result : Exit × D) where
   -- what the store that it showed holds
   abbrev pub TellsCount : W → W → Type 0
@@ -56,17 +56,17 @@ module _ {D W : Type 0} (members : Ghosts D) (contents : W → Option (List ℕ)
   TellsRefusal writer writer' =
       (why : NoStore) × HasRefused (members.state old) (members.state result.1) why × TellsOn contents Refused result.0 writer writer' (no_store_text why)
 
--- lines were answered over a disk, which came back beside this end: what of the reader and the writer
+-- lines were answered over a disk, which came back with this end: what of the reader and the writer
 module _ {D R W : Type 0} (members : Ghosts D) (input_of : R → Option (List ℕ)) (contents : W → Option (List ℕ)) (on : Manner) (old : D) (result : Exit × D) where
   -- over the disk itself
   abbrev pub AnswersOver : R → W → W → Type 0
   AnswersOver reader writer writer' = HasServed members on old result.1 result.0 (input_of reader) (contents writer) (contents writer')
 
-  -- over it, or over a late disk over it
+  -- over it, or over a delayed disk over it
   abbrev pub AnswersLate : Ghosts (DelayedDisk D members) → ℕ → R → W → W → Type 0
   AnswersLate late buffer reader writer writer' = IsServedLate members late buffer on old result.1 result.0 (input_of reader) (contents writer) (contents writer')
 
--- why a disk was refused, itself or with a late disk over it
+-- why a disk was refused, itself or with a delayed disk over it
 module _ {D F : Type 0} (members : Ghosts D) (late : Ghosts (DelayedDisk D members)) (in_errors : F → Option (List ℕ)) where
   abbrev pub TellsRefusalLate : ℕ → D → Exit × D → F → F → Type 0
   TellsRefusalLate buffer old result errors errors' =

@@ -22,11 +22,11 @@ use Rattle.vm_cli.specs.declared.program.task.Job.{Job}
 use Rattle.vm_cli.specs.declared.program.task.Job.TheVariants.{Check, Copy, Create, Do, Run, Tree}
 use Rattle.vm_cli.specs.Given.{input_of}
 
--- the name of a file, which has to be there
+-- the name of a file, which is required
 abbrev pub file_rule : Rule
 file_rule = record (new_rule (codes "file")) { required = true; value_names = 1 }
 
--- a number of blocks in the range of a store, and whether it has to be there
+-- a number of blocks in the range of a store, and whether it is required
 abbrev pub blocks_rule : Bool → Rule
 blocks_rule required = record (new_rule (codes "blocks")) {
   required = required;
@@ -46,7 +46,7 @@ amount_rule name most = record (new_rule name) {
   parser = Some (vp.Signed (pos 0) (pos most));
 }
 
--- how many blocks are kept in memory: 256 where no word says it
+-- how many blocks are kept in memory: 256 if no word says it
 abbrev pub cache_rule : Rule
 cache_rule = record (amount_rule (codes "cache") MAX_CACHE) { defaults = codes "256" ∷ [] }
 
@@ -69,7 +69,7 @@ strict_rule = flag_rule (codes "strict")
 abbrev pub read_only_rule : Rule
 read_only_rule = flag_rule (codes "read-only")
 
--- whether the store may grow, and to how many blocks, 0 where no word says it
+-- whether the store may grow, and to how many blocks, 0 if no word says it
 abbrev pub grow_rule : Rule
 grow_rule = flag_rule (codes "grow")
 
@@ -96,7 +96,7 @@ with_options app =
 abbrev pub run_app : App
 run_app = with_options (with_rule (new_app (codes "run")) file_rule)
 
--- lines, one of which has to be there
+-- lines, one at least
 abbrev pub line_rule : Rule
 line_rule = record (new_rule (codes "line")) {
   required = true;
@@ -116,7 +116,7 @@ check_app = with_lock (with_rule (new_app (codes "check")) file_rule)
 abbrev pub tree_app : App
 tree_app = with_lock (with_rule (new_app (codes "tree")) file_rule)
 
--- the name of the file with the copy, which has to be there
+-- the name of the file with the copy, which is required
 abbrev pub to_rule : Rule
 to_rule = record (new_rule (codes "to")) { required = true; value_names = 1 }
 
@@ -124,7 +124,7 @@ to_rule = record (new_rule (codes "to")) { required = true; value_names = 1 }
 abbrev pub copy_app : App
 copy_app = with_lock (with_rule (with_rule (with_rule (new_app (codes "copy")) file_rule) to_rule) (blocks_rule false))
 
--- the program without its tasks, one of which has to be named unless its version is asked for
+-- the program without its tasks, one of which is required unless its version is asked for
 abbrev pub top_app : App
 top_app = on_top (λ s. record s { subcommand_required = true; has_version = true }) (new_app (codes "altctl"))
 
@@ -152,7 +152,7 @@ wanted_of (Check file) = check file.now
 wanted_of (Tree file) = draw file.now
 wanted_of (Copy file to blocks) = copy file.now to.now blocks
 
--- the number that a text says, where it lies in the range
+-- the number that a text says, if it lies in the range
 abbrev pub number_in : ℕ → ℕ → Text → Option ℕ
 number_in low high text = if is_unsigned_in low high text then Some (digits_value 10 (without_leading_plus text)) else None
 
@@ -161,11 +161,11 @@ abbrev pub is_set : Option Text → Bool
 is_set None = false
 is_set (Some text) = bytes_eq text (codes "true")
 
--- what a refused line means: it ends the talk where `--strict` was given
+-- what a refused line means: it ends the talk if `--strict` was given
 abbrev pub refusal_by : OnRefusal → List Row → OnRefusal
 refusal_by on rows = if is_set (first_of (codes "strict") rows) then Stop else on
 
--- the number that an argument of this name has, where it lies in the range
+-- the number that an argument of this name has, if it lies in the range
 abbrev pub number_by : ℕ → ℕ → Text → List Row → Option ℕ
 number_by low high name rows = option_and_then (number_in low high) (one_of name rows)
 

@@ -2,6 +2,7 @@
 
 pub mod listing;
 pub mod lists;
+pub mod mistakes;
 pub mod output;
 pub mod reply;
 pub mod text;

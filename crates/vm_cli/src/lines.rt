@@ -4,6 +4,7 @@ pub mod arguments;
 pub mod escape;
 pub mod line;
 pub mod list_query;
+pub mod mistake;
 pub mod number;
 pub mod pieces;
 pub mod request;

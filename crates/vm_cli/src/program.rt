@@ -28,7 +28,7 @@ use cached_lines::answer_lines_in_memory;
 use clap::Error;
 use clap::error::ErrorKind;
 use file_lock::NoLock;
-use opening::{open_store, unopened};
+use opening::{open_store, open_whole_store, unopened};
 use place::Place;
 use std::alloc::Global;
 use std::io::{Read, Write};
@@ -377,7 +377,7 @@ fn check_disk<D: Disk, W: Write, F: Write>(
     ensures told { TellsCount D.Disk W.contents disk result output.old output.new
         ⊎ TellsRefusal D.Disk F.contents disk result errors.old errors.new }
 {
-    match open_store(alloc, disk) {
+    match open_whole_store(alloc, disk) {
         Ok(store) => {
             let counts = count(alloc, &store);
             let disk = store.close();

@@ -262,7 +262,7 @@ impl<'a, W: Write, D: Disk> Session<'a, W, D> {
         let store = &mut *self.store;
         match request {
             Request::Nothing => Ok(Reply::Nothing),
-            Request::Bad => Ok(Reply::BadLine),
+            Request::Bad(mistake) => Ok(Reply::BadLine(mistake)),
             Request::Put { alt, key, word } => Ok(reply_to_put(&alt, key, word, on, store)),
             Request::Merge { alt, side, settled } => {
                 Ok(reply_to_merge(alloc, alt, side, settled, on, store))

@@ -35,13 +35,13 @@ pub record IsIn (low high : ℕ) (walk : Walk) : Type 0 where
   pub tops : AllByRecursion (λ t. place t.low ≤ high) walk.tops
   pub others : AllByRecursion (λ t. low ≤ place t.low) (drop 1 walk.tops)
 
--- the reads that a walk may make beside those of blocks over the part: one for each level of its first subtree, where that begins below
+-- the reads that a walk may make beside those of blocks over the part: one for each level of its first subtree, if that begins below
 abbrev pub aside : ℕ → List Root → ℕ
 aside low [] = 0
 aside low (t ∷ ts) = reads_aside low t.level t.low
 
--- the records ahead of one walk and those ahead of the other have these differences in the part; and after so many reads, with one more
--- for each block over it that is ahead of one walk alone, and those aside, there are at most so many
+-- the records ahead of one walk and those ahead of the other have these differences in the part; and after this many reads, with one more
+-- for each block over it that is ahead of one walk alone, and those aside, there are at most this many
 pub record Differ (sizes : Sizes) (x : Contents) (limit low high : ℕ) (one other : Walk) (reads most : ℕ) (changes : List Change) : Type 0 where
   pub first : List Record
   pub second : List Record

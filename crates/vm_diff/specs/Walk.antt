@@ -27,7 +27,7 @@ tops_of level cs = map (λ c. record { block = c.block; level = level; low = c.l
 abbrev pub past_record : Walk → Walk
 past_record walk = record { pending = drop 1 walk.pending; tops = walk.tops }
 
--- the walk with these tops in the place of its first one
+-- the walk with these tops in place of its first one
 abbrev pub into_tops : List Root → Walk → Walk
 into_tops tops walk = record { pending = walk.pending; tops = tops ++ drop 1 walk.tops }
 

@@ -52,7 +52,7 @@ module _ {D : Type 0} {members : _} where
     pub reads : length (noted cached.reads) ≡ 0
     pub refusals : refusals_of cached ≡ 0
 
-  -- block n was used and has these bytes: it is kept, as the first, but where memory for it was refused
+  -- block n was used and has these bytes: it is kept, as the first, unless memory for it was refused
   abbrev pub Uses : ℕ → List ℕ → CachedDisk D members → CachedDisk D members → Type 0
   Uses n bytes old new = UsesBlock n bytes old.kept new.kept
 
@@ -74,7 +74,7 @@ module _ {D : Type 0} {members : _} where
   abbrev pub Recalls : {T : Type 0} → ℕ → List ℕ → Result T DeviceFault → CachedDisk D members → CachedDisk D members → Type 0
   Recalls n bytes result old new = (inner_of new ≡ inner_of old) × IsOk result × (lookup (nat_eq n) (kept_of old) ≡ Some bytes)
 
-  -- it keeps none of so many blocks in a row from the first one on, all others as before, and asked for no memory
+  -- it keeps none of this many blocks in a row from the first one on, all others as before, and asked for no memory
   pub record LosesRun (first count : ℕ) (old new : CachedDisk D members) : Type 0 where
     pub rest : KeepsJust (without_run first count (kept_of old)) old new
     pub gone : (i : ℕ) → i < count → keeps (first + i) (kept_of new) ≡ false

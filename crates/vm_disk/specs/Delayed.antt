@@ -60,10 +60,10 @@ module _ {D : Type 0} {members : _} where
   abbrev pub KeepsLimit : DelayedDisk D members → DelayedDisk D members → Type 0
   KeepsLimit old new = limit_of (waiting_of new.layers) ≡ limit_of (waiting_of old.layers)
 
-  -- where block n waited, the call succeeds, and the disk below is as it was
+  -- if block n waited, the call succeeds, and the disk below is as it was
   abbrev pub AnswersHere : {T : Type 0} → ℕ → Result T DeviceFault → DelayedDisk D members → DelayedDisk D members → Type 0
   AnswersHere n result old new = is_some (waiting_for old n) ≡ true → (inner_of new ≡ inner_of old) × IsOk result
 
-  -- where the disk below is honest after it: until its last call, it was touched just where blocks are dirty here
+  -- if the disk below is honest after it: until its last call, it was touched exactly where blocks are dirty here
   abbrev pub TouchesBelow : (D → DiskState) → DelayedDisk D members → DelayedDisk D members → Type 0
   TouchesBelow state old new = (state (inner_of new)).honest ≡ true → TouchesDirty (medium_of state old.layers) (state (inner_of old)) (state (inner_of new))

@@ -48,7 +48,7 @@ pub record MayLeave (m : Medium) (left : Contents) : Type 0 where
 abbrev pub moment : DiskState → ℕ
 moment s = length s.past
 
--- a crash at moment t, one of so many, may have left these contents
+-- a crash at moment t, one of this many, may have left these contents
 abbrev pub LeftPast : List Medium → ℕ → Contents → Type 0
 LeftPast [] t left = ⊥
 LeftPast (m ∷ earlier) t left = ((t ≡ length earlier) × MayLeave m left) ⊎ LeftPast earlier t left
@@ -58,7 +58,7 @@ abbrev pub LeftAt : DiskState → ℕ → Contents → Type 0
 LeftAt s t left = LeftPast (s.now ∷ s.past) t left
 
 -- what each device call does, on any disk: it keeps the blocks, a disk that is honest after it was so before, it counts its reads, and
--- the count of failures rises just where it answers a fault
+-- the count of failures rises exactly if it answers a fault
 pub record Counts {T : Type 0} (reads : ℕ) (result : Result T DeviceFault) (old new : DiskState) : Type 0 where
   pub same_blocks : new.blocks ≡ old.blocks
   pub earlier : new.honest ≡ true → old.honest ≡ true
@@ -74,7 +74,7 @@ pub record Goes (fails : Type 0) (old new : DiskState) : Type 0 where
   pub rising : old.failures ≤ new.failures
   pub fault : fails → old.failures < new.failures
 
--- what a growing to so many blocks does, on any disk: where it fails, the disk may have some of the new blocks
+-- what growing to this many blocks does, on any disk: if it fails, the disk may have some of the new blocks
 pub record Extends {T : Type 0} (blocks : ℕ) (result : Result T DeviceFault) (old new : DiskState) : Type 0 where
   pub least : old.blocks ≤ new.blocks
   pub most : new.blocks ≤ blocks
@@ -99,7 +99,7 @@ pub record Reads {T : Type 0} (n : ℕ) (bytes : List ℕ) (result : Result T De
   pub same : new.now ≡ old.now
   pub time : Elapses old new
 
--- what a write does, on a disk that is honest after it: where it fails, the block holds any bytes
+-- what a write does, on a disk that is honest after it: if it fails, the block holds any bytes
 pub record Writes {T : Type 0} (n : ℕ) (bytes : List ℕ) (result : Result T DeviceFault) (old new : DiskState) : Type 0 where
   pub written : OnOk result (block new.now.contents n ≡ bytes)
   pub dirty : new.now.dirty n ≡ true
@@ -125,7 +125,7 @@ pub record Forgets (n : ℕ) (old new : DiskState) : Type 0 where
   pub sure : new.now.sure ≡ old.now.sure
   pub time : Elapses old new
 
--- what a sync does, on a disk that is honest after it: it makes all blocks sure, and where it fails, nothing changes
+-- what a sync does, on a disk that is honest after it: it makes all blocks sure, and if it fails, nothing changes
 pub record Syncs {T : Type 0} (result : Result T DeviceFault) (old new : DiskState) : Type 0 where
   pub synced : OnOk result (IsClean new.now)
   pub failed : OnErr result (new.now ≡ old.now)

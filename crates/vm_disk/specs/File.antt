@@ -16,11 +16,11 @@ use Rattle.vm_disk.specs.Positional.{FileState}
 abbrev pub file_block : List ℕ → ℕ → List ℕ
 file_block bytes n = take BLOCK_SIZE (drop (BLOCK_SIZE * n) bytes)
 
--- the first so many blocks of a file
+-- the first blocks of a file, this many of them
 abbrev pub file_blocks : ℕ → List ℕ → Contents
 file_blocks count bytes = map (file_block bytes) (range_with_len 0 count)
 
--- a write that begins there, of so many bytes, touches block n
+-- a write that begins there, of this many bytes, touches block n
 abbrev pub touches : ℕ × ℕ → ℕ → Bool
 touches write n = nat_lt write.0 (BLOCK_SIZE * n + BLOCK_SIZE) && nat_lt (BLOCK_SIZE * n) (write.0 + write.1)
 
@@ -83,7 +83,7 @@ pub record AddsZeros (from to : ℕ) (old new : FileState) : Type 0 where
 abbrev pub AddsZerosIn : ℕ → ℕ → FileState → FileState → Type 0
 AddsZerosIn from to old new = BLOCK_SIZE * from ≤ length old.bytes → AddsZeros from to old new
 
--- what stands in a file behind so many blocks is as it was
+-- what stands in a file after this many blocks is as it was
 abbrev pub KeepsBehind : ℕ → FileState → FileState → Type 0
 KeepsBehind count old new = drop (BLOCK_SIZE * count) new.bytes ≡ drop (BLOCK_SIZE * count) old.bytes
 
@@ -105,15 +105,15 @@ pub record IsPart (part : Part) (s : DiskState) : Type 0 where
   pub now : s.now ≡ file_medium part
   pub past : s.past ≡ []
 
--- so many blocks of this file that was there, all of them sure, and no call was made of the disk so far
+-- this many blocks of this file that was there, all of them sure, and no call was made of the disk so far
 abbrev pub IsOver : ℕ → FileState → DiskState → Type 0
 IsOver count file s = IsPart (record { file = file; blocks = count; sure = count }) s
 
--- so many blocks of this file that was just made, none of them sure, and no call was made of the disk so far
+-- this many blocks of this file that was just made, none of them sure, and no call was made of the disk so far
 abbrev pub IsMade : ℕ → FileState → DiskState → Type 0
 IsMade count file s = IsPart (record { file = file; blocks = count; sure = 0 }) s
 
--- the first blocks of a file, of which so many are sure
+-- the first blocks of a file, of which this many are sure
 abbrev pub part_with : FileState → ℕ → ℕ → Part
 part_with file count sure = record { file = file; blocks = count; sure = sure }
 
@@ -168,19 +168,19 @@ module _ {F : Type 0} where
         past = map file_medium past;
       }
 
-  -- a disk of so many blocks of its file, which was there
+  -- a disk of this many blocks of its file, which was there
   abbrev pub IsOverFile : (F → FileState) → ℕ → FileDisk F → Type 0
   IsOverFile state count disk = IsOver count (state (file_of disk)) (file_state state disk)
 
-  -- a disk of so many blocks of its file, which was just made
+  -- a disk of this many blocks of its file, which was just made
   abbrev pub IsMadeFile : (F → FileState) → ℕ → FileDisk F → Type 0
   IsMadeFile state count disk = IsMade count (state (file_of disk)) (file_state state disk)
 
-  -- where its file is honest, an honest disk of the whole blocks of the file that this was
+  -- if its file is honest, an honest disk of the whole blocks of the file that this was
   abbrev pub OpensFile : (F → FileState) → F → FileDisk F → Type 0
   OpensFile state file disk = (state (file_of disk)).honest ≡ true → IsOpened (state file) (file_state state disk)
 
-  -- where its file is honest, and this file that it was had no bytes, an honest disk of zero blocks
+  -- if its file is honest, and this file that it was had no bytes, an honest disk of zero blocks
   abbrev pub StartsZero : (F → FileState) → F → FileDisk F → Type 0
   StartsZero state file disk = (state (file_of disk)).honest ≡ true → (state file).bytes ≡ [] → IsZero (file_state state disk)
 
@@ -189,12 +189,12 @@ module _ {F : Type 0} where
   EndsItsFile state file disk =
       (state (file_of disk)).honest ≡ true → (state file).bytes ≡ [] → length (state (file_of disk)).bytes ≡ BLOCK_SIZE * disk.blocks
 
-  -- where it is honest after it, the blocks that it got were written to its file as zeros
+  -- if it is honest after it, the blocks that it got were written to its file as zeros
   abbrev pub GetsZeros : (F → FileState) → FileDisk F → FileDisk F → Type 0
   GetsZeros state old new =
       (file_state state new).honest ≡ true → AddsZeros old.blocks new.blocks (state (file_of old)) (state (file_of new))
 
-  -- where it is honest after it, what stands in its file behind so many blocks is as it was
+  -- if it is honest after it, what stands in its file after this many blocks is as it was
   abbrev pub LeavesBehind : (F → FileState) → ℕ → FileDisk F → FileDisk F → Type 0
   LeavesBehind state count old new =
       (file_state state new).honest ≡ true → KeepsBehind count (state (file_of old)) (state (file_of new))

@@ -2,7 +2,7 @@
 use Rattle.std.specs.Prelude.{◌≡◌, ◌⊎◌, ℕ, ◌+◌, ◌<◌, ◌≤◌, List, [], ◌∷◌, length}
 use Rattle.vm_disk.specs.Disk.{Contents, DiskState, IsClean, MayLeave, Medium, moment}
 
--- at moment t, one of so many, a disk held this
+-- at moment t, one of this many, a disk held this
 abbrev pub HeldPast : List Medium → ℕ → Medium → Type 0
 HeldPast [] t held = ⊥
 HeldPast (m ∷ earlier) t held = ((t ≡ length earlier) × (held ≡ m)) ⊎ HeldPast earlier t held
@@ -11,7 +11,7 @@ HeldPast (m ∷ earlier) t held = ((t ≡ length earlier) × (held ≡ m)) ⊎ H
 abbrev pub HeldAt : DiskState → ℕ → Medium → Type 0
 HeldAt s t held = HeldPast (s.now ∷ s.past) t held
 
--- what a crash below leaves, one above may leave; and where all is clean above, both hold the same
+-- what a crash below leaves, one above may leave; and if all is clean above, both hold the same
 pub record IsUnder (above below : Medium) : Type 0 where
   pub left : (left : Contents) → MayLeave below left → MayLeave above left
   pub clean : IsClean above → below ≡ above

@@ -82,7 +82,7 @@ module _ {D : Type 0} where
   abbrev pub Passes : (D → DiskState) → (DiskState → DiskState → Type 0) → FuseDisk D → FuseDisk D → Type 0
   Passes state R old new = fails_next old ≡ false → R (state (inner_of old)) (state (inner_of new))
 
-  -- a write that it fails: where the disk below is honest and did not fail it too, block n holds the bytes that such a write leaves
+  -- a write that it fails: if the disk below is honest and did not fail it too, block n holds the bytes that such a write leaves
   abbrev pub Tears : (D → DiskState) → ℕ → FuseDisk D → FuseDisk D → Type 0
   Tears state n old new =
       fails_next old ≡ true → (state (inner_of new)).honest ≡ true

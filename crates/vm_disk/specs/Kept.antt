@@ -19,7 +19,7 @@ rooms_in rooms = map (λ entry. (entry.0, entry.1.value)) rooms.entries
 abbrev pub keeps : ℕ → Entries → Bool
 keeps n entries = is_some (lookup (nat_eq n) entries)
 
--- once block n was used and has these bytes: it is the first, and where one more would be too many the last one goes
+-- once block n was used and has these bytes: it is the first, and if one more would be too many the last one goes
 abbrev pub with_first : ℕ → ℕ → List ℕ → Entries → Entries
 with_first limit n bytes entries = (n, bytes) ∷ (if keeps n entries then remove_entry (nat_eq n) entries else take (limit - 1) entries)
 
@@ -54,7 +54,7 @@ pub record Settings (old new : Kept) : Type 0 where
   pub limit : limit_of new ≡ limit_of old
   pub refusals : refusals_in new ≡ refusals_in old
 
--- block n comes first, with these bytes, and where one more would be too many the last one goes
+-- block n comes first, with these bytes, and if one more would be too many the last one goes
 abbrev pub ComesFirst : ℕ → List ℕ → Kept → Kept → Type 0
 ComesFirst n bytes old new = entries_of new ≡ with_first (limit_of old) n bytes (entries_of old)
 
@@ -64,20 +64,20 @@ ComesFirstOrNot n bytes old new =
     (refusals_in new ≡ refusals_in old) × ComesFirst n bytes old new
     ⊎ ((refusals_in new ≡ refusals_in old + 1) × (entries_of new ≡ entries_of old))
 
--- block n was used and has these bytes: it is kept, as the first, but where memory for it was refused; for a block that was kept before, none was asked
+-- block n was used and has these bytes: it is kept, as the first, unless memory for it was refused; for a block that was kept before, none was asked
 pub record UsesBlock (n : ℕ) (bytes : List ℕ) (old new : Kept) : Type 0 where
   pub capacity : limit_of new ≡ limit_of old
   pub kept : refusals_in new ≡ refusals_in old → entries_of new ≡ with_first (limit_of old) n bytes (entries_of old)
   pub refused : refusals_in new ≢ refusals_in old → entries_of new ≡ entries_of old
   pub known : keeps n (entries_of old) ≡ true → refusals_in new ≡ refusals_in old
 
--- so many of the blocks in a row from the first one on were used with these bytes, one after another
+-- this many of the blocks in a row from the first one on were used with these bytes, one after another
 abbrev pub UsesBlocks : ℕ → List (List ℕ) → ℕ → Kept → Kept → Type 0
 UsesBlocks first blocks zero old new = new ≡ old
 UsesBlocks first blocks (suc count) old new =
     (mid : Kept) × (UsesBlocks first blocks count old mid × UsesBlock (first + count) (slice_index_or blocks count []) mid new)
 
--- without so many blocks in a row from the first one on
+-- without this many blocks in a row from the first one on
 abbrev pub without_run : ℕ → ℕ → Entries → Entries
 without_run first zero entries = entries
 without_run first (suc count) entries = remove_entry (nat_eq (first + count)) (without_run first count entries)

@@ -51,7 +51,7 @@ pub record TouchesDirty (above : Medium) (old new : DiskState) : Type 0 where
   pub touches : Throughout old before_last (TouchesOnly above.dirty old.now)
   pub last : Elapses before_last new
 
--- what a late disk was at a moment, and the moment of the disk below then
+-- what a delayed disk was at a moment, and the moment of the disk below then
 pub record Rest : Type 0 where
   pub time : ℕ
   pub medium : Medium
@@ -72,7 +72,7 @@ pub record IsCovered (lower : DiskState) (now : Rest) (rests : List Rest) : Type
   pub first : time_at (now ∷ rests) 0 ≡ 0
   pub each : (i : ℕ) (rest next : Rest) → slice_get rests i ≡ Some rest → slice_get (now ∷ rests) i ≡ Some next → Covers lower rest next
 
--- the moments before a late disk was made are those of the disk below
+-- the moments before a delayed disk was made are those of the disk below
 abbrev pub rests_before : List Medium → List Rest
 rests_before [] = []
 rests_before (m ∷ earlier) = record { time = length earlier; medium = m } ∷ rests_before earlier

@@ -16,7 +16,7 @@ abbrev pub some_or : Option (List ℕ) → List ℕ → List ℕ
 some_or None bytes = bytes
 some_or (Some other) bytes = other
 
--- the bytes at hand, where those are at hand below
+-- the bytes at hand, if those are at hand below
 abbrev pub at_hand : Hand → Waiting → List ℕ → List ℕ
 at_hand Waits waiting below = some_or (first_in (rooms_in waiting.rooms)) below
 at_hand (Kept n) waiting below = some_or (written_for waiting n) below
@@ -39,7 +39,7 @@ module _ {D : Type 0} {members : _} where
   abbrev pub layers_hand : (D → List ℕ) → Layers D members → List ℕ
   layers_hand hand layers = at_hand layers.at (waiting_of layers) (hand (lower_of layers))
 
-  -- what is known of them, but for their past and the reads
+  -- what is known of them, except for their past and the reads
   abbrev pub layers_state : (D → DiskState) → Layers D members → DiskState
   layers_state state layers =
       let below = state (lower_of layers) in record {
@@ -55,7 +55,7 @@ module _ {D : Type 0} {members : _} where
   abbrev pub called : (D → DiskState) → Layers D members → Layers D members → DiskState
   called state old new = record (layers_state state new) { past = medium_of state old ∷ [] }
 
-  -- where the disk below is honest after a call, R holds between what is known before it and what is known after it
+  -- if the disk below is honest after a call, R holds between what is known before it and what is known after it
   abbrev pub IfHonestBelow : (D → DiskState) → (DiskState → DiskState → Type 0) → Layers D members → Layers D members → Type 0
   IfHonestBelow state R old new = (state (lower_of new)).honest ≡ true → R (layers_state state old) (called state old new)
 
@@ -64,7 +64,7 @@ module _ {D : Type 0} {members : _} where
     pub same : medium_of state new ≡ medium_of state old
     pub touches : Throughout (state (lower_of old)) (state (lower_of new)) (TouchesOnly (medium_of state old).dirty (state (lower_of old)).now)
 
-  -- where block n waited, fewer blocks wait now
+  -- if block n waited, fewer blocks wait now
   abbrev pub FewerWait : ℕ → Layers D members → Layers D members → Type 0
   FewerWait n old new = waits (waiting_of old) n ≡ true → count_of (waiting_of new) < count_of (waiting_of old)
 
@@ -76,11 +76,11 @@ module _ {D : Type 0} {members : _} where
   abbrev pub KeepsLimit : Layers D members → Layers D members → Type 0
   KeepsLimit old new = limit_of (waiting_of new) ≡ limit_of (waiting_of old)
 
-  -- where block n waited, the call succeeds, and the disk below was not asked
+  -- if block n waited, the call succeeds, and the disk below was not asked
   abbrev pub AnswersHere : {T : Type 0} → ℕ → Result T DeviceFault → Layers D members → Layers D members → Type 0
   AnswersHere n result old new = waits (waiting_of old) n ≡ true → (lower_of new ≡ lower_of old) × IsOk result
 
-  -- but for its last call, the disk below was touched just where it is dirty above
+  -- except for its last call, the disk below was touched exactly where it is dirty above
   abbrev pub IsApart : (D → DiskState) → Layers D members → Layers D members → Type 0
   IsApart state old new = TouchesDirty (medium_of state old) (state (lower_of old)) (state (lower_of new))
 

@@ -34,11 +34,11 @@ memory_state m =
       past = map medium_of (noted m.past);
     }
 
--- the block at its place, or zeros where there is none
+-- the block at its place, or zeros if there is none
 abbrev pub memory_hand : MemDisk → List ℕ
 memory_hand m = slice_index_or m.platter.blocks.items m.at (replicate BLOCK_SIZE 0)
 
--- a disk just made: so many blocks of zero bytes, none dirty and all sure, and no call so far
+-- a disk just made: this many blocks of zero bytes, none dirty and all sure, and no call so far
 pub record IsBlank (count : ℕ) (s : DiskState) : Type 0 where
   pub blocks : s.blocks ≡ count
   pub zero : s.now.contents ≡ replicate count (replicate BLOCK_SIZE 0)
@@ -61,7 +61,7 @@ refilled m fill n = if m.dirty n then filled fill n (block m.contents n) else bl
 abbrev pub IsRefilled : List (ℕ × List ℕ) → Medium → Medium → Type 0
 IsRefilled fill old new = (n : ℕ) → block new.contents n ≡ refilled old fill n
 
--- so it is with the first so many blocks
+-- so it is with this many blocks from the first one on
 abbrev pub IsRefilledBelow : ℕ → List (ℕ × List ℕ) → Medium → Medium → Type 0
 IsRefilledBelow count fill old new = (n : ℕ) → n < count → block new.contents n ≡ refilled old fill n
 
@@ -69,10 +69,10 @@ IsRefilledBelow count fill old new = (n : ℕ) → n < count → block new.conte
 abbrev pub IsRefilledAt : ℕ → List ℕ → Medium → Medium → Type 0
 IsRefilledAt n bytes old new = (k : ℕ) → block new.contents k ≡ (if old.dirty k && n == k then bytes else block old.contents k)
 
--- zero blocks were added until there are so many
+-- zero blocks were added until there are this many
 abbrev pub GetsZeros : ℕ → DiskState → DiskState → Type 0
 GetsZeros count old new = new.now.contents ≡ filled_up count (replicate BLOCK_SIZE 0) old.now.contents
 
--- all is as it was, but that one more call failed
+-- all is as it was, except that one more call failed
 abbrev pub JustFails : DiskState → DiskState → Type 0
 JustFails old new = new ≡ record old { failures = old.failures + 1 }

@@ -28,14 +28,14 @@ Leaves P m = (left : Contents) → MayLeave m left → P left
 abbrev pub LeavesOnly : DiskState → DiskState → (Contents → Type 0) → Type 0
 LeavesOnly old new P = (t : ℕ) (left : Contents) → moment old ≤ t → LeftAt new t left → P left
 
--- each block outside those that may be touched keeps its bytes, and stays clean where it was; no fewer blocks are sure
+-- each block outside those that may be touched keeps its bytes, and stays clean if it was; no fewer blocks are sure
 pub record TouchesOnly (touched : ℕ → Bool) (old new : Medium) : Type 0 where
   pub count : length new.contents ≡ length old.contents
   pub same : (n : ℕ) → touched n ≡ false → block new.contents n ≡ block old.contents n
   pub clean : (n : ℕ) → touched n ≡ false → old.dirty n ≡ false → new.dirty n ≡ false
   pub sure : old.sure ≤ new.sure
 
--- block k is one of so many in a row
+-- block k is one of this many in a row
 abbrev pub in_run : ℕ → ℕ → ℕ → Bool
 in_run first count k = nat_le first k && nat_lt k (first + count)
 
@@ -45,7 +45,7 @@ pub record CleanAsBefore (old new : Medium) : Type 0 where
   pub clean : (n : ℕ) → new.dirty n ≡ false → old.dirty n ≡ false
 
 -- what a write of blocks in a row does, on a disk that is honest after it: at no moment another block is touched, and at each
--- every block that is clean is as it was; where it fails, each of the row that is dirty then holds any bytes
+-- every block that is clean is as it was; if it fails, each of the row that is dirty then holds any bytes
 pub record WritesRun {T : Type 0} (first : ℕ) (blocks : List (List ℕ)) (result : Result T DeviceFault) (old new : DiskState) : Type 0 where
   pub written : OnOk result ((i : ℕ) → i < length blocks → block new.now.contents (first + i) ≡ slice_index_or blocks i [])
   pub dirty : OnOk result ((i : ℕ) → i < length blocks → new.now.dirty (first + i) ≡ true)

@@ -8,12 +8,12 @@ pub record FileState : Type 0 where
   -- it has kept the rules of a file in every call so far
   pub honest : Bool
   pub bytes : List ℕ
-  -- the writes that no sync has made last yet, the newest first: where each begins, and how many bytes it has
+  -- the writes that no sync has made durable yet, the newest first: where each begins, and how many bytes it has
   pub waiting : List (ℕ × ℕ)
   -- how many calls failed
   pub failures : ℕ
 
--- where the file is honest after it, R holds between what is known before and what is known after
+-- if the file is honest after it, R holds between what is known before and what is known after
 abbrev pub IfHonestFile : {T : Type 0} → (T → FileState) → (FileState → FileState → Type 0) → T → T → Type 0
 IfHonestFile state R old new = (state new).honest ≡ true → R (state old) (state new)
 
@@ -21,21 +21,21 @@ IfHonestFile state R old new = (state new).honest ≡ true → R (state old) (st
 abbrev pub overwritten : ℕ → List ℕ → List ℕ → List ℕ
 overwritten offset bytes old = take offset old ++ bytes ++ drop (offset + length bytes) old
 
--- the bytes of blocks, one behind another
+-- the bytes of blocks, one after another
 abbrev pub joined : List (List ℕ) → List ℕ
 joined blocks = flat_map (λ bytes. bytes) blocks
 
--- so many zero bytes
+-- this many zero bytes
 abbrev pub zeros : ℕ → List ℕ
 zeros count = replicate count 0
 
--- a write of some bytes, at most so many, whatever they are
+-- a write of some bytes, at most this many, whatever they are
 pub record IsTorn (offset count : ℕ) (old new : List ℕ) : Type 0 where
   pub bytes : List ℕ
   pub few : length bytes ≤ count
   pub written : new ≡ overwritten offset bytes old
 
--- what each call does, on any file: one that is honest after it was so before, and the count of failures rises just where it fails
+-- what each call does, on any file: one that is honest after it was so before, and the count of failures rises exactly if it fails
 pub record CountsFailures {T E : Type 0} (result : Result T E) (old new : FileState) : Type 0 where
   pub earlier : new.honest ≡ true → old.honest ≡ true
   pub rising : old.failures ≤ new.failures
@@ -48,7 +48,7 @@ pub record ReadsAt {T : Type 0} (offset : ℕ) (bytes : List ℕ) (result : Resu
   pub same : new.bytes ≡ old.bytes
   pub same_waiting : new.waiting ≡ old.waiting
 
--- what a write does, on a file that is honest after it: where it fails, it may have written any bytes there
+-- what a write does, on a file that is honest after it: if it fails, it may have written any bytes there
 pub record WritesAt {T : Type 0} (offset : ℕ) (bytes : List ℕ) (result : Result T DeviceFault) (old new : FileState) : Type 0 where
   pub written : OnOk result (new.bytes ≡ overwritten offset bytes old.bytes)
   pub torn : OnErr result (IsTorn offset (length bytes) old.bytes new.bytes)

@@ -5,7 +5,7 @@ use Rattle.std.specs.Option.{option_eq}
 use Rattle.std.specs.Ordering.{int_eq}
 use Rattle.std.specs.declared.io.Error.{Error}
 
--- a sync that the system answered so made all writes last: it succeeded, or the file was opened to be read alone, so that there is
+-- a sync that the system answered so made all writes durable: it succeeded, or the file was opened for reading only, so that there is
 -- nothing to sync, and the system says that it has no such call of it (EINVAL, 22)
 abbrev pub counts_as_synced : Bool → Result (Unit {0}) Error → Bool
 counts_as_synced reads_alone (Ok t) = true

@@ -11,7 +11,7 @@ use Rattle.vm_disk.specs.Past.{noted}
 use Rattle.vm_disk.specs.Positional.{FileState, IfHonestFile, overwritten, joined}
 use Rattle.vm_disk.specs.Syncs.{counts_as_synced}
 
--- what stands in a file after these calls, the newest first, where it held these bytes at first, and failed writes left those
+-- what stands in a file after these calls, the newest first, if it held these bytes at first, and failed writes left those
 abbrev pub bytes_after : List ℕ → (ℕ → List ℕ) → List Call → List ℕ
 bytes_after first torn [] = first
 bytes_after first torn (Created ∷ calls) = []
@@ -82,7 +82,7 @@ opening_calls how = if asks_create_new how then Created ∷ [] else []
 abbrev pub fresh : List ℕ → FileState
 fresh bytes = record { honest = true; bytes = bytes; waiting = []; failures = 0 }
 
--- a file after these calls, which was opened to be read alone or not
+-- a file after these calls, which was opened for reading only or not
 abbrev pub state_after : Bool → List ℕ → (ℕ → List ℕ) → List Call → FileState
 state_after reads_alone first torn calls =
     record {
@@ -92,7 +92,7 @@ state_after reads_alone first torn calls =
       failures = failures_after reads_alone calls;
     }
 
--- the bytes that a file held, none where there was none
+-- the bytes that a file held, none if there was none
 abbrev pub held_bytes : Option (List ℕ) → List ℕ
 held_bytes None = []
 held_bytes (Some bytes) = bytes
@@ -105,7 +105,7 @@ name_of file = reverse (noted file.name)
 abbrev pub opening_of : {W : Type 0} → SystemFile W → ℕ
 opening_of file = length (noted file.opened.value)
 
--- it was opened to be read alone
+-- it was opened for reading only
 abbrev pub is_read_alone : {W : Type 0} → SystemFile W → Bool
 is_read_alone file = file.reads_alone
 
@@ -146,7 +146,7 @@ abbrev pub Rewrites : {T W : Type 0} → ℕ → Result T DeviceFault → System
 Rewrites offset result old new = OnOk result (IsRewritten offset (noted old.calls) (noted new.calls))
 
 module _ {W : Type 0} (held : ℕ → List ℕ → Option (List ℕ)) (torn : ℕ → List ℕ → ℕ → List ℕ) where
-  -- a file of this name that was opened after these others, to be read alone or not, and of which these calls were made
+  -- a file of this name that was opened after these others, for reading only or not, and of which these calls were made
   abbrev pub IsAfter : Bool → List (Unit {0}) → List ℕ → List Call → SystemFile W → Type 0
   IsAfter reads_alone opened name calls file =
       let opening = length opened in
@@ -156,7 +156,7 @@ module _ {W : Type 0} (held : ℕ → List ℕ → Option (List ℕ)) (torn : �
   abbrev pub IsFresh : List (Unit {0}) → List ℕ → SystemFile W → Type 0
   IsFresh opened name file = system_state held torn file ≡ fresh (held_bytes (held (length opened) name))
 
-  -- where the file is honest after it, R holds between what it shows before and after
+  -- if the file is honest after it, R holds between what it shows before and after
   abbrev pub IfHonestIn : (FileState → FileState → Type 0) → SystemFile W → SystemFile W → Type 0
   IfHonestIn R old new = IfHonestFile (system_state held torn) R old new
 
@@ -164,10 +164,10 @@ module _ {W : Type 0} (held : ℕ → List ℕ → Option (List ℕ)) (torn : �
   abbrev pub StaysHonestIn : SystemFile W → SystemFile W → Type 0
   StaysHonestIn old new = (system_state held torn old).honest ≡ true → (system_state held torn new).honest ≡ true
 
-  -- it stays honest where its bytes are such
+  -- it stays honest if its bytes are such
   abbrev pub StaysHonestWhere : (List ℕ → Type 0) → SystemFile W → SystemFile W → Type 0
   StaysHonestWhere P old new = P (system_state held torn old).bytes → StaysHonestIn old new
 
-  -- where the file was opened to be read alone, the write was not made
+  -- if the file was opened for reading only, the write was not made
   abbrev pub Withholds : {T : Type 0} → Result T DeviceFault → SystemFile W → SystemFile W → Type 0
   Withholds result old new = is_read_alone old ≡ true → IsWithheld result (system_state held torn old) (system_state held torn new)

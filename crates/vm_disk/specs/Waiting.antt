@@ -33,7 +33,7 @@ waits waiting n = is_some (bytes_for waiting n)
 abbrev pub count_of : Waiting → ℕ
 count_of waiting = length waiting.rooms.entries
 
--- block n waits with these bytes, or no longer where there are none, and all others wait as before
+-- block n waits with these bytes, or no longer if there are none, and all others wait as before
 abbrev pub ChangesOne : ℕ → Option (List ℕ) → Waiting → Waiting → Type 0
 ChangesOne n bytes old new = (k : ℕ) → bytes_for new k ≡ update nat_eq (bytes_for old) n bytes k
 

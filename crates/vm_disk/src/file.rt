@@ -14,8 +14,8 @@ use vm_types::{BLOCK_SIZE, Block, BlockNumber};
 /// The size of a block in bytes.
 const BLOCK: u64 = BLOCK_SIZE as u64;
 
-/// How many zero blocks are written with one call.
-const AT_ONCE: u32 = 16;
+/// How many zero blocks are added with one call.
+const AT_ONCE: u32 = 16_384;
 
 /// The state of a disk over a file before a call, for contracts alone.
 struct Earlier<F> {
@@ -88,8 +88,8 @@ impl<F: Positional> FileDisk<F> {
         Ok(FileDisk::over(file, blocks))
     }
 
-    /// Writes zero blocks to an empty file and makes it a disk of them. None of them is sure before
-    /// a sync. If they could not all be written, the file comes back.
+    /// Adds zero blocks to an empty file and makes it a disk of them. None of them is sure before
+    /// a sync. If they could not all be added, the file comes back.
     pub fn create(mut file: F, blocks: u32) -> Result<FileDisk<F>, F>
         ensures any { CountsFailures result (F.state file) (F.state (file_left result)) }
         ensures made { IfOk result (IsMadeFile F.state blocks) }
@@ -139,8 +139,8 @@ impl<F: Positional> FileDisk<F> {
         }
     }
 
-    /// Writes zero blocks to a file, several per call, from block `done` up to block `blocks`, and
-    /// nothing behind them. `done` counts the blocks that were written.
+    /// Adds zero blocks to a file, many per call, from block `done` up to block `blocks`, and nothing
+    /// after them. `done` counts the blocks that were added.
     fn write_zeros(file: &mut F, done: &mut u32, blocks: u32) -> Result<(), DeviceFault>
         requires { done.old ≤ blocks }
         ensures any { CountsFailures result (F.state file.old) (F.state file.new) }
@@ -273,7 +273,7 @@ impl<F: Positional> Disk for FileDisk<F> {
         ensures any { Between (file_state F.state) (Extends blocks result) self.old self.new }
         ensures honest { IfHonest (file_state F.state) Enlarges self.old self.new }
 
-        // The new blocks are written to the file as zeros, and nothing behind them.
+        // The new blocks of the file are zeros, and nothing after them changes.
         ensures zero { GetsZeros F.state self.old self.new }
         ensures behind { LeavesBehind F.state blocks self.old self.new }
         ensures stays { StaysHonest F.state self.old self.new }

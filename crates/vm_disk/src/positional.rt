@@ -5,8 +5,8 @@ ghost use Rattle.vm_disk.specs.Positional.{FileState, IfHonestFile, joined, zero
 use crate::disk::DeviceFault;
 use vm_types::Block;
 
-/// The maximum number of zeros that one call writes.
-pub const MAX_ZEROS: usize = 65536;
+/// The maximum number of zeros that one call adds: 64 MiB.
+pub const MAX_ZEROS: usize = 67_108_864;
 
 /// A file with positioned reads and writes. An offset counts bytes from the start of the file.
 ///
@@ -36,7 +36,8 @@ pub trait Positional {
         ensures any { CountsFailures result (state self.old) (state self.new) }
         ensures honest { IfHonestFile state (WritesIn offset (joined from.now) result) self.old self.new };
 
-    /// Writes `count` zeros, as `write_at` writes bytes.
+    /// Makes `count` bytes from an offset on zero, as `write_at` writes bytes. At the end of a file
+    /// they may be a hole, which takes no room on the device.
     fn write_zeros_at(&mut self, count: usize, offset: u64) -> Result<(), DeviceFault>
         requires { count ≤ MAX_ZEROS }
         ensures any { CountsFailures result (state self.old) (state self.new) }

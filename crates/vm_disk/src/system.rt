@@ -116,6 +116,25 @@ fn length_of(mut file: &File) -> io::Result<u64> {
     file.seek(SeekFrom::End(0))
 }
 
+/// How many zeros one write has.
+const ZEROS_AT_ONCE: usize = 65_536;
+
+/// Makes `count` bytes of a file from an offset on zero. Where a plain file ends, or before, they
+/// are a hole: they are read as zeros, and take no room before they are written.
+fn make_zero(file: &File, count: usize, offset: u64) -> io::Result<()> {
+    let metadata = file.metadata()?;
+    if metadata.is_file() && metadata.len() <= offset {
+        return file.set_len(offset.saturating_add(count as u64));
+    }
+    let zeros = [0; ZEROS_AT_ONCE];
+    for i in 0..count.div_ceil(ZEROS_AT_ONCE) {
+        let done = i.saturating_mul(ZEROS_AT_ONCE);
+        let more = count.saturating_sub(done).min(ZEROS_AT_ONCE);
+        file.write_all_at(&zeros[..more], offset.saturating_add(done as u64))?;
+    }
+    Ok(())
+}
+
 /// Whether all writes are durable after a sync with this answer. Some file systems that cannot be
 /// written answer that there is nothing to sync. That counts for a file that was opened read only.
 fn is_synced(reads_alone: bool, answer: &io::Result<()>) -> bool
@@ -373,8 +392,7 @@ impl<W: World> Positional for SystemFile<W> {
             self.calls.note(&Call::Withheld(offset, count));
             return Err(DeviceFault);
         }
-        let zeros = [0; MAX_ZEROS];
-        if self.file.write_all_at(&zeros[..count], offset).is_err() {
+        if make_zero(&self.file, count, offset).is_err() {
             self.calls.note(&Call::Torn(offset, count));
             return Err(DeviceFault);
         }

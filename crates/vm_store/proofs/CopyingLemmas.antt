@@ -108,7 +108,7 @@ unused_copied x y kept limit numbers unused room = record {
 
 -- # The entries of the copies
 
-module _ (limit : ℕ) (numbers : Renumbering) (given : AreGiven numbers) (within : next_of numbers ≤ limit) (most : limit ≤ 2 ^ 20) where
+module _ (limit : ℕ) (numbers : Renumbering) (given : AreGiven numbers) (within : next_of numbers ≤ limit) (most : limit ≤ 2 ^ 26) where
   copy_small : (root copy : Root) → RootCopied numbers root copy → copy.block < 2 ^ 32
   copy_small root copy (inl none) = omega (arith, none.0, ap (λ (r : Root). r.block) none.1)
   copy_small root copy (inr some) = omega (arith, given.high root.block some.1, ap (λ (r : Root). r.block) some.2)
@@ -143,7 +143,7 @@ module _ (limit : ℕ) (numbers : Renumbering) (given : AreGiven numbers) (withi
       record { head = record { least = least; most = most; some = alike.head.some; few = alike.head.few }; each = alike.each; ledger = alike.ledger }
 
 -- the maps of the tree lie under the entries of the copies
-pub maps_copied : (tree : Tree) (x : Contents) (m : Medium) (kept limit : ℕ) (numbers : Renumbering) (vs : List Version) (es : List Entry) → 64 ≤ limit → limit ≤ 2 ^ 20 → HasVersions tree kept vs x
+pub maps_copied : (tree : Tree) (x : Contents) (m : Medium) (kept limit : ℕ) (numbers : Renumbering) (vs : List Version) (es : List Entry) → 64 ≤ limit → limit ≤ 2 ^ 26 → HasVersions tree kept vs x
     → EntriesCopied x m.contents limit numbers vs es → HasMaps tree limit es m
 maps_copied tree x m kept limit numbers vs es least most has copied = record {
   versions = copied.copies;

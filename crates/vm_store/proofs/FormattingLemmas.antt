@@ -33,7 +33,7 @@ abbrev fresh_version : Version
 fresh_version = record { kind = kind.Alternative; name = fresh_entry.name; owner = None; current = no_root; base = no_root }
 
 -- the one entry of a new store may stand in a slot
-pub fresh_fits : (blocks : ℕ) → 64 ≤ blocks → blocks ≤ 2 ^ 20 → IsName fresh_entry.name → SlotFits blocks (fresh_entry ∷ [])
+pub fresh_fits : (blocks : ℕ) → 64 ≤ blocks → blocks ≤ 2 ^ 26 → IsName fresh_entry.name → SlotFits blocks (fresh_entry ∷ [])
 fresh_fits blocks least most name = record {
   head = record { least = least; most = most; some = omega arith; few = omega arith };
   each = (record { name = name; owner = tt; current = omega arith; base = omega arith }, tt);
@@ -49,7 +49,7 @@ top_is_name = record {
 }
 
 -- under the one entry of a new store lie no maps
-pub fresh_maps : (blocks : ℕ) (es : List Entry) (m : Medium) → es ≡ fresh_entry ∷ [] → 64 ≤ blocks → blocks ≤ 2 ^ 20 → HasMaps fresh blocks es m
+pub fresh_maps : (blocks : ℕ) (es : List Entry) (m : Medium) → es ≡ fresh_entry ∷ [] → 64 ≤ blocks → blocks ≤ 2 ^ 26 → HasMaps fresh blocks es m
 fresh_maps blocks es m is least most = record {
   versions = fresh_version ∷ [];
   filed = record { kind = kind.Alternative; name = fresh_entry.name; owner = None; current = []; base = [] } ∷ [];

@@ -59,7 +59,7 @@ longer_unsynced old new larger =
 
 module _ (old new : Medium) (longer : Lengthens old new) (limit more : ℕ) (slot_name : SlotName) (bits after : List Bool) (committed working : List Version) (s : State)
     (rests : Rests old limit slot_name bits committed working s) (still : (n : ℕ) → IsHeld bits n → IsHeld after n)
-    (few : limit ≤ more) (inside : more ≤ length new.contents) (most : more ≤ 2 ^ 20) where
+    (few : limit ≤ more) (inside : more ≤ length new.contents) (most : more ≤ 2 ^ 26) where
   -- the blocks of the slot in use were there before
   used_inside : (n : ℕ) → is_used slot_name (length (slot_entries committed)) n ≡ true → n < length old.contents
   used_inside n used =

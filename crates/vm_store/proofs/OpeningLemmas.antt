@@ -1,6 +1,6 @@
 -- An opening: a sync, and reads that find a store or why there is none.
-use Rattle.std.proofs.Common.{◌≡◌, ◌≢◌, inl, inr, ⊎_elim, ℕ, ◌<◌, ◌≤◌, Bool, List, [], ◌∷◌, ◌++◌, length, replicate, false, Result, Ok, Err, refl, sym, ap, ◌∙◌, subst, arith}
-use Rattle.vm_types.specs.State.{State, opened}
+use Rattle.std.proofs.Common.{◌≡◌, ◌≢◌, inl, inr, ⊎_elim, ℕ, ◌<◌, ◌≤◌, Bool, List, [], ◌∷◌, ◌++◌, length, replicate, false, Result, Ok, Err, IfOk, refl, sym, ap, ◌∙◌, subst, arith}
+use Rattle.vm_types.specs.State.{Seen, State, opened}
 use Rattle.vm_types.specs.declared.refusal.Refusal.{Refusal}
 use Rattle.vm_types.specs.declared.refusal.Refusal.TheVariants as refusal
 use Rattle.vm_disk.specs.Disk.{Contents, DiskState, IsClean, Medium, Syncs}
@@ -16,7 +16,7 @@ use Rattle.vm_block.specs.declared.selector.SlotName.{SlotName}
 use Rattle.std.proofs.lemmas.List.{length-replicate}
 use Rattle.std.proofs.lemmas.List.Elements.{Contains-append_left}
 use Rattle.vm_block.proofs.EachLemmas.{each_front, each_back, each_join}
-use Rattle.vm_tree.specs.Tree.{IsData}
+use Rattle.vm_tree.specs.Tree.{IsData, IsTree}
 use Rattle.vm_check.specs.Marks.{MarksMore}
 use Rattle.vm_store.proofs.MarkedLemmas.{free_exactly}
 use Rattle.vm_store.proofs.MarkingLemmas.{none_marked}
@@ -38,7 +38,11 @@ use Rattle.vm_store.proofs.TopLemmas.{rooted_one, rooted_tree}
 use Rattle.vm_store.proofs.WiderLemmas.{rooted_wider}
 use Rattle.vm_store.specs.Filed.{Anywhere, Filed, Standing, reach, tree_of}
 use Rattle.vm_store.specs.Shown.{Shows, ShowsNothing}
+use Rattle.vm_check.specs.Trees.{AreTopped}
+use Rattle.vm_store.specs.Recovery.{AreRead, AreTops, PartsHold, PartsShow, PartsStandAs}
 use Rattle.vm_store.specs.Rest.{IsSafe, Rests, spare_of}
+use Rattle.vm_store.specs.declared.store.parts.Parts.{Parts}
+use Rattle.vm_store.proofs.ShownLemmas.{shown_one}
 use Rattle.vm_store.specs.Refused.{IsStore, LacksMap, IsRefused, IsSynced, IsAtMostSynced}
 use Rattle.vm_store.proofs.StandingLemmas.{standing_in, standing_data}
 
@@ -208,6 +212,59 @@ found_here x limit es first numbers lent rs marks same are is found =
 
 pub trees_here : (x : Contents) (limit : ℕ) (es first : List Entry) (numbers lent : List ℕ) → lent ≡ numbers → numbers ≡ numbers_of first → first ≡ es → HaveTrees sizes x limit (numbers_of es) → HaveTrees sizes x limit lent
 trees_here x limit es first numbers lent same are is trees = subst (HaveTrees sizes x limit) (sym (same ∙ are ∙ ap numbers_of is)) trees
+
+pub trees_back : (x : Contents) (limit : ℕ) (es first : List Entry) (numbers lent : List ℕ) → lent ≡ numbers → numbers ≡ numbers_of first → first ≡ es → HaveTrees sizes x limit lent → HaveTrees sizes x limit (numbers_of es)
+trees_back x limit es first numbers lent same are is trees = subst (HaveTrees sizes x limit) (same ∙ are ∙ ap numbers_of is) trees
+
+-- roots with maps under them are those of trees
+pub roots_trees : (x : Contents) (limit : ℕ) (ns : List ℕ) (rs : List Root) (bs : List ℕ) → AreRoots sizes x limit ns rs bs → HaveTrees sizes x limit ns
+roots_trees x limit [] rs bs are = tt
+roots_trees x limit (n ∷ ns) [] bs are = absurd are
+roots_trees x limit (n ∷ ns) (r ∷ rs) bs are =
+    ((are.0, are.1, subst (λ k. IsTree sizes x limit k are.0 are.1) are.3 (rooted_tree x limit r are.0 are.1 are.4)), roots_trees x limit ns rs are.2 are.5)
+
+-- what is said of a value that was answered
+pub ok_so : {T E : Type 0} (result : Result T E) (P Q : T → Type 0) → ((x : T) → P x → Q x) → IfOk result P → IfOk result Q
+ok_so (Ok x) P Q so is = so x is
+ok_so (Err e) P Q so is = tt
+
+-- where something is shown, each root of the slot has a map
+pub shown_trees : (x : Contents) (seen : Seen) (limit : ℕ) (es : List Entry) → Shows x seen → SlotAt x (selected x) limit es → HaveTrees sizes x limit (numbers_of es)
+shown_trees x seen limit es shown slot =
+    let same = slot_one x (selected x) seen.blocks limit (slot_entries shown.versions) es shown.names.slot slot in
+    subst (λ (l : List Entry). HaveTrees sizes x limit (numbers_of l)) same.1
+    (have_trees Anywhere x limit shown.versions shown.filed (subst (λ k. Standing Anywhere x k shown.versions shown.filed) same.0 shown.stands))
+
+pub ok_with : {T E F : Type 0} (result : Result T E) (P : T → Type 0) → IfOk result (λ _. F) → (F → IfOk result P) → IfOk result P
+ok_with (Ok x) P is so = so is
+ok_with (Err e) P is so = tt
+
+-- what was read, on a disk that was only read since
+module _ (mid new : Medium) (same : new ≡ mid) (limit : ℕ) (slot_name : SlotName) (es : List Entry) (in_use : slot_name ≡ selected mid.contents) (slot : SlotAt mid.contents slot_name limit es) where
+  pub trees_under : (seen : Seen) → Shows new.contents seen → HaveTrees sizes mid.contents limit (numbers_of es)
+  trees_under seen shown =
+      shown_trees mid.contents seen limit es (subst (λ (m : Medium). Shows m.contents seen) same shown) (subst (λ b. SlotAt mid.contents b limit es) in_use slot)
+
+  pub all_read : (result : Result Parts Refusal) → IsStore mid.contents → limit ≤ length mid.contents → IfOk result (AreTops mid.contents limit es) → IfOk result (AreRead new.contents)
+  all_read (Err refusal) store inside tops = tt
+  all_read (Ok parts) store inside tops = subst (λ (m : Medium). AreRead m.contents parts) (sym same) (record {
+    store = store;
+    entries = es;
+    slot = subst (λ k. SlotAt mid.contents (selected mid.contents) k es) (sym tops.blocks) (subst (λ b. SlotAt mid.contents b limit es) in_use slot);
+    inside = omega (arith, tops.blocks, inside);
+    tops = record {
+      roots = tops.roots;
+      blocks = refl;
+      committed = tops.committed;
+      working = tops.working;
+      topped = subst (λ k. AreTopped mid.contents k tops.roots) (sym tops.blocks) tops.topped;
+    };
+  })
+
+-- parts that stand for what is shown stand for each tree that is
+pub parts_show : (m : Medium) (result : Result Parts Refusal) → ((seen : Seen) → Shows m.contents seen → IfOk result (PartsHold m)) → IfOk result (PartsShow m)
+parts_show m (Ok parts) holds = λ seen shown. let found = holds seen shown in subst (PartsStandAs m parts) (shown_one m.contents found.seen seen found.shown shown) found.stands
+parts_show m (Err refusal) holds = tt
 
 -- the versions of lent entries and roots
 pub found_alike : (es lent : List Entry) (rs lent_roots : List Root) → lent ≡ es → lent_roots ≡ rs → versions_of lent lent_roots ≡ versions_of es rs

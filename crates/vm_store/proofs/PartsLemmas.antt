@@ -8,8 +8,8 @@ use native.Mathlib.Nat.{ℕ_set}
 
 -- parts of a store with the same fields are the same
 pub same_parts : (new old : Parts) → new.blocks ≡ old.blocks → new.kept ≡ old.kept → new.slot_name ≡ old.slot_name → new.entries ≡ old.entries → new.committed ≡ old.committed → new.working ≡ old.working → new.held ≡ old.held → new.marks ≡ old.marks
-    → new.before ≡ old.before → new.series ≡ old.series → new.changes ≡ old.changes → new ≡ old
-same_parts new old blocks kept slot_name entries committed working held marks before series changes = λ i. record {
+    → new.before ≡ old.before → new.series ≡ old.series → new.changes ≡ old.changes → new.marked ≡ old.marked → new ≡ old
+same_parts new old blocks kept slot_name entries committed working held marks before series changes marked = λ i. record {
   blocks = blocks i;
   kept = kept i;
   slot_name = slot_name i;
@@ -21,6 +21,7 @@ same_parts new old blocks kept slot_name entries committed working held marks be
   before = before i;
   series = series i;
   changes = changes i;
+  marked = marked i;
   least = is_prop→PathP (λ j. MIN_BLOCKS ≤ blocks j) (λ j. le_prop) new.least old.least i;
   most = is_prop→PathP (λ j. blocks j ≤ MAX_BLOCKS) (λ j. le_prop) new.most old.most i;
   kept_least = is_prop→PathP (λ j. MIN_BLOCKS ≤ kept j) (λ j. le_prop) new.kept_least old.kept_least i;

@@ -4,10 +4,10 @@ use Rattle.vm_types.specs.declared.answer.Answer.{Answer}
 use Rattle.vm_types.specs.declared.command.Command.{Command}
 use Rattle.vm_types.specs.declared.command.Command.TheVariants.{Back, Checkpoint, Commit, Drop, Grow, Merge, New, NewAt, Post, Put, Reclaim, Remove, Rollback, Uncheck}
 use Rattle.vm_types.specs.declared.refusal.Refusal.{Refusal}
-use Rattle.vm_types.specs.declared.refusal.Refusal.TheVariants.{Device, Failed}
+use Rattle.vm_types.specs.declared.refusal.Refusal.TheVariants.{Device, Failed, Full}
 use Rattle.vm_store.specs.Answers.{IsEarly, IsGrow}
 use Rattle.vm_store.specs.Commands.{CarriesOut, GrowsAsAsked, Performs}
-use Rattle.vm_store.specs.Store.{EarlyKeeps, EarlyLeavesDisk, GoesOn, GrowsOn, IsCarriedOut, IsNoLonger, NewAreFree, ReadsFew, ReadsOnly, disk_of, entries_of, has_failed}
+use Rattle.vm_store.specs.Store.{EarlyKeeps, EarlyLeavesDisk, FullAgain, GoesOn, GrowsOn, IsCarriedOut, IsNoLonger, MarksOnce, NewAreFree, ReadsFew, ReadsOnly, disk_of, entries_of, has_failed}
 use Rattle.vm_store.specs.declared.store.Store.{Store}
 use Rattle.vm_store.proofs.RunLemmas.{answers_on, no_failure}
 use Rattle.vm_store.proofs.VersionLemmas.{keeps_on}
@@ -18,6 +18,10 @@ same_grow b c is = cc is
 -- no early refusal is a fault of the device
 never_early : (a : Result Answer Refusal) (refusal : Refusal) → a ≡ Err refusal → a ≡ Err Device → IsEarly refusal → ⊥
 never_early a refusal is device early = let same : refusal ≡ Device = cc (is, device) in subst IsEarly same early
+
+-- nor is Full
+never_full : (a : Result Answer Refusal) → a ≡ Err Full → a ≡ Err Device → ⊥
+never_full a full device = let same : Full ≡ Device = cc (full, device) in cc
 
 module _ {D : Type 0} {members : _} where
   -- a command that is no Grow
@@ -47,6 +51,7 @@ module _ {D : Type 0} {members : _} where
     unchanged = unchanged;
     blocks = λ alone. absurd alone;
     marked = λ honest is. absurd is;
+    once = λ honest. tt;
     reads = λ honest. tt;
     few = tt;
     free = tt;
@@ -107,6 +112,34 @@ module _ {D : Type 0} {members : _} (old mid : Store D members) (failed : Bool) 
         failed = no_failure failed (λ is. never_early (Err refusal) refusal refl (noted is) early) ∙ sym sound;
       }
 
+  -- a refusal for want of blocks leaves what it left
+  full_on : (a : Result Answer Refusal) → has_failed old ≡ false → (IsTrue failed → a ≡ Err Device) → FullAgain a old mid → FullAgain a old new
+  full_on a sound noted again full s holds = (
+    (again full s holds).0,
+    λ known.
+        let was = (again full s holds).1 known in record {
+          alloc = was.alloc;
+          parts = was.parts;
+          failed = no_failure failed (λ is. never_full a full (noted is)) ∙ sym sound;
+        },
+  )
+
+  once_on : (a : Result Answer Refusal) (c : Command) → has_failed old ≡ false → (IsTrue failed → a ≡ Err Device) → MarksOnce c a old mid → MarksOnce c a old new
+  once_on a (New name parent) sound noted once = tt
+  once_on a (NewAt name parent checkpoint) sound noted once = tt
+  once_on a (Drop alt) sound noted once = tt
+  once_on a (Put alt key value) sound noted once = (full_on a sound noted once.0, once.1)
+  once_on a (Remove alt key) sound noted once = full_on a sound noted once
+  once_on a (Checkpoint alt name) sound noted once = tt
+  once_on a (Uncheck alt name) sound noted once = tt
+  once_on a (Back alt name) sound noted once = tt
+  once_on a (Merge alt settled) sound noted once = full_on a sound noted once
+  once_on a (Post alt) sound noted once = tt
+  once_on a Commit sound noted once = tt
+  once_on a Rollback sound noted once = tt
+  once_on a Reclaim sound noted once = tt
+  once_on a (Grow blocks) sound noted once = tt
+
   -- what was done is the same
   pub carries_out : (c : Command) (a : Result Answer Refusal) → has_failed old ≡ false → (IsTrue failed ↔ a ≡ Err Device) → Performs old mid c a → CarriesOut old new c a
   carries_out c a sound noted did = record {
@@ -127,6 +160,7 @@ module _ {D : Type 0} {members : _} (old mid : Store D members) (failed : Bool) 
       unchanged = early_on a sound noted.0 did.unchanged;
       blocks = did.blocks;
       marked = did.marked;
+      once = λ honest. once_on a c sound noted.0 (did.once honest);
       reads = λ honest. reads_on a c (did.reads honest);
       few = few_on a c did.few;
       free = keeps_on a old mid new (λ honest. honest) refl c did.free;

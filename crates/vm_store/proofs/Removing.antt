@@ -92,19 +92,19 @@ module _ (s : State) (name : List ℕ) (key : Key) (spare : ℕ) (deep : Type 0)
 -- ---- what is known between the look-up and the Remove
 
 -- a test whether so many blocks are spare, before reads and after them
-pub spare_after : {kept : ℕ} (old new : DiskState) (limit : ℕ) (slot_name : SlotName) (bits before : List Bool) (series : Option (List ℕ)) (committed working : List Version) (s : State) (count : ℕ) (b : Bool) → OnlyReads old new
-    → ((s : State) (holds : HoldsWith new.now limit kept slot_name bits before series committed working s) → (IsTrue b → count ≤ spare_of holds.rests) × (count ≤ spare_of holds.rests → IsTrue b))
-    → (holds : HoldsWith old.now limit kept slot_name bits before series committed working s) → (IsTrue b → count ≤ spare_of holds.rests) × (count ≤ spare_of holds.rests → IsTrue b)
-spare_after {kept} old new limit slot_name bits before series committed working s count b reads test =
-    let T : Medium → Type 0 = λ m. (holds : HoldsWith m limit kept slot_name bits before series committed working s) → (IsTrue b → count ≤ spare_of holds.rests) × (count ≤ spare_of holds.rests → IsTrue b) in
+pub spare_after : {kept : ℕ} {marked : Bool} (old new : DiskState) (limit : ℕ) (slot_name : SlotName) (bits before : List Bool) (series : Option (List ℕ)) (committed working : List Version) (s : State) (count : ℕ) (b : Bool) → OnlyReads old new
+    → ((s : State) (holds : HoldsWith new.now limit kept slot_name bits before series marked committed working s) → (IsTrue b → count ≤ spare_of holds.rests) × (count ≤ spare_of holds.rests → IsTrue b))
+    → (holds : HoldsWith old.now limit kept slot_name bits before series marked committed working s) → (IsTrue b → count ≤ spare_of holds.rests) × (count ≤ spare_of holds.rests → IsTrue b)
+spare_after {kept} {marked} old new limit slot_name bits before series committed working s count b reads test =
+    let T : Medium → Type 0 = λ m. (holds : HoldsWith m limit kept slot_name bits before series marked committed working s) → (IsTrue b → count ≤ spare_of holds.rests) × (count ≤ spare_of holds.rests → IsTrue b) in
     subst T (same_medium old new reads) (test s)
 
 -- as many blocks are free as are spare, before reads and after them
-pub spare_free : {kept : ℕ} (old new : DiskState) (limit : ℕ) (slot_name : SlotName) (bits before : List Bool) (series : Option (List ℕ)) (committed working : List Version) (s : State) (free : ℕ) → OnlyReads old new
-    → ((s : State) (holds : HoldsWith new.now limit kept slot_name bits before series committed working s) → free ≡ spare_of holds.rests)
-    → (holds : HoldsWith old.now limit kept slot_name bits before series committed working s) → free ≡ spare_of holds.rests
-spare_free {kept} old new limit slot_name bits before series committed working s free reads same =
-    let T : Medium → Type 0 = λ m. (holds : HoldsWith m limit kept slot_name bits before series committed working s) → free ≡ spare_of holds.rests in
+pub spare_free : {kept : ℕ} {marked : Bool} (old new : DiskState) (limit : ℕ) (slot_name : SlotName) (bits before : List Bool) (series : Option (List ℕ)) (committed working : List Version) (s : State) (free : ℕ) → OnlyReads old new
+    → ((s : State) (holds : HoldsWith new.now limit kept slot_name bits before series marked committed working s) → free ≡ spare_of holds.rests)
+    → (holds : HoldsWith old.now limit kept slot_name bits before series marked committed working s) → free ≡ spare_of holds.rests
+spare_free {kept} {marked} old new limit slot_name bits before series committed working s free reads same =
+    let T : Medium → Type 0 = λ m. (holds : HoldsWith m limit kept slot_name bits before series marked committed working s) → free ≡ spare_of holds.rests in
     subst T (same_medium old new reads) (same s)
 
 -- a record that is told to be there, and one that is told to be absent

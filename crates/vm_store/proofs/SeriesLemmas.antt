@@ -14,13 +14,13 @@ use Rattle.vm_disk.specs.Disk.{DiskState, Medium}
 use Rattle.vm_disk.specs.Moments.{OnlyReads, Throughout, TouchesOnly}
 use Rattle.vm_disk.proofs.MomentLemmas.{same_medium, touches_nothing, started}
 use Rattle.vm_block.specs.declared.selector.SlotName.{SlotName}
-use Rattle.vm_alloc.specs.Held.{HoldsMore, IsHeld, is_held}
+use Rattle.vm_alloc.specs.Held.{HoldsMore, IsHeld, free_count, is_held}
 use Rattle.vm_alloc.proofs.HeldLemmas.{holds_more_then, holds_same}
 use Rattle.vm_tree.specs.Free.{is_free}
 use Rattle.vm_tree.specs.Root.{IsRootedIn}
 use Rattle.vm_tree.specs.declared.root.Root.{Root}
 use Rattle.vm_tree.proofs.Touching.{touches_more, touches_then}
-use Rattle.vm_store.specs.Rest.{HoldsWith, IsInSeries, IsSafe, KeepsSeries, Rests, before_of, before_series, no_root, set_aside, state_aside}
+use Rattle.vm_store.specs.Rest.{HoldsWith, IsInSeries, IsSafe, KeepsSeries, Rests, before_of, before_series, no_root, set_aside, spare_of, state_aside}
 use Rattle.vm_store.specs.Sizes.{sizes}
 use Rattle.vm_store.specs.Versions.{is_alternative_of, with_current}
 use Rattle.vm_store.specs.declared.version.Version.{Version}
@@ -63,7 +63,7 @@ module _ (m : Medium) (limit : ℕ) (slot_name : SlotName) (bits before : List B
   }
 
   -- it goes on, or begins
-  pub gone_on : {kept : ℕ} (alt : List ℕ) (old : List Bool) (series : Option (List ℕ)) → (series ≡ Some alt × before ≡ old) ⊎ (before ≡ bits) → HoldsWith m limit kept slot_name bits old series committed working s
+  pub gone_on : {kept : ℕ} {marked : Bool} (alt : List ℕ) (old : List Bool) (series : Option (List ℕ)) → (series ≡ Some alt × before ≡ old) ⊎ (before ≡ bits) → HoldsWith m limit kept slot_name bits old series marked committed working s
       → IsInSeries alt m limit slot_name bits before committed working s
   gone_on alt old series (inl same) holds =
       subst (λ held. IsInSeries alt m limit slot_name bits held committed working s) (sym same.1)
@@ -72,21 +72,23 @@ module _ (m : Medium) (limit : ℕ) (slot_name : SlotName) (bits before : List B
       subst (λ held. IsInSeries alt m limit slot_name bits held committed working s) (sym same) (all_held alt holds.rests)
 
   -- it goes on, or begins, or none goes on
-  pub went_on : {kept : ℕ} (alt : List ℕ) (old : List Bool) (series next : Option (List ℕ)) → (next ≡ Some alt) ⊎ (next ≡ None) → (next ≡ Some alt → (series ≡ Some alt × before ≡ old) ⊎ (before ≡ bits)) → HoldsWith m limit kept slot_name bits old series committed working s
-      → HoldsWith m limit kept slot_name bits before next committed working s
+  pub went_on : {kept : ℕ} {marked : Bool} (alt : List ℕ) (old : List Bool) (series next : Option (List ℕ)) → (next ≡ Some alt) ⊎ (next ≡ None) → (next ≡ Some alt → (series ≡ Some alt × before ≡ old) ⊎ (before ≡ bits)) → HoldsWith m limit kept slot_name bits old series marked committed working s
+      → HoldsWith m limit kept slot_name bits before next marked committed working s
   went_on alt old series next (inl is) on holds = record {
     rests = holds.rests;
     keeps = holds.keeps;
     series_kept = subst (λ o. KeepsSeries o m limit slot_name bits before committed working s) (sym is) (gone_on alt old series (on is) holds);
+    known = holds.known;
   }
   went_on alt old series next (inr none) on holds = record {
     rests = holds.rests;
     keeps = holds.keeps;
     series_kept = subst (λ o. KeepsSeries o m limit slot_name bits before committed working s) (sym none) tt;
+    known = holds.known;
   }
 
   -- the trees beside that of the alternative stand in blocks that a change of it may not touch
-  pub in_series : {kept : ℕ} (alt : List ℕ) (series : Option (List ℕ)) (stays : List Bool) → (series ≡ Some alt) ⊎ (series ≡ None) → stays ≡ before_of (before_series series before) bits → HoldsWith m limit kept slot_name bits before series committed working s
+  pub in_series : {kept : ℕ} {marked : Bool} (alt : List ℕ) (series : Option (List ℕ)) (stays : List Bool) → (series ≡ Some alt) ⊎ (series ≡ None) → stays ≡ before_of (before_series series before) bits → HoldsWith m limit kept slot_name bits before series marked committed working s
       → IsInSeries alt m limit slot_name bits stays committed working s
   in_series alt series stays (inl is) same holds =
       subst (λ b. IsInSeries alt m limit slot_name bits b committed working s) (sym (same ∙ ap (λ o. before_of (before_series o before) bits) is))
@@ -106,12 +108,13 @@ module _ (m : Medium) (limit : ℕ) (slot_name : SlotName) (bits before : List B
   }
 
   -- the store stands for the same, after calls that write free blocks alone
-  pub holds_more : {kept : ℕ} (series : Option (List ℕ)) (now : Medium) (after : List Bool) → TouchesOnly (is_free bits) m now → HoldsMore bits after
-      → HoldsWith m limit kept slot_name bits before series committed working s → HoldsWith now limit kept slot_name after before series committed working s
+  pub holds_more : {kept : ℕ} {marked : Bool} (series : Option (List ℕ)) (now : Medium) (after : List Bool) → TouchesOnly (is_free bits) m now → HoldsMore bits after
+      → HoldsWith m limit kept slot_name bits before series marked committed working s → HoldsWith now limit kept slot_name after before series false committed working s
   holds_more series now after spares more holds = record {
     rests = rests_more m limit slot_name bits committed working s holds.rests now after spares more;
     keeps = holds.keeps;
     series_kept = series_more series now after spares more holds.series_kept;
+    known = λ is. absurd (false≢true is);
   }
 
   module _ (alt : List ℕ) (series : IsInSeries alt m limit slot_name bits before committed working s) (g : Map → Map) (now : Medium) (after : List Bool) (root : Root)
@@ -149,10 +152,10 @@ forgot_in_series before bits old mid new wider moments then =
     touches_then before before old mid new (holds_same before) (wrote_in_series before bits old mid wider moments) then
 
 -- reads change nothing
-pub read_holds : {kept : ℕ} (old new : DiskState) (limit : ℕ) (slot_name : SlotName) (bits before : List Bool) (series : Option (List ℕ)) (committed working : List Version) (s : State) → OnlyReads old new
-    → HoldsWith old.now limit kept slot_name bits before series committed working s → HoldsWith new.now limit kept slot_name bits before series committed working s
-read_holds {kept} old new limit slot_name bits before series committed working s reads holds =
-    subst (λ (m : Medium). HoldsWith m limit kept slot_name bits before series committed working s) (sym (same_medium old new reads)) holds
+pub read_holds : {kept : ℕ} {marked : Bool} (old new : DiskState) (limit : ℕ) (slot_name : SlotName) (bits before : List Bool) (series : Option (List ℕ)) (committed working : List Version) (s : State) → OnlyReads old new
+    → HoldsWith old.now limit kept slot_name bits before series marked committed working s → HoldsWith new.now limit kept slot_name bits before series marked committed working s
+read_holds {kept} {marked} old new limit slot_name bits before series committed working s reads holds =
+    subst (λ (m : Medium). HoldsWith m limit kept slot_name bits before series marked committed working s) (sym (same_medium old new reads)) holds
 
 and_second : (x y : Bool) → (x && y) ≡ true → y ≡ true
 and_second true y is = is
@@ -190,58 +193,85 @@ kept_marked m limit slot_name bits before after narrowed (Some alt) committed wo
       (all_held m limit slot_name after after committed working s alt rests).others;
 }
 
--- the store stands for the same after a marking, and the series goes on
-pub holds_marked : {kept : ℕ} (m now : Medium) (limit : ℕ) (slot_name : SlotName) (bits before after narrowed : List Bool) (series : Option (List ℕ)) (committed working : List Version) (s : State) → now ≡ m → length after ≡ length narrowed
-    → ((n : ℕ) → is_held narrowed n ≡ (is_held before n && is_held after n)) → Rests m limit slot_name after committed working s
-    → HoldsWith m limit kept slot_name bits before series committed working s → HoldsWith now limit kept slot_name after narrowed series committed working s
-holds_marked {kept} m now limit slot_name bits before after narrowed series committed working s read many both rests holds =
-    subst (λ (x : Medium). HoldsWith x limit kept slot_name after narrowed series committed working s) (sym read)
-    (record { rests = rests; keeps = holds.keeps; series_kept = kept_marked m limit slot_name bits before after narrowed series committed working s many both rests holds.series_kept })
+-- the store stands for the same after a marking, after which just the spare blocks are free, and the series goes on
+pub holds_marked : {kept : ℕ} {marked : Bool} (m now : Medium) (limit : ℕ) (slot_name : SlotName) (bits before after narrowed : List Bool) (series : Option (List ℕ)) (committed working : List Version) (s : State) → now ≡ m → length after ≡ length narrowed
+    → ((n : ℕ) → is_held narrowed n ≡ (is_held before n && is_held after n)) → (rests : Rests m limit slot_name after committed working s) → free_count after ≡ spare_of rests
+    → HoldsWith m limit kept slot_name bits before series marked committed working s → HoldsWith now limit kept slot_name after narrowed series true committed working s
+holds_marked {kept} {marked} m now limit slot_name bits before after narrowed series committed working s read many both rests exact holds =
+    subst (λ (x : Medium). HoldsWith x limit kept slot_name after narrowed series true committed working s) (sym read)
+    (record { rests = rests; keeps = holds.keeps; series_kept = kept_marked m limit slot_name bits before after narrowed series committed working s many both rests holds.series_kept; known = λ is. exact })
 
 -- no series goes on
 pub holds_alone : {m : Medium} {limit kept : ℕ} {slot_name : SlotName} {bits before : List Bool} {committed working : List Version} {s : State} → kept ≡ s.kept → Rests m limit slot_name bits committed working s
-    → HoldsWith m limit kept slot_name bits before None committed working s
-holds_alone keeps rests = record { rests = rests; keeps = keeps; series_kept = tt }
+    → HoldsWith m limit kept slot_name bits before None false committed working s
+holds_alone keeps rests = record { rests = rests; keeps = keeps; series_kept = tt; known = λ is. absurd (false≢true is) }
+
+-- no series goes on any more
+pub holds_closed : {m : Medium} {limit kept : ℕ} {marked : Bool} {slot_name : SlotName} {bits before after : List Bool} {series : Option (List ℕ)} {committed working : List Version} {s : State}
+    → HoldsWith m limit kept slot_name bits before series marked committed working s → HoldsWith m limit kept slot_name bits after None marked committed working s
+holds_closed holds = record { rests = holds.rests; keeps = holds.keeps; series_kept = tt; known = holds.known }
+
+-- it is no longer said that just the spare blocks are free
+pub holds_unmarked : {m : Medium} {limit kept : ℕ} {marked : Bool} {slot_name : SlotName} {bits before : List Bool} {series : Option (List ℕ)} {committed working : List Version} {s : State}
+    → HoldsWith m limit kept slot_name bits before series marked committed working s → HoldsWith m limit kept slot_name bits before series false committed working s
+holds_unmarked holds = record { rests = holds.rests; keeps = holds.keeps; series_kept = holds.series_kept; known = λ is. absurd (false≢true is) }
+
+-- reads change nothing, where the same blocks are held
+pub looked_holds : {kept : ℕ} {marked : Bool} (old new : DiskState) (limit : ℕ) (slot_name : SlotName) (bits after before : List Bool) (series : Option (List ℕ)) (committed working : List Version) (s : State) → OnlyReads old new → after ≡ bits
+    → HoldsWith old.now limit kept slot_name bits before series marked committed working s → HoldsWith new.now limit kept slot_name after before series marked committed working s
+looked_holds {kept} {marked} old new limit slot_name bits after before series committed working s reads same holds =
+    subst (λ (held : List Bool). HoldsWith new.now limit kept slot_name held before series marked committed working s) (sym same)
+    (read_holds old new limit slot_name bits before series committed working s reads holds)
 
 -- after a change the series goes on as before it, if one did
-pub holds_then : {m : Medium} {limit kept : ℕ} {slot_name : SlotName} {bits before marks : List Bool} {committed working : List Version} {s : State} (alt : List ℕ) (series : Option (List ℕ)) (held : List Bool)
+pub holds_then : {m : Medium} {limit kept : ℕ} {marked : Bool} {slot_name : SlotName} {bits before marks : List Bool} {committed working : List Version} {s : State} (alt : List ℕ) (series : Option (List ℕ)) (held : List Bool)
     → (series ≡ Some alt) ⊎ (series ≡ None) → before ≡ before_of (before_series series marks) held
-    → HoldsWith m limit kept slot_name bits before (Some alt) committed working s → HoldsWith m limit kept slot_name bits marks series committed working s
-holds_then {m} {limit} {kept} {slot_name} {bits} {before} {marks} {committed} {working} {s} alt series held (inl is) same holds =
-    subst (λ o. HoldsWith m limit kept slot_name bits marks o committed working s) (sym is)
-    (subst (λ b. HoldsWith m limit kept slot_name bits b (Some alt) committed working s) (same ∙ ap (λ o. before_of (before_series o marks) held) is) holds)
-holds_then {m} {limit} {kept} {slot_name} {bits} {before} {marks} {committed} {working} {s} alt series held (inr none) same holds =
-    subst (λ o. HoldsWith m limit kept slot_name bits marks o committed working s) (sym none) (holds_alone holds.keeps holds.rests)
+    → HoldsWith m limit kept slot_name bits before (Some alt) marked committed working s → HoldsWith m limit kept slot_name bits marks series marked committed working s
+holds_then {m} {limit} {kept} {marked} {slot_name} {bits} {before} {marks} {committed} {working} {s} alt series held (inl is) same holds =
+    subst (λ o. HoldsWith m limit kept slot_name bits marks o marked committed working s) (sym is)
+    (subst (λ b. HoldsWith m limit kept slot_name bits b (Some alt) marked committed working s) (same ∙ ap (λ o. before_of (before_series o marks) held) is) holds)
+holds_then {m} {limit} {kept} {marked} {slot_name} {bits} {before} {marks} {committed} {working} {s} alt series held (inr none) same holds =
+    subst (λ o. HoldsWith m limit kept slot_name bits marks o marked committed working s) (sym none) (holds_closed holds)
 
 -- a store with a series and entries that are known by other names
-pub holds_as : {m : Medium} {limit kept : ℕ} {slot_name : SlotName} {bits before : List Bool} {series other : Option (List ℕ)} {committed working changed : List Version} {s : State} → other ≡ series → changed ≡ working
-    → HoldsWith m limit kept slot_name bits before series committed working s → HoldsWith m limit kept slot_name bits before other committed changed s
-holds_as {m} {limit} {kept} {slot_name} {bits} {before} {series} {other} {committed} {working} {changed} {s} same alike holds =
-    subst (λ o. HoldsWith m limit kept slot_name bits before o committed changed s) (sym same) (subst (λ (vs : List Version). HoldsWith m limit kept slot_name bits before series committed vs s) (sym alike) holds)
+pub holds_as : {m : Medium} {limit kept : ℕ} {marked : Bool} {slot_name : SlotName} {bits before : List Bool} {series other : Option (List ℕ)} {committed working changed : List Version} {s : State} → other ≡ series → changed ≡ working
+    → HoldsWith m limit kept slot_name bits before series marked committed working s → HoldsWith m limit kept slot_name bits before other marked committed changed s
+holds_as {m} {limit} {kept} {marked} {slot_name} {bits} {before} {series} {other} {committed} {working} {changed} {s} same alike holds =
+    subst (λ o. HoldsWith m limit kept slot_name bits before o marked committed changed s) (sym same) (subst (λ (vs : List Version). HoldsWith m limit kept slot_name bits before series marked committed vs s) (sym alike) holds)
 
 module _ (m : Medium) (limit : ℕ) (slot_name : SlotName) (bits before : List Bool) (committed working : List Version) (s : State) (rests : Rests m limit slot_name bits committed working s)
     (name : List ℕ) (e : Version) (is : find (is_alternative_of name) working ≡ Some e) (series : IsInSeries name m limit slot_name bits before committed working s)
     (now : Medium) (after : List Bool) (root : Root) (small : root.block < 2 ^ 32) (spares : TouchesOnly (is_free before) m now) (more : HoldsMore bits after) (key : Key) where
   -- the store stands for other records of the alternative, and the series goes on
   series_holds : {kept : ℕ} → kept ≡ s.kept → (g : Map → Map) (tree : Tree) → changed s.working name (recurrent g) ≡ tree → IsRootedIn sizes (IsHeld after) now.contents limit root (g (found_entry m limit slot_name bits committed working s rests name e is).filed.current)
-      → HoldsWith now limit kept slot_name after before (Some name) committed (change_first (is_alternative_of name) (with_current root) working) (record s { working = tree })
+      → HoldsWith now limit kept slot_name after before (Some name) false committed (change_first (is_alternative_of name) (with_current root) working) (record s { working = tree })
   series_holds {kept} keeps g tree same new =
       let found = found_entry m limit slot_name bits committed working s rests name e is in
       let as_named = named_as m limit slot_name bits committed working s rests name found.filed found.found in
-      subst (λ (t : Tree). HoldsWith now limit kept slot_name after before (Some name) committed (change_first (is_alternative_of name) (with_current root) working) (record s { working = t })) same
+      subst (λ (t : Tree). HoldsWith now limit kept slot_name after before (Some name) false committed (change_first (is_alternative_of name) (with_current root) working) (record s { working = t })) same
       (record {
         rests = series_rests m limit slot_name bits before committed working s name series g now after root spares more (g found.filed.current) small
             (λ a there. let one : a ≡ as_named.alternative = cc (there, as_named.named) in sym (ap (λ (a : Alternative). g a.current) one ∙ ap g as_named.current)) new;
         keeps = keeps;
         series_kept = series_on m limit slot_name bits before committed working s name series g now after root spares more;
+        known = λ is. absurd (false≢true is);
       })
 
   -- after a Put of the series
   pub put_holds : {kept : ℕ} → kept ≡ s.kept → (value : List ℕ) → IsRootedIn sizes (IsHeld after) now.contents limit root (with_value (found_entry m limit slot_name bits committed working s rests name e is).filed.current key value)
-      → HoldsWith now limit kept slot_name after before (Some name) committed (change_first (is_alternative_of name) (with_current root) working) (next s (Put name key value) (Ok Done))
+      → HoldsWith now limit kept slot_name after before (Some name) false committed (change_first (is_alternative_of name) (with_current root) working) (next s (Put name key value) (Ok Done))
   put_holds keeps value new = series_holds keeps (λ m. with_value m key value) _ (sym (ap (tree_after s.working) (put_step m limit slot_name bits committed working s rests name e is key value))) new
 
   -- after a Remove of the series
   pub remove_holds : {kept : ℕ} → kept ≡ s.kept → (value : List ℕ) → Ok (Some value) ≡ value_in s.working name key → IsRootedIn sizes (IsHeld after) now.contents limit root (without (found_entry m limit slot_name bits committed working s rests name e is).filed.current key)
-      → HoldsWith now limit kept slot_name after before (Some name) committed (change_first (is_alternative_of name) (with_current root) working) (next s (Remove name key) (Ok Done))
+      → HoldsWith now limit kept slot_name after before (Some name) false committed (change_first (is_alternative_of name) (with_current root) working) (next s (Remove name key) (Ok Done))
   remove_holds keeps value there new = series_holds keeps (λ m. without m key) _ (sym (ap (tree_after s.working) (step_there s.working name key value there))) new
+
+-- the blocks that a change may not touch, where those of the first one are held: they still are, and none of the first one's is missing
+pub before_wider : (before : Option (List Bool)) (first bits : List Bool) → before_of before first ≡ first → HoldsMore first bits → HoldsMore (before_of before bits) bits
+before_wider None first bits same more = holds_same bits
+before_wider (Some held) first bits same more = subst (λ b. HoldsMore b bits) (sym same) more
+
+pub before_stays : (before : Option (List Bool)) (first bits : List Bool) → before_of before first ≡ first → HoldsMore first bits → HoldsMore first (before_of before bits)
+before_stays None first bits same more = more
+before_stays (Some held) first bits same more = subst (λ b. HoldsMore first b) (sym same) (holds_same first)

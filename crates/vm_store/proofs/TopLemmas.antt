@@ -80,7 +80,7 @@ pub rooted_of : (x : Contents) (limit other : ℕ) (root : Root) (m : Map) (bs :
 rooted_of x limit other root m bs same rooted = subst (λ n. IsRooted sizes x n root m bs) (sym same) rooted
 
 -- the block of a root is a small number
-pub grown_small : (P : ℕ → Type 0) (x : Contents) (limit : ℕ) (root : Root) (m : Map) → limit ≤ 2 ^ 20 → IsRootedIn sizes P x limit root m → root.block < 2 ^ 32
+pub grown_small : (P : ℕ → Type 0) (x : Contents) (limit : ℕ) (root : Root) (m : Map) → limit ≤ 2 ^ 26 → IsRootedIn sizes P x limit root m → root.block < 2 ^ 32
 grown_small P x limit root m most grown = by_case grown.rooted
   where
     by_case : IsRooted sizes x limit root m grown.stands_in → root.block < 2 ^ 32

@@ -23,7 +23,7 @@ use Rattle.vm_store.specs.Rest.{Rests, spare_of}
 use Rattle.vm_store.proofs.FirstLemmas.{unread}
 use Rattle.vm_store.proofs.RestingLemmas.{rests_on}
 use Rattle.vm_store.specs.Answers.{ChangesEntriesAlone, HasMarked, TakesForChanges, most_taken}
-use Rattle.vm_store.specs.Store.{Answers, Holds, IsHonest, KeepsFree, ReadsFew, ReadsOnly, TakesUpTo, disk_of, free_of, held_of}
+use Rattle.vm_store.specs.Store.{Answers, Holds, IsHonest, KeepsFree, MarksOnce, ReadsFew, ReadsOnly, TakesUpTo, disk_of, free_of, held_of}
 use Rattle.vm_store.specs.declared.store.Store.{Store}
 use Rattle.vm_store.specs.Turns.{StandFor, Turns}
 
@@ -157,6 +157,16 @@ entries_few (Checkpoint alt name) a old new alone = tt
 entries_few (Uncheck alt name) a old new alone = tt
 entries_few (Back alt name) a old new alone = tt
 entries_few c a old new alone = absurd alone
+
+-- nor of what follows a marking
+pub entries_once : {D : Type 0} {members : _} (c : Command) (a : Result Answer Refusal) (old new : Store D members) → ChangesEntriesAlone c → MarksOnce c a old new
+entries_once (New name parent) a old new alone = tt
+entries_once (NewAt name parent checkpoint) a old new alone = tt
+entries_once (Drop alt) a old new alone = tt
+entries_once (Checkpoint alt name) a old new alone = tt
+entries_once (Uncheck alt name) a old new alone = tt
+entries_once (Back alt name) a old new alone = tt
+entries_once c a old new alone = absurd alone
 
 -- it does not read
 pub entries_read : {D : Type 0} {members : _} (c : Command) (a : Result Answer Refusal) (old new : Store D members) → ChangesEntriesAlone c → disk_of new ≡ disk_of old → ReadsOnly c a old new

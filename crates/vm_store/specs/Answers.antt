@@ -31,7 +31,7 @@ IsDue (Err refusal) full deep result = result ≡ Err refusal
 IsDue (Ok accepted) true deep result = result ≡ Err Full
 IsDue (Ok accepted) false deep result = ((result ≡ Ok accepted.1) × (deep → ⊥)) ⊎ ((result ≡ Err Deep) × deep)
 
--- what is answered to a command but a Merge, where so many blocks are spare: what is due, or that the device failed
+-- what is answered to a command but a Merge, if this many blocks are spare: what is due, or that the device failed
 abbrev pub IsAnswer : State → ℕ → Type 0 → Command → Result Answer Refusal → Type 0
 IsAnswer s spare deep command result =
     (result ≡ Err Device) ⊎ IsDue (outcome s command) (nat_lt spare (blocks_a_change * changes_made s.working command)) deep result
@@ -42,13 +42,13 @@ IsMergeDue (Err refusal) full deep result = result ≡ Err refusal
 IsMergeDue (Ok accepted) true deep result = result ≡ Err Full
 IsMergeDue (Ok accepted) false deep result = (result ≡ Ok accepted.1) ⊎ ((result ≡ Err Deep) × deep)
 
--- what is answered to a Merge where so many blocks are spare: what is due, or that the device failed; or, of an alternative that is
--- there and has a parent, that memory was wanting
+-- what is answered to a Merge if this many blocks are spare: what is due, or that the device failed; or, of an alternative that is
+-- there and has a parent, that memory ran out
 abbrev pub IsMergeAnswer : State → ℕ → Type 0 → List ℕ → List (Key × Side) → Result Answer Refusal → Type 0
 IsMergeAnswer s spare deep alt settled result =
     (result ≡ Err Device) ⊎ (((result ≡ Err Memory) × IsOk (conflicts_in s.working alt)) ⊎ IsMergeDue (step s.working (Merge alt settled)) (nat_lt spare (blocks_a_change * changes_made s.working (Merge alt settled))) deep result)
 
--- a Grow that the model refuses is answered so, and one that it accepts, too, unless memory is wanting or the device fails
+-- a Grow that the model refuses is answered so, and one that it accepts, too, unless memory runs out or the device fails
 abbrev pub IsGrowDue : Outcome → Result Answer Refusal → Type 0
 IsGrowDue (Err refusal) result = result ≡ Err refusal
 IsGrowDue (Ok accepted) result = (result ≡ Err Device) ⊎ ((result ≡ Err Memory) ⊎ (result ≡ Ok accepted.1))
@@ -89,7 +89,7 @@ TakesMemory (Merge alt settled) = Unit {0}
 TakesMemory (Grow blocks) = Unit {0}
 TakesMemory command = ⊥
 
--- how many blocks a change takes at most that may take so many: none of them where it is refused, unless the device failed
+-- how many blocks a change takes at most that may take this many: none of them if it is refused, unless the device failed
 abbrev pub most_taken : ℕ → Result Answer Refusal → ℕ
 most_taken most (Ok answer) = most
 most_taken most (Err Device) = most
@@ -102,7 +102,7 @@ taken_by_changes changes (Err Deep) = 16 * changes
 taken_by_changes changes (Err Device) = 16 * changes
 taken_by_changes changes (Err refusal) = 0
 
--- an answer to a change that comes after the marking, where one is needed: it was made, or refused for want of blocks or of room in its tree
+-- an answer to a change that comes after the marking, if one is needed: it was made, or refused for want of blocks or of room in its tree
 abbrev pub ComesAfterMarking : Result Answer Refusal → Type 0
 ComesAfterMarking (Ok answer) = Unit {0}
 ComesAfterMarking (Err Full) = Unit {0}
@@ -138,14 +138,14 @@ copied_answer (Err refusal) = Err refusal
 abbrev pub IsDueOrDevice : {T : Type 0} → Result T Refusal → Result T Refusal → Type 0
 IsDueOrDevice result due = (result ≡ Err Device) ⊎ (result ≡ due)
 
--- what a query answers that takes memory: what is due; or, where that is no refusal, that the device failed, or that memory was wanting
+-- what a query answers that takes memory: what is due; or, if that is no refusal, that the device failed, or that memory ran out
 abbrev pub IsDueOrWanting : {T : Type 0} → Result T Refusal → Result T Refusal → Type 0
 IsDueOrWanting result due = (IsOk due × ((result ≡ Err Device) ⊎ (result ≡ Err Memory))) ⊎ (result ≡ due)
 
--- the refusal that is due; or, where none is, that memory was wanting
+-- the refusal that is due; or, if none is, that memory ran out
 abbrev pub IsDueOrMemory : {T : Type 0} → Refusal → Result T Refusal → Type 0
 IsDueOrMemory refusal due = (IsOk due × (refusal ≡ Memory)) ⊎ (Err refusal ≡ due)
 
--- memory was wanting, or P holds
+-- memory ran out, or P holds
 abbrev pub IsMemoryOr : Refusal → Type 0 → Type 0
 IsMemoryOr refusal P = (refusal ≡ Memory) ⊎ P

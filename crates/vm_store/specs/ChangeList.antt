@@ -1,4 +1,4 @@
--- What is answered where changes are made one after another.
+-- What is answered when changes are made one after another.
 use Rattle.std.specs.Prelude.{◌≡◌, ℕ, ◌<◌, List, ◌∷◌, ◌++◌, Some, Result, Ok, Err}
 use Rattle.vm_types.specs.declared.change.Change.{Change}
 use Rattle.vm_types.specs.Map.{Map, with_changes}
@@ -26,7 +26,7 @@ pub record MeetsFullPath (x : Contents) (limit : ℕ) (m : Map) (changes : List 
   pub some : 0 < root.block
   pub full : FullPath sizes x (change.key, value) root.block
 
--- what changes answer on a tree: a root with P; Deep, where `deep` holds; or that the device failed
+-- what changes answer on a tree: a root with P; Deep, if `deep` holds; or that the device failed
 abbrev pub Makes : {T : Type 0} → Result T PutFault → Type 0 → (T → Type 0) → Type 0
 Makes (Ok x) deep P = P x
 Makes (Err (Tree Device)) deep P = Unit {0}

@@ -13,7 +13,7 @@ use Rattle.vm_disk.specs.Disk.{LeftAt, Medium, moment}
 use Rattle.vm_disk.specs.Moments.{Throughout}
 use Rattle.vm_store.specs.Answers.{ChangesEntriesAlone, IsGrow, TakesMemory}
 use Rattle.vm_store.specs.Guarded.{IsGuarded}
-use Rattle.vm_store.specs.Store.{EarlyKeeps, EarlyLeavesDisk, GrowsFree, GrowsNoMore, GrowsOn, Holds, IsAsLong, IsCarriedOut, IsHonest, KeepsFree, LeavesBlocks, MarksAll, ReadsFew, ReadsOnly, RollsBack, WritesCommit, disk_of, entries_of, has_failed, held_of}
+use Rattle.vm_store.specs.Store.{EarlyKeeps, EarlyLeavesDisk, GrowsFree, GrowsNoMore, GrowsOn, Holds, IsAsLong, IsCarriedOut, IsHonest, KeepsFree, LeavesBlocks, MarksAll, MarksOnce, ReadsFew, ReadsOnly, RollsBack, WritesCommit, disk_of, entries_of, has_failed, held_of}
 use Rattle.vm_store.specs.Shown.{Shows}
 use Rattle.vm_store.specs.declared.store.Store.{Store}
 
@@ -32,14 +32,14 @@ module _ {D : Type 0} {members : _} where
     -- after a Grow the new blocks are free, too
     pub grown : GrowsFree answer old new command
 
-  -- what a command does to a store, but for the note that the device failed
+  -- what a command does to a store, except for the note that the device failed
   pub record Performs (old new : Store D members) (command : Command) (answer : Result Answer Refusal) : Type 0 where
     -- on an honest disk it does what it is to do to each state that the store stood for
     pub carried : IsCarriedOut old new command answer
     -- Failed is the answer of a store that had failed before, and Memory comes to a Merge or a Grow alone
     pub only_then : answer ≢ Err Failed
     pub memory : answer ≡ Err Memory → TakesMemory command
-    -- it is Device only where a device call failed
+    -- it is Device only if a device call failed
     pub goes : GrowsOn (answer ≡ Err Device) old new
     -- it gives the disk new blocks only as it was asked to
     pub size : GrowsAsAsked old new command answer
@@ -49,8 +49,11 @@ module _ {D : Type 0} {members : _} where
     pub unchanged : EarlyKeeps answer old new
     -- to make, drop or go back to alternatives and checkpoints takes no device call and no block
     pub blocks : ChangesEntriesAlone command → LeavesBlocks old new
-    -- on an honest disk, after a Reclaim, and a Put, a Remove or a Merge that is refused for want of blocks, just the spare ones are free
+    -- on an honest disk, after a Reclaim, and a Put, a Remove or a Merge that is refused for want of blocks, exactly the spare ones are free
     pub marked : IsHonest new → MarksAll answer old new command
+    -- on an honest disk, after a Put, a Remove or a Merge that was refused for want of blocks none marks blocks again before something was
+    -- taken or given back, and a Put that is refused again makes no device call
+    pub once : IsHonest new → MarksOnce command answer old new
     -- on an honest disk, a Post and a Reclaim only read, and so do a Merge that makes no change and each other command but a Grow that is
     -- refused before it takes a block
     pub reads : IsHonest new → ReadsOnly command answer old new
@@ -67,7 +70,7 @@ module _ {D : Type 0} {members : _} where
   -- a store carried out a command
   pub record CarriesOut (old new : Store D members) (command : Command) (answer : Result Answer Refusal) : Type 0 where
     pub performs : Performs old new command answer
-    -- where the device failed, and only then, the store has failed
+    -- if the device failed, and only then, the store has failed
     pub failed : has_failed new ≡ true ↔ answer ≡ Err Device
 
   -- commands are carried out one after another: each by the store that the one before left, from the first store to the last
@@ -78,7 +81,7 @@ module _ {D : Type 0} {members : _} where
   AnswersInTurn old new s [] (answer ∷ answers) = ⊥
   AnswersInTurn old new s (command ∷ commands) [] = ⊥
 
-  -- a store on the way: so many of the commands led from the first store to it, and the others lead from it to the last
+  -- a store on the way: this many of the commands led from the first store to it, and the others lead from it to the last
   pub record IsOnTheWay (old new : Store D members) (s : State) (commands : List Command) (answers : List (Result Answer Refusal)) (mid : Store D members) : Type 0 where
     pub beginning : ℕ
     pub within : beginning ≤ length commands
@@ -99,7 +102,7 @@ module _ {D : Type 0} {members : _} where
     abbrev pub StandsAfterAll : Type 0
     StandsAfterAll = IsHonest new → has_failed new ≡ false → (s : State) → Holds old s → Holds new (after s (answered commands answers) answers)
 
-    -- a store that has not failed stands for a state in which an alternative is as before, where none of them works on it, and none posts a
+    -- a store that has not failed stands for a state in which an alternative is as before, if none of them works on it, and none posts a
     -- child into it
     abbrev pub IsolatesOthers : Type 0
     IsolatesOthers =

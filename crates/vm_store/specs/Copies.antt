@@ -28,7 +28,7 @@ use Rattle.vm_store.specs.declared.store.Store.{Store}
 use Rattle.vm_store.specs.declared.store.copies.Room.{Room}
 use Rattle.vm_store.specs.declared.version.Version.{Version}
 
--- the same version, but that its roots are the copies of the roots
+-- the same version, except that its roots are the copies of the roots
 pub record VersionCopied (numbers : Renumbering) (v copy : Version) : Type 0 where
   pub kind : copy.kind ≡ v.kind
   pub name : copy.name ≡ v.name
@@ -46,7 +46,7 @@ abbrev pub CopiesVersions : {T : Type 0} → Result T CopyFault → ℕ → List
 CopiesVersions result limit vs copies s t old s' t' new =
     WhereCopied limit s t old s' t' (OnOk result (AreCopied s.now.contents t'.now.contents limit new × Paired (VersionCopied new) vs copies))
 
--- # Where no damage is found, if the source is honest after it
+-- # When no damage is found, if the source is honest after it
 
 -- under both roots of the version lie maps
 abbrev pub SoundVersionCopy : {T : Type 0} → Result T CopyFault → ℕ → Version → DiskState → DiskState → Type 0
@@ -70,7 +70,7 @@ ReachedVersionsCopy result kept vs s old s' new =
 
 -- # The entries of a copy
 
--- room for the versions of a copy and for its entries, and the numbers of the copies of so many blocks, none of which was copied
+-- room for the versions of a copy and for its entries, and the numbers of the copies of this many blocks, none of which was copied
 pub record IsRoom (kept : ℕ) (room : Room) : Type 0 where
   pub none : room.versions.items ≡ []
   pub versions : MAX_VERSIONS ≤ vec_capacity room.versions
@@ -103,7 +103,7 @@ pub record GoesOnBoth (fails : Type 0) (s t s' t' : DiskState) : Type 0 where
   pub target : Goes ⊥ t t'
   pub fault : fails → s.failures + t.failures < s'.failures + t'.failures
 
--- a store of so many blocks may have these versions, and under their roots lie the maps of this tree
+-- a store of this many blocks may have these versions, and under their roots lie the maps of this tree
 pub record HasVersions (tree : Tree) (kept : ℕ) (vs : List Version) (x : Contents) : Type 0 where
   pub filed : List Filed
   pub fits : SlotFits kept (slot_entries vs)
@@ -139,17 +139,17 @@ pub record IsCopy (seen : Seen) (m : Medium) : Type 0 where
   pub shown : Shows m.contents seen
   pub clean : IsClean m
 
--- from these versions of a store of so many blocks to one of so many on the target, where both disks are honest after it
+-- from these versions of a store of this many blocks to one of that many on the target, if both disks are honest after it
 module _ (s t s' t' : DiskState) (kept : ℕ) (vs : List Version) (blocks : ℕ) where
   -- Q holds of each tree whose maps lie under the roots of the versions
   abbrev pub OfEach : (Tree → Type 0) → Type 0
   OfEach Q = s'.honest ≡ true → (tree : Tree) → HasVersions tree kept vs s.now.contents → Q tree
 
-  -- a crash of the target at any moment shows at most a copy, where there was no header
+  -- a crash of the target at any moment shows at most a copy, if there was no header
   abbrev pub FillsAtMost : Type 0
   FillsAtMost = OfEach (λ tree. WithoutHeader t t' (Leaves (ShowsAtMost (record { tree = tree; blocks = blocks }))))
 
-  -- and it is shown, where it was done
+  -- and it is shown, if it was done
   abbrev pub Fills : {T E : Type 0} → Result T E → Type 0
   Fills result = OfEach (λ tree. t'.honest ≡ true → OnOk result (IsCopy (record { tree = tree; blocks = blocks }) t'.now))
 
@@ -157,7 +157,7 @@ module _ (s t s' t' : DiskState) (kept : ℕ) (vs : List Version) (blocks : ℕ)
   abbrev pub FillsSoundly : {T : Type 0} → Result T Refusal → Type 0
   FillsSoundly result = OfEach (λ tree. IfErr result IsOfTarget)
 
--- nothing has changed but that it may be synced; or there was no header, and a crash shows at most this
+-- nothing has changed except that it may be synced; or there was no header, and a crash shows at most this
 abbrev pub IsCopying : Seen → Medium → Medium → Type 0
 IsCopying seen old m = IsAtMostSynced old m ⊎ ((IsAnyHeader (block old.contents 0) → ⊥) × Leaves (ShowsAtMost seen) m)
 
@@ -169,7 +169,7 @@ IsOfCopy r = (r ≡ refusal.Failed) ⊎ ((r ≡ refusal.BadSize) ⊎ ((r ≡ ref
 abbrev pub ComesBefore : Refusal → Type 0
 ComesBefore r = (r ≡ refusal.Failed) ⊎ ((r ≡ refusal.BadSize) ⊎ (r ≡ refusal.Memory))
 
--- what is committed, in so many blocks
+-- what is committed, in this many blocks
 abbrev pub in_blocks : State → ℕ → Seen
 in_blocks s blocks = record { tree = s.committed; blocks = blocks }
 
@@ -178,7 +178,7 @@ module _ {D : Type 0} {members : _} where
   abbrev pub LacksBlocks : Store D members → ℕ → Type 0
   LacksBlocks store blocks = blocks + free_of store < blocks_of store
 
-  -- Q holds of each state that the store stood for, where its disk is honest after the call
+  -- Q holds of each state that the store stood for, if its disk is honest after the call
   abbrev pub OfState : (old new : Store D members) → (State → Type 0) → Type 0
   OfState old new Q = IsHonest new → (s : State) → Holds old s → Q s
 
@@ -186,7 +186,7 @@ module _ {D : Type 0} {members : _} where
   abbrev pub CopiesAtMost : (old new : Store D members) → DiskState → DiskState → ℕ → Type 0
   CopiesAtMost old new t t' blocks = OfState old new (λ s. t'.honest ≡ true → Throughout t t' (IsCopying (in_blocks s blocks) t.now))
 
-  -- it shows just what the store has committed, in so many blocks, and all is synced, where it was done
+  -- it shows exactly what the store has committed, in this many blocks, and all is synced, if it was done
   abbrev pub Copies : {T E : Type 0} → Result T E → (old new : Store D members) → DiskState → ℕ → Type 0
   Copies result old new t' blocks = OfState old new (λ s. t'.honest ≡ true → OnOk result (IsCopy (in_blocks s blocks) t'.now))
 
@@ -194,7 +194,7 @@ module _ {D : Type 0} {members : _} where
   abbrev pub ReadsHeld : {T E : Type 0} → Result T E → (old new : Store D members) → Type 0
   ReadsHeld result old new = OfState old new (λ s. OnOk result (reads_of new + FIRST_DATA + free_of old ≤ reads_of old + blocks_of old))
 
-  -- it made no more reads of the source than the copy has blocks for data, where it was done
+  -- it made no more reads of the source than the copy has blocks for data, if it was done
   abbrev pub ReadsFew : {T E : Type 0} → Result T E → (old new : Store D members) → DiskState → ℕ → Type 0
   ReadsFew result old new t' blocks = IsHonest new → t'.honest ≡ true → OnOk result (reads_of new + FIRST_DATA ≤ reads_of old + blocks)
 

@@ -13,7 +13,7 @@ use Rattle.vm_store.specs.declared.version.Version.{Version}
 abbrev pub Anywhere : ℕ → Type 0
 Anywhere n = Unit {0}
 
--- a version with maps in the place of its roots
+-- a version with maps in place of its roots
 pub record Filed : Type 0 where
   pub kind : Kind
   pub name : List ℕ
@@ -29,7 +29,7 @@ saved_of f = record { name = f.name; current = f.current; base = f.base }
 abbrev pub bare : Filed → Alternative
 bare f = record { name = f.name; parent = f.owner; current = f.current; base = f.base; saved = [] }
 
--- the alternative with one checkpoint more
+-- the alternative with one more checkpoint
 abbrev pub with_saved : Saved → Alternative → Alternative
 with_saved c a = record a { saved = a.saved ++ c ∷ [] }
 

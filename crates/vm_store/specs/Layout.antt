@@ -16,7 +16,7 @@ use Rattle.vm_store.specs.Shown.{Shows, ShowsAtMost}
 use Rattle.vm_store.specs.Versions.{slot_entries}
 use Rattle.vm_store.specs.declared.version.Version.{Version}
 
--- the selector names slot A with these entries of a store of so many blocks, both as they are written, and all is synced; the data blocks
+-- the selector names slot A with these entries of a store of this many blocks, both as they are written, and all is synced; the data blocks
 -- are as they were
 pub record IsLaidOut (blocks : ℕ) (es : List Entry) (old m : Medium) : Type 0 where
   pub count : length m.contents ≡ length old.contents
@@ -26,7 +26,7 @@ pub record IsLaidOut (blocks : ℕ) (es : List Entry) (old m : Medium) : Type 0 
   pub written : IsAsWritten m.contents A blocks es
   pub clean : IsClean m
 
--- a slot of a store of so many blocks may have these entries, and under their roots lie the maps of this tree
+-- a slot of a store of this many blocks may have these entries, and under their roots lie the maps of this tree
 pub record HasMaps (tree : Tree) (blocks : ℕ) (es : List Entry) (m : Medium) : Type 0 where
   pub versions : List Version
   pub filed : List Filed
@@ -40,7 +40,7 @@ pub record IsReady (tree : Tree) (blocks : ℕ) (es : List Entry) (m : Medium) :
   pub maps : HasMaps tree blocks es m
   pub laid : IsLaidOut blocks es m m
 
--- this tree is shown in a store of so many blocks, slot A with these entries and the selector are as they are written, byte by byte, and
+-- this tree is shown in a store of this many blocks, slot A with these entries and the selector are as they are written, byte by byte, and
 -- all is synced
 pub record IsPutDown (tree : Tree) (blocks : ℕ) (es : List Entry) (m : Medium) : Type 0 where
   pub shown : Shows m.contents (record { tree = tree; blocks = blocks })
@@ -49,32 +49,32 @@ pub record IsPutDown (tree : Tree) (blocks : ℕ) (es : List Entry) (m : Medium)
 
 -- what the steps do to a disk that is honest after them
 module _ (old new : DiskState) where
-  -- P holds at each moment, where block 0 was no header, and clean
+  -- P holds at each moment, if block 0 was no header, and clean
   abbrev pub WithoutHeader : (Medium → Type 0) → Type 0
   WithoutHeader P = new.honest ≡ true → old.now.dirty 0 ≡ false → (IsHeader (block old.now.contents 0) → ⊥) → Throughout old new P
 
-  -- these entries were laid out, where it was done
+  -- these entries were laid out, if it was done
   abbrev pub LaysOut : {T E : Type 0} → Result T E → ℕ → List Entry → Type 0
   LaysOut result blocks es = new.honest ≡ true → SlotFits blocks es → OnOk result (IsLaidOut blocks es old.now new.now)
 
-  -- where all was there but the header, a crash at any moment shows at most what it makes show
+  -- if all was there but the header, a crash at any moment shows at most what it makes show
   abbrev pub StaysReady : Type 0
   StaysReady =
       new.honest ≡ true → (tree : Tree) (blocks : ℕ) (es : List Entry) → IsReady tree blocks es old.now
       → Throughout old new (Leaves (ShowsAtMost (record { tree = tree; blocks = blocks })))
 
-  -- and it is shown, where it was done
+  -- and it is shown, if it was done
   abbrev pub Completes : {T E : Type 0} → Result T E → Type 0
   Completes result =
       new.honest ≡ true → (tree : Tree) (blocks : ℕ) (es : List Entry) → IsReady tree blocks es old.now → blocks ≤ old.blocks
       → OnOk result (IsPutDown tree blocks es new.now)
 
-  -- where the maps of a tree lie under these entries, and there was no header, a crash at any moment shows at most that tree
+  -- if the maps of a tree lie under these entries, and there was no header, a crash at any moment shows at most that tree
   abbrev pub PutsAtMost : ℕ → List Entry → Type 0
   PutsAtMost blocks es =
       (tree : Tree) → HasMaps tree blocks es old.now → WithoutHeader (Leaves (ShowsAtMost (record { tree = tree; blocks = blocks })))
 
-  -- and it is shown, where it was done
+  -- and it is shown, if it was done
   abbrev pub PutsDown : {T E : Type 0} → Result T E → ℕ → List Entry → Type 0
   PutsDown result blocks es =
       new.honest ≡ true → (tree : Tree) → HasMaps tree blocks es old.now → OnOk result (IsPutDown tree blocks es new.now)

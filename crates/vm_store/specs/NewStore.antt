@@ -21,7 +21,7 @@ fresh_entry = record { kind = kind.Alternative; name = codes "top"; owner = None
 abbrev pub IsBadSize : ℕ → ℕ → Type 0
 IsBadSize blocks available = (blocks < MIN_BLOCKS) ⊎ ((MAX_BLOCKS < blocks) ⊎ (available < blocks))
 
--- a new store of so many blocks is shown, slot A and the selector are as they are written, byte by byte, and all is synced
+-- a new store of this many blocks is shown, slot A and the selector are as they are written, byte by byte, and all is synced
 pub record IsFormatted (blocks : ℕ) (m : Medium) : Type 0 where
   pub shown : Shows m.contents (new_store blocks)
   pub written : IsAsWritten m.contents A blocks (fresh_entry ∷ [])
@@ -31,7 +31,7 @@ pub record IsFormatted (blocks : ℕ) (m : Medium) : Type 0 where
 abbrev pub IsAnyHeader : List ℕ → Type 0
 IsAnyHeader bytes = IsHeader bytes ⊎ IsEarlierHeader bytes
 
--- nothing has changed but that it may be synced; or there was no header, and a crash shows at most a new store of so many blocks
+-- nothing has changed except that it may be synced; or there was no header, and a crash shows at most a new store of this many blocks
 abbrev pub IsFormatting : ℕ → Medium → Medium → Type 0
 IsFormatting blocks old m = IsAtMostSynced old m ⊎ ((IsAnyHeader (block old.contents 0) → ⊥) × Leaves (ShowsAtMostNew blocks) m)
 
@@ -54,18 +54,18 @@ module _ (old new : DiskState) where
   abbrev pub TellsHeader : {E : Type 0} → Result Bool E → Type 0
   TellsHeader result = new.honest ≡ true → IfOk result (λ header. IsTrue header ↔ IsAnyHeader (block old.now.contents 0))
 
-  -- where P holds, block 0 was a header
+  -- if P holds, block 0 was a header
   abbrev pub HadHeader : Type 0 → Type 0
   HadHeader P = new.honest ≡ true → P → IsAnyHeader (block old.now.contents 0)
 
-  -- where block 0 was a header, this is refused, and the contents are as they were
+  -- if block 0 was a header, this is refused, and the contents are as they were
   abbrev pub LeavesStore : {T E : Type 0} → Result T E → Type 0
   LeavesStore result = new.honest ≡ true → IsAnyHeader (block old.now.contents 0) → IsErr result × (new.now.contents ≡ old.now.contents)
 
-  -- at each moment nothing has changed but that it may be synced; or there was no header, and a crash shows at most a new store
+  -- at each moment nothing has changed except that it may be synced; or there was no header, and a crash shows at most a new store
   abbrev pub FormatsAtMost : ℕ → Type 0
   FormatsAtMost blocks = new.honest ≡ true → Throughout old new (IsFormatting blocks old.now)
 
--- a new store of so many blocks is shown, and all is synced, where it was done and the disk is honest after it
+-- a new store of this many blocks is shown, and all is synced, if it was done and the disk is honest after it
 abbrev pub Formats : {T E : Type 0} → ℕ → Result T E → DiskState → Type 0
 Formats blocks result new = new.honest ≡ true → OnOk result (IsFormatted blocks new.now)

@@ -19,7 +19,7 @@ some_of choose (Err refusal) = Err refusal
 abbrev pub part_at : Tree → At → Key → Key → Result Map Refusal
 part_at tree at low high = some_of (part (place low) (place high)) (map_at tree at)
 
--- the first records of a version at a key and after it, at most so many
+-- the first records of a version at a key and after it, at most this many
 abbrev pub from_at : Tree → At → Key → ℕ → Result Map Refusal
 from_at tree at low count = some_of (from (place low) count) (map_at tree at)
 

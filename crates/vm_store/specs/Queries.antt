@@ -9,7 +9,7 @@ use Rattle.vm_store.specs.declared.store.Store.{Store}
 module _ {D : Type 0} {members : _} where
   -- a query with this result, which is due of a state of which `IsDue` holds
   pub record Queries {T : Type 0} (old new : Store D members) (result : Result T Refusal) (IsDue : State → Type 0) : Type 0 where
-    -- it is Device only where a device call failed
+    -- it is Device only if a device call failed
     pub any : GoesOn (result ≡ Err Device) old new
     -- no query makes a store fail
     pub failed : has_failed new ≡ has_failed old

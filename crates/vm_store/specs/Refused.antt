@@ -41,7 +41,7 @@ pub record LacksMap (x : Contents) : Type 0 where
   pub inside : limit ≤ length x
   pub none : (versions : List Version) (filed : List Filed) → slot_entries versions ≡ entries → Standing Anywhere x limit versions filed → ⊥
 
--- why an opening refuses these contents; that the device fails and that memory is wanting may come anywhere
+-- why an opening refuses these contents; that the device fails and that memory runs out may come anywhere
 abbrev pub IsRefused : Contents → Refusal → Type 0
 IsRefused x NotAStore = IsNoStore x
 IsRefused x BadSize = IsStore x × IsTooLarge x

@@ -1,11 +1,11 @@
 -- What a store stands for, between two calls.
-use Rattle.std.specs.Prelude.{◌≡◌, ℕ, ◌<◌, ◌≤◌, ◌++◌, Bool, false, List, [], length, Option, Some, None}
+use Rattle.std.specs.Prelude.{◌≡◌, ℕ, ◌<◌, ◌≤◌, ◌++◌, Bool, true, false, List, [], length, Option, Some, None}
 use Rattle.vm_types.specs.declared.sizes.TheConstants.{FIRST_DATA}
 use Rattle.vm_types.specs.Firsts.{change_first}
 use Rattle.vm_types.specs.State.{State}
 use Rattle.vm_types.specs.Tree.{changed}
 use Rattle.vm_disk.specs.Disk.{Medium}
-use Rattle.vm_alloc.specs.Held.{HoldsMore, IsHeld}
+use Rattle.vm_alloc.specs.Held.{HoldsMore, IsHeld, free_count}
 use Rattle.vm_block.specs.Slot.{SlotFits}
 use Rattle.vm_block.specs.declared.selector.SlotName.{SlotName}
 use Rattle.vm_catalog.specs.Catalog.{AtRest}
@@ -55,13 +55,13 @@ set_aside alt vs = change_first (is_alternative_of alt) (with_current no_root) v
 abbrev pub state_aside : List ℕ → State → State
 state_aside alt s = record s { working = changed s.working alt (λ a. record a { current = [] }) }
 
--- a series of changes of one alternative goes on, before which these blocks were held: they still are, and all trees but that of the
+-- a series of changes of one alternative goes on, before which these blocks were held: they still are, and all trees except that of the
 -- alternative's records stand in them
 pub record IsInSeries (alt : List ℕ) (m : Medium) (limit : ℕ) (slot_name : SlotName) (bits before : List Bool) (committed working : List Version) (s : State) : Type 0 where
   pub wider : HoldsMore before bits
   pub others : Rests m limit slot_name before committed (set_aside alt working) (state_aside alt s)
 
--- the blocks that were held before the series, where one goes on
+-- the blocks that were held before the series, if one goes on
 abbrev pub before_series : Option (List ℕ) → List Bool → Option (List Bool)
 before_series None before = None
 before_series (Some alt) before = Some before
@@ -76,12 +76,14 @@ abbrev pub KeepsSeries : Option (List ℕ) → (m : Medium) (limit : ℕ) (slot_
 KeepsSeries None m limit slot_name bits before committed working s = Unit {0}
 KeepsSeries (Some alt) m limit slot_name bits before committed working s = IsInSeries alt m limit slot_name bits before committed working s
 
--- the same store, which knows how many blocks were committed, and in which this series goes on, if one does
-pub record HoldsWith (m : Medium) (limit kept : ℕ) (slot_name : SlotName) (bits before : List Bool) (series : Option (List ℕ)) (committed working : List Version) (s : State) : Type 0 where
+-- the same store, which knows how many blocks were committed, in which this series goes on, if one does, and whose free blocks are
+-- exactly the spare ones, if they are marked
+pub record HoldsWith (m : Medium) (limit kept : ℕ) (slot_name : SlotName) (bits before : List Bool) (series : Option (List ℕ)) (marked : Bool) (committed working : List Version) (s : State) : Type 0 where
   pub rests : Rests m limit slot_name bits committed working s
   pub keeps : kept ≡ s.kept
   pub series_kept : KeepsSeries series m limit slot_name bits before committed working s
+  pub known : marked ≡ true → free_count bits ≡ spare_of rests
 
 -- a store with these parts stands for this state, on a disk that holds m
 abbrev pub PartsStandFor : Medium → Parts → State → Type 0
-PartsStandFor m parts s = HoldsWith m parts.blocks parts.kept parts.slot_name parts.held parts.before parts.series parts.committed parts.working s
+PartsStandFor m parts s = HoldsWith m parts.blocks parts.kept parts.slot_name parts.held parts.before parts.series parts.marked parts.committed parts.working s

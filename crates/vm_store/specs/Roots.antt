@@ -9,7 +9,7 @@ use Rattle.vm_tree.specs.declared.root.Root.{Root}
 use Rattle.vm_store.specs.Versions.{is_alternative_of, is_checkpoint_of}
 use Rattle.vm_store.specs.declared.version.Version.{Version}
 
--- the block of the current root of a version that was found, and 0 where none was
+-- the block of the current root of a version that was found, and 0 if none was
 abbrev pub current_root : Option Version → ℕ
 current_root None = 0
 current_root (Some v) = v.current.block

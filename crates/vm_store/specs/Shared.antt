@@ -23,7 +23,7 @@ use Rattle.vm_store.specs.declared.version.Version.{Version}
 
 module _ (P : ℕ → Type 0) (x : Contents) (limit : ℕ) where
   module _ (choose : (root : Root) (m : Map) → IsRootedIn sizes P x limit root m → List ℕ) where
-    -- the blocks that are chosen of the current tree of an alternative, none where it is not there
+    -- the blocks that are chosen of the current tree of an alternative, none if it is not there
     abbrev pub current_chosen : (vs : List Version) (fs : List Filed) → Standing P x limit vs fs → List ℕ → List ℕ
     current_chosen [] [] s alt = []
     current_chosen (v ∷ vs) (f ∷ fs) s alt = if is_alternative_of alt v then choose v.current f.current s.0.current else current_chosen vs fs s.1 alt
@@ -50,7 +50,7 @@ module _ (P : ℕ → Type 0) (x : Contents) (limit : ℕ) where
     meant_chosen vs fs s alt Base = base_chosen vs fs s alt
     meant_chosen vs fs s alt (Checkpoint name) = saved_chosen vs fs s alt name
 
-  -- all blocks under the current root of an alternative, none where it is not there
+  -- all blocks under the current root of an alternative, none if it is not there
   abbrev pub current_blocks : (vs : List Version) (fs : List Filed) → Standing P x limit vs fs → List ℕ → List ℕ
   current_blocks vs fs s alt = current_chosen (λ root m lies. lies.stands_in) vs fs s alt
 
@@ -64,7 +64,7 @@ parent_name None = []
 parent_name (Some v) = unwrap_or v.owner []
 
 module _ {m : Medium} {limit : ℕ} {slot_name : SlotName} {bits : List Bool} {committed working : List Version} {s : State} (rests : Rests m limit slot_name bits committed working s) where
-  -- the blocks of the tree of a version, none where it is not there
+  -- the blocks of the tree of a version, none if it is not there
   abbrev pub blocks_at : At → List ℕ
   blocks_at at = meant_chosen (IsHeld bits) m.contents limit (λ root map lies. lies.stands_in) working rests.new rests.stands at.alt at.of
 

@@ -8,7 +8,7 @@ use Rattle.vm_store.specs.Filed.{Anywhere, Filed, Standing, tree_of}
 use Rattle.vm_store.specs.Versions.{slot_entries}
 use Rattle.vm_store.specs.declared.version.Version.{Version}
 
--- these contents show this tree in a store of so many blocks: a header and a slot name versions within the disk, and under each root
+-- these contents show this tree in a store of this many blocks: a header and a slot name versions within the disk, and under each root
 -- lies a map
 pub record Shows (x : Contents) (seen : Seen) : Type 0 where
   pub versions : List Version
@@ -26,10 +26,10 @@ ShowsNothing x = (seen : Seen) → Shows x seen → ⊥
 abbrev pub ShowsAtMost : Seen → Contents → Type 0
 ShowsAtMost wanted x = (seen : Seen) → Shows x seen → seen ≡ wanted
 
--- what a new store of so many blocks shows: `top` without a record
+-- what a new store of this many blocks shows: `top` without a record
 abbrev pub new_store : ℕ → Seen
 new_store blocks = record { tree = fresh; blocks = blocks }
 
--- these contents show nothing, or a new store of so many blocks
+-- these contents show nothing, or a new store of this many blocks
 abbrev pub ShowsAtMostNew : ℕ → Contents → Type 0
 ShowsAtMostNew blocks x = ShowsAtMost (new_store blocks) x

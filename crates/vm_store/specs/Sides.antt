@@ -20,7 +20,7 @@ use Rattle.vm_store.specs.declared.sides.Sides.{Sides}
 use Rattle.vm_store.specs.declared.sides.ThreeRoots.{ThreeRoots}
 use Rattle.vm_store.specs.declared.tally.Tally.{Tally}
 
--- what is due of these maps, or that the device failed or memory was wanting
+-- what is due of these maps, or that the device failed or memory ran out
 abbrev pub ReadsOr : {T : Type 0} → Result T Refusal → (T → Type 0) → (Refusal → Type 0) → Type 0
 ReadsOr (Ok x) P Q = P x
 ReadsOr (Err refusal) P Q = (refusal ≡ Device) ⊎ ((refusal ≡ Memory) ⊎ Q refusal)

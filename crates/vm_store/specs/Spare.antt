@@ -12,6 +12,6 @@ unfoldable pub count_below : (ℕ → Bool) → ℕ → ℕ
 count_below test zero = 0
 count_below test (suc n) = (if test 0 then 1 else 0) + count_below (λ k. test (suc k)) n
 
--- how many of so many blocks are for data, and are none of these
+-- how many of this many blocks are for data, and are none of these
 abbrev pub spare : ℕ → List ℕ → ℕ
 spare limit reached = count_below (is_spare reached) limit

@@ -103,7 +103,7 @@ module _ {D : Type 0} {members : _} where
   abbrev pub InState : Store D members → (State → Type 0) → Type 0
   InState store Q = has_failed store ≡ false → (s : State) → Holds store s → Q s
 
-  -- Q holds for each state that the old store stood for, which had not failed, where the disk is honest under the new one
+  -- Q holds for each state that the old store stood for, which had not failed, if the disk is honest under the new one
   abbrev pub FromState : (old new : Store D members) → (State → Type 0) → Type 0
   FromState old new Q = IsHonest new → has_failed old ≡ false → (s : State) → Holds old s → Q s
 
@@ -111,7 +111,7 @@ module _ {D : Type 0} {members : _} where
   abbrev pub IsAsLong : (old new : Store D members) → Type 0
   IsAsLong old new = (members.state (disk_of new)).blocks ≡ (members.state (disk_of old)).blocks
 
-  -- the disk has as many blocks as before, or no more than so many
+  -- the disk has as many blocks as before, or no more than this many
   abbrev pub IsNoLonger : (old new : Store D members) → ℕ → Type 0
   IsNoLonger old new blocks = IsAsLong old new ⊎ ((members.state (disk_of new)).blocks ≤ blocks)
 
@@ -137,24 +137,43 @@ module _ {D : Type 0} {members : _} where
     pub held : held_of new ≡ take (kept_of old) (held_of old)
     pub series : series_of new ≡ None
 
-  -- no more reads were made than so many, of a store that stood for a state; the disk is honest after the call
+  -- no more reads were made than this many, of a store that stood for a state; the disk is honest after the call
   abbrev pub ReadsAtMost : (old new : Store D members) → ((s : State) → Holds old s → ℕ) → Type 0
   ReadsAtMost old new most = IsHonest new → (s : State) (holds : Holds old s) → reads_of new ≤ reads_of old + most s holds
 
-  -- just the spare blocks are free, where it was done
+  -- exactly the spare blocks are free, if it was done
   abbrev pub SpareIsFree : {T : Type 0} → Result T Refusal → (old new : Store D members) → Type 0
   SpareIsFree answer old new = (s : State) (holds : Holds old s) → OnOk answer (free_of new ≡ spare_of holds.rests)
 
-  -- one that is refused for want of blocks leaves just the spare ones free
+  -- one that is refused for want of blocks leaves exactly the spare ones free
   abbrev pub FullLeavesSpare : Result Answer Refusal → (old new : Store D members) → Type 0
   FullLeavesSpare answer old new = answer ≡ Err Full → (s : State) (holds : Holds old s) → free_of new ≡ spare_of holds.rests
 
-  -- after a marking that nothing followed just the spare blocks are free
+  -- blocks were marked, and since then nothing was taken or given back: exactly the spare blocks are free
+  abbrev pub is_marked : Store D members → Bool
+  is_marked store = store.parts.marked
+
+  -- a command that is refused for want of blocks leaves that so; where it was so before, it marks none again
+  abbrev pub FullAgain : Result Answer Refusal → (old new : Store D members) → Type 0
+  FullAgain answer old new = answer ≡ Err Full → (s : State) → Holds old s → (is_marked new ≡ true) × (is_marked old ≡ true → IsSameButDisk old new)
+
+  -- and a Put that is refused so then makes no device call
+  abbrev pub FullAtOnce : Result Answer Refusal → (old new : Store D members) → Type 0
+  FullAtOnce answer old new = answer ≡ Err Full → is_marked old ≡ true → disk_of new ≡ disk_of old
+
+  -- of the commands that may be refused so
+  abbrev pub MarksOnce : Command → Result Answer Refusal → (old new : Store D members) → Type 0
+  MarksOnce (Put alt key value) answer old new = FullAgain answer old new × FullAtOnce answer old new
+  MarksOnce (Remove alt key) answer old new = FullAgain answer old new
+  MarksOnce (Merge alt settled) answer old new = FullAgain answer old new
+  MarksOnce command answer old new = Unit {0}
+
+  -- after a marking that nothing followed, exactly the spare blocks are free
   abbrev pub MarksAll : Result Answer Refusal → (old new : Store D members) → Command → Type 0
   MarksAll answer old new command = HasMarked command answer → (s : State) (holds : Holds old s) → free_of new ≡ spare_of holds.rests
 
-  -- where enough blocks are free for a change, it takes so many of them at most, and none where it is refused, unless the device failed; where
-  -- too few are, blocks are marked first, and on an honest disk all that were spare but so many are free after it
+  -- if enough blocks are free for a change, it takes this many of them at most, and none if it is refused, unless the device failed; if
+  -- too few are, blocks are marked first, and on an honest disk all that were spare except this many are free after it
   abbrev pub TakesUpTo : ℕ → Result Answer Refusal → (old new : Store D members) → Type 0
   TakesUpTo most answer old new =
       (blocks_a_change ≤ free_of old → free_of old ≤ free_of new + most_taken most answer)
@@ -203,7 +222,7 @@ module _ {D : Type 0} {members : _} where
       → reads_of new ≤ reads_of old + unshared_on_sides holds.rests alt
   ReadsFew command answer old new = Unit {0}
 
-  -- the blocks that a store lacks of so many are free, too, where it was done
+  -- the blocks that a store lacks of this many are free, too, if it was done
   abbrev pub NewAreFree : Result Answer Refusal → (old new : Store D members) → ℕ → Type 0
   NewAreFree answer old new blocks = (s : State) → Holds old s → OnOk answer (free_of new ≡ free_of old + (blocks - s.blocks))
 
@@ -211,7 +230,7 @@ module _ {D : Type 0} {members : _} where
   abbrev pub GrowsFree : Result Answer Refusal → (old new : Store D members) → Command → Type 0
   GrowsFree answer old new command = (blocks : ℕ) → command ≡ Grow blocks → NewAreFree answer old new blocks
 
-  -- P holds of what was committed by a store that has not failed, where the disk that is given back is honest
+  -- P holds of what was committed by a store that has not failed, if the disk that is given back is honest
   abbrev pub ClosesWith : Store D members → D → (Seen → Type 0) → Type 0
   ClosesWith store disk P = (members.state disk).honest ≡ true → has_failed store ≡ false → (s : State) → Holds store s → P (committed_of s)
 
@@ -237,7 +256,7 @@ module _ {D : Type 0} {members : _} where
 
   -- a command was carried out by a store that stands for the state, on an honest disk
   pub record Carries (old new : Store D members) (s : State) (holds : Holds old s) (command : Command) (answer : Result Answer Refusal) : Type 0 where
-    -- the answer is the one that is due, where Full and Deep come on their conditions, or Device, or Memory
+    -- the answer is the one that is due, with Full and Deep on their conditions, or Device, or Memory
     pub answers : Answers old new s holds command answer
     -- unless the device failed, the store stands for what the answer leaves
     pub state : answer ≢ Err Device → Holds new (next s command answer)

@@ -12,6 +12,7 @@ ghost use Rattle.vm_tree.specs.Free.{is_free};
 ghost use Rattle.vm_tree.specs.Root.{IsRootedIn};
 ghost use Rattle.vm_tree.specs.declared.faults.TreeFault.TheVariants.{Device};
 ghost use Rattle.vm_store.specs.ChangeList.{Makes, MeetsFullPath};
+ghost use Rattle.vm_store.specs.Rest.{before_of};
 ghost use Rattle.vm_store.specs.Sizes.{sizes};
 
 use crate::series::{put_forgetting, remove_forgetting};
@@ -21,18 +22,18 @@ use vm_tree::{PutFault, Root};
 use vm_types::{Changes, Key};
 
 /// Gives the key the value that it has after the change, or removes its record if there is none, in
-/// the tree under a root, and returns the new root. The blocks of the old path are forgotten,
-/// except those that were held before.
+/// the tree under a root, and returns the new root. If it is known which blocks were held before,
+/// those of the old path are forgotten, except these.
 fn make_change<D: Disk>(
     disk: &mut D,
     held: &mut Held,
-    before: &Baseline,
+    before: Option<&Baseline>,
     root: Root,
     key: Key,
     after: Option<&[u8]>,
 ) -> Result<Root, PutFault>
     requires inside { length held.old ≤ (D.state disk.old).blocks }
-    requires before { HoldsMore before.now held.old }
+    requires before { HoldsMore (before_of (option_copied before) held.old) held.old }
     requires short { IfSome after (λ value. length value.now ≤ longest) }
     requires room { blocks_a_change ≤ free_count held.old }
     ensures any { Goes (result ≡ Err (PutFault.Tree Device)) (D.state disk.old) (D.state disk.new) }
@@ -40,7 +41,7 @@ fn make_change<D: Disk>(
     ensures taken { free_count held.old ≤ free_count held.new + 16 }
     ensures moments { (D.state disk.new).honest ≡ true
         → Throughout (D.state disk.old) (D.state disk.new)
-        (TouchesOnly (is_free before.now) (D.state disk.old).now) }
+        (TouchesOnly (is_free (before_of (option_copied before.entry) held.old)) (D.state disk.old).now) }
     ensures unsynced { (D.state disk.new).honest ≡ true
         → NeverSyncs (D.state disk.old) (D.state disk.new) }
     ensures changed { (D.state disk.new).honest ≡ true → (m : Map) (change : Change)
@@ -50,8 +51,8 @@ fn make_change<D: Disk>(
         (λ r. IsRootedIn sizes (IsHeld held.new) (D.state disk.new).now.contents (length held.old) r (with_change m change)) }
 {
     match after {
-        Some(value) => put_forgetting(disk, held, Some(before), root, key, value),
-        None => match remove_forgetting(disk, held, Some(before), root, key)? {
+        Some(value) => put_forgetting(disk, held, before, root, key, value),
+        None => match remove_forgetting(disk, held, before, root, key)? {
             Some(rest) => Ok(rest),
             None => Ok(root),
         },
@@ -59,17 +60,17 @@ fn make_change<D: Disk>(
 }
 
 /// Makes changes of records in the tree under a root, in order. A change to no value removes the
-/// record, if it is there. Requires 17 free blocks per change, and that `before` is a copy of what
-/// is held. Blocks that one change takes and a later one replaces are forgotten.
+/// record, if it is there. Requires 17 free blocks per change, and that `before`, if it is given, is
+/// a copy of what is held: blocks that one change takes and a later one replaces are then forgotten.
 pub fn make_changes<D: Disk>(
     disk: &mut D,
     held: &mut Held,
-    before: &Baseline,
+    before: Option<&Baseline>,
     mut root: Root,
     changes: &Changes,
 ) -> Result<Root, PutFault>
     requires inside { length held.old ≤ (D.state disk.old).blocks }
-    requires before { before.now ≡ held.old }
+    requires before { before_of (option_copied before) held.old ≡ held.old }
     requires room { blocks_a_change * length changes.now ≤ free_count held.old }
     ensures any { Goes (result ≡ Err (PutFault.Tree Device)) (D.state disk.old) (D.state disk.new) }
 

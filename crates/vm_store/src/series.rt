@@ -1,7 +1,7 @@
 //! Series of changes: Puts and Removes in one alternative with no other command between them. A
 //! block that was taken since a series began is only in the tree of its alternative's records. When
 //! a change replaces such a block, nothing needs its bytes.
-ghost use Rattle.std.specs.Prelude.{◌≡◌, ◌≢◌, ◌↔◌, ◌⊎◌, ◌+◌, ◌<◌, ◌≤◌, ℕ, true, length, None, Some, option_copied, IsTrue, IfOk, OnErr};
+ghost use Rattle.std.specs.Prelude.{◌≡◌, ◌≢◌, ◌↔◌, ◌⊎◌, ◌+◌, ◌<◌, ◌≤◌, ℕ, Bool, List, true, length, None, Some, option_copied, IsTrue, IfOk, OnErr};
 ghost use Rattle.vm_types.specs.Bytes.{longest};
 ghost use Rattle.vm_types.specs.State.{blocks_a_change};
 ghost use Rattle.std.specs.List.{AllByRecursion};
@@ -37,10 +37,26 @@ pub fn goes_on(series: &Option<Name>, alt: &Name) -> bool
 /// How many blocks of the store one change pays for, when the set of held blocks is copied.
 const BLOCKS_COPIED_A_CHANGE: u32 = 16_384;
 
+/// Copies the set of held blocks, provided enough changes came since it was last copied, these
+/// included; otherwise counts these. On the whole, a change thus copies at most the same amount,
+/// however large the store is.
+pub fn copy_held(changes: &mut u32, more: usize, before: &mut Baseline, held: &Held) -> bool
+    requires { length held.now ≡ length before.old }
+    ensures copied { IsTrue result → before.new ≡ held.now }
+    ensures many { length before.new ≡ length before.old }
+{
+    let paid = changes.saturating_add(more.min(u32::MAX as usize) as u32);
+    if paid < before.blocks() / BLOCKS_COPIED_A_CHANGE {
+        *changes = paid;
+        return false;
+    }
+    *changes = 0;
+    before.take(held);
+    true
+}
+
 /// Continues this alternative's series. If it is not open, starts one with the currently held
-/// blocks as its baseline, provided enough changes came since they were last copied; otherwise
-/// leaves no series open. On the whole, a Put or a Remove thus copies at most the same amount,
-/// however large the store is. A Merge copies them by itself.
+/// blocks as its baseline, if they are copied for one more change; otherwise leaves no series open.
 pub fn go_on(
     series: &mut Option<Name>,
     changes: &mut u32,
@@ -57,14 +73,19 @@ pub fn go_on(
     if goes_on(series, alt) {
         return;
     }
-    if *changes < before.blocks() / BLOCKS_COPIED_A_CHANGE {
-        *changes += 1;
-        *series = None;
-        return;
-    }
-    *changes = 0;
-    before.take(held);
-    *series = Some(*alt);
+    *series = if copy_held(changes, 1, before, held) {
+        Some(*alt)
+    } else {
+        None
+    };
+}
+
+/// The copy of the set of held blocks, if it was made.
+pub fn if_copied(is_copied: bool, before: &Baseline) -> Option<&Baseline>
+    ensures { (bits : List Bool) → (IsTrue is_copied → before.now ≡ bits)
+        → before_of (option_copied result) bits ≡ bits }
+{
+    if is_copied { Some(before) } else { None }
 }
 
 /// The blocks that were held before the series, if one is open.

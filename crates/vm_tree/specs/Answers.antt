@@ -29,14 +29,14 @@ Lists (Err (list.Tree Device)) P = Unit {0}
 Lists (Err (list.Tree (Damaged b))) P = ⊥
 Lists (Err list.Memory) P = Unit {0}
 
--- what a Put answers on a tree: a root with P, where there is room; Deep, where `deep` holds; or that the device failed
+-- what a Put answers on a tree: a root with P, if there is room; Deep, if `deep` holds; or that the device failed
 abbrev pub Puts : {T : Type 0} → Result T PutFault → Type 0 → (T → Type 0) → Type 0
 Puts (Ok x) deep P = P x × (deep → ⊥)
 Puts (Err (put.Tree Device)) deep P = Unit {0}
 Puts (Err (put.Tree (Damaged b))) deep P = ⊥
 Puts (Err put.Deep) deep P = deep
 
--- what a Remove answers on a tree: None, where the key is absent; else a root with P; or that the device failed
+-- what a Remove answers on a tree: None, if the key is absent; else a root with P; or that the device failed
 abbrev pub Removes : {T : Type 0} → Result (Option T) TreeFault → Type 0 → (T → Type 0) → Type 0
 Removes (Ok None) absent P = absent
 Removes (Ok (Some x)) absent P = (absent → ⊥) × P x

@@ -15,7 +15,7 @@ use Rattle.vm_block.specs.declared.way.Way.{Way}
 use Rattle.vm_tree.specs.Tree.{IsData}
 use Rattle.vm_tree.specs.Answers.{OkOrDevice}
 
--- of these two numbers of reads on a disk the later counts a block for data once more, and another not
+-- of these two counts of reads on a disk, the later one is one more for a block for data, and the same for another
 pub record ReadsOne (limit b old new : ℕ) : Type 0 where
   pub most : new ≤ old + 1
   pub one : IsData limit b → new ≡ old + 1
@@ -48,13 +48,13 @@ pub record IsLeafOf (x : Contents) (b : ℕ) (bytes : List ℕ) : Type 0 where
   pub bytes_are : bytes ≡ block x b
   pub leaf : HasRecords bytes records
 
--- these bytes are a leaf of so many records
+-- these bytes are a leaf of this many records
 pub record IsLeafSize (bytes : List ℕ) (count : ℕ) : Type 0 where
   pub records : List Record
   pub leaf : HasRecords bytes records
   pub many : count ≡ length records
 
--- these bytes are an inner block of this level with so many children
+-- these bytes are an inner block of this level with this many children
 pub record IsNodeOf (bytes : List ℕ) (level count : ℕ) : Type 0 where
   pub children : List Child
   pub node : IsNode bytes level children
@@ -79,21 +79,21 @@ pub record StepsTo (x : Contents) (limit p level b : ℕ) (low : Key) (child : C
   pub spelled : take 14 (drop (16 + 14 * index) (block x b)) ≡ child_bytes child
   pub chosen : ChoosesAmong (block x b) 14 count p index
 
--- from block b, so many levels above the leaves, the descent to place p leads to a leaf: each block on it has the head of
+-- from block b, this many levels above the leaves, the descent to place p leads to a leaf: each block on it has the head of
 -- its level, and begins with the key that was said of it
 unfoldable pub LeadsDown : Contents → ℕ → ℕ → ℕ → ℕ → Key → Type 0
 LeadsDown x limit p zero b low = EndsAt x limit b low
 LeadsDown x limit p (suc l) b low = (child : Child) × StepsTo x limit p (suc l) b low child × LeadsDown x limit p l child.block child.low
 
--- from one to so many
+-- from one to this many
 abbrev pub IsCount : ℕ → ℕ → Type 0
 IsCount most n = (0 < n) × (n ≤ most)
 
--- a way in an inner block with so many children at most
+-- a way in an inner block with this many children at most
 abbrev pub IsWayAmong : ℕ → Way → Type 0
 IsWayAmong most way = (way.index < way.count) × (way.count ≤ most) × (way.count ≤ MAX_CHILDREN)
 
--- # What a call found, where the disk is honest after it, of the contents before it
+-- # What a call found, if the disk is honest after it, of the contents before it
 
 -- a value was answered, and P holds of it and of these contents
 abbrev pub Finds : {T E : Type 0} → Result T E → DiskState → DiskState → (Contents → T → Type 0) → Type 0
@@ -123,7 +123,7 @@ FindsEnd result old new limit top = Finds result old new (λ x answer. EndsAt x 
 abbrev pub FindsStep : Result Way TreeFault → DiskState → DiskState → ℕ → ℕ → ℕ → Child → Type 0
 FindsStep result old new limit p level top = Finds result old new (λ x way. StepsTo x limit p level top.block top.low way.child)
 
--- this child's block, of this level, leads down where the child that is answered ends a descent
+-- this child's block, of this level, leads down if the child that is answered ends a descent
 abbrev pub FindsLeaf : Result Child TreeFault → DiskState → DiskState → ℕ → ℕ → ℕ → Child → Type 0
 FindsLeaf result old new limit p level top =
     Finds result old new (λ x leaf. EndsAt x limit leaf.block leaf.low → LeadsDown x limit p level top.block top.low)
@@ -137,7 +137,7 @@ abbrev pub FindsPathFrom : {T E : Type 0} → Root → Result T E → DiskState 
 FindsPathFrom root result old new limit p =
     Finds result old new (λ x answer. 0 < root.block → LeadsDown x limit p root.level root.block root.low)
 
--- # What a call gives, where the disk is honest after it, unless the device fails
+-- # What a call gives, if the disk is honest after it, unless the device fails
 
 -- the bytes of a block for data
 abbrev pub GivesData : {T : Type 0} → Result T TreeFault → DiskState → DiskState → ℕ → ℕ → List ℕ → Type 0
@@ -155,7 +155,7 @@ GivesNodeUnder result old new limit top bytes =
     new.honest ≡ true → (level : ℕ) (cs : List Child) → IsNodeAt old.now.contents limit level top.block cs → Lowest top.low cs
     → OkOrDevice result (λ done. IsNode bytes level cs)
 
--- the bytes of a child's block that is an inner block of this level with so many children at most, and the way to place p in it
+-- the bytes of a child's block that is an inner block of this level with this many children at most, and the way to place p in it
 abbrev pub GivesWay : Result Way TreeFault → DiskState → DiskState → ℕ → ℕ → Child → ℕ → ℕ → List ℕ → Type 0
 GivesWay result old new limit level top most p bytes =
     new.honest ≡ true → (cs : List Child) → IsNodeAt old.now.contents limit level top.block cs → Lowest top.low cs → length cs ≤ most

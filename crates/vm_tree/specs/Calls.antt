@@ -12,7 +12,7 @@ use Rattle.vm_tree.specs.declared.faults.PutFault.TheVariants as put
 use Rattle.vm_tree.specs.declared.faults.TreeFault.{TreeFault}
 use Rattle.vm_tree.specs.declared.faults.TreeFault.TheVariants.{Device, Damaged}
 
--- a call that answers that the device failed just where `fails` holds only looked at the disk: its failures rise where it failed, and an
+-- a call that answers that the device failed exactly if `fails` holds only looked at the disk: its failures rise if it failed, and an
 -- honest disk held at each moment what it held before
 pub record Looks (fails : Type 0) (old new : DiskState) : Type 0 where
   pub goes : Goes fails old new
@@ -26,7 +26,7 @@ OnlyLooks result old new = Looks (result ≡ Err Device) old new
 abbrev pub OnlyLists : {T : Type 0} → Result T ListFault → DiskState → DiskState → Type 0
 OnlyLists result old new = Looks (result ≡ Err (list.Tree Device)) old new
 
--- where `when` holds, the same blocks are held as before, and an honest disk was only looked at
+-- if `when` holds, the same blocks are held as before, and an honest disk was only looked at
 pub record LooksIf (when : Type 0) (held later : List Bool) (old new : DiskState) : Type 0 where
   pub kept : when → later ≡ held
   pub reads : new.honest ≡ true → when → OnlyReads old new
@@ -39,11 +39,11 @@ LooksIfDamaged result held later old new = (b : ℕ) → LooksIf (result ≡ Err
 abbrev pub PutsIfDamaged : {T : Type 0} → Result T PutFault → List Bool → List Bool → DiskState → DiskState → Type 0
 PutsIfDamaged result held later old new = (b : ℕ) → LooksIf (result ≡ Err (put.Tree (Damaged b))) held later old new
 
--- that it has no room for a record more is found before any is taken or written
+-- that it has no room for one more record is found before any is taken or written
 abbrev pub PutsIfDeep : {T : Type 0} → Result T PutFault → List Bool → List Bool → DiskState → DiskState → Type 0
 PutsIfDeep result held later old new = LooksIf (result ≡ Err put.Deep) held later old new
 
--- a call that answers that the device failed just where `fails` holds wrote free blocks alone: its failures rise where it failed, what was
+-- a call that answers that the device failed exactly if `fails` holds wrote free blocks alone: its failures rise if it failed, what was
 -- held stays held, the lowest free blocks were taken, and at no moment had a held block of an honest disk other bytes than before, nor was a
 -- dirty one synced
 pub record Writes (fails : Type 0) (held later : List Bool) (old new : DiskState) : Type 0 where

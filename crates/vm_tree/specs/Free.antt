@@ -23,6 +23,6 @@ AreTaken held cs = AllByRecursion (λ c. IsTaken held c.block) cs
 abbrev pub TakesLowest : List Bool → List Bool → Type 0
 TakesLowest held later = (n k : ℕ) → is_held held n ≡ false → IsHeld later n → k < n → IsHeld later k
 
--- of the free blocks so many are taken at most
+-- of the free blocks this many are taken at most
 abbrev pub TakesAtMost : ℕ → List Bool → List Bool → Type 0
 TakesAtMost n held later = free_count held ≤ free_count later + n

@@ -14,14 +14,14 @@ use Rattle.vm_tree.specs.Tree.{Sizes}
 abbrev pub blocks_of : List Child → List ℕ
 blocks_of cs = map (λ c. c.block) cs
 
--- so many leaves more are needed for these records: none where they have room in one, one where a cut makes two, and else two
+-- this many more leaves are needed for these records: none if they have room in one, one if a cut makes two, else two
 abbrev pub NeedsMore : List Record → ℕ → Type 0
 NeedsMore rs zero = size_of rs ≤ LEAF_ROOM
 NeedsMore rs (suc zero) = (LEAF_ROOM < size_of rs) × (h : ℕ) × (0 < h) × (h < length rs) × (larger h rs ≤ LEAF_ROOM)
 NeedsMore rs (suc (suc zero)) = (LEAF_ROOM < size_of rs) × ((h : ℕ) → 0 < h → h < length rs → LEAF_ROOM < larger h rs)
 NeedsMore rs (suc (suc (suc n))) = ⊥
 
--- with this record, block b, l levels above the leaves, becomes so many blocks more
+-- with this record, block b, l levels above the leaves, becomes this many more blocks
 unfoldable pub GrowsBy : Sizes → Contents → Record → ℕ → ℕ → ℕ → Type 0
 GrowsBy sizes x r zero b more = (rs : List Record) × HasRecords (block x b) rs × NeedsMore (with_record r rs) more
 GrowsBy sizes x r (suc l) b more =

@@ -1,4 +1,4 @@
--- What is given of the map under a root, where the disk is honest after the call.
+-- What is given of the map under a root, if the disk is honest after the call.
 use Rattle.std.specs.Prelude.{◌≡◌, ℕ, List, ◌++◌, length, Bool, Option, is_some, option_copied, Result}
 use Rattle.std.specs.Borrow.{Bor}
 use Rattle.vm_types.specs.declared.key.Key.{Key}
@@ -63,12 +63,12 @@ GivesMap result old new limit root = GivesPart result old new limit root (λ m. 
 abbrev pub GivesWindow : Result Map ListFault → DiskState → DiskState → ℕ → Root → Window → Type 0
 GivesWindow result old new limit root w = GivesPart result old new limit root (given_of w 0)
 
--- what a window gives of the records under a child, behind those that were there before
+-- what a window gives of the records under a child, after those that were there before
 abbrev pub AddsUnder : {T : Type 0} → Result T ListFault → DiskState → DiskState → ℕ → ℕ → Child → Window → Map → Map → Type 0
 AddsUnder result old new limit level top w before after =
     OnSubtree old new limit level top (λ sizes x rs bs tree. Lists result (λ _. after ≡ before ++ given_of w (length before) rs))
 
--- and of the records of a leaf of so many
+-- and of the records of a leaf, this many
 abbrev pub AddsLeaf : {T : Type 0} → Result T ListFault → List ℕ → ℕ → Window → Map → Map → Type 0
 AddsLeaf result bytes count w before after =
     (rs : List Record) → HasRecords bytes rs → count ≡ length rs

@@ -20,7 +20,7 @@ use Rattle.vm_tree.specs.declared.faults.PutFault.{PutFault}
 use Rattle.vm_tree.specs.declared.faults.TreeFault.{TreeFault}
 use Rattle.vm_tree.specs.declared.block_writes.Copied.{Copied}
 
--- an inner block grows by one at most, and only where the one below grew, and it has more children than so many then
+-- an inner block grows by one at most, and only if the one below grew, and it has more children than this many then
 abbrev pub GrowsOnly : {E : Type 0} → Result Copied E → Copied → ℕ → ℕ → Type 0
 GrowsOnly result copied most count = IfOk result (λ done. (extra done ≤ 1) × (0 < extra done → (0 < extra copied) × (most < count + extra copied)))
 
@@ -28,30 +28,30 @@ GrowsOnly result copied most count = IfOk result (λ done. (extra done ≤ 1) ×
 abbrev pub HasAsLong : Record → List Record → Type 0
 HasAsLong r rs = IsSomeAnd (value_at (place r.0) rs) (λ value. length r.1 ≤ length value)
 
--- where the leaf under a child has the key, with a value that is not shorter, it stays one leaf, and one block is taken at most
+-- if the leaf under a child has the key, with a value that is not shorter, it stays one leaf, and one block is taken at most
 abbrev pub ReplacesInLeaf : Result Copied PutFault → List Bool → List Bool → DiskState → DiskState → Child → Record → Type 0
 ReplacesInLeaf result held later old new top r =
     (sizes : Sizes) → IfUnder old new sizes (length held) 0 top (λ rs bs. HasAsLong r rs → IfOk result (λ copied. (extra copied ≡ 0) × TakesAtMost 1 held later))
 
--- where the records under a child of this level have it, it stays one block, and one a level is taken at most
+-- if the records under a child of this level have it, it stays one block, and one a level is taken at most
 abbrev pub ReplacesUnder : Result Copied PutFault → ℕ → List Bool → List Bool → DiskState → DiskState → ℕ → Child → Record → Type 0
 ReplacesUnder result fan held later old new level top r =
     (levels : ℕ) → IfUnder old new (sizes_of fan levels) (length held) level top
     (λ rs bs. HasAsLong r rs → IfOk result (λ copied. (extra copied ≡ 0) × TakesAtMost (level + 1) held later))
 
--- where the map has it, one block a level is taken at most
+-- if the map has it, one block a level is taken at most
 abbrev pub ReplacesFrom : Result Root PutFault → Sizes → List Bool → List Bool → DiskState → DiskState → Root → Record → Type 0
 ReplacesFrom result sizes held later old new root r =
     IfWhole old new sizes (length held) root (λ m bs. HasAsLong r m → IfOk result (λ answer. TakesAtMost (root.level + 1) held later))
 
--- the leaf under a child has the record, in as many blocks more as it grows by, which replace the leaf's
+-- the leaf under a child has the record, in as many more blocks as it grows by, which replace the leaf's
 abbrev pub PutsUnderLeaf : Result Copied PutFault → ℕ → List Bool → List Bool → DiskState → DiskState → Child → Record → Type 0
 PutsUnderLeaf result room held later old new top r =
     (sizes : Sizes) → IfUnder old new sizes (length held) 0 top
     (λ rs bs. PutsBelow result room (GrowsBy sizes old.now.contents r 0 top.block)
     (λ cs. Replaces held later (top.block ∷ []) bs (λ P. Made P sizes new.now.contents (length held) 0 cs (with_record r rs))))
 
--- the records under a child of this level have this one, in as many blocks more as it grows by, which replace those of the path
+-- the records under a child of this level have this one, in as many more blocks as it grows by, which replace those of the path
 abbrev pub PutsUnder : Result Copied PutFault → ℕ → ℕ → List Bool → List Bool → DiskState → DiskState → ℕ → Child → Record → List ℕ → Type 0
 PutsUnder result fan room held later old new level top r path =
     (levels : ℕ) → IfUnder old new (sizes_of fan levels) (length held) level top
@@ -64,7 +64,7 @@ PutsFirst result held later new r =
     new.honest ≡ true → (keep : ℕ → Bool) → (sizes : Sizes) → 0 < sizes.levels
     → IfOk result (λ root. IsRootedIn sizes (IsRenewed held later keep) new.now.contents (length held) root (r ∷ []))
 
--- the answer is a root, or Deep just where there is no room, unless the device fails; and where the blocks of the tree are held, the root has
+-- the answer is a root, or Deep exactly if there is no room, unless the device fails; and if the blocks of the tree are held, the root has
 -- the map with the value, in blocks that are none of this path
 abbrev pub PutsFrom : Result Root PutFault → Sizes → List Bool → List Bool → DiskState → DiskState → Root → Key → List ℕ → List ℕ → Type 0
 PutsFrom result sizes held later old new root key value path =

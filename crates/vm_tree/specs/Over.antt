@@ -15,7 +15,7 @@ use Rattle.vm_tree.specs.declared.root.Root.{Root}
 abbrev pub only_if : Bool → List ℕ → List ℕ
 only_if test bs = if test then bs else []
 
--- the top of a subtree, where one of the records under it stands at a place that passes the test
+-- the top of a subtree, if one of the records under it stands at a place that passes the test
 abbrev pub top_over : (ℕ → Bool) → ℕ → List Record → List ℕ
 top_over test b rs = only_if (list_any (λ r. test (place r.0)) rs) (b ∷ [])
 

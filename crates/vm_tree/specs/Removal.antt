@@ -58,11 +58,11 @@ RemovesBelow (Ok Nothing) p rs P = (value_at p rs ≢ None) × (without_place p 
 RemovesBelow (Ok (Rest root)) p rs P = (value_at p rs ≢ None) × P root
 RemovesBelow (Err e) p rs P = e ≡ Device
 
--- where no record was there, the same blocks are held as before, and the disk was only looked at
+-- if no record was there, the same blocks are held as before, and the disk was only looked at
 abbrev pub LooksIfSame : Result Left TreeFault → List Bool → List Bool → DiskState → DiskState → Type 0
 LooksIfSame result held later old new = LooksIf (result ≡ Ok Same) held later old new
 
--- and where no record is left
+-- and if no record is left
 abbrev pub LooksIfNothing : Result Left TreeFault → List Bool → List Bool → DiskState → DiskState → Type 0
 LooksIfNothing result held later old new = LooksIf (result ≡ Ok Nothing) held later old new
 
@@ -76,7 +76,7 @@ LeavesOld held later Same = ⊥
 LeavesOld held later Nothing = ⊥
 LeavesOld held later (Rest root) = WasThere held later root
 
--- and where a root is left that was there
+-- and if a root is left that was there
 abbrev pub LooksIfOld : Result Left TreeFault → List Bool → List Bool → DiskState → DiskState → Type 0
 LooksIfOld result held later old new = LooksIf (IsOkAnd result (LeavesOld held later)) held later old new
 
@@ -92,11 +92,11 @@ LeavesData limit Same = Unit {0}
 LeavesData limit Nothing = Unit {0}
 LeavesData limit (Rest root) = IsData limit root.block
 
--- for what is left on a level so many blocks were taken at most: one for each level of its root
+-- for what is left on a level this many blocks were taken at most: one for each level of its root
 abbrev pub TakesForLeft : ℕ → List Bool → List Bool → Left → Type 0
 TakesForLeft level held later left = TakesAtMost (level_of left level + 1) held later
 
--- the root of a map in so many blocks: it has a block for data, or none
+-- the root of a map in this many blocks: it has a block for data, or none
 abbrev pub IsRootAmong : ℕ → Root → Type 0
 IsRootAmong limit root = (root.block ≡ 0) ⊎ IsData limit root.block
 
@@ -108,12 +108,12 @@ Empties result = IsOkAnd result (λ rest. IsSomeAnd rest (λ root. root.block �
 abbrev pub KeepsRoot : Result (Option Root) TreeFault → List Bool → List Bool → Type 0
 KeepsRoot result held later = IsOkAnd result (λ rest. IsSomeAnd rest (WasThere held later))
 
--- from block b, so many levels above the leaves, down to a leaf of one record each block has one child
+-- from block b, this many levels above the leaves, down to a leaf of one record each block has one child
 unfoldable pub HasOne : Contents → ℕ → ℕ → Type 0
 HasOne x zero b = (r : Record) × HasRecords (block x b) (r ∷ [])
 HasOne x (suc l) b = (child : Child) × IsNodeHead (block x b) (suc l) 1 × (take 14 (drop 16 (block x b)) ≡ child_bytes child) × HasOne x l child.block
 
--- where `when` holds, and the disk is honest, this block had one record under it before the call
+-- if `when` holds, and the disk is honest, this block had one record under it before the call
 abbrev pub HadOneIf : Type 0 → DiskState → DiskState → ℕ → ℕ → Type 0
 HadOneIf when old new level b = new.honest ≡ true → when → HasOne old.now.contents level b
 
@@ -152,7 +152,7 @@ RemovesUnder result fan held later old new level top p path =
     (λ root. Replaces held later (path_from level path) bs
     (λ P. Made P (sizes_of fan levels) new.now.contents (length held) root.level (child_of root ∷ []) (without_place p rs))))
 
--- the answer is None just where the key is absent, and else a root, unless the device fails; and where the blocks of the tree are held,
+-- the answer is None exactly if the key is absent, and else a root, unless the device fails; and if the blocks of the tree are held,
 -- the root has the map without the key, in blocks that are none of this path
 abbrev pub RemovesFrom : Result (Option Root) TreeFault → Sizes → List Bool → List Bool → DiskState → DiskState → Root → Key → List ℕ → Type 0
 RemovesFrom result sizes held later old new root key path =

@@ -16,7 +16,7 @@ Apart own others = AllByRecursion (λ b. Lacks b others) own
 abbrev pub path_from : ℕ → List ℕ → List ℕ
 path_from level path = take (level + 1) path
 
--- the same up to this root, under which no block of a path is where it is the empty map
+-- the same up to this root; if that is the empty map, no block of a path is under it
 abbrev pub path_under : Root → List ℕ → List ℕ
 path_under root path = if root.block == 0 then [] else path_from root.level path
 
@@ -38,12 +38,12 @@ KeepsBeside path keep bs = AllByRecursion (λ n. Lacks n path → keep n ≡ tru
 abbrev pub IsPathIn : List ℕ → List ℕ → Type 0
 IsPathIn path bs = (n : ℕ) → Lacks n bs → Lacks n path
 
--- where all blocks of a tree were held before, and those that are not on this path are to be kept, M holds of blocks that are held now, and
+-- if all blocks of a tree were held before, and those that are not on this path are to be kept, M holds of blocks that are held now, and
 -- to be kept if they were held before
 abbrev pub Replaces : (before held : List Bool) (path bs : List ℕ) → ((ℕ → Type 0) → Type 0) → Type 0
 Replaces before held path bs M =
     (keep : ℕ → Bool) → AllByRecursion (IsHeld before) bs → KeepsBeside path keep bs → M (IsRenewed before held keep)
 
--- from this level up to the last the path is as it was, but for this block at the level itself
+-- from this level up to the last the path is as it was, except for this block at the level itself
 abbrev pub KeepsAbove : ℕ → ℕ → List ℕ → List ℕ → Type 0
 KeepsAbove level b path later = (k : ℕ) → level ≤ k → k < 8 → slice_index later k ≡ slice_index (slice_set path level b) k

@@ -10,7 +10,7 @@ use Rattle.vm_block.specs.declared.node.Child.{Child}
 use Rattle.vm_tree.specs.Tree.{Sizes, Subtree}
 use Rattle.vm_tree.specs.declared.root.Root.{Root}
 
--- trees with inner blocks of so many children, and so many levels
+-- trees with inner blocks of this many children, and this many levels
 abbrev pub sizes_of : ℕ → ℕ → Sizes
 sizes_of fan levels = record { fan = fan; levels = levels }
 
@@ -49,7 +49,7 @@ abbrev pub IfWhole : DiskState → DiskState → Sizes → ℕ → Root → (Map
 IfWhole old new sizes limit root P =
     new.honest ≡ true → (m : Map) (bs : List ℕ) → IsRooted sizes old.now.contents limit root m bs → P m bs
 
--- the same of the records under a child, the top of so many levels above the leaves
+-- the same of the records under a child, the top of this many levels above the leaves
 abbrev pub IfUnder : DiskState → DiskState → Sizes → ℕ → ℕ → Child → (List Record → List ℕ → Type 0) → Type 0
 IfUnder old new sizes limit level top P =
     new.honest ≡ true → (rs : List Record) (bs : List ℕ) → Subtree sizes old.now.contents limit level top.block rs bs → BeginsWith top.low rs → RisesFrom 0 (places rs)

@@ -1,4 +1,4 @@
--- How many reads a walk makes under a block, where the disk is honest after the call.
+-- How many reads a walk makes under a block, if the disk is honest after the call.
 use Rattle.std.specs.Prelude.{◌≡◌, ℕ, ◌+◌, ◌≤◌, nat_lt, true, false, Bool, List, length, if◌then◌else◌}
 use Rattle.std.specs.List.{AllByRecursion}
 use Rattle.std.proofs.Common.{inl, inr}
@@ -19,7 +19,7 @@ use Rattle.vm_tree.specs.declared.window.Window.{Window}
 abbrev pub ReadsAtMost : ℕ → DiskState → DiskState → Type 0
 ReadsAtMost n old new = new.reads ≤ old.reads + n
 
--- P holds of the records that lay under a child, the top of so many levels above the leaves, in the contents before the call
+-- P holds of the records that lay under a child, the top of this many levels above the leaves, in the contents before the call
 abbrev pub OnSubtree : DiskState → DiskState → (limit level : ℕ) (top : Child)
     → ((sizes : Sizes) (x : Contents) (rs : List Record) (bs : List ℕ) → Subtree sizes x limit level top.block rs bs → Type 0) → Type 0
 OnSubtree old new limit level top P =
@@ -30,7 +30,7 @@ OnSubtree old new limit level top P =
 abbrev pub AllPass : (ℕ → Bool) → List Record → Type 0
 AllPass test rs = AllByRecursion (λ r. test (place r.0) ≡ true) rs
 
--- the reads that a subtree costs beside its blocks over the part, which begins at place low: one for each of its levels, where it begins below
+-- the reads that a subtree costs beside its blocks over the part, which begins at place low: one for each of its levels, if it begins below
 abbrev pub reads_aside : ℕ → ℕ → Key → ℕ
 reads_aside low level first = if nat_lt (place first) low then level + 1 else 0
 
@@ -39,7 +39,7 @@ abbrev pub tree_aside : ℕ → (sizes : Sizes) (x : Contents) (limit : ℕ) (ro
 tree_aside low sizes x limit root m bs (inl bare) = 0
 tree_aside low sizes x limit root m bs (inr top) = reads_aside low root.level root.low
 
--- where some may be given, no more reads than there are blocks under a child over the records that are, and those aside
+-- if some may be given, no more reads than there are blocks under a child over the records that are, and those aside
 abbrev pub ReadsUnder : DiskState → DiskState → ℕ → ℕ → Child → Window → ℕ → Type 0
 ReadsUnder old new limit level top w n =
     OnSubtree old new limit level top (λ sizes x rs bs tree. is_full w.most n ≡ false → place top.low ≤ place w.high → (test : ℕ → Bool) → AllPass test (given_of w n rs)

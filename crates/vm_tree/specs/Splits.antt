@@ -1,4 +1,4 @@
--- Blocks of a tree as they are written anew.
+-- Blocks of a tree as they are rewritten.
 use Rattle.std.specs.Prelude.{◌≡◌, ℕ, ◌+◌, ◌-◌, ◌<◌, ◌≤◌, nat_lt, if◌then◌else◌, Bool, true, List, [], ◌∷◌, ◌++◌, length, take, drop, Result, Ok, Err, IfOk}
 use Rattle.std.specs.List.{AllByRecursion}
 use Rattle.vm_types.specs.Places.{RisesFrom, places, with_record}
@@ -22,20 +22,20 @@ use Rattle.vm_tree.specs.declared.faults.TreeFault.TheVariants.{Device, Damaged}
 use Rattle.vm_tree.specs.declared.block_writes.Copied.{Copied}
 use Rattle.vm_tree.specs.declared.block_writes.Copied.TheVariants.{One, Two, Three}
 
--- under these children, tops of subtrees of so many levels, lie these records, in blocks that have P
+-- under these children, tops of subtrees of this many levels, lie these records, in blocks that have P
 pub record Made (P : ℕ → Type 0) (sizes : Sizes) (x : Contents) (limit l : ℕ) (cs : List Child) (rs : List Record) : Type 0 where
   pub blocks : List ℕ
   pub under : Children (Subtree sizes x limit l) cs rs blocks
   pub each : AllByRecursion P blocks
   pub fit : AllByRecursion ChildFits cs
 
--- the blocks that one was written anew as
+-- the blocks that one was rewritten as
 abbrev pub children_of : Copied → List Child
 children_of (One c) = c ∷ []
 children_of (Two c d) = c ∷ d ∷ []
 children_of (Three c d e) = c ∷ d ∷ e ∷ []
 
--- the children with these in the place of the one at i
+-- the children with these in place of the one at i
 abbrev pub with_children : List Child → ℕ → List Child → List Child
 with_children cs i now = take i cs ++ (now ++ drop (i + 1) cs)
 
@@ -45,15 +45,15 @@ extra (One c) = 0
 extra (Two c d) = 1
 extra (Three c d e) = 2
 
--- what a Put under a block answers on a tree, beside which there is room for so many blocks more: blocks with P, as many more as it grows by; Deep,
--- where it would grow by more than there is room for; or that the device failed
+-- what a Put under a block answers on a tree, beside which there is room for this many more blocks: blocks with P, as many more as it grows by; Deep,
+-- if it would grow by more than there is room for; or that the device failed
 abbrev pub PutsBelow : Result Copied PutFault → ℕ → (ℕ → Type 0) → (List Child → Type 0) → Type 0
 PutsBelow (Ok copied) room grows P = P (children_of copied) × grows (extra copied)
 PutsBelow (Err (put.Tree Device)) room grows P = Unit {0}
 PutsBelow (Err (put.Tree (Damaged b))) room grows P = ⊥
 PutsBelow (Err put.Deep) room grows P = (more : ℕ) × (room < more) × grows more
 
--- where a block was written anew as one, P
+-- if a block was rewritten as one, P
 abbrev pub IfOne : {E : Type 0} → Result Copied E → Type 0 → Type 0
 IfOne result P = IfOk result (λ copied. extra copied ≡ 0 → P)
 
@@ -61,37 +61,37 @@ IfOne result P = IfOk result (λ copied. extra copied ≡ 0 → P)
 abbrev pub HasTaken : {E : Type 0} → Result Copied E → List Bool → Type 0
 HasTaken result held = IfOk result (λ copied. AreTaken held (children_of copied))
 
--- the block that is answered has these bytes, where the disk is honest
+-- the block that is answered has these bytes, if the disk is honest
 abbrev pub HasWritten : {E : Type 0} → Result ℕ E → DiskState → List ℕ → Type 0
 HasWritten result new bytes = new.honest ≡ true → IfOk result (λ n. block new.now.contents n ≡ bytes)
 
--- the block of the child that is answered has these bytes, where the disk is honest
+-- the block of the child that is answered has these bytes, if the disk is honest
 abbrev pub WritesBytes : Result Child TreeFault → DiskState → List ℕ → Type 0
 WritesBytes result new bytes = new.honest ≡ true → IfOk result (λ child. block new.now.contents child.block ≡ bytes)
 
--- where the disk is honest, the block of a root above the leaves, if it is an inner block, has two children at least
+-- if the disk is honest, the block of a root above the leaves, if it is an inner block, has two children at least
 abbrev pub IsWide : DiskState → Root → Type 0
 IsWide new root =
     new.honest ≡ true → 0 < root.level → (level : ℕ) (cs : List Child) → IsNode (block new.now.contents root.block) level cs → 2 ≤ length cs
 
--- # What is made of records, where the disk is honest after the call
+-- # What is made of records, if the disk is honest after the call
 -- Whatever was held before, the blocks are held now, and those to be kept that were held before.
 
--- the records of these bytes, where they are two leaves, the first of lower keys
+-- the records of these bytes, if they are two leaves, the first of lower keys
 abbrev pub MakesTwo : Result Copied TreeFault → List Bool → List Bool → DiskState → List ℕ → List ℕ → Type 0
 MakesTwo result held later new left right =
     new.honest ≡ true → (before : List Bool) (keep : ℕ → Bool) → HoldsMore before held → (sizes : Sizes) (front back : List Record)
     → HasRecords left front → HasRecords right back
     → IfOk result (λ copied. Made (IsRenewed before later keep) sizes new.now.contents (length held) 0 (children_of copied) (front ++ back))
 
--- where they are three leaves
+-- if they are three leaves
 abbrev pub MakesThree : Result Copied TreeFault → List Bool → List Bool → DiskState → List ℕ → List ℕ → List ℕ → Type 0
 MakesThree result held later new left middle right =
     new.honest ≡ true → (before : List Bool) (keep : ℕ → Bool) → HoldsMore before held → (sizes : Sizes) (front mid back : List Record)
     → HasRecords left front → HasRecords middle mid → HasRecords right back
     → IfOk result (λ copied. Made (IsRenewed before later keep) sizes new.now.contents (length held) 0 (children_of copied) (front ++ (mid ++ back)))
 
--- the records of a leaf with this one, where they have no room in one leaf, in as many more as they need
+-- the records of a leaf with this one, if they have no room in one leaf, in as many more as they need
 abbrev pub SplitsLeaf : Result Copied PutFault → ℕ → List Bool → List Bool → DiskState → List ℕ → Record → Type 0
 SplitsLeaf result room held later new bytes r =
     new.honest ≡ true → (rs : List Record) → HasRecords bytes rs → LEAF_ROOM < size_of (with_record r rs)
@@ -99,13 +99,13 @@ SplitsLeaf result room held later new bytes r =
     (λ cs. (before : List Bool) (keep : ℕ → Bool) → HoldsMore before held → (sizes : Sizes)
     → Made (IsRenewed before later keep) sizes new.now.contents (length held) 0 cs (with_record r rs))
 
--- the records of these bytes, where they are a leaf
+-- the records of these bytes, if they are a leaf
 abbrev pub WritesLeaf : Result Child TreeFault → List Bool → List Bool → DiskState → List ℕ → Type 0
 WritesLeaf result held later new bytes =
     new.honest ≡ true → (before : List Bool) (keep : ℕ → Bool) → HoldsMore before held → (sizes : Sizes) (rs : List Record) → HasRecords bytes rs
     → IfOk result (λ child. Made (IsRenewed before later keep) sizes new.now.contents (length held) 0 (child ∷ []) rs)
 
--- the records under the children of these bytes, where they are an inner block
+-- the records under the children of these bytes, if they are an inner block
 abbrev pub WritesNode : Result Child TreeFault → List Bool → List Bool → DiskState → DiskState → List ℕ → Type 0
 WritesNode result held later old new bytes =
     new.honest ≡ true → (before : List Bool) (keep : ℕ → Bool) → HoldsMore before held → (sizes : Sizes) (level : ℕ) (cs : List Child) (rs : List Record)
@@ -113,7 +113,7 @@ WritesNode result held later old new bytes =
     → Made (IsRenewed before held keep) sizes old.now.contents (length held) (level - 1) cs rs
     → IfOk result (λ child. Made (IsRenewed before later keep) sizes new.now.contents (length held) level (child ∷ []) rs)
 
--- records under these children, in inner blocks of this level, where so many children may be in one
+-- records under these children, in inner blocks of this level, if this many children may be in one
 abbrev pub MakesNodesOf : {T : Type 0} → Result T TreeFault → (T → List Child) → ℕ → ℕ → List Child → List Bool → List Bool → DiskState → DiskState → Type 0
 MakesNodesOf result children most level cs held later old new =
     new.honest ≡ true → (before : List Bool) (keep : ℕ → Bool) → HoldsMore before held → (sizes : Sizes) (rs : List Record)
@@ -125,11 +125,11 @@ MakesNodesOf result children most level cs held later old new =
 abbrev pub MakesNode : Result Child TreeFault → ℕ → List Child → List Bool → List Bool → DiskState → DiskState → Type 0
 MakesNode result level cs held later old new = MakesNodesOf result (λ child. child ∷ []) (length cs) level cs held later old new
 
--- in one or two of so many children
+-- in one or two, of this many children at most
 abbrev pub MakesNodes : Result Copied TreeFault → ℕ → ℕ → List Child → List Bool → List Bool → DiskState → DiskState → Type 0
 MakesNodes result most level cs held later old new = MakesNodesOf result children_of most level cs held later old new
 
--- the same of the children of an inner block, with these in the place of the one that was taken
+-- the same of the children of an inner block, with these in place of the one that was taken
 abbrev pub MakesNodesWith : Result Copied TreeFault → ℕ → ℕ → Way → List ℕ → List Child → List Bool → List Bool → DiskState → DiskState → Type 0
 MakesNodesWith result most level way bytes now held later old new =
     new.honest ≡ true → (before : List Bool) (keep : ℕ → Bool) → HoldsMore before held
@@ -140,13 +140,13 @@ MakesNodesWith result most level way bytes now held later old new =
 
 -- # By how many blocks an inner block grows
 
--- by one, where it has more children than so many with these in the place of one
+-- by one, if it has more children than this many with these in place of one
 abbrev pub DividesOver : Result Copied TreeFault → ℕ → ℕ → Way → List ℕ → List Child → Type 0
 DividesOver result most level way bytes now =
     (cs : List Child) → IsNode bytes level cs → way.count ≡ length cs
     → OkOrDevice result (λ done. extra done ≡ (if nat_lt (most + 1) (length cs + length now) then 1 else 0))
 
--- by one, where it has more children than so many with those that replace one
+-- by one, if it has more children than this many with those that replace one
 abbrev pub GrowsOver : Result Copied TreeFault → ℕ → ℕ → Way → List ℕ → Copied → Type 0
 GrowsOver result most level way bytes copied =
     (cs : List Child) → IsNode bytes level cs → way.count ≡ length cs

@@ -13,7 +13,7 @@ pub record Sizes : Type 0 where
   pub fan : ℕ
   pub levels : ℕ
 
--- a block for data, in a store of so many blocks
+-- a block for data, in a store of this many blocks
 abbrev pub IsData : ℕ → ℕ → Type 0
 IsData limit b = (FIRST_DATA ≤ b) × (b < limit)
 
@@ -25,7 +25,7 @@ Children T (c ∷ cs) rs bs =
     × T c.block first own × BeginsWith c.low first × Children T cs rest others
     × (rs ≡ first ++ rest) × (bs ≡ own ++ others)
 
--- block b is the top of a subtree of so many levels above its leaves, with these records, in these blocks
+-- block b is the top of a subtree of this many levels above its leaves, with these records, in these blocks
 unfoldable pub Subtree : Sizes → Contents → ℕ → ℕ → ℕ → List Record → List ℕ → Type 0
 Subtree sizes x limit zero b rs bs = IsData limit b × HasRecords (block x b) rs × (bs ≡ b ∷ [])
 Subtree sizes x limit (suc l) b rs bs =

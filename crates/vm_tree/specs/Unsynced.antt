@@ -2,7 +2,7 @@
 use Rattle.std.specs.Prelude.{◌≡◌, ℕ, ◌<◌, ◌≤◌, true, List, [], ◌∷◌, ◌++◌, length}
 use Rattle.vm_disk.specs.Disk.{Medium, DiskState}
 
--- each block that was dirty is there and dirty still, and as many blocks are sure: no sync has made one of them last
+-- each block that was dirty is there and dirty still, and as many blocks are sure: no sync has made one of them durable
 pub record LeavesDirty (old new : Medium) : Type 0 where
   pub more : length old.contents ≤ length new.contents
   pub dirty : (n : ℕ) → n < length old.contents → old.dirty n ≡ true → new.dirty n ≡ true

@@ -7,7 +7,7 @@ use Rattle.vm_types.specs.Places.{place}
 use Rattle.vm_block.specs.declared.node.Child.{Child}
 use Rattle.vm_tree.specs.declared.window.Window.{Window}
 
--- so many of the records at most, the first ones
+-- this many of the records at most, the first ones
 abbrev pub first_ones : Option ℕ → Map → Map
 first_ones None m = m
 first_ones (Some most) m = take most m
@@ -17,20 +17,20 @@ abbrev pub less : Option ℕ → ℕ → Option ℕ
 less None n = None
 less (Some most) n = Some (most - n)
 
--- whether so many are all
+-- whether this many are all
 abbrev pub is_full : Option ℕ → ℕ → Bool
 is_full None n = false
 is_full (Some most) n = nat_le most n
 
--- what a window gives of records, behind so many that it gave before
+-- what a window gives of records, after this many that it gave before
 abbrev pub given_of : Window → ℕ → Map → Map
 given_of w n rs = first_ones (less w.most n) (part (place w.low) (place w.high) rs)
 
--- whether it gives a record of this key, behind so many
+-- whether it gives a record of this key, after this many
 abbrev pub gives : Window → Key → ℕ → Bool
 gives w key n = not (is_full w.most n) && is_within (place w.low) (place w.high) key
 
--- it may give a record under the child at i of these, behind so many: not all are given, the child's lowest key is not above the part, and
+-- it may give a record under the child at i of these, after this many: not all are given, the child's lowest key is not above the part, and
 -- the next child's is above the lower end
 pub record MayGive (w : Window) (n : ℕ) (cs : List Child) (i : ℕ) : Type 0 where
   pub more : is_full w.most n ≡ false

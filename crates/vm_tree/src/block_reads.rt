@@ -180,6 +180,29 @@ pub fn leaf_into<D: Disk>(
     }
 }
 
+/// Loads a leaf, and returns how many records it has.
+pub(crate) fn load_records<D: Disk>(
+    disk: &mut D,
+    blocks: u32,
+    block: BlockNumber,
+) -> Result<usize, TreeFault>
+    requires { blocks ≤ (D.state disk.old).blocks }
+    ensures looks { OnlyLooks result (D.state disk.old) (D.state disk.new) }
+    ensures once { ReadsOne blocks block (D.state disk.old).reads (D.state disk.new).reads }
+    ensures count { IfOk result (λ count. count ≤ MAX_RECORDS) }
+    ensures leaf { IfOk result (IsLeafSize (D.hand disk.new)) }
+    ensures only { ReadsLeaf result (D.state disk.old) (D.state disk.new)
+        blocks block (D.hand disk.new) }
+{
+    load_data(disk, blocks, block, Need::Again)?;
+    let leaf = disk.at_hand();
+    if is_leaf(leaf) {
+        Ok(records_len(leaf))
+    } else {
+        Err(TreeFault::Damaged(block))
+    }
+}
+
 /// Reads an inner block of this level into these bytes, and returns how many children it has.
 pub fn node_into<D: Disk>(
     disk: &mut D,

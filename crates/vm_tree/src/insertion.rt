@@ -157,7 +157,7 @@ fn write_three<D: Disk>(
 }
 
 /// Copies the leaf at hand as two or three, with the record, for which it has no room. `room` tells
-/// how many leaves more there may be.
+/// how many more leaves there may be.
 #[inline(never)]
 fn split_leaf<D: Disk>(
     disk: &mut D,
@@ -191,7 +191,7 @@ fn split_leaf<D: Disk>(
     }
 }
 
-/// Sets the key's value in a leaf. `room` tells how many leaves more it may become.
+/// Sets the key's value in a leaf. `room` tells how many more leaves it may become.
 fn put_in_leaf<D: Disk>(
     disk: &mut D,
     held: &mut Held,
@@ -230,7 +230,7 @@ fn put_in_leaf<D: Disk>(
     }
 }
 
-/// Sets the key's value under a block of this level. `room` tells how many blocks more it may
+/// Sets the key's value under a block of this level. `room` tells how many more blocks it may
 /// become: as many as the block above has room for, or any number if that may split. On return
 /// `path[l]` is the replaced block at level `l`.
 fn put_below<D: Disk, const FAN: usize>(

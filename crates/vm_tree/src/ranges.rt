@@ -8,7 +8,7 @@ ghost use Rattle.vm_tree.specs.Given.{AddsLeaf, AddsUnder, GivesMap, GivesPart, 
 ghost use Rattle.vm_tree.specs.Over.{ReadsOver, ReadsTree, is_between, stands_at};
 ghost use Rattle.vm_tree.specs.Spent.{ReadsUnder, ReadsWindow};
 
-use crate::block_reads::{leaf_into, node_at};
+use crate::block_reads::{load_records, node_at};
 use crate::faults::{ListFault, TreeFault};
 use crate::root::Root;
 use crate::window::Window;
@@ -54,9 +54,8 @@ fn scan_leaf<D: Disk>(
     ensures bound { ReadsUnder (D.state disk.old) (D.state disk.new)
         blocks 0 top window (length into.old) }
 {
-    let mut bytes = [0; 4096];
-    let count = leaf_into(disk, blocks, top.block, &mut bytes)?;
-    push_records(&bytes, count, window, into)
+    let count = load_records(disk, blocks, top.block)?;
+    push_records(disk.at_hand(), count, window, into)
 }
 
 /// Adds what is asked for of the records under a child, which is the top of `level` levels above

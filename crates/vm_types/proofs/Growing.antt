@@ -13,20 +13,20 @@ use Rattle.vm_types.specs.Step.{Outcome, refuse_if, done}
 use Rattle.vm_types.proofs.Steps.{refuse_if-true, refuse_if-false}
 
 -- a size is not bad where it is more, and no more than a store may have
-pub good_size : (blocks more : ℕ) → blocks < more → more ≤ 1048576 → is_bad_size blocks more ≡ false
-good_size blocks more larger few = or_from _ _ (lt-leb more blocks larger) (le-ltb 1048576 more few)
+pub good_size : (blocks more : ℕ) → blocks < more → more ≤ 67108864 → is_bad_size blocks more ≡ false
+good_size blocks more larger few = or_from _ _ (lt-leb more blocks larger) (le-ltb 67108864 more few)
 
 -- and bad where it is no more, or more than a store may have
 pub no_more_is_bad : (blocks more : ℕ) → more ≤ blocks → is_bad_size blocks more ≡ true
 no_more_is_bad blocks more none = or_left _ _ (le-leb more blocks none)
 
-pub too_many_is_bad : (blocks more : ℕ) → 1048576 < more → is_bad_size blocks more ≡ true
-too_many_is_bad blocks more many = or_right _ _ (lt-ltb 1048576 more many)
+pub too_many_is_bad : (blocks more : ℕ) → 67108864 < more → is_bad_size blocks more ≡ true
+too_many_is_bad blocks more many = or_right _ _ (lt-ltb 67108864 more many)
 
-pub size_is_good : (blocks more : ℕ) → is_bad_size blocks more ≡ false → (blocks < more) × (more ≤ 1048576)
+pub size_is_good : (blocks more : ℕ) → is_bad_size blocks more ≡ false → (blocks < more) × (more ≤ 67108864)
 size_is_good blocks more good =
     let parts = or_parts _ _ good in
-    (leb-false more blocks parts.0, ltb-false 1048576 more parts.1)
+    (leb-false more blocks parts.0, ltb-false 67108864 more parts.1)
 
 pub grow_accepted : (s : State) (more : ℕ) → is_bad_size s.blocks more ≡ false → outcome s (Grow more) ≡ done s.working
 grow_accepted s more good = refuse_if-false _ _ _ good

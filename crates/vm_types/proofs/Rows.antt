@@ -286,7 +286,7 @@ nine_stand_before_eight = refl
 
 -- a store of 64 blocks grows to more than it has, up to the greatest number, and no further
 abbrev growths : List Command
-growths = Grow 64 ∷ Grow 63 ∷ Grow 0 ∷ Grow 1048577 ∷ Grow 65 ∷ Grow 65 ∷ Grow 64 ∷ Grow 1048576 ∷ Grow 1048577 ∷ Grow 1048576 ∷ []
+growths = Grow 64 ∷ Grow 63 ∷ Grow 0 ∷ Grow 67108865 ∷ Grow 65 ∷ Grow 65 ∷ Grow 64 ∷ Grow 67108864 ∷ Grow 67108865 ∷ Grow 67108864 ∷ []
 
 growths_are_answered :
     answers growths
@@ -294,7 +294,7 @@ growths_are_answered :
 unfolding or_refuse refuse_if refuse_found
 growths_are_answered = refl
 
-growths_are_worked_on : working_of (state_of growths) ≡ record { tree = fresh; blocks = 1048576 }
+growths_are_worked_on : working_of (state_of growths) ≡ record { tree = fresh; blocks = 67108864 }
 unfolding or_refuse refuse_if refuse_found
 growths_are_worked_on = refl
 
@@ -304,7 +304,7 @@ growths_are_not_committed = refl
 
 -- a Grow that is not committed is gone with the store's closing, and so is the record after it
 abbrev grown : List Command
-grown = Grow 64 ∷ Grow 63 ∷ Grow 1048577 ∷ Grow 128 ∷ Put top (key 1 1) x ∷ []
+grown = Grow 64 ∷ Grow 63 ∷ Grow 67108865 ∷ Grow 128 ∷ Put top (key 1 1) x ∷ []
 
 grown_is_answered : answers grown ≡ Err BadSize ∷ Err BadSize ∷ Err BadSize ∷ ok ∷ ok ∷ []
 unfolding or_refuse refuse_if refuse_found

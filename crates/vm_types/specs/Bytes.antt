@@ -14,11 +14,11 @@ pub record IsPadded (n len : ℕ) (bytes : List ℕ) : Type 0 where
   pub fits : len ≤ n
   pub zeros : drop len bytes ≡ replicate (n - len) 0
 
--- the bytes, and zero bytes behind them, n in all
+-- the bytes, and zero bytes after them, n in all
 abbrev pub padded : ℕ → List ℕ → List ℕ
 padded n bytes = bytes ++ replicate (n - length bytes) 0
 
--- so many count
+-- this many bytes count
 pub length-counted : (n len : ℕ) (bytes : List ℕ) → IsPadded n len bytes → length (take len bytes) ≡ len
 length-counted n len bytes h = length-take-le len bytes (omega (arith, h.whole, h.fits))
 

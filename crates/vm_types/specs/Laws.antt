@@ -26,7 +26,7 @@ abbrev pub MergesAreThreeWay : Type 0
 MergesAreThreeWay = (base parent mine : Map) (settled : List (Key × Side)) →
     ((key : Key) → get (merge base parent mine settled) key ≡ merged_at base parent mine settled key) × (IsMap mine → IsMap (merge base parent mine settled))
 
--- a merge is the same from both sides, where each conflict is settled: the own map with what the parent changed, and the parent's map with
+-- a merge is the same from both sides, if each conflict is settled: the own map with what the parent changed, and the parent's map with
 -- what is kept of one's own
 abbrev pub MergesAreSymmetric : Type 0
 MergesAreSymmetric = (base parent mine : Map) (settled : List (Key × Side)) →
@@ -42,7 +42,7 @@ MergesTakeTheSmallerSide = (own parent merged : Map) → IsMap own → IsMap par
     × (length made ≤ length (delta own merged))
     × (length made ≤ length (delta parent merged))
 
--- maps differ at no key exactly where they are equal
+-- maps differ at no key exactly if they are equal
 abbrev pub DeltasTellEquality : Type 0
 DeltasTellEquality = (m n : Map) → IsMap m → IsMap n → (delta m n ≡ []) ↔ (m ≡ n)
 
@@ -50,7 +50,7 @@ DeltasTellEquality = (m n : Map) → IsMap m → IsMap n → (delta m n ≡ []) 
 abbrev pub DiffsArePartwise : Type 0
 DiffsArePartwise = (low high : ℕ) (m n : Map) → IsMap n → diff low high m n ≡ delta (part low high m) (part low high n)
 
--- a store has 64 to 1,048,576 blocks, and no more of them are committed than commands work on
+-- a store has 64 to 67,108,864 blocks, and no more of them are committed than commands work on
 pub record HasSizes (s : State) : Type 0 where
   pub enough : MIN_BLOCKS ≤ s.kept
   pub fewer : s.kept ≤ s.blocks
@@ -62,7 +62,7 @@ abbrev pub StoresOnlyGrow : Type 0
 StoresOnlyGrow = (s : State) (command : Command) (answer : Result Answer Refusal) → HasSizes s → (IsOk answer → IsOk (outcome s command)) →
     HasSizes (next s command answer) × (s.kept ≤ (next s command answer).kept) × (command ≢ Rollback → s.blocks ≤ (next s command answer).blocks)
 
--- an alternative is as before, with its base and checkpoints, where no command worked on it and no child was posted into it
+-- an alternative is as before, with its base and checkpoints, if no command worked on it and no child was posted into it
 abbrev pub AlternativesAreIsolated : Type 0
 AlternativesAreIsolated = (s : State) (commands : List Command) (answers : List (Result Answer Refusal)) (name : List ℕ) →
     LeavesAlone s commands answers name → named (after s commands answers).working name ≡ named s.working name

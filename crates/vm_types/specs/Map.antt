@@ -60,8 +60,8 @@ change_at m n key = if same_value (get m key) (get n key) then None else Some (r
 abbrev pub delta : Map → Map → List Change
 delta m n = filter_map (change_at m n) (keys_of m n)
 
--- the three-way rule at one key: where the parent has the base's value, one's own; where one's own is the base's,
--- the parent's; where both are equal, that one; and None where the key is in conflict
+-- the three-way rule at one key: if the parent has the base's value, one's own; if one's own is the base's,
+-- the parent's; if both are equal, that one; and None if the key is in conflict
 abbrev pub three : Option (List ℕ) → Option (List ℕ) → Option (List ℕ) → Option (Option (List ℕ))
 three base parent mine =
     if same_value parent base then Some mine
@@ -93,7 +93,7 @@ other_side Theirs = Mine
 abbrev pub turned : List (Key × Side) → List (Key × Side)
 turned settled = map (λ e. (e.0, other_side e.1)) settled
 
--- what the three-way rule gives, and in a conflict the parent's value where the side is Theirs, else one's own
+-- what the three-way rule gives, and in a conflict the parent's value if the side is Theirs, else one's own
 abbrev pub settled_value : Option (Option (List ℕ)) → Option Side → Option (List ℕ) → Option (List ℕ) → Option (List ℕ)
 settled_value (Some value) side parent mine = value
 settled_value None (Some Theirs) parent mine = parent

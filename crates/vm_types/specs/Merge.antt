@@ -31,7 +31,7 @@ settled_from key (e ∷ settled) = if is_lt (key_cmp e.0 key) then settled_from 
 abbrev pub clash_of : Change → Change → Conflict
 clash_of theirs own = record { key = theirs.key; base = theirs.before; parent = theirs.after; mine = own.after }
 
--- the same with one's own change at its key, if there is one, where both made different values
+-- the same with one's own change at its key, if there is one and both made different values
 abbrev pub clash : Change → Option Change → Option Conflict
 clash theirs None = None
 clash theirs (Some own) = if same_value own.after theirs.after then None else Some (clash_of theirs own)
@@ -95,7 +95,7 @@ AddsKey result theirs i mine at before after =
 
 -- # Two sides that went on from one base
 
--- P holds of base, parent and one's own map, where these are the changes of both sides
+-- P holds of base, parent and one's own map, if these are the changes of both sides
 abbrev pub OnSides : List Change → List Change → (Map → Map → Map → Type 0) → Type 0
 OnSides theirs mine P = (base parent own : Map) → IsMap base → IsMap parent → IsMap own → theirs ≡ delta base parent → mine ≡ delta base own → P base parent own
 
@@ -132,7 +132,7 @@ PlansMerge result theirs mine settled =
 abbrev pub settled_keys : List (Key × Side) → List Key
 settled_keys settled = map (λ e. e.0) settled
 
--- none is settled twice
+-- no key is settled twice
 abbrev pub IsSettledOnce : List (Key × Side) → Type 0
 IsSettledOnce settled = first_repeated [] (settled_keys settled) ≡ None
 

@@ -17,7 +17,7 @@ record_in bytes row = (row.0, value_in bytes row.1)
 abbrev pub records_in : List ℕ → List (Key × Piece) → List (Key × List ℕ)
 records_in bytes rows = map (record_in bytes) rows
 
--- the piece of a record lies in so many bytes
+-- the piece of a record lies in this many bytes
 abbrev pub RecordLiesIn : ℕ → Key × Piece → Type 0
 RecordLiesIn count row = LiesIn count row.1
 
@@ -29,7 +29,7 @@ change_in bytes row = record { key = row.key; before = optional_in bytes row.bef
 abbrev pub changes_in : List ℕ → List ChangeRow → List Change
 changes_in bytes rows = map (change_in bytes) rows
 
--- the pieces of a change lie in so many bytes
+-- the pieces of a change lie in this many bytes
 pub record ChangeLiesIn (count : ℕ) (row : ChangeRow) : Type 0 where
   pub before : MayLieIn count row.before
   pub after : MayLieIn count row.after
@@ -47,7 +47,7 @@ conflict_in bytes row = record {
 abbrev pub conflicts_in : List ℕ → List ConflictRow → List Conflict
 conflicts_in bytes rows = map (conflict_in bytes) rows
 
--- the pieces of a conflict lie in so many bytes
+-- the pieces of a conflict lie in this many bytes
 pub record ConflictLiesIn (count : ℕ) (row : ConflictRow) : Type 0 where
   pub base : MayLieIn count row.base
   pub parent : MayLieIn count row.parent

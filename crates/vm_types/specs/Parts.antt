@@ -13,7 +13,7 @@ is_within low high key = nat_le low (place key) && nat_le (place key) high
 abbrev pub part : ℕ → ℕ → Map → Map
 part low high m = filter (λ r. is_within low high r.0) m
 
--- the first records that stand at a place or after it, so many at most
+-- the first records that stand at a place or after it, this many at most
 abbrev pub from : ℕ → ℕ → Map → Map
 from low count m = take count (filter (λ r. nat_le low (place r.0)) m)
 

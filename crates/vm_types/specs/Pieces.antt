@@ -11,7 +11,7 @@ value_in bytes piece = take piece.len (drop piece.start bytes)
 abbrev pub optional_in : List ℕ → Option Piece → Option (List ℕ)
 optional_in bytes piece = option_map (value_in bytes) piece
 
--- the piece lies within so many bytes, and is no longer than a value may be
+-- the piece lies within this many bytes, and is no longer than a value may be
 pub record LiesIn (count : ℕ) (piece : Piece) : Type 0 where
   pub within : piece.start + piece.len ≤ count
   pub short : piece.len ≤ longest
@@ -20,7 +20,7 @@ pub record LiesIn (count : ℕ) (piece : Piece) : Type 0 where
 abbrev pub MayLieIn : ℕ → Option Piece → Type 0
 MayLieIn count piece = IfSome piece (LiesIn count)
 
--- a value was put behind the bytes, and is this piece of them
+-- a value was put after the bytes, and is this piece of them
 pub record IsAdded (old value new : List ℕ) (piece : Piece) : Type 0 where
   pub behind : new ≡ old ++ value
   pub lies : LiesIn (length new) piece

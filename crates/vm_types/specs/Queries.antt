@@ -59,7 +59,7 @@ checkpoints_of (Some a) = Ok (saved_names a.saved)
 abbrev pub checkpoints_in : Tree → List ℕ → Result (List (List ℕ)) Refusal
 checkpoints_in tree alt = checkpoints_of (named tree alt)
 
--- the list that is due, where `items` tells what is in one, or the refusal that is due; where none is, that the device failed, or that
+-- the list that is due, where `items` tells what is in one, or the refusal that is due; if none is, that the device failed, or that
 -- there was no memory
 abbrev pub IsListOf : {T X : Type 0} → (T → List X) → Result T Refusal → Result (List X) Refusal → Type 0
 IsListOf items (Ok list) due = due ≡ Ok (items list)

@@ -53,11 +53,11 @@ abbrev pub answer_of : Outcome → Result Answer Refusal
 answer_of (Ok o) = Ok o.1
 answer_of (Err refusal) = Err refusal
 
--- whether a store of so many blocks can't grow to so many: they are no more, or more than a store may have
+-- whether a store of this many blocks can't grow to that many: they are no more, or more than a store may have
 abbrev pub is_bad_size : ℕ → ℕ → Bool
 is_bad_size blocks more = nat_le more blocks || nat_lt MAX_BLOCKS more
 
--- what a command comes to: a Grow is refused where its size is bad, and all else is as the step says
+-- what a command comes to: a Grow is refused if its size is bad, and all else is as the step says
 abbrev pub outcome : State → Command → Outcome
 outcome s (Grow more) = refuse_if (is_bad_size s.blocks more) BadSize (step s.working (Grow more))
 outcome s command = step s.working command

@@ -18,7 +18,7 @@ use Rattle.vm_types.specs.Tree.{Alternative, Tree, named, saved_as, has_children
 abbrev pub Outcome : Type 0
 Outcome = Result (Tree × Answer) Refusal
 
--- the refusal where nothing is found, and else what follows
+-- the refusal if nothing is found, and else what follows
 unfoldable pub or_refuse : {X : Type 0} → Option X → Refusal → (X → Outcome) → Outcome
 or_refuse None refusal rest = Err refusal
 or_refuse (Some x) refusal rest = rest x
@@ -28,7 +28,7 @@ unfoldable pub refuse_found : Option Refusal → Outcome → Outcome
 refuse_found None rest = rest
 refuse_found (Some refusal) rest = Err refusal
 
--- the refusal where the test holds, and else what follows
+-- the refusal if the test holds, and else what follows
 unfoldable pub refuse_if : Bool → Refusal → Outcome → Outcome
 refuse_if test refusal rest = if test then Err refusal else rest
 

@@ -16,7 +16,7 @@ pub const FIRST_DATA: u32 = 34;
 pub const MIN_BLOCKS: u32 = 64;
 
 /// The maximum number of blocks of a store.
-pub const MAX_BLOCKS: u32 = 1 << 20;
+pub const MAX_BLOCKS: u32 = 1 << 26;
 
 /// The maximum number of alternatives and checkpoints of a store, together.
 pub const MAX_VERSIONS: usize = 511;

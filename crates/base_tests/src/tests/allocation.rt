@@ -100,18 +100,18 @@ fn takes_a_mark_away_and_copies_marks_with_more_blocks(rt: HostRuntime) -> Resul
 
 #[test]
 fn holds_the_most_blocks(rt: HostRuntime) -> Result<(), Fail> {
-    let mut held = Held::new(rt.alloc(), 1_048_576)?;
-    assert_eq!(rt; held.free_count(), 1_048_542);
+    let mut held = Held::new(rt.alloc(), 67_108_864)?;
+    assert_eq!(rt; held.free_count(), 67_108_830);
     assert_eq!(rt; held.take(), Some(34));
-    assert!(rt; held.blocks() == 1_048_576);
-    assert!(rt; !held.is_held(1_048_575));
+    assert!(rt; held.blocks() == 67_108_864);
+    assert!(rt; !held.is_held(67_108_863));
     Ok(())
 }
 
 /// A copy extended to this many blocks.
 fn extended(rt: &impl Abort, held: &Held, alloc: Global, blocks: u32) -> Result<Held, AllocError> {
     assert!(rt; held.blocks() <= blocks);
-    assert!(rt; blocks <= 1_048_576);
+    assert!(rt; blocks <= 67_108_864);
     held.extended(alloc, blocks)
 }
 

@@ -310,7 +310,7 @@ const FAILING: [Row; 5] = [
         room: 8,
         fails: Some(3),
         capacity: 2,
-        // The second write of block 5 fails: what the disk below holds then is asked anew.
+        // The second write of block 5 fails: what the disk below holds then is read again.
         steps: "
             fill 2 3
             fill 5 4

@@ -45,6 +45,14 @@ fn set_all(bytes: &mut Vec<u8>, from: &[u8], offset: u64) -> Result<(), DeviceFa
     Ok(())
 }
 
+/// Makes bytes from an offset on zero, or adds zeros at the end.
+fn set_zeros(bytes: &mut Vec<u8>, count: usize, offset: u64) -> Result<(), DeviceFault> {
+    for k in 0..count {
+        set(bytes, (offset as usize).saturating_add(k), 0)?;
+    }
+    Ok(())
+}
+
 impl Bytes {
     ghost use Rattle.std.specs.Prelude.{◌≡◌, ◌<◌, length, OnErr, OnOk};
     ghost use Rattle.vm_disk.specs.Past.{noted};
@@ -95,7 +103,7 @@ impl Positional for Bytes {
         let answer = if self.room < (offset as usize).saturating_add(count) {
             Err(DeviceFault)
         } else {
-            set_all(&mut self.bytes, &[0; 65536][..count], offset)
+            set_zeros(&mut self.bytes, count, offset)
         };
         self.told(answer)
     }
@@ -182,7 +190,7 @@ fn file_gets_longer(rt: HostRuntime) {
 }
 
 #[test]
-fn file_without_room_gets_what_is_written(rt: HostRuntime) -> Result<(), Fail> {
+fn file_without_room_keeps_its_blocks(rt: HostRuntime) -> Result<(), Fail> {
     let mut file = numbered(rt.alloc(), 12288)?;
     file.room = 30 * 4096;
     let Ok(mut disk) = FileDisk::open(file) else {
@@ -190,9 +198,9 @@ fn file_without_room_gets_what_is_written(rt: HostRuntime) -> Result<(), Fail> {
     };
     let row = "
         grow 36 -> fault
-        blocks -> 19
-        holds 18 -> 0
+        blocks -> 3
         grow 30
+        holds 18 -> 0
         blocks -> 30";
     plays(&rt, "without room", &mut disk, row);
     Ok(())

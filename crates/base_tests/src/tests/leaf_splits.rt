@@ -65,7 +65,7 @@ const IN_TWO: [Row; 10] = [
             ],
         ],
     ),
-    // The last one is there, and the new one is not behind all others: 2,076 after eight.
+    // The last one is there, and the new one is not after all others: 2,076 after eight.
     (
         "the last grows",
         SIXTEEN,

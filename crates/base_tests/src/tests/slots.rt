@@ -41,7 +41,7 @@ fn bytes_that_are_no_head_are_refused(rt: HostRuntime) {
         (4, 4, "format 4"),
         (5, 1, "format 259"),
         (8, 63, "too few blocks"),
-        (10, 16, "too many blocks"),
+        (11, 4, "too many blocks"),
         (12, 0, "no entry"),
         (13, 2, "too many entries"),
         (16, 1, "a byte behind the numbers"),

@@ -34,7 +34,7 @@ pub(super) fn is_leaf_of(block: &Block, records: &[(Key, &[u8])]) -> bool {
     true
 }
 
-/// Records of table 7: each has a number, and a value of so many bytes of one kind.
+/// Records of table 7: each has a number, and a value of this many bytes of one kind.
 pub(super) type Lengths = &'static [(u64, usize)];
 
 /// The byte that the value of this number and length consists of.

@@ -9,7 +9,7 @@ use std::process::Abort;
 use std::test::Fail;
 use testkit::{RecordingDisk, Wrong, top};
 use vm_disk::{Disk, MemDisk};
-use vm_store::{Store, format, open};
+use vm_store::{Store, format, open, open_whole};
 use vm_types::{Answer, Block, Command, Key, Refusal, Value};
 
 /// The byte of a block at which the result was not the expected one, and the byte or number that
@@ -57,13 +57,13 @@ fn is_same(
     Ok(free.saturating_add(used) == 30 && has_lists(alloc, store, content)?)
 }
 
-/// Whether the opening answered as it should, and read no block twice.
+/// Whether an opening that reads every block answered as it should, and read none twice.
 fn is_due(
     alloc: Global,
     disk: RecordingDisk,
     content: Option<&Content>,
 ) -> Result<(RecordingDisk, bool), Wrong> {
-    let (disk, opened) = match open(alloc, disk) {
+    let (disk, opened) = match open_whole(alloc, disk) {
         Ok(store) => (store.close(), true),
         Err((disk, Refusal::NotAStore | Refusal::BadSize | Refusal::Damaged(_))) => (disk, false),
         Err((_, refusal)) => return Err(Wrong::Refused(refusal)),

@@ -4,18 +4,21 @@ mod rows;
 
 use super::BLOCKS;
 use super::image::Image;
-use pieces::{disk_of, set_block};
+use pieces::{Piece, disk_of, set_block};
 use rows::{LEAF_ROWS, ROWS};
 use std::alloc::Global;
 use std::test::Fail;
 use testkit::Wrong;
 use vm_disk::MemDisk;
-use vm_store::{format, open};
+use vm_store::{Store, format, open, open_whole};
 use vm_types::Refusal;
 
+/// A disk, opened.
+type Opened = Result<Store<MemDisk>, (MemDisk, Refusal)>;
+
 /// How many blocks are free in the store of a disk.
-fn free_on(alloc: Global, disk: MemDisk) -> Result<u32, Refusal> {
-    match open(alloc, disk) {
+fn free_in(opened: Opened) -> Result<u32, Refusal> {
+    match opened {
         Ok(store) => {
             let free = store.free();
             let _disk = store.close();
@@ -54,16 +57,47 @@ fn format_on(
     Ok((refusal, true))
 }
 
+/// What the two openings make of a disk with these pieces. `open` differs only where the other one
+/// refuses.
+fn openings(
+    alloc: Global,
+    pieces: &[Piece],
+) -> Result<(Result<u32, Refusal>, Result<u32, Refusal>), Wrong> {
+    let whole = free_in(open_whole(alloc, disk_of(alloc, pieces)?));
+    let inner = free_in(open(alloc, disk_of(alloc, pieces)?));
+    Ok((whole, inner))
+}
+
 #[test]
 fn each_damage_is_named(rt: HostRuntime) -> Result<(), Fail> {
+    let mut missed = 0u32;
     for (row, (pieces, due)) in ROWS.iter().enumerate() {
-        let found = free_on(rt.alloc(), disk_of(rt.alloc(), pieces)?);
-        assert_eq!(rt; found, *due, "row {row}");
+        let (whole, inner) = openings(rt.alloc(), pieces)?;
+        assert_eq!(rt; whole, *due, "row {row}");
+        if inner != whole {
+            assert!(rt; whole.is_err() && inner.is_ok(), "row {row} opened");
+            missed = missed.saturating_add(1);
+        }
     }
+    // A leaf that begins with another key, overlaps the next one or is there twice, and an inner
+    // block that is its own child.
+    assert_eq!(rt; missed, 4);
+    Ok(())
+}
+
+#[test]
+fn each_damage_of_leaves_is_named(rt: HostRuntime) -> Result<(), Fail> {
+    let mut missed = 0u32;
     for (row, (pieces, due)) in LEAF_ROWS.iter().enumerate() {
-        let found = free_on(rt.alloc(), disk_of(rt.alloc(), pieces)?);
-        assert_eq!(rt; found, *due, "row {row} of leaves");
+        let (whole, inner) = openings(rt.alloc(), pieces)?;
+        assert_eq!(rt; whole, *due, "row {row}");
+        if inner != whole {
+            assert!(rt; whole.is_err() && inner.is_ok(), "row {row} opened");
+            missed = missed.saturating_add(1);
+        }
     }
+    // The leaves under an inner block.
+    assert_eq!(rt; missed, 3);
     Ok(())
 }
 
@@ -72,15 +106,18 @@ fn short_disks_and_stores_are_refused(rt: HostRuntime) -> Result<(), Fail> {
     let mut disk = disk_of(rt.alloc(), &[])?;
     let image = Image::of(rt.alloc(), &mut disk)?;
     let found = [
-        free_on(rt.alloc(), cut(rt.alloc(), &image, 21)?).err(),
-        free_on(rt.alloc(), cut(rt.alloc(), &image, 63)?).err(),
+        free_in(open(rt.alloc(), cut(rt.alloc(), &image, 21)?)).err(),
+        free_in(open(rt.alloc(), cut(rt.alloc(), &image, 63)?)).err(),
     ];
     let formatted = [
         format_on(rt.alloc(), disk, 64, &image)?,
         format_on(rt.alloc(), image.disk(rt.alloc())?, 63, &image)?,
     ];
     assert!(rt; found == [Some(Refusal::NotAStore); 2]);
-    assert_eq!(rt; free_on(rt.alloc(), cut(rt.alloc(), &image, 65)?), Ok(29));
+    assert_eq!(rt;
+        free_in(open(rt.alloc(), cut(rt.alloc(), &image, 65)?)),
+        Ok(29)
+    );
     assert!(rt;
         formatted
             == [

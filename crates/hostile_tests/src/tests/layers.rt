@@ -10,7 +10,7 @@ pub trait Layer: Disk + Drop {
     /// A new one that keeps up to this many blocks in memory, if there is memory for it.
     fn over(alloc: Global, device: Device, blocks: u32) -> Option<Self>;
 
-    /// The same after a call failed, as whoever opens it anew finds it.
+    /// The same after a call failed, as the next opening finds it.
     fn anew(self, alloc: Global, blocks: u32) -> Option<Self>;
 
     /// The device, given back.
@@ -47,7 +47,7 @@ impl Layer for CachedDisk<Device> {
     }
 }
 
-/// Written blocks that wait between them. When opened anew, those that still wait are dropped.
+/// Written blocks that wait between them. When opened again, those that still wait are dropped.
 impl Layer for DelayedDisk<Device> {
     fn over(alloc: Global, device: Device, blocks: u32) -> Option<DelayedDisk<Device>> {
         DelayedDisk::new(alloc, device, blocks.max(1) as usize).ok()

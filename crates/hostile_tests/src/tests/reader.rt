@@ -127,7 +127,7 @@ fn is_framed(bytes: &Block, level: u32, count: usize, part: Part) -> bool {
 }
 
 /// Adds the records of a leaf. Each entry says where its value ends, counted from the end of the
-/// entries, and behind the last value all bytes are zero.
+/// entries, and after the last value all bytes are zero.
 fn read_records(bytes: &Block, count: usize, content: &mut Content) -> Option<()> {
     let values = count.wrapping_mul(12).wrapping_add(16);
     let mut from = values;

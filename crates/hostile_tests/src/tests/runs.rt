@@ -148,7 +148,7 @@ fn go_on<D: Disk + Drop>(
     }
 }
 
-/// Opens a disk anew after a call failed, and goes on.
+/// Opens a disk again after a call failed, and goes on.
 fn resume<D: Disk + Drop>(
     alloc: Global,
     disk: D,

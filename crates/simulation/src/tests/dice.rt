@@ -13,7 +13,7 @@ use vm_types::{Block, Command, Conflict, Key, Name, Settled, Side, Value};
 const ADDITIONS: u32 = 34;
 
 /// More blocks than a store may have.
-const TOO_MANY: u32 = 1_048_577;
+const TOO_MANY: u32 = 67_108_865;
 
 /// Whether no command removes anything, some do, or most of them do.
 #[derive(Clone, Copy, PartialEq, Eq)]

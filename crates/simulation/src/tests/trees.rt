@@ -120,7 +120,7 @@ fn best_cut(rows: &[Row]) -> usize {
 
 /// Where the first and the second of the leaves end that these records are in, after one of this
 /// key was put among them. If there is one leaf, both are at the end, and if there are two, the
-/// second is. A new record behind all others is alone. If no cut makes two leaves, the record is
+/// second is. A new record after all others is alone. If no cut makes two leaves, the record is
 /// alone between the others.
 fn ends(rows: &[Row], key: Key, is_new: bool) -> (usize, usize) {
     let all = rows.len();

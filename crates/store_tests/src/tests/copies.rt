@@ -90,7 +90,7 @@ const IN_MEMORY: &[Row] = &[
         copy 63 64 -> error 21 BadSize
         copy 65 64 -> error 21 BadSize
         copy 0 64 -> error 21 BadSize
-        copy 1048577 64 -> error 21 BadSize
+        copy 67108865 64 -> error 21 BadSize
         list top -> 7:1=duct",
     ),
     // The target's calls: a sync, a read, the leaf, slot A, the selector, a sync, the header, a sync.

@@ -25,7 +25,7 @@ const ON_BOTH: &[Row] = &[
         format 0 -> error 21 BadSize
         format 63 -> error 21 BadSize
         format 65 -> error 21 BadSize
-        format 1048577 -> error 21 BadSize",
+        format 67108865 -> error 21 BadSize",
     ),
     (
         "odd selector names slot b",

@@ -14,7 +14,7 @@ const NOT_COMMITTED: &[RoomRow] = &[
         "
         grow 64 -> error 21 BadSize
         grow 63 -> error 21 BadSize
-        grow 1048577 -> error 21 BadSize
+        grow 67108865 -> error 21 BadSize
         grow 0 -> error 21 BadSize
         grow 4294967295 -> error 21 BadSize
         blocks -> 64
@@ -287,7 +287,7 @@ const NO_ROOM_IN_MEMORY: &[Row] = &[
     (
         "store may ask for as many blocks as one may have",
         NEW,
-        "grow 1048576 -> error 15 Device",
+        "grow 67108864 -> error 15 Device",
     ),
     (
         "list ends where the disk has no room",

@@ -140,7 +140,7 @@ const ON_BOTH: &[Row] = &[
 ];
 
 const IN_256_BLOCKS: &[Row] = &[
-    // Nineteen records of 212 bytes fill a leaf, and a record behind all others leaves it whole: 11
+    // Nineteen records of 212 bytes fill a leaf, and a record after all others leaves it whole: 11
     // leaves and the root. The other way round two leaves are as even as can be: 10 and 10 records
     // of 20.
     (

@@ -16,7 +16,9 @@ const ON_BOTH: &[Row] = &[
         "
         zero 34
         set 34 0:4E4F444501 8:01 16:01 18:01 26:22
-        open -> error 18 Damaged 34",
+        open whole -> error 18 Damaged 34
+        open
+        list top -> error 18 Damaged 34",
     ),
     (
         "root past the end is damage",

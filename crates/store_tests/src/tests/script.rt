@@ -29,7 +29,7 @@
 //!
 //! | Step, while no store is open | Answer |
 //! |---|---|
-//! | `format 64`, `open` | `ok` |
+//! | `format 64`, `open`, `open whole` | `ok` |
 //! | `calls` | `5`: the device calls since the device was last made new |
 //! | `dirty` | `34 35`: the blocks that are not synced |
 //! | `anew` | `ok`: the device is made new, with nothing in its cache |
@@ -54,8 +54,8 @@ use super::words::{Wrong, byte, number};
 use std::alloc::{AllocError, Global};
 use std::process::Abort;
 use vm_disk::{CachedDisk, DelayedDisk, Disk, FuseDisk, MemDisk};
-use vm_store::{Store, copy, format, open};
-use vm_types::Block;
+use vm_store::{Store, copy, format, open, open_whole};
+use vm_types::{Block, Refusal};
 
 /// A new store, open.
 pub(super) const NEW: &str = "
@@ -206,6 +206,21 @@ fn dirty_blocks(alloc: Global, disk: &MemDisk) -> Result<String, Wrong> {
     Ok(text)
 }
 
+/// The store that was opened, or the disk with the refusal.
+fn opened<M: OverMemory>(
+    alloc: Global,
+    opened: Result<Store<FuseDisk<M>>, (FuseDisk<M>, Refusal)>,
+    ok: String,
+) -> Played<M> {
+    match opened {
+        Ok(store) => Ok((Bench::Open(store), ok)),
+        Err((disk, refusal)) => {
+            let refused = refusal_text(alloc, refusal)?;
+            Ok((Bench::Shut(disk), refused))
+        }
+    }
+}
+
 /// Plays a step while no store is open.
 fn play_shut<M: OverMemory>(alloc: Global, mut disk: FuseDisk<M>, words: &[&str]) -> Played<M> {
     let ok = String::from_str(alloc, "ok")?;
@@ -217,13 +232,8 @@ fn play_shut<M: OverMemory>(alloc: Global, mut disk: FuseDisk<M>, words: &[&str]
                 Ok((Bench::Shut(disk), refused))
             }
         },
-        ["open"] => match open(alloc, disk) {
-            Ok(store) => Ok((Bench::Open(store), ok)),
-            Err((disk, refusal)) => {
-                let refused = refusal_text(alloc, refusal)?;
-                Ok((Bench::Shut(disk), refused))
-            }
-        },
+        ["open"] => opened(alloc, open(alloc, disk), ok),
+        ["open", "whole"] => opened(alloc, open_whole(alloc, disk), ok),
         ["calls"] => {
             let calls = format!(in alloc; "{}", disk.calls())?;
             Ok((Bench::Shut(disk), calls))
@@ -252,7 +262,7 @@ fn play_shut<M: OverMemory>(alloc: Global, mut disk: FuseDisk<M>, words: &[&str]
     }
 }
 
-/// A disk of this many blocks to which a store is to be copied.
+/// A disk of this many blocks for the copy of a store.
 fn copy_target<M: OverMemory>(
     alloc: Global,
     available: &str,

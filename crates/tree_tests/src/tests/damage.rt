@@ -58,7 +58,7 @@ const ROWS: [Row; 23] = [
         &[SEVENTEEN, "set 36 8:08000000", LEAF_IS_REFUSED],
     ),
     (
-        // The second value ends behind the third.
+        // The second value ends after the third.
         "a leaf with ends that fall",
         &[SEVENTEEN, "set 36 38:D102", LEAF_IS_REFUSED],
     ),

@@ -1,7 +1,7 @@
 //! Trees that have no room, by the length of the value that comes.
 use super::script::{Row, plays_rows};
 
-/// Leaves of two records in a tree of two levels, whose root has room for one child more.
+/// Leaves of two records in a tree of two levels, whose root has room for one more child.
 const ONE_MORE: &str = "
     new 256
     sizes 3 2

@@ -120,7 +120,7 @@ const ROWS: [Row; 9] = [
         ],
     ),
     (
-        // The last record is there, and so the new one is not behind all others.
+        // The last record is there, and so the new one is not after all others.
         "splits evenly at the last key that grows",
         &[
             "

@@ -1,8 +1,10 @@
 //! The answer to a line.
 ghost use Rattle.std.specs.Prelude.{◌≡◌, ◌≢◌, ◌+◌, ◌≤◌, ◌++◌, length, true, false};
 
+use crate::answers::mistakes::push_mistake;
 use crate::answers::text::Text;
 use crate::lines::escape;
+use crate::lines::mistake::Mistake;
 use vm_store::Tally;
 use vm_types::{Key, Refusal};
 
@@ -25,7 +27,8 @@ pub enum Reply {
     Refused(Refusal),
     /// A refusal after which the store carries out nothing more. The session ends with it.
     Last(Refusal),
-    BadLine,
+    /// The line is none, and this is wrong with it.
+    BadLine(Mistake),
     LongLine,
     /// A command, if the store is only read.
     ReadOnly,
@@ -66,7 +69,11 @@ impl Reply {
             }
             Reply::Refused(refusal) => push_error(text, refusal),
             Reply::Last(refusal) => push_error(text, refusal),
-            Reply::BadLine => text.push_bytes(b"error 22 BadLine\n"),
+            Reply::BadLine(mistake) => {
+                text.push_bytes(b"error 22 BadLine ");
+                push_mistake(text, mistake);
+                text.push(b'\n');
+            }
             Reply::LongLine => text.push_bytes(b"error 23 LongLine\n"),
             Reply::ReadOnly => text.push_bytes(b"error 24 ReadOnly\n"),
         }
@@ -108,7 +115,7 @@ impl Reply {
             Reply::End(_) => false,
             Reply::Refused(_) => true,
             Reply::Last(_) => true,
-            Reply::BadLine => true,
+            Reply::BadLine(_) => true,
             Reply::LongLine => true,
             Reply::ReadOnly => true,
         }

@@ -6,6 +6,7 @@ ghost use Rattle.vm_cli.specs.Spaces.{words_of};
 
 use crate::lines::arguments::{ends, name, one_name};
 use crate::lines::list_query::{ListQuery, list_query};
+use crate::lines::mistake::{Mistake, mistake_in};
 use crate::lines::number::key;
 use crate::lines::pieces::first_word;
 use crate::lines::settlement::{first_side, settled};
@@ -19,8 +20,8 @@ use vm_types::{At, Key, Name, Settled, Side};
 pub(crate) enum Request<'a> {
     /// The line has no words, or is a comment.
     Nothing,
-    /// The line is none of those that there are.
-    Bad,
+    /// The line is none of the known ones, and this is wrong with it.
+    Bad(Mistake),
     /// A put of the value that the word spells. If it spells none, the line is bad.
     Put {
         alt: Name,
@@ -67,7 +68,10 @@ pub(crate) fn parse_request(alloc: Global, line: &[u8]) -> Result<Request<'_>, A
     } else {
         query(verb, rest)
     };
-    Ok(asked.unwrap_or(Request::Bad))
+    match asked {
+        Some(request) => Ok(request),
+        None => Ok(Request::Bad(mistake_in(verb, rest))),
+    }
 }
 
 /// `ALT TABLE NUMBER VALUE`

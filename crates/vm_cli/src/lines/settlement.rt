@@ -37,7 +37,7 @@ pub(crate) fn first_side(line: &[u8]) -> Option<(Side, &[u8])>
 }
 
 /// The side for all conflicts that a word spells: `all=SIDE`.
-fn side_for_all(word: &[u8]) -> Option<Side>
+pub(crate) fn side_for_all(word: &[u8]) -> Option<Side>
     ensures { result ≡ side_for_all_of word.now }
 {
     let (all, rest) = first_piece(word, b'=');
@@ -91,7 +91,7 @@ fn is_settled(settled: &[(Key, Side)], key: Key) -> bool
 }
 
 /// The settlement that a word spells: `TABLE:NUMBER=SIDE`.
-fn settlement(word: &[u8]) -> Option<(Key, Side)>
+pub(crate) fn settlement(word: &[u8]) -> Option<(Key, Side)>
     ensures { result ≡ settlement_of word.now }
 {
     let (table, rest) = first_piece(word, b':');

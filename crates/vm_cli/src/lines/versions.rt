@@ -1,6 +1,7 @@
 //! Words that name versions.
 ghost use Rattle.std.specs.Prelude.{◌≡◌, ◌∷◌, [], Some, option_map};
-ghost use Rattle.vm_cli.specs.Requests.{at_of, at_part_of, ats_part_of, meant_behind, page_of, part_of, record_at_of};
+ghost use Rattle.vm_cli.specs.Names.{at_of, meant_behind};
+ghost use Rattle.vm_cli.specs.Requests.{at_part_of, ats_part_of, page_of, part_of, record_at_of};
 ghost use Rattle.vm_cli.specs.Spaces.{words_of};
 
 use crate::lines::arguments::{ends, name};
@@ -91,7 +92,7 @@ fn table_keys(table: &[u8]) -> Option<(Key, Key)>
 }
 
 /// The version that a word names: `ALT`, `ALT@` or `ALT@CHECKPOINT`.
-fn at(word: &[u8]) -> Option<At>
+pub(crate) fn at(word: &[u8]) -> Option<At>
     ensures { result ≡ at_of word.now }
 {
     let (before, behind) = first_piece(word, b'@');

@@ -6,7 +6,7 @@
 pub const VERSION: &str = "\
 0.1.0
 file format 3
-proved with rattle-kit-13f logic dac8208d650f15bf";
+proved with rattle-kit-13b logic dac8208d650f15bf";
 
 /// What the program is.
 pub const ALTCTL: &str = "\
@@ -56,12 +56,13 @@ prints the number of its blocks.";
 pub const CREATE_FILE: &str = "The file to make, which must not exist";
 
 /// The number of blocks that `create` takes.
-pub const CREATE_BLOCKS: &str = "How many blocks it has: 64 to 1048576";
+pub const CREATE_BLOCKS: &str = "How many blocks it has: 64 to 67108864";
 
 /// How many blocks to take.
 pub const CREATE_AFTER: &str = "\
-A block has 4,096 bytes: 64 blocks are 256 KiB, 524,288 are 2 GiB, and 1,048,576
-are 4 GiB. A file may start small: the lines grow BLOCKS and then commit make it
+A block has 4,096 bytes: 64 blocks are 256 KiB, 524,288 are 2 GiB, and
+67,108,864 are 256 GiB. The disk gives room only as blocks are written.
+A file may start small: the lines grow BLOCKS and then commit make it
 larger, and no line makes it smaller. How many blocks a store needs:
 
   - 34 blocks are the store's own.
@@ -148,7 +149,7 @@ Opens a store for reading alone, makes the file TO, and copies to it all that
 was committed: every alternative, base and checkpoint.";
 
 /// The number of blocks that `copy` takes.
-pub const COPY_BLOCKS: &str = "How many blocks TO has: 64 to 1048576 [default: as FROM]";
+pub const COPY_BLOCKS: &str = "How many blocks TO has: 64 to 67108864 [default: as FROM]";
 
 /// What a copy is for.
 pub const COPY_AFTER: &str = "\
@@ -292,9 +293,9 @@ merge has a SETTLEMENT for each record in conflict, TABLE:NUMBER=mine or
 TABLE:NUMBER=theirs; all=mine or all=theirs before them settles each other one.
 A line that is empty or begins with # has no answer.
 
-BLOCKS is how many blocks the store is to have: more than it has, and 1048576 at
-most. Type grow and then commit: the new blocks can be used at once, and from
-that commit on the store keeps them.
+BLOCKS is how many blocks the store is to have: more than it has, and at most
+67108864. Type grow and then commit: the new blocks can be used at once, and
+from that commit on the store keeps them.
 
 A line that is refused changes no record. Its answer is error, a number and a
 name:
@@ -308,7 +309,7 @@ name:
   No room           12 TooMany, 13 Full, 14 Deep
   Not a larger size 21 BadSize
   Device, memory    15 Device, 16 Memory, 18 Damaged BLOCK
-  The line itself   22 BadLine, 23 LongLine
+  The line itself   22 BadLine WHY, 23 LongLine
 
 With --strict the first line that is refused is the last, and the status is 4.
 Where 15 Device answers a change, or a grow for which the disk has no room, the

@@ -246,7 +246,7 @@ impl Place for MemFiles {
         ensures stays { StaysHonest (files_state self.old) (files_state self.new) }
         ensures honest { LacksIn files_state file.now result self.old self.new }
 
-        // It is said just if there is no such file.
+        // It is said exactly if there is no such file.
         ensures said { result ≡ not (is_some ((files_state self.old).files file.now)) }
     {
         let is_taken = self.has(file);

@@ -2,6 +2,7 @@
 ghost use Rattle.std.specs.Prelude.{◌≡◌, true, IfErr, IfOk};
 ghost use Rattle.vm_disk.specs.Disk.{Goes};
 ghost use Rattle.vm_disk.specs.Moments.{OnlyReads};
+ghost use Rattle.vm_store.specs.Recovery.{OpensAs, OpensWhole};
 ghost use Rattle.vm_cli.specs.Exits.{RefusesOn, earlier_text, no_store_text};
 ghost use Rattle.vm_cli.specs.Openings.{HasOpened, HasRefused, KeepsRefusal, TellsEarlier, refusal_of};
 
@@ -12,7 +13,7 @@ use std::alloc::Global;
 use std::io::Write;
 use vm_block::is_earlier_header;
 use vm_disk::Disk;
-use vm_store::{Store, open};
+use vm_store::{Store, open, open_whole};
 use vm_types::Refusal;
 
 /// Why a disk is refused.
@@ -27,10 +28,24 @@ pub enum NoStore {
 /// Opens the store on a disk. If the disk is no store, reads block 0 once more, to tell whether it
 /// has one of an earlier format.
 pub(crate) fn open_store<D: Disk>(alloc: Global, disk: D) -> Result<Store<D>, (D, NoStore)>
-    ensures opened { IfOk result (HasOpened (D.state disk)) }
+    ensures opened { IfOk result (HasOpened OpensAs (D.state disk)) }
     ensures refused { IfErr result (λ e. HasRefused (D.state disk) (D.state e.0) e.1) }
 {
     match open(alloc, disk) {
+        Ok(store) => Ok(store),
+        Err((mut disk, refusal)) => {
+            let why = why_refused(&mut disk, refusal);
+            Err((disk, why))
+        }
+    }
+}
+
+/// Opens the store on a disk as `open_store` does, and reads every block of it.
+pub(crate) fn open_whole_store<D: Disk>(alloc: Global, disk: D) -> Result<Store<D>, (D, NoStore)>
+    ensures opened { IfOk result (HasOpened OpensWhole (D.state disk)) }
+    ensures refused { IfErr result (λ e. HasRefused (D.state disk) (D.state e.0) e.1) }
+{
+    match open_whole(alloc, disk) {
         Ok(store) => Ok(store),
         Err((mut disk, refusal)) => {
             let why = why_refused(&mut disk, refusal);

@@ -28,7 +28,8 @@ const BLANK: &[u8] = b"\r                                                       
 
 /// A line on the standard error, if that is a terminal, with the number of blocks that a job has
 /// read and written so far. A job lasts until a stream is used over which the line is cleared.
-/// Until then a file whose reads are slow, as from a cold disk, is read whole.
+/// Until then, if the job reads every block of a store and its reads are slow, as from a cold disk,
+/// the file is read whole.
 #[derive(Drop)]
 pub struct Progress {
     terminal: Option<HostRuntime>,
@@ -65,7 +66,7 @@ impl Progress {
         self.total.set(blocks);
     }
 
-    /// Begins to count anew, for a file of this many blocks that is being made.
+    /// Starts counting again, for a file of this many blocks that is being made.
     pub(crate) fn begin(&self, blocks: u64) {
         self.blocks.set(0);
         self.total.set(blocks);

@@ -22,7 +22,7 @@ use vm_disk::{DeviceFault, Positional, SystemFile, World};
 const BLOCK: u64 = 4096;
 
 /// Reads the selector of a store and writes it again as it was read, if the file has one: if it
-/// begins with a header, and goes on with a block behind it. Any other file is only read.
+/// begins with a header, and goes on with a block after it. Any other file is only read.
 pub(crate) fn rewrite_selector<W: World>(file: &mut SystemFile<W>) -> Result<(), DeviceFault>
     ensures any { Between (system_state W.held W.torn) (CountsFailures result) file.old file.new }
     ensures honest { IfHonestIn W.held W.torn KeepsState file.old file.new }

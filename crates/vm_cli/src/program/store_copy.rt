@@ -10,7 +10,7 @@ ghost use Rattle.vm_cli.specs.Runs.{DuplicatesIn};
 ghost use Rattle.vm_cli.specs.Words.Wanted.{copy as copy_wanted};
 
 use crate::answers::text::Text;
-use crate::program::opening::{open_store, unopened};
+use crate::program::opening::{open_whole_store, unopened};
 use crate::program::place::Place;
 use crate::program::{Exit, no_file, refused, say, unless_fault};
 use std::alloc::{AllocError, Global};
@@ -65,7 +65,7 @@ fn copy_disk<P: Place, W: Write, F: Write>(
     ensures copied { TakesCopy P.D.Disk P.state P.denied P.to_write place.old place.new disk result to.now blocks
         (W.contents output.old) (W.contents output.new) (F.contents errors.old) (F.contents errors.new) }
 {
-    match open_store(alloc, disk) {
+    match open_whole_store(alloc, disk) {
         Ok(mut store) => {
             let exit = copy_store(alloc, &mut store, to, blocks, place, output, errors);
             (exit, store.close())

@@ -10,7 +10,7 @@ ghost use Rattle.vm_cli.specs.Talk.{Passes};
 ghost use Rattle.vm_cli.specs.Words.Wanted.{draw as draw_wanted};
 
 use crate::program::branches::draw;
-use crate::program::opening::{open_store, unopened};
+use crate::program::opening::{open_whole_store, unopened};
 use crate::program::place::Place;
 use crate::program::tree_lines::survey;
 use crate::program::{Exit, no_file, refused, say, unless_fault};
@@ -56,7 +56,7 @@ fn show_disk<D: Disk, W: Write, F: Write>(
         → TellsTree D.Disk W.contents disk result output.old output.new
         ⊎ TellsRefusal D.Disk F.contents disk result errors.old errors.new }
 {
-    match open_store(alloc, disk) {
+    match open_whole_store(alloc, disk) {
         Ok(mut store) => {
             let drawn = draw_store(alloc, &mut store);
             let disk = store.close();

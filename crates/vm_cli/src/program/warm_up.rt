@@ -1,6 +1,6 @@
-//! Reading a cold file whole, from the opening of its store on.
+//! Reading a cold file whole, for a task that reads every block of its store.
 //!
-//! An opening reads the blocks that versions reach, in the order of their trees. On a cold disk
+//! Such a task reads the blocks that versions reach, in the order of their trees. On a cold disk
 //! each of these reads waits for the device. Reading the file from beginning to end is many times
 //! faster, and the system then has its blocks in memory. This is at the edge of the program: no
 //! contract rests on it, it only reads, and whatever fails in it is ignored.
@@ -23,7 +23,7 @@ const SLOW_READ: u128 = 40;
 /// How many bytes of the file one call reads.
 const PIECE: usize = 1 << 20;
 
-/// Watches the reads of an opening, and reads the file whole if they are slow.
+/// Watches the reads of a task that reads every block, and reads the file whole if they are slow.
 #[derive(Drop)]
 pub(crate) struct WarmUp {
     rt: HostRuntime,
@@ -33,11 +33,11 @@ pub(crate) struct WarmUp {
 }
 
 impl WarmUp {
-    /// Watches reads.
+    /// Watches reads, if the program's words name a task that reads every block of its store.
     pub(crate) fn new(rt: &HostRuntime) -> WarmUp {
         WarmUp {
             rt: *rt,
-            is_watching: Cell::new(true),
+            is_watching: Cell::new(reads_all(rt)),
             reads: Cell::new(0),
             begun: Cell::new(None),
         }
@@ -60,7 +60,7 @@ impl WarmUp {
     }
 
     /// Whether this many reads were slow, and took a microsecond for each block of the file. A file
-    /// of which little is read is thus not read whole.
+    /// of which little is read is therefore not read whole.
     #[inline(never)]
     fn is_slow(&self, reads: u64, blocks: u64) -> bool {
         let Ok(now) = Instant::now(&self.rt) else {
@@ -97,9 +97,25 @@ impl WarmUp {
     }
 }
 
+/// The words that the program was started with.
+fn words_of(rt: &HostRuntime) -> Option<Vec<String>> {
+    env::args(rt).ok()?.collect(rt.alloc()).ok()
+}
+
+/// Whether the program's words name a task that reads every block of its store.
+fn reads_all(rt: &HostRuntime) -> bool {
+    let Some(words) = words_of(rt) else {
+        return false;
+    };
+    let Some(task) = words.get(1) else {
+        return false;
+    };
+    matches!(task.as_str(), "check" | "copy" | "tree")
+}
+
 /// Opens the file that the program's words name read only, if it is one with blocks.
 fn opened(rt: &HostRuntime) -> Option<File> {
-    let words: Vec<String> = env::args(rt).ok()?.collect(rt.alloc()).ok()?;
+    let words = words_of(rt)?;
     let wanted = lock_wanted(rt.alloc(), words.as_slice()).ok()??;
     let metadata = fs::metadata(rt, wanted.file).ok()?;
     if !metadata.is_file() && !metadata.file_type().is_block_device() {

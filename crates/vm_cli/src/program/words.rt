@@ -443,7 +443,7 @@ fn blocks<'a>(alloc: Global, about: &'a str, required: bool) -> Arg<'a>
         .value_name("BLOCKS")
         .help(about)
         .required(required)
-        .value_parser(value_parser!(u32).range(64..=1_048_576))
+        .value_parser(value_parser!(u32).range(64..=67_108_864))
 }
 
 /// The option for a number of blocks in memory.
@@ -468,7 +468,7 @@ fn grow_to<'a>(alloc: Global) -> Arg<'a>
         .value_name("N")
         .help(help::GROW_TO)
         .default_value("0")
-        .value_parser(value_parser!(u32).range(0..=1_048_576))
+        .value_parser(value_parser!(u32).range(0..=67_108_864))
 }
 
 fn flag<'a>(alloc: Global, name: &'a str, about: &'a str) -> Arg<'a>

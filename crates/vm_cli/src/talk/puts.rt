@@ -9,6 +9,7 @@ ghost use Rattle.vm_types.specs.declared.command.Command.TheVariants.{Put};
 
 use crate::answers::reply::Reply;
 use crate::lines::escape::{plain, value};
+use crate::lines::mistake::{Mistake, WordKind};
 use crate::talk::OnCommand;
 use crate::talk::commands::answered;
 use crate::talk::growth::reply_growing;
@@ -46,7 +47,10 @@ fn reply_to_escaped<D: Disk>(
 {
     match value(word) {
         Some(value) => reply_to_value(alt, key, value.as_bytes(), on_command, store),
-        None => Reply::BadLine,
+        None => Reply::BadLine(Mistake::Wrong {
+            place: 5,
+            kind: WordKind::Value,
+        }),
     }
 }
 

@@ -263,7 +263,7 @@ fn prepare<S: Disk>(source: &Store<S>, available: u32, blocks: u32) -> Result<Ro
     Ok(room)
 }
 
-/// Copies what a store has committed to another disk, as a store of `blocks` blocks: 64 to 1,048,576,
+/// Copies what a store has committed to another disk, as a store of `blocks` blocks: 64 to 67,108,864,
 /// and no more than the disk has. The source is only read. Blocks that versions share stay shared, and
 /// the copy's blocks lie in the order of the trees. Open the source right before: the answer is `Full`
 /// if `blocks` is less than the number of blocks it holds, and commands may hold more than the

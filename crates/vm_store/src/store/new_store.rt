@@ -129,7 +129,7 @@ fn make_store<D: Disk>(disk: &mut D, blocks: u32) -> Result<(), Refusal>
     }
 }
 
-/// Makes a new store of `blocks` blocks on a disk: 64 to 1,048,576, and no more than the disk has.
+/// Makes a new store of `blocks` blocks on a disk: 64 to 67,108,864, and no more than the disk has.
 /// On refusal, the disk comes back with the refusal, and an existing store, also one of an earlier
 /// format, is unchanged.
 pub fn format<D: Disk>(mut disk: D, blocks: u32) -> Result<D, (D, Refusal)>

@@ -1,5 +1,5 @@
 //! A store without its disk.
-ghost use Rattle.std.specs.Prelude.{◌≡◌, ◌<◌, ◌≤◌, ◌^◌, length, take, vec_capacity};
+ghost use Rattle.std.specs.Prelude.{◌≡◌, ◌<◌, ◌≤◌, ◌^◌, false, length, take, vec_capacity};
 ghost use Rattle.vm_types.specs.declared.sizes.TheConstants.{MAX_BLOCKS, MAX_VERSIONS, MIN_BLOCKS};
 
 use crate::versions::Versions;
@@ -27,6 +27,9 @@ pub struct Parts {
     pub series: Option<Name>,
     // How many changes were made outside a series since the last one began.
     pub changes: u32,
+    // Exactly the spare blocks are free: blocks were marked, and since then nothing was taken or given
+    // back.
+    pub marked: bool,
     ghost least: { MIN_BLOCKS ≤ blocks },
     ghost most: { blocks ≤ MAX_BLOCKS },
     ghost kept_least: { MIN_BLOCKS ≤ kept },
@@ -46,11 +49,13 @@ impl Parts {
         ensures committed { self.new.committed ≡ self.old.committed }
         ensures working { self.new.working ≡ self.old.committed }
         ensures held { self.new.held ≡ take self.old.kept self.old.held }
+        ensures marked { self.new.marked ≡ false }
     {
         self.blocks = self.kept;
         self.held.truncate(self.kept);
         self.marks.truncate(self.kept);
         self.before.truncate(self.kept);
+        self.marked = false;
         self.working.copy_from(&self.committed);
     }
 
@@ -67,10 +72,12 @@ impl Parts {
         ensures committed { self.new.committed ≡ self.old.committed }
         ensures working { self.new.working ≡ self.old.working }
         ensures held { self.new.held ≡ held }
+        ensures marked { self.new.marked ≡ false }
     {
         self.blocks = blocks;
         self.held = held;
         self.marks = marks;
         self.before = before;
+        self.marked = false;
     }
 }

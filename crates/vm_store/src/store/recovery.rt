@@ -1,12 +1,18 @@
 //! Opening a store.
-ghost use Rattle.std.specs.Prelude.{◌≡◌, ◌*◌, ◌≤◌, length, true, false, vec_capacity, IfOk, IfErr, OnOk, IsErrAnd, IfSome};
+ghost use Rattle.std.specs.Prelude.{◌≡◌, ◌*◌, ◌≤◌, length, true, vec_capacity, IfOk, IfErr, OnOk, IfSome};
 ghost use Rattle.vm_disk.specs.Disk.{Goes};
 ghost use Rattle.vm_disk.specs.Moments.{OnlyReads};
 ghost use Rattle.vm_block.specs.Slot.{SlotFits};
 ghost use Rattle.vm_catalog.specs.Calls.{LoadsHeld};
 ghost use Rattle.vm_store.specs.Refused.{SyncsAtMost, SyncsUnless, IsRefused};
-ghost use Rattle.vm_store.specs.Recovery.{FindsSlot, IsTwice, OpensAs, PartsHold, ReadsMaps, RefusesFor, RefusesMaps, RefusesNothing, RefusesSlot, disk_in};
-ghost use Rattle.vm_store.specs.Store.{has_failed};
+ghost use Rattle.vm_tree.specs.BlockReads.{Finds};
+ghost use Rattle.vm_tree.specs.Calls.{OnlyLists};
+ghost use Rattle.vm_check.specs.Trees.{AreTopped};
+ghost use Rattle.vm_check.specs.Verification.{Found, HaveTrees};
+ghost use Rattle.vm_store.specs.Recovery.{AreRead, FindsSlot, IsOpening, IsTwice, OpensAs, OpensWhole, PartsShow, ReadsMaps, ReadsWhole, RefusesMaps, RefusesSlot, ShowsSome, TopsRead, WhereTrees, disk_in};
+ghost use Rattle.vm_store.specs.Sizes.{sizes};
+ghost use Rattle.vm_types.specs.declared.sizes.TheConstants.{MAX_BLOCKS};
+ghost use Rattle.vm_store.specs.declared.store.recovery.Walk.TheVariants.{Inner, Whole};
 ghost use Rattle.vm_store.specs.Versions.{numbers_of, versions_of};
 
 use super::Store;
@@ -14,13 +20,22 @@ use super::parts::Parts;
 use crate::versions::Versions;
 use crate::{FAN, LEVELS};
 use std::alloc::Global;
-use vm_alloc::{Baseline, Held};
+use vm_alloc::{Baseline, Held, Marks};
 use vm_block::{Entry, SlotName};
 use vm_catalog::{LoadFault, Slot, first_block, load, slot_in_use};
-use vm_check::verify;
+use vm_check::{find_trees, verify};
 use vm_disk::Disk;
-use vm_tree::Root;
+use vm_tree::{ListFault, Root};
 use vm_types::{MAX_VERSIONS, MIN_BLOCKS, Refusal};
+
+/// What an opening reads of the trees.
+#[derive(Clone, Copy, Debug, PartialEq, Eq)]
+enum Walk {
+    /// The top block of each, and the inner blocks.
+    Inner,
+    /// Every block.
+    Whole,
+}
 
 /// Syncs, and tells whether there is a store, and which slot its selector names.
 fn find_slot<D: Disk>(disk: &mut D) -> Result<SlotName, Refusal>
@@ -99,12 +114,40 @@ fn versions_twice(alloc: Global, entries: &[Entry], roots: &[Root]) -> Option<(V
     Some((committed, working))
 }
 
+/// Walks the trees under the numbers, and returns their roots, and marks on the blocks under them.
+fn walk_trees<D: Disk>(
+    alloc: Global,
+    disk: &mut D,
+    blocks: u32,
+    numbers: &[u32],
+    walk: Walk,
+) -> Result<(Vec<Root>, Marks), ListFault>
+    requires enough { MIN_BLOCKS ≤ blocks }
+    requires few { blocks ≤ MAX_BLOCKS }
+    requires inside { blocks ≤ (D.state disk.old).blocks }
+    ensures looks { OnlyLists result (D.state disk.old) (D.state disk.new) }
+    ensures count { IfOk result (λ found. length found.1 ≡ blocks) }
+    ensures roots { IfOk result (λ found. length found.0.items ≡ length numbers.now) }
+    ensures found { WhereTrees (D.state disk.old) (D.state disk.new) result blocks numbers.now
+        (λ x found. Found sizes x blocks numbers.now found.0.items found.1) }
+    ensures topped { walk ≡ Inner → Finds result (D.state disk.old) (D.state disk.new)
+        (λ x found. AreTopped x blocks found.0.items) }
+    ensures whole { walk ≡ Whole → Finds result (D.state disk.old) (D.state disk.new)
+        (λ x found. HaveTrees sizes x blocks numbers.now) }
+{
+    match walk {
+        Walk::Inner => find_trees(alloc, disk, blocks, numbers),
+        Walk::Whole => verify::<D, FAN, LEVELS>(alloc, disk, blocks, numbers),
+    }
+}
+
 /// Reads the maps of a slot, allocates what a store needs, and holds the blocks that are reached.
 fn read_maps<D: Disk>(
     alloc: Global,
     disk: &mut D,
     slot_name: SlotName,
     slot: Slot,
+    walk: Walk,
 ) -> Result<Parts, Refusal>
     requires inside { slot.blocks ≤ (D.state disk.old).blocks }
     requires fits { SlotFits slot.blocks slot.entries.items }
@@ -114,6 +157,8 @@ fn read_maps<D: Disk>(
         → OnlyReads (D.state disk.old) (D.state disk.new) }
     ensures inside { IfOk result (λ parts. parts.blocks ≤ (D.state disk.old).blocks) }
     ensures holds { ReadsMaps (D.state disk.old) (D.state disk.new) result slot_name slot }
+    ensures topped { walk ≡ Inner → TopsRead (D.state disk.old) (D.state disk.new) result slot }
+    ensures whole { walk ≡ Whole → ReadsWhole (D.state disk.old) (D.state disk.new) result slot }
     ensures refused { RefusesMaps (D.state disk.old) (D.state disk.new) result slot_name slot }
 {
     let Slot { blocks, entries } = slot;
@@ -124,7 +169,7 @@ fn read_maps<D: Disk>(
     ) else {
         return Err(Refusal::Memory);
     };
-    let (roots, marks) = verify::<D, FAN, LEVELS>(alloc, disk, blocks, &numbers)?;
+    let (roots, marks) = walk_trees(alloc, disk, blocks, &numbers, walk)?;
     held.replace(&marks);
     let Some((committed, working)) = versions_twice(alloc, &entries, &roots) else {
         return Err(Refusal::Memory);
@@ -141,49 +186,39 @@ fn read_maps<D: Disk>(
         before,
         series: None,
         changes: 0,
+        marked: false,
     })
 }
 
 /// Everything that is known of the store on a disk.
-fn find_store<D: Disk>(alloc: Global, disk: &mut D) -> Result<Parts, Refusal>
+fn find_store<D: Disk>(alloc: Global, disk: &mut D, walk: Walk) -> Result<Parts, Refusal>
     ensures any { Goes (result ≡ Err Refusal.Device) (D.state disk.old) (D.state disk.new) }
     ensures inside { IfOk result (λ parts. parts.blocks ≤ (D.state disk.old).blocks) }
     ensures moments { SyncsAtMost (D.state disk.old) (D.state disk.new) }
     ensures synced { SyncsUnless (result ≡ Err Refusal.Device) (D.state disk.old) (D.state disk.new) }
     ensures holds { (D.state disk.new).honest ≡ true
-        → IfOk result (PartsHold (D.state disk.new).now) }
+        → IfOk result (PartsShow (D.state disk.new).now) }
+    ensures read { walk ≡ Inner → (D.state disk.new).honest ≡ true
+        → IfOk result (AreRead (D.state disk.new).now.contents) }
+    ensures whole { walk ≡ Whole → (D.state disk.new).honest ≡ true
+        → IfOk result (λ _. ShowsSome (D.state disk.new).now.contents) }
     ensures refused { (D.state disk.new).honest ≡ true
         → IfErr result (IsRefused (D.state disk.old).now.contents) }
 {
     let slot_name = find_slot(disk)?;
     let slot = load_slot(alloc, disk, slot_name)?;
-    read_maps(alloc, disk, slot_name, slot)
+    read_maps(alloc, disk, slot_name, slot, walk)
 }
 
-/// Opens the store on a disk, as it was last committed. It syncs first; after that it only reads.
-/// On refusal, the disk comes back with the refusal.
-pub fn open<D: Disk>(alloc: Global, mut disk: D) -> Result<Store<D>, (D, Refusal)>
-    // On any disk.
-    ensures any { Goes (IsErrAnd result
-        (λ e. e.1 ≡ Refusal.Device)) (D.state disk) (D.state (disk_in result)) }
-    ensures well { IfOk result (λ store. has_failed store ≡ false) }
-
-    // The store represents the tree that is shown, and exactly the spare blocks are free.
-    ensures opened { (D.state (disk_in result)).honest ≡ true
+/// The store on a disk, or the disk with the reason why there is none.
+fn open_by<D: Disk>(alloc: Global, mut disk: D, walk: Walk) -> Result<Store<D>, (D, Refusal)>
+    ensures opening { IsOpening (D.state disk) result }
+    ensures opened { walk ≡ Inner → (D.state (disk_in result)).honest ≡ true
         → IfOk result (OpensAs (D.state disk).now.contents) }
-
-    // A refusal has its reason. Except for the device and memory, it comes exactly when nothing is
-    // shown.
-    ensures refused { RefusesFor (D.state disk) (D.state (disk_in result)) result }
-    ensures none { RefusesNothing (D.state disk) (D.state (disk_in result)) result }
-
-    // At each moment nothing has changed, or everything is synced. At the end everything is, even
-    // if it refuses, unless the device failed.
-    ensures moments { SyncsAtMost (D.state disk) (D.state (disk_in result)) }
-    ensures synced { SyncsUnless (IsErrAnd result
-        (λ e. e.1 ≡ Refusal.Device)) (D.state disk) (D.state (disk_in result)) }
+    ensures whole { walk ≡ Whole → (D.state (disk_in result)).honest ≡ true
+        → IfOk result (OpensWhole (D.state disk).now.contents) }
 {
-    match find_store(alloc, &mut disk) {
+    match find_store(alloc, &mut disk, walk) {
         Ok(parts) => Ok(Store {
             disk,
             alloc,
@@ -192,4 +227,33 @@ pub fn open<D: Disk>(alloc: Global, mut disk: D) -> Result<Store<D>, (D, Refusal
         }),
         Err(refusal) => Err((disk, refusal)),
     }
+}
+
+/// Opens the store on a disk, as it was last committed. It syncs first; after that it only reads: the
+/// header, the slot, and of each tree the top block and the inner blocks. What is wrong in a leaf is
+/// not found. On refusal, the disk comes back with the refusal.
+pub fn open<D: Disk>(alloc: Global, disk: D) -> Result<Store<D>, (D, Refusal)>
+    // Whatever the disk holds: how the disk goes on, and why it is refused. Except for the device and
+    // memory, it is refused only if nothing is shown.
+    ensures opening { IsOpening (D.state disk) result }
+
+    // If a tree is shown, the store represents it, and exactly the spare blocks are free. What was
+    // read has its form.
+    ensures opened { (D.state (disk_in result)).honest ≡ true
+        → IfOk result (OpensAs (D.state disk).now.contents) }
+{
+    open_by(alloc, disk, Walk::Inner)
+}
+
+/// Opens the store on a disk as `open` does, and reads every block of its trees: it refuses a disk on
+/// which any of them is wrong. It takes 24 bytes of memory for each block of the store, until it
+/// returns.
+pub fn open_whole<D: Disk>(alloc: Global, disk: D) -> Result<Store<D>, (D, Refusal)>
+    ensures opening { IsOpening (D.state disk) result }
+
+    // A tree is shown, the store represents it, and exactly the spare blocks are free.
+    ensures opened { (D.state (disk_in result)).honest ≡ true
+        → IfOk result (OpensWhole (D.state disk).now.contents) }
+{
+    open_by(alloc, disk, Walk::Whole)
 }

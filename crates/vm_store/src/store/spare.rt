@@ -49,7 +49,7 @@ fn mark_versions<D: Disk>(
 }
 
 impl<D: Disk> Store<D> {
-    ghost use Rattle.vm_store.specs.Store.{has_failed, entries_of, root_of, Holds, free_of, IsHonest, GoesOn, ReadsAlone, SpareIsFree};
+    ghost use Rattle.vm_store.specs.Store.{has_failed, entries_of, root_of, Holds, free_of, IsHonest, GoesOn, ReadsAlone, SpareIsFree, is_marked};
 
     /// Holds exactly the blocks that the committed or the working entries reach, together with the
     /// store's own. An open series stays open: what only its alternative's records need was not
@@ -67,6 +67,7 @@ impl<D: Disk> Store<D> {
             → IfErr result (λ refusal. refusal ≡ Refusal.Device) }
         ensures exact { IsHonest self.new → (s : State) (holds : Holds self.old s)
             → OnOk result (free_of self.new ≡ spare_of holds.rests) }
+        ensures known { OnOk result (is_marked self.new ≡ true) }
         ensures state { IsHonest self.new → (s : State) → Holds self.old s → Holds self.new s }
     {
         self.parts.marks.clear();
@@ -82,6 +83,7 @@ impl<D: Disk> Store<D> {
         )?;
         self.parts.held.replace(&self.parts.marks);
         self.parts.before.keep_held(&self.parts.held);
+        self.parts.marked = true;
         Ok(())
     }
 
@@ -93,13 +95,15 @@ impl<D: Disk> Store<D> {
     }
 
     /// Whether enough blocks are spare for this many record changes. If fewer are free, it marks
-    /// what the entries reach.
+    /// what the entries reach, unless it is known that exactly the spare ones are free.
     pub(super) fn has_spare(&mut self, changes: usize) -> Result<bool, Refusal>
         ensures any { GoesOn (result ≡ Err Refusal.Device) self.old self.new }
         ensures failed { has_failed self.new ≡ has_failed self.old }
         ensures never { (result ≢ Err Refusal.Failed) × (result ≢ Err Refusal.Memory) × (result ≢ Err Refusal.Full) }
         ensures late { IfErr result (λ refusal. IsEarly refusal → ⊥) }
         ensures enough { blocks_a_change * changes ≤ free_of self.old → self.new ≡ self.old }
+        ensures once { is_marked self.old ≡ true → self.new ≡ self.old }
+        ensures known { IfOk result (λ yes. yes ≡ false → is_marked self.new ≡ true) }
         ensures same { entries_of self.new ≡ entries_of self.old }
         ensures roots { root_of self.new ≡ root_of self.old }
         ensures free { IfOk result (λ yes. IsTrue yes → blocks_a_change * changes ≤ free_of self.new) }
@@ -116,6 +120,9 @@ impl<D: Disk> Store<D> {
     {
         if self.has_free(changes) {
             return Ok(true);
+        }
+        if self.parts.marked {
+            return Ok(false);
         }
         self.mark_all()?;
         Ok(self.has_free(changes))

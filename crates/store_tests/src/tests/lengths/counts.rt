@@ -1,8 +1,9 @@
 //! How many blocks are read and written for values of any length.
 use crate::tests::script::{NEW, in_memory};
 
-/// A great value and a short one in one leaf, which two alternatives share. Opening makes five
-/// device calls: a sync, and one read each of the header, the selector, the slot and the leaf.
+/// A great value and a short one in one leaf, which two alternatives share. Opening makes six
+/// device calls: a sync, one read each of the header, the selector and the slot, and one of the leaf
+/// for each alternative.
 const GREAT_AND_SHORT: &str = "
     format 64
     open
@@ -19,43 +20,43 @@ const GREAT_AND_SHORT: &str = "
 #[test]
 fn leaf_is_read_once_whatever_the_lengths_of_its_values(rt: HostRuntime) {
     for (call, query, calls) in &[
-        ("", "", "calls -> 5"),
-        ("get top 7:1 -> 61*3000", "", "calls -> 6"),
-        ("look top 7:1 -> 61*3000", "", "calls -> 6"),
-        ("get top 7:2 -> duct", "", "calls -> 6"),
-        ("get top 7:3 -> ~", "", "calls -> 6"),
-        ("list top -> 7:1=61*3000 7:2=duct", "", "calls -> 6"),
-        ("put top 7:2 pipe", "", "calls -> 7"),
-        ("put top 7:1 62*4000", "", "calls -> 7"),
-        ("put top 7:1 ''", "", "calls -> 7"),
-        ("put top 7:2 62*4000", "", "calls -> 9"),
-        ("put top 7:0 62*4000", "", "calls -> 9"),
-        ("put top 7:3 62*4000", "", "calls -> 9"),
-        ("remove top 7:2", "", "calls -> 8"),
-        ("remove top 7:1", "", "calls -> 8"),
-        ("reclaim", "", "calls -> 5"),
-        ("changes spur -> none", "", "calls -> 5"),
-        ("conflicts spur -> none", "", "calls -> 5"),
-        ("merge spur -> ok 0", "", "calls -> 5"),
-        ("put top 7:2 pipe", "conflicts spur -> none", "calls -> 9"),
+        ("", "", "calls -> 6"),
+        ("get top 7:1 -> 61*3000", "", "calls -> 7"),
+        ("look top 7:1 -> 61*3000", "", "calls -> 7"),
+        ("get top 7:2 -> duct", "", "calls -> 7"),
+        ("get top 7:3 -> ~", "", "calls -> 7"),
+        ("list top -> 7:1=61*3000 7:2=duct", "", "calls -> 7"),
+        ("put top 7:2 pipe", "", "calls -> 8"),
+        ("put top 7:1 62*4000", "", "calls -> 8"),
+        ("put top 7:1 ''", "", "calls -> 8"),
+        ("put top 7:2 62*4000", "", "calls -> 10"),
+        ("put top 7:0 62*4000", "", "calls -> 10"),
+        ("put top 7:3 62*4000", "", "calls -> 10"),
+        ("remove top 7:2", "", "calls -> 9"),
+        ("remove top 7:1", "", "calls -> 9"),
+        ("reclaim", "", "calls -> 6"),
+        ("changes spur -> none", "", "calls -> 6"),
+        ("conflicts spur -> none", "", "calls -> 6"),
+        ("merge spur -> ok 0", "", "calls -> 6"),
+        ("put top 7:2 pipe", "conflicts spur -> none", "calls -> 10"),
         (
             "put top 7:1 61*3000",
             "conflicts spur -> none",
-            "calls -> 9",
+            "calls -> 10",
         ),
-        ("put top 7:1 61*3000", "post spur", "calls -> 9"),
+        ("put top 7:1 61*3000", "post spur", "calls -> 10"),
         (
             "put top 7:3 62*4000",
             "conflicts spur -> none",
-            "calls -> 13",
+            "calls -> 14",
         ),
     ] {
         in_memory(&rt, &[GREAT_AND_SHORT, "open", call, query, "close", calls]);
     }
 }
 
-/// Three leaves and a root. An opening makes four device calls, and reads each of these. A marking
-/// reads the root alone.
+/// Three leaves and a root. An opening makes four device calls, and reads the root to find the tree
+/// and to mark its blocks. A marking reads the root alone.
 #[test]
 fn marking_reads_no_leaf(rt: HostRuntime) {
     let row = "
@@ -70,7 +71,7 @@ fn marking_reads_no_leaf(rt: HostRuntime) {
         reclaim
         free -> 26
         close
-        calls -> 9";
+        calls -> 7";
     in_memory(&rt, &[NEW, row]);
 }
 

@@ -107,10 +107,10 @@ fn crash_in_a_put_that_makes_three_leaves_shows_before_or_after(rt: HostRuntime)
     }
 }
 
-/// `top` has added a record, and `a` a great value, to the one of the base. An opening reads five
-/// blocks, and makes four calls more. The Merge reads the leaves of the base and of `top`, those of
-/// the base and of `a` with the root above them, and the leaf of `top` once more, and writes two
-/// leaves and a root. The Commit makes four calls.
+/// `top` has added a record, and `a` a great value, to the one of the base. An opening reads the top
+/// blocks of three trees, that of `a` twice, and makes four calls more. The Merge reads the leaves
+/// of the base and of `top`, those of the base and of `a` with the root above them, and the leaf of
+/// `top` once more, and writes two leaves and a root. The Commit makes four calls.
 #[test]
 fn crash_in_a_merge_of_a_great_value_shows_before_or_after(rt: HostRuntime) {
     let made = "
@@ -125,7 +125,7 @@ fn crash_in_a_merge_of_a_great_value_shows_before_or_after(rt: HostRuntime) {
         anew
         open
         close
-        calls -> 9
+        calls -> 8
         anew";
     let in_the_merge = "
         open
@@ -154,19 +154,19 @@ fn crash_in_a_merge_of_a_great_value_shows_before_or_after(rt: HostRuntime) {
         merge a -> ok 1
         commit
         close
-        calls -> 23";
+        calls -> 22";
     in_memory(&rt, &[made, whole]);
     for (stop, row, crash, shown) in &[
+        ("stop 14 41 41", in_the_merge, "crash", before),
         ("stop 15 41 41", in_the_merge, "crash", before),
         ("stop 16 41 41", in_the_merge, "crash", before),
-        ("stop 17 41 41", in_the_merge, "crash", before),
-        ("stop 18 41 41", in_the_merge, "crash all=00", before),
-        ("stop 19 41 41", in_the_commit, "crash", before),
-        ("stop 20 41 41", in_the_commit, "crash all=FF", before),
-        ("stop 21 A5 00", in_the_commit, "crash", before),
-        ("stop 21 FE 00", in_the_commit, "crash", after),
-        ("stop 22 41 41", in_the_commit, "crash 1=01", before),
-        ("stop 22 41 41", in_the_commit, "crash", after),
+        ("stop 17 41 41", in_the_merge, "crash all=00", before),
+        ("stop 18 41 41", in_the_commit, "crash", before),
+        ("stop 19 41 41", in_the_commit, "crash all=FF", before),
+        ("stop 20 A5 00", in_the_commit, "crash", before),
+        ("stop 20 FE 00", in_the_commit, "crash", after),
+        ("stop 21 41 41", in_the_commit, "crash 1=01", before),
+        ("stop 21 41 41", in_the_commit, "crash", after),
     ] {
         in_memory(&rt, &[made, stop, row, crash, shown]);
     }

@@ -61,7 +61,8 @@ fn values_are_as_the_entries_say(rt: HostRuntime) {
 }
 
 /// The leaves of `top` are 36 and 37 under the root 38, and `a` shares them. What was met before is
-/// not read again, but its keys are compared all the same.
+/// not read again, but its keys are compared all the same. Only the whole opening reads a leaf under
+/// an inner block.
 #[test]
 fn leaves_that_were_met_before_are_compared_all_the_same(rt: HostRuntime) {
     let two = "
@@ -81,14 +82,16 @@ fn leaves_that_were_met_before_are_compared_all_the_same(rt: HostRuntime) {
         ("set 18 323:27", "open -> error 18 Damaged 39"),
         ("set 18 323:40", "open -> error 18 Damaged 64"),
         // A child twice, and one under another key.
-        ("set 38 40:24", "open -> error 18 Damaged 36"),
-        ("set 38 32:02", "open -> error 18 Damaged 37"),
+        ("set 38 40:24", "open whole -> error 18 Damaged 36"),
+        ("set 38 32:02", "open whole -> error 18 Damaged 37"),
+        ("set 38 40:24", "open"),
+        ("set 38 32:02", "open"),
     ] {
         in_memory(&rt, &[NEW, two, change, opened]);
     }
 }
 
-/// A damaged leaf is told by who reads it.
+/// A damaged leaf is reported when it is read.
 #[test]
 fn a_value_that_is_too_long_is_damage(rt: HostRuntime) {
     let row = "
@@ -102,5 +105,34 @@ fn a_value_that_is_too_long_is_damage(rt: HostRuntime) {
         set 34 26:A0
         open
         get top 7:1 -> 61*4000";
+    on_both(&rt, &[NEW, row]);
+}
+
+/// An opening reads no leaf under an inner block: what is wrong there is reported when it is read,
+/// and nothing else is lost.
+#[test]
+fn a_leaf_that_is_damaged_is_told_by_who_reads_it(rt: HostRuntime) {
+    let row = "
+        put top 7:1 61*2000
+        put top 7:5 62*2000
+        put top 7:3 63*2000
+        commit
+        close
+        set 37 12:01
+        open whole -> error 18 Damaged 37
+        open
+        free -> 27
+        get top 7:1 -> 61*2000
+        get top 7:5 -> error 18 Damaged 37
+        list top -> error 18 Damaged 37
+        put top 7:5 duct -> error 18 Damaged 37
+        put top 7:1 duct
+        get top 7:1 -> duct
+        commit
+        close
+        set 37 12:00
+        open whole
+        get top 7:5 -> 62*2000
+        get top 7:1 -> duct";
     on_both(&rt, &[NEW, row]);
 }

@@ -1,10 +1,11 @@
-use Rattle.std.proofs.Common.{◌≡◌, ◌+◌, ◌-◌, ◌*◌, ◌++◌, map, take, drop, min, get_or, refl, sym, ap, ◌∙◌, arith}
+use Rattle.std.proofs.Common.{◌≡◌, ◌+◌, ◌-◌, ◌*◌, ◌++◌, map, take, drop, min, get_or, refl, sym, ap, ap₂, ◌∙◌, arith, length-take-le}
+use Rattle.std.proofs.Math.Facts.{Fits-lt-pow}
 use Rattle.std.specs.List.{flat_map}
 use Rattle.std.proofs.lemmas.List.{get_or-map, length-map, take_all}
 use Rattle.vm_block.specs.Bounds.{bounds_of, moved}
 use Rattle.vm_block.specs.Leaf.{bound_bytes}
 use Rattle.vm_block.specs.declared.bounds.Bound.{Bound}
-use Rattle.vm_block.proofs.BoundLemmas.{bound_part, get_or-bounds_of, length-bounds_of}
+use Rattle.vm_block.proofs.BoundLemmas.{bound_part, bounds_kept, get_or-bounds_of, length-bounds_of}
 use Rattle.vm_block.proofs.Rows.{rows_written}
 use Rattle.vm_block.proofs.bounds.move_bounds.Goals as goal
 
@@ -29,3 +30,12 @@ returns c =
     c.loop-i.invariant
     ∙ ap (λ n. flat_map bound_bytes (take n xs) ++ drop (12 * n) c.args.out.now) end
     ∙ ap (λ ys. flat_map bound_bytes ys ++ drop (12 * c.args.count) c.args.out.now) (take_all c.args.count xs (omega (arith, length-map (bounds_of c.args.count c.args.bytes.now) (moved c.args.from c.args.to), length-bounds_of c.args.count c.args.bytes.now)))
+
+pub returns-then-to-eq0 : goal.returns-then-to-eq0
+returns-then-to-eq0 c =
+    let bytes = c.args.bytes.now in
+    let n = c.args.count in
+    let out = c.args.out.now in
+    c.put.ensures
+    ∙ ap₂ (λ z m. z ++ drop m out) (bounds_kept n bytes (λ k. Fits-lt-pow (c.type_inv.bytes k)) c.requires.there) (length-take-le (12 * n) bytes c.requires.there)
+    ∙ ap₂ (λ f t. flat_map bound_bytes (map (moved f t) (bounds_of n bytes)) ++ drop (12 * n) out) (sym c.if-from-eq0.true) (sym c.if-to-eq0.true)

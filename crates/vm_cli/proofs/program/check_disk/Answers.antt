@@ -24,7 +24,7 @@ returns-in-Ok-counts-clause-told g c =
         counted = λ honest.
             let opens = c.in-Ok.ensures.opened.opens (there honest) in
             let synced = c.in-Ok.ensures.opened.synced (there honest) in
-            let said = is_ok _ c.count-counts.result _ c.in-Ok-counts.is (c.count-counts.ensures.counted c.in-Ok.ensures.opened.well (opened opens.seen) opens.holds) in
+            let said = is_ok _ c.count-counts.result _ c.in-Ok-counts.is (c.count-counts.ensures.counted c.in-Ok.ensures.opened.well (opened opens.seen) opens.stands.holds) in
             counted_shown g.D.Disk _ store synced.same opens counts said;
         moments = λ honest. subst (λ d. Throughout old (g.D.Disk.state d) (IsAtMostSynced old.now)) (sym c.close-disk.ensures.disk) (c.in-Ok.ensures.opened.moments (there honest));
       },
@@ -43,11 +43,11 @@ returns-in-Err-counts-clause-told g c =
         goes = subst (λ d. Goes (refusal ≡ Device) old (g.D.Disk.state d)) (sym c.close-disk.ensures.disk) (goes_at _ _ _ _ c.in-Ok.ensures.opened.goes (λ is. absurd (never is)));
         why = λ honest.
             let opens = c.in-Ok.ensures.opened.opens (there honest) in
-            let memory = is_err _ c.count-counts.result _ c.in-Err-counts.is (c.count-counts.ensures.refused c.in-Ok.ensures.opened.well (opened opens.seen) opens.holds) in
+            let memory = is_err _ c.count-counts.result _ c.in-Err-counts.is (c.count-counts.ensures.refused c.in-Ok.ensures.opened.well (opened opens.seen) opens.stands.holds) in
             subst (IsRefused old.now.contents) (sym memory) tt;
         earlier = λ honest is.
             let opens = c.in-Ok.ensures.opened.opens (there honest) in
-            let memory = is_err _ c.count-counts.result _ c.in-Err-counts.is (c.count-counts.ensures.refused c.in-Ok.ensures.opened.well (opened opens.seen) opens.holds) in
+            let memory = is_err _ c.count-counts.result _ c.in-Err-counts.is (c.count-counts.ensures.refused c.in-Ok.ensures.opened.well (opened opens.seen) opens.stands.holds) in
             cc (is, memory);
         moments = λ honest. subst (λ d. Throughout old (g.D.Disk.state d) (IsAtMostSynced old.now)) (sym c.close-disk.ensures.disk) (c.in-Ok.ensures.opened.moments (there honest));
       },

@@ -1,27 +1,30 @@
-use Rattle.std.proofs.Common.{◌∙◌, ◌<◌, List, length, get_or, None, arith, subst, sym}
+use Rattle.std.proofs.Common.{◌∙◌, ◌<◌, List, length, get_or, None, arith, option_copied, subst, sym}
 use Rattle.std.proofs.lemmas.List.{take_all}
 use Rattle.std.proofs.lemmas.Result.{err_from_is_err_and}
 use Rattle.vm_types.specs.declared.change.Change.{Change}
 use Rattle.vm_types.specs.Map.{with_changes}
 use Rattle.vm_disk.specs.Moments.{Throughout, TouchesOnly}
 use Rattle.vm_alloc.specs.Held.{IsHeld}
-use Rattle.vm_alloc.proofs.HeldLemmas.{holds_more_then, holds_same}
+use Rattle.vm_alloc.proofs.HeldLemmas.{holds_more_then}
 use Rattle.vm_tree.specs.Free.{is_free}
 use Rattle.vm_tree.specs.Root.{IsRootedIn}
 use Rattle.vm_tree.proofs.Touching.{touches_then, unsynced_then}
 use Rattle.vm_store.specs.Sizes.{sizes}
 use Rattle.vm_store.proofs.ChangingLemmas.{change_at, made_more, fault_makes}
+use Rattle.vm_store.proofs.SeriesLemmas.{before_stays, before_wider}
 use Rattle.vm_store.proofs.TopLemmas.{grown_of}
 use Rattle.vm_store.proofs.change_list.make_changes.Goals as goal
 
 none : Change
 none = record { key = record { table = 0; number = 0 }; before = None; after = None }
 
+pub make_change-requires-clause-before : goal.make_change-requires-clause-before
+make_change-requires-clause-before g c = before_wider (option_copied c.args.before) _ _ c.requires.before c.loop-i.invariant.still
+
 pub returns-in_err-root-clause-moments : goal.returns-in_err-root-clause-moments
 returns-in_err-root-clause-moments g c honest =
     let so_far = c.loop-i.invariant in
-    subst (λ held. Throughout (g.D.Disk.state c.args.disk.now) (g.D.Disk.state c.make_change.new.disk) (TouchesOnly (is_free held) (g.D.Disk.state c.args.disk.now).now)) c.requires.before
-    (touches_then _ _ _ _ _ (holds_same _) (so_far.moments (c.make_change.ensures.any.earlier honest)) (c.make_change.ensures.moments honest))
+    touches_then _ _ _ _ _ (before_stays (option_copied c.args.before) _ _ c.requires.before so_far.still) (so_far.moments (c.make_change.ensures.any.earlier honest)) (c.make_change.ensures.moments honest)
 
 pub returns-in_err-root-clause-unsynced : goal.returns-in_err-root-clause-unsynced
 returns-in_err-root-clause-unsynced g c honest = unsynced_then _ _ _ (c.loop-i.invariant.unsynced (c.make_change.ensures.any.earlier honest)) (c.make_change.ensures.unsynced honest)
@@ -51,7 +54,7 @@ loop-i-preserved g c =
       taken = omega (arith, c.make_change.ensures.taken, so_far.taken);
       none = λ is. absurd (omega (arith, is));
       still = holds_more_then _ _ _ so_far.still c.make_change.ensures.still;
-      moments = λ honest. touches_then _ _ _ _ _ (holds_same _) (so_far.moments (c.in_ok-root.ensures.any.earlier honest)) (c.make_change.ensures.moments honest);
+      moments = λ honest. touches_then _ _ _ _ _ (before_stays (option_copied c.args.before) _ _ c.requires.before so_far.still) (so_far.moments (c.in_ok-root.ensures.any.earlier honest)) (c.make_change.ensures.moments honest);
       unsynced = λ honest. unsynced_then _ _ _ (so_far.unsynced (any.earlier honest)) (c.make_change.ensures.unsynced honest);
       changed = λ honest m grown.
           let before = grown_of _ _ _ _ _ _ (sym so_far.still.same_length) (so_far.changed (c.in_ok-root.ensures.any.earlier honest) m grown) in

@@ -20,7 +20,7 @@ invariant-loop-i g l =
       taken : free_count l.fn.held ≤ free_count l.held + 16 * l.i;
       none : l.i ≡ 0 → (l.disk ≡ l.fn.disk) × (l.held ≡ l.fn.held);
       still : HoldsMore l.fn.held l.held;
-      moments : now.honest ≡ true → Throughout old now (TouchesOnly (is_free l.before) old.now);
+      moments : now.honest ≡ true → Throughout old now (TouchesOnly (is_free l.fn.held) old.now);
       unsynced : now.honest ≡ true → NeverSyncs old now;
       changed : now.honest ≡ true → (m : Map) → IsRootedIn sizes (IsHeld l.fn.held) old.now.contents (length l.fn.held) l.fn.root m
           → IsRootedIn sizes (IsHeld l.held) now.now.contents (length l.fn.held) l.root (with_changes m (take l.i l.changes));

@@ -33,6 +33,7 @@ impl<D: Disk> Store<D> {
                 self.parts.kept = self.parts.blocks;
                 self.parts.committed.copy_from(&self.parts.working);
                 self.parts.series = None;
+                self.parts.marked = false;
                 Ok(Answer::Done)
             }
             Err(_) => Err(Refusal::Device),

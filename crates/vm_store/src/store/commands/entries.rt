@@ -25,6 +25,7 @@ impl<D: Disk> Store<D> {
     {
         let answer = self.parts.working.change_by(command)?;
         self.parts.series = None;
+        self.parts.marked = false;
         Ok(answer)
     }
 }

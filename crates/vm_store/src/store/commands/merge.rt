@@ -4,13 +4,14 @@ ghost use Rattle.vm_types.specs.State.{State};
 ghost use Rattle.vm_types.specs.declared.command.Command.TheVariants.{Merge};
 
 use crate::change_list::make_changes;
+use crate::series::{copy_held, if_copied};
 use crate::sides::{ThreeRoots, plan_of_merge};
 use crate::store::Store;
 use vm_disk::Disk;
 use vm_types::{Answer, Key, Name, Refusal, Side};
 
 impl<D: Disk> Store<D> {
-    ghost use Rattle.vm_store.specs.Store.{has_failed, entries_of, Carries, Holds, IsHonest, GoesOn, EarlyKeeps, FirstReads, FullLeavesSpare, KeepsFree, MakesNoneByReading, ReadsFew};
+    ghost use Rattle.vm_store.specs.Store.{has_failed, entries_of, Carries, Holds, IsHonest, GoesOn, EarlyKeeps, FirstReads, FullAgain, FullLeavesSpare, KeepsFree, MakesNoneByReading, ReadsFew};
 
     /// Changes the alternative's records to those of the merge, and makes the parent's records its
     /// base. The changes are made in the tree of the alternative or of its parent, whichever takes
@@ -23,6 +24,7 @@ impl<D: Disk> Store<D> {
         ensures same { OnErr result (entries_of self.new ≡ entries_of self.old) }
         ensures unchanged { EarlyKeeps result self.old self.new }
         ensures marked { IsHonest self.new → FullLeavesSpare result self.old self.new }
+        ensures once { IsHonest self.new → FullAgain result self.old self.new }
         ensures reads { IsHonest self.new → FirstReads result self.old self.new }
         ensures alike { IsHonest self.new
             → MakesNoneByReading alt.now settled.now result self.old self.new }
@@ -48,11 +50,17 @@ impl<D: Disk> Store<D> {
             return Err(Refusal::Full);
         }
         self.parts.series = None;
-        self.parts.before.take(&self.parts.held);
+        self.parts.marked = false;
+        let is_copied = copy_held(
+            &mut self.parts.changes,
+            plan.changes.len(),
+            &mut self.parts.before,
+            &self.parts.held,
+        );
         let root = make_changes(
             &mut self.disk,
             &mut self.parts.held,
-            &self.parts.before,
+            if_copied(is_copied, &self.parts.before),
             roots.start(plan.start),
             &plan.changes,
         )?;

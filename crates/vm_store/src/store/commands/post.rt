@@ -30,6 +30,7 @@ impl<D: Disk> Store<D> {
         self.parts.working.set_current(&parent.name, own.current);
         self.parts.working.set_base(alt, own.current);
         self.parts.series = None;
+        self.parts.marked = false;
         Ok(Answer::Done)
     }
 }

@@ -9,7 +9,7 @@ use vm_disk::Disk;
 use vm_types::{Answer, Command, Key, Name, Refusal};
 
 impl<D: Disk> Store<D> {
-    ghost use Rattle.vm_store.specs.Store.{has_failed, entries_of, Carries, Holds, IsHonest, GoesOn, EarlyKeeps, FirstReads, FullLeavesSpare, TakesUpTo};
+    ghost use Rattle.vm_store.specs.Store.{has_failed, entries_of, Carries, Holds, IsHonest, GoesOn, EarlyKeeps, FirstReads, FullAgain, FullAtOnce, FullLeavesSpare, TakesUpTo};
 
     /// Sets the value of a record of the alternative. The blocks that the series took for the old
     /// path are forgotten.
@@ -26,6 +26,8 @@ impl<D: Disk> Store<D> {
         ensures same { OnErr result (entries_of self.new ≡ entries_of self.old) }
         ensures unchanged { EarlyKeeps result self.old self.new }
         ensures marked { IsHonest self.new → FullLeavesSpare result self.old self.new }
+        ensures once { IsHonest self.new → FullAgain result self.old self.new }
+        ensures at_once { FullAtOnce result self.old self.new }
         ensures reads { IsHonest self.new → FirstReads result self.old self.new }
         ensures free { TakesUpTo 16 result self.old self.new }
         ensures carried { IsHonest self.new → (s : State) (holds : Holds self.old s)
@@ -37,6 +39,7 @@ impl<D: Disk> Store<D> {
         if !self.has_spare(1)? {
             return Err(Refusal::Full);
         }
+        self.parts.marked = false;
         go_on(
             &mut self.parts.series,
             &mut self.parts.changes,

@@ -14,7 +14,7 @@ use vm_tree::has;
 use vm_types::{Answer, Key, Name, Refusal};
 
 impl<D: Disk> Store<D> {
-    ghost use Rattle.vm_store.specs.Store.{has_failed, entries_of, free_of, series_of, Carries, Holds, IsHonest, GoesOn, EarlyKeeps, FirstReads, FullLeavesSpare, TakesUpTo};
+    ghost use Rattle.vm_store.specs.Store.{has_failed, entries_of, free_of, series_of, Carries, Holds, IsHonest, GoesOn, EarlyKeeps, FirstReads, FullAgain, FullLeavesSpare, TakesUpTo};
 
     /// Removes a record from the alternative. If its series goes on and enough blocks are free,
     /// there is only one descent to the record.
@@ -26,6 +26,7 @@ impl<D: Disk> Store<D> {
         ensures same { OnErr result (entries_of self.new ≡ entries_of self.old) }
         ensures unchanged { EarlyKeeps result self.old self.new }
         ensures marked { IsHonest self.new → FullLeavesSpare result self.old self.new }
+        ensures once { IsHonest self.new → FullAgain result self.old self.new }
         ensures reads { IsHonest self.new → FirstReads result self.old self.new }
         ensures free { TakesUpTo 8 result self.old self.new }
         ensures carried { IsHonest self.new → (s : State) (holds : Holds self.old s)
@@ -55,6 +56,7 @@ impl<D: Disk> Store<D> {
         ensures same { OnErr result (entries_of self.new ≡ entries_of self.old) }
         ensures unchanged { EarlyKeeps result self.old self.new }
         ensures marked { IsHonest self.new → FullLeavesSpare result self.old self.new }
+        ensures once { IsHonest self.new → FullAgain result self.old self.new }
         ensures reads { IsHonest self.new → FirstReads result self.old self.new }
         ensures free { TakesUpTo 8 result self.old self.new }
         ensures carried { IsHonest self.new → (s : State) (holds : Holds self.old s)
@@ -114,6 +116,7 @@ impl<D: Disk> Store<D> {
         let Some(root) = removed else {
             return Err(missing);
         };
+        self.parts.marked = false;
         self.parts.working.set_current(alt, root);
         Ok(Answer::Done)
     }

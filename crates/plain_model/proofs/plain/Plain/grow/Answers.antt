@@ -18,5 +18,5 @@ pub returns-clause-answer : goal.returns-clause-answer
 returns-clause-answer c =
     let own : c.self.inside.blocks ≡ c.args.self.now.blocks = ap (λ (s : State). s.blocks) c.self.view_is in
     let larger : c.args.self.now.blocks < c.args.blocks = omega (arith, c.if-blocks-self.false) in
-    let few : c.args.blocks ≤ 1048576 = omega (arith, c.if-blocks-gt-MAX_BLOCKS.false) in
+    let few : c.args.blocks ≤ 67108864 = omega (arith, c.if-blocks-gt-MAX_BLOCKS.false) in
     sym (ap answer_of (grow_accepted c.args.self.now c.args.blocks (good_size c.args.self.now.blocks c.args.blocks larger few)))

@@ -18,7 +18,7 @@ returns-in-Ok-clause-copied g c place honest =
     let opens = c.in-Ok.ensures.opened.opens earlier in
     let synced = c.in-Ok.ensures.opened.synced earlier in
     let first = c.in-Ok.ensures.opened.goes in
-    let makes = c.copy_store-exit.ensures.files place there c.in-Ok.ensures.opened.well (opened opens.seen) opens.holds in
+    let makes = c.copy_store-exit.ensures.files place there c.in-Ok.ensures.opened.well (opened opens.seen) opens.stands.holds in
     inl (
       opens.seen,
       _,

@@ -29,7 +29,7 @@ returns-in-Ok-drawn-clause-told g c honest =
     let passes = c.draw_store-drawn.ensures.passes in
     let earlier = passes.goes.earlier there in
     let opens = c.in-Ok.ensures.opened.opens earlier in
-    let text = is_ok _ c.draw_store-drawn.result _ c.in-Ok-drawn.is (c.draw_store-drawn.ensures.drawn there c.in-Ok.ensures.opened.well (opened opens.seen) opens.holds) in
+    let text = is_ok _ c.draw_store-drawn.result _ c.in-Ok-drawn.is (c.draw_store-drawn.ensures.drawn there c.in-Ok.ensures.opened.well (opened opens.seen) opens.stands.holds) in
     inl (
       opens.seen,
       record {
@@ -48,7 +48,7 @@ returns-in-Err-drawn-clause-told g c honest =
     let passes = c.draw_store-drawn.ensures.passes in
     let earlier = passes.goes.earlier there in
     let opens = c.in-Ok.ensures.opened.opens earlier in
-    let why = is_err _ c.draw_store-drawn.result _ c.in-Err-drawn.is (c.draw_store-drawn.ensures.refused there c.in-Ok.ensures.opened.well (opened opens.seen) opens.holds) in
+    let why = is_err _ c.draw_store-drawn.result _ c.in-Err-drawn.is (c.draw_store-drawn.ensures.refused there c.in-Ok.ensures.opened.well (opened opens.seen) opens.stands.holds) in
     inr (
       Refused refusal,
       record {

@@ -22,10 +22,11 @@ returns-in-Bad g c =
     let self = c.args.self.now in
     let store = self.store.now in
     let on = self.manner.on_command in
-    let asked = asked_in on Request.Bad in
+    let bad = Request.Bad c.in-Bad.mistake in
+    let asked = asked_in on bad in
     rw c.in-Bad.is
     (in_session g.W.Write.contents asked _ self _ (refl, refl, refl)
-    (reply_into g.W.Write.contents store store asked reply.BadLine self.writer.now self.text c.requires (asked_as store store asked Request.Bad (reads_alone on Request.Bad refl) reply.BadLine (bad_asked store))))
+    (reply_into g.W.Write.contents store store asked (reply.BadLine c.in-Bad.mistake) self.writer.now self.text c.requires (asked_as store store asked bad (reads_alone on bad refl) _ (bad_asked store c.in-Bad.mistake))))
 
 pub returns-in-Put : goal.returns-in-Put
 returns-in-Put g c =

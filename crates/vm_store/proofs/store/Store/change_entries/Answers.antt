@@ -22,4 +22,4 @@ returns-in_err-answer-clause-carried g c honest s holds =
 
 pub returns-in_err-answer-clause-unchanged : goal.returns-in_err-answer-clause-unchanged
 returns-in_err-answer-clause-unchanged g c =
-    rw (passed_on _ c.from_residual.ensures.1) (λ early. record { alloc = refl; parts = same_parts _ _ refl refl refl refl refl c.in_err-answer.ensures.kept refl refl refl refl refl; failed = refl })
+    rw (passed_on _ c.from_residual.ensures.1) (λ early. record { alloc = refl; parts = same_parts _ _ refl refl refl refl refl c.in_err-answer.ensures.kept refl refl refl refl refl refl; failed = refl })

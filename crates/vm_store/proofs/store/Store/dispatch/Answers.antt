@@ -6,7 +6,7 @@ use Rattle.vm_store.proofs.FirstLemmas.{done_or_device}
 use Rattle.vm_store.proofs.LongerLemmas.{goes_grow}
 use Rattle.vm_store.proofs.PerformLemmas.{not_grown, performs_grow}
 use Rattle.vm_store.proofs.RolledLemmas.{accepted_is_no_refusal}
-use Rattle.vm_store.proofs.VersionLemmas.{entries_few, entries_keep, entries_read, entries_unmarked, when_ok}
+use Rattle.vm_store.proofs.VersionLemmas.{entries_few, entries_keep, entries_once, entries_read, entries_unmarked, when_ok}
 use Rattle.vm_store.proofs.store.Store.dispatch.Goals as goal
 
 pub returns-in-Put : goal.returns-in-Put
@@ -23,6 +23,7 @@ returns-in-Put g c =
       unchanged = e.unchanged;
       blocks = λ alone. absurd alone;
       marked = e.marked;
+      once = λ honest. (e.once honest, e.at_once);
       reads = e.reads;
       few = tt;
       free = e.free;
@@ -43,6 +44,7 @@ returns-in-Remove g c =
       unchanged = e.unchanged;
       blocks = λ alone. absurd alone;
       marked = e.marked;
+      once = e.once;
       reads = e.reads;
       few = tt;
       free = e.free;
@@ -64,6 +66,7 @@ returns-in-Merge g c =
       unchanged = e.unchanged;
       blocks = λ alone. absurd alone;
       marked = e.marked;
+      once = e.once;
       reads = λ honest. (e.reads honest, e.alike honest);
       few = e.few;
       free = e.free;
@@ -84,6 +87,7 @@ returns-in-Post g c =
       unchanged = e.unchanged;
       blocks = λ alone. absurd alone;
       marked = λ honest is. absurd is;
+      once = λ honest. tt;
       reads = e.reads;
       few = e.few;
       free = e.held;
@@ -104,6 +108,7 @@ returns-in-Commit g c =
       unchanged = search rules;
       blocks = λ alone. absurd alone;
       marked = λ honest is. absurd is;
+      once = λ honest. tt;
       reads = λ honest. done_or_device c.commit.result c.args.self.now c.commit.new.self e.result;
       few = tt;
       free = e.held;
@@ -125,6 +130,7 @@ returns-in-Rollback g c =
       unchanged = tt;
       blocks = λ alone. absurd alone;
       marked = λ honest is. absurd is;
+      once = λ honest. tt;
       reads = λ honest. tt;
       few = tt;
       free = tt;
@@ -145,6 +151,7 @@ returns-in-Reclaim g c =
       unchanged = search rules;
       blocks = λ alone. absurd alone;
       marked = λ honest is s holds. when_ok c.reclaim.result _ (e.exact honest s holds) is;
+      once = λ honest. tt;
       reads = e.reads;
       few = tt;
       free = tt;
@@ -171,6 +178,7 @@ returns-in_default g c =
       unchanged = e.unchanged;
       blocks = λ alone. (e.disk, e.held);
       marked = λ honest is. absurd (entries_unmarked command c.change_entries.result (search rules) is);
+      once = λ honest. entries_once command _ _ _ (search rules);
       reads = λ honest. entries_read command _ _ _ (search rules) e.disk;
       few = entries_few command _ _ _ (search rules);
       free = entries_keep command _ _ _ (search rules);

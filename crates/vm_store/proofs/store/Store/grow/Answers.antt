@@ -60,7 +60,7 @@ returns-clause-carried g c honest s holds =
     let still : (n : ℕ) → IsHeld c.args.self.now.parts.held n → IsHeld bits n = λ n held. subst (λ (bits : List Bool). IsHeld bits n) (sym (grown.held ∙ c.in-Ok.ensures.blocks)) (still_held c.args.self.now.parts.held _ n held) in
     record {
       answers = grow_is_accepted s c.args.blocks _ (good_size s.blocks c.args.blocks (omega (arith, c.if-blocks-self.false, holds.rests.blocks)) (omega (arith, c.if-blocks-gt-MAX_BLOCKS.false))) (inr (inr refl));
-      state = λ fine. rw (grown.blocks, grown.kept, grown.slot_name, grown.committed, grown.working, same)
+      state = λ fine. rw (grown.blocks, grown.kept, grown.slot_name, grown.committed, grown.working, grown.marked, same)
           (holds_alone holds.keeps (rests_longer old new longer.longer c.args.self.now.parts.blocks c.args.blocks c.args.self.now.parts.slot_name c.args.self.now.parts.held bits c.args.self.now.parts.committed c.args.self.now.parts.working s holds.rests still (omega (arith, c.if-blocks-self.false)) inside (omega (arith, c.if-blocks-gt-MAX_BLOCKS.false))));
       crash = longer_crash _ _ longer _ _ _ _ _ s holds.rests (Grow c.args.blocks);
       guarded = longer_guarded _ _ longer _ _ _ _ _ s holds.rests bits still;

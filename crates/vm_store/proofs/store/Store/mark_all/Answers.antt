@@ -65,6 +65,13 @@ returns-clause-state g c honest s holds =
     let closed = second_closed _ _ _ _ _ _ s rests self.parts.marks c.clear.new.self self.parts.mark_bits c.clear.ensures _ c.as_slice.ensures.items c.mark_versions.new.marks _ read c.mark_versions.ensures.many _ c.as_slice-2.ensures.items (c.in_ok-mark_versions.ensures.closed (c.mark_versions-2.ensures.any.earlier honest) _ reach clear) in
     let marked = both_marked _ _ _ _ _ _ s rests self.parts.marks c.clear.new.self self.parts.mark_bits c.clear.ensures _ c.as_slice.ensures.items c.mark_versions.new.marks _ read c.mark_versions.ensures.many _ c.as_slice-2.ensures.items
     c.mark_versions-2.new.marks (c.in_ok-mark_versions.ensures.marked (c.mark_versions-2.ensures.any.earlier honest) _ reach clear) (c.in_ok-mark_versions-2.ensures.marked honest _ then closed) in
+    let many = c.replace.ensures.count ∙ self.parts.bits in
+    let stands = rests_marked _ _ _ _ _ _ s self.parts.bits rests c.mark_versions-2.new.marks marked c.replace.new.self many c.replace.ensures.system c.replace.ensures.marked in
+    -- the same of the trees as they stand after it
+    let reach' = first_reach _ _ _ _ _ _ s stands self.parts.marks c.clear.new.self self.parts.mark_bits c.clear.ensures _ c.as_slice.ensures.items in
+    let then' = second_reach _ _ _ _ _ _ s stands self.parts.marks c.clear.new.self self.parts.mark_bits c.clear.ensures _ c.as_slice.ensures.items c.mark_versions.new.marks _ read c.mark_versions.ensures.many _ c.as_slice-2.ensures.items in
+    let marked' = both_marked _ _ _ _ _ _ s stands self.parts.marks c.clear.new.self self.parts.mark_bits c.clear.ensures _ c.as_slice.ensures.items c.mark_versions.new.marks _ read c.mark_versions.ensures.many _ c.as_slice-2.ensures.items
+    c.mark_versions-2.new.marks (c.in_ok-mark_versions.ensures.marked (c.mark_versions-2.ensures.any.earlier honest) _ reach' clear) (c.in_ok-mark_versions-2.ensures.marked honest _ then' closed) in
+    let exact = free_exactly _ _ _ _ _ _ s many stands c.mark_versions-2.new.marks marked' c.replace.new.self many c.replace.ensures.system c.replace.ensures.marked in
     let read-all = same_medium _ _ (reads_then _ _ _ (c.mark_versions.ensures.reads (c.mark_versions-2.ensures.any.earlier honest)) (c.mark_versions-2.ensures.reads honest)) in
-    holds_marked _ _ _ _ _ self.parts.before c.replace.new.self c.keep_held.new.self _ _ _ s read-all (c.replace.ensures.count ∙ self.parts.bits ∙ sym (c.keep_held.ensures.count ∙ self.parts.before_bits)) c.keep_held.ensures.kept
-    (rests_marked _ _ _ _ _ _ s self.parts.bits rests c.mark_versions-2.new.marks marked c.replace.new.self (c.replace.ensures.count ∙ self.parts.bits) c.replace.ensures.system c.replace.ensures.marked) holds
+    holds_marked _ _ _ _ _ self.parts.before c.replace.new.self c.keep_held.new.self _ _ _ s read-all (many ∙ sym (c.keep_held.ensures.count ∙ self.parts.before_bits)) c.keep_held.ensures.kept stands exact holds

@@ -321,3 +321,14 @@ returns-clause-few g c honest s holds none =
     let current = current_rooted _ _ _ _ _ _ s rests c.args.alt.now c.in_ok-own.own found.own in
     let parent = current_rooted _ _ _ _ _ _ s rests c.in_ok-own.parent.name c.in_ok-own.parent found.parent in
     omega (arith, c.in_ok-plan.ensures.bound before base.0 parent.0 current.0 _ _ _ base.1 parent.1 current.1, pair_counts _ _ _ _ _ _ s rests c.args.alt.now pair found, ap (λ d. (g.D.Disk.state d).reads) (still.0 ∙ ap (λ (store : Store _ _). store.disk) unmarked))
+
+pub returns-in_err-plan-clause-once : goal.returns-in_err-plan-clause-once
+returns-in_err-plan-clause-once g c honest =
+    rw (passed_on _ c.from_residual-in_err-plan.ensures.1)
+    (λ is s holds.
+    let rests = holds.rests in
+    let pair : Version × Version = (c.in_ok-own.own, c.in_ok-own.parent) in
+    let own = own_there _ _ _ _ _ _ s rests c.args.alt.now pair c.in_ok-own.ensures.found in
+    let parent = parent_there _ _ _ _ _ _ s rests c.args.alt.now pair c.in_ok-own.ensures.found in
+    let plan = c.in_err-plan.ensures.plan honest _ _ _ _ _ _ own.stands.base.rooted parent.stands.current.rooted own.stands.current.rooted in
+    absurd (unmarked_not_full _ (sides_unmarked _ _ _ _ _ plan) is))

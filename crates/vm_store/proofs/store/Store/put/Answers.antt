@@ -21,6 +21,7 @@ returns-clause-done g c sound =
       unchanged = e.unchanged;
       blocks = λ alone. absurd alone;
       marked = e.marked;
+      once = λ honest. (e.once honest, e.at_once);
       reads = e.reads;
       few = tt;
       free = e.free;

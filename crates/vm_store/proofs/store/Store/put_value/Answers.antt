@@ -11,7 +11,7 @@ use Rattle.vm_store.proofs.FirstLemmas.{late_put, put_takes, takes_none}
 use Rattle.vm_store.proofs.SpareTests.{room_for, full_for}
 use Rattle.vm_store.proofs.TopLemmas.{rooted_of, grown_of, lacks_under, lacks_over}
 use Rattle.vm_store.proofs.RestingLemmas.{found_entry, answers_absent, answers_full, answers_done, answers_fault, deep_here, here_deep}
-use Rattle.vm_store.proofs.SeriesLemmas.{went_on, in_series, holds_as, holds_more, holds_then, put_holds}
+use Rattle.vm_store.proofs.SeriesLemmas.{went_on, in_series, holds_as, holds_more, holds_then, holds_unmarked, put_holds}
 use Rattle.vm_store.specs.Rest.{before_of}
 use Rattle.vm_store.proofs.store.Store.put_value.Goals as goal
 
@@ -47,7 +47,7 @@ returns-clause-carried g c honest s holds =
     let current = found.stands.current in
     let put = c.in_ok-root.ensures.put honest found.filed.current current.stands_in (rooted_of _ _ _ e.current _ _ mid.parts.bits current.rooted) in
     let grown = grown_of _ _ _ _ c.in_ok-root.root _ mid.parts.bits (put.0 current.each) in
-    let on = went_on _ _ _ _ _ _ _ s c.args.alt.now mid.parts.before mid.parts.series _ c.go_on.ensures.series c.go_on.ensures.before holds' in
+    let on = went_on _ _ _ _ _ _ _ s c.args.alt.now mid.parts.before mid.parts.series _ c.go_on.ensures.series c.go_on.ensures.before (holds_unmarked holds') in
     let stays = ap (λ o. before_of o mid.parts.held) c.before_series.ensures in
     let series = in_series _ _ _ _ _ _ _ s c.args.alt.now _ _ c.go_on.ensures.series stays on in
     changed _ _ s holds (Put c.args.alt.now c.args.key c.args.value.now) _ (answers_done _ _ _ _ _ _ s rests c.args.alt.now c.args.key c.args.value.now _ (sym c.in-Some.ensures) _ _ (room_for _ _ _ (c.in_ok-has_spare.ensures.spare marked s holds) c.if-not-branch.false)
@@ -73,7 +73,7 @@ returns-in_err-root-clause-carried g c honest s holds =
     let found = found_entry _ _ _ _ _ _ s rests' c.args.alt.now e is in
     let current = found.stands.current in
     let put = c.in_err-root.ensures.put honest found.filed.current current.stands_in (rooted_of _ _ _ e.current _ _ mid.parts.bits current.rooted) in
-    let on = went_on _ _ _ _ _ _ _ s c.args.alt.now mid.parts.before mid.parts.series _ c.go_on.ensures.series c.go_on.ensures.before holds' in
+    let on = went_on _ _ _ _ _ _ _ s c.args.alt.now mid.parts.before mid.parts.series _ c.go_on.ensures.series c.go_on.ensures.before (holds_unmarked holds') in
     let stays = ap (λ o. before_of o mid.parts.held) c.before_series.ensures in
     let series = in_series _ _ _ _ _ _ _ s c.args.alt.now _ _ c.go_on.ensures.series stays on in
     rw (passed_on _ c.from_residual-in_err-root.ensures.1)

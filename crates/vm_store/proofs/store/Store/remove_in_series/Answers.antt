@@ -4,6 +4,7 @@ use Rattle.vm_types.specs.declared.refusal.Refusal.{Refusal}
 use Rattle.vm_types.specs.declared.refusal.Refusal.TheVariants.{NoSuchRecord}
 use Rattle.vm_disk.proofs.MomentLemmas.{at_end, reads_keep, touches_nothing, started}
 use Rattle.vm_alloc.specs.Held.{free_count}
+use Rattle.vm_tree.specs.Faults.{refusal_of}
 use Rattle.vm_tree.specs.Free.{is_free}
 use Rattle.vm_tree.proofs.Looking.{passed_on}
 use Rattle.vm_store.specs.Answers.{IsAnswer}
@@ -14,7 +15,7 @@ use Rattle.vm_store.proofs.MarkedLemmas.{free_at_most}
 use Rattle.vm_store.proofs.PartsLemmas.{same_parts}
 use Rattle.vm_store.proofs.Removing.{removes_missing, removes_done, removes_device, removed_root, removed_none, removed_there, some_value, for_reason}
 use Rattle.vm_store.proofs.RestingLemmas.{found_entry, value_found}
-use Rattle.vm_store.proofs.SeriesLemmas.{in_series, holds_as, holds_more, holds_then, remove_holds}
+use Rattle.vm_store.proofs.SeriesLemmas.{in_series, holds_as, holds_then, looked_holds, remove_holds}
 use Rattle.vm_store.proofs.SpareTests.{no_fewer}
 use Rattle.vm_store.proofs.TopLemmas.{grown_of, grown_small}
 use Rattle.vm_store.proofs.store.Store.remove_in_series.Goals as goal
@@ -53,11 +54,14 @@ returns-in_default-clause-carried g c honest s holds reason =
     let before = grown_of _ _ _ _ e.current _ (sym self.parts.bits) found.stands.current in
     let removed = c.in_ok-removed.ensures.remove honest found.filed.current before.stands_in before.rooted in
     let missing = value_found _ _ _ _ _ _ s rests alt e is c.args.key None (sym (removed_none _ _ _ c.in_default.is removed)) in
-    let moments = reads_keep _ _ _ (c.remove_forgetting.ensures.kept.reads honest (c.in_ok-removed.was ∙ ap Ok c.in_default.is)) (touches_nothing (is_free self.parts.held) _) in
+    let kept = c.remove_forgetting.ensures.kept in
+    let there = c.in_ok-removed.was ∙ ap Ok c.in_default.is in
+    let moments = reads_keep _ _ _ (kept.reads honest there) (touches_nothing (is_free self.parts.held) _) in
     let answers : (r : Refusal) → r ≡ NoSuchRecord → IsAnswer s (spare_of rests) ⊥ (Remove alt c.args.key) (Err r) = λ r same.
     subst (λ (r : Refusal). IsAnswer s (spare_of rests) ⊥ (Remove alt c.args.key) (Err r)) (sym same) (removes_missing s alt c.args.key _ _ missing) in
     wrote _ _ s holds (Remove alt c.args.key) _ (answers c.args.missing (for_reason reason (λ there. there (sym missing))))
-    _ (started _ _ refl) rests moments (c.in_ok-removed.ensures.unsynced honest) c.in_ok-removed.ensures.still (λ _. holds_more _ _ _ _ _ _ _ s _ _ _ (at_end _ _ _ moments) c.in_ok-removed.ensures.still holds)
+    _ (started _ _ refl) rests moments (c.in_ok-removed.ensures.unsynced honest) c.in_ok-removed.ensures.still
+    (λ _. looked_holds _ _ _ _ _ _ _ _ _ _ s (kept.reads honest there) (kept.kept there) holds)
 
 pub returns-in_err-removed-clause-carried : goal.returns-in_err-removed-clause-carried
 returns-in_err-removed-clause-carried g c honest s holds reason =
@@ -71,7 +75,8 @@ returns-in_err-removed-clause-carried g c honest s holds reason =
     let moments = c.in_err-removed.ensures.failed honest in
     rw (passed_on _ c.from_residual.ensures.1)
     (wrote _ _ s holds (Remove alt c.args.key) _ (removes_device s alt c.args.key _ _ c.in_err-removed.field-0.0 removed)
-    _ (started _ _ refl) rests moments (c.in_err-removed.ensures.unsynced honest) c.in_err-removed.ensures.still (λ _. holds_more _ _ _ _ _ _ _ s _ _ _ (at_end _ _ _ moments) c.in_err-removed.ensures.still holds))
+    _ (started _ _ refl) rests moments (c.in_err-removed.ensures.unsynced honest) c.in_err-removed.ensures.still
+    (λ fine. absurd (fine (ap Err (ap refusal_of removed)))))
 
 pub returns-in_default-clause-reads : goal.returns-in_default-clause-reads
 returns-in_default-clause-reads g c honest first = c.remove_forgetting.ensures.kept.reads honest (c.in_ok-removed.was ∙ ap Ok c.in_default.is)
@@ -94,4 +99,4 @@ returns-in_err-removed-clause-free g c =
 pub returns-in_default-clause-unchanged : goal.returns-in_default-clause-unchanged
 returns-in_default-clause-unchanged g c early =
     let same = c.remove_forgetting.ensures.kept.kept (c.in_ok-removed.was ∙ ap Ok c.in_default.is) in
-    record { alloc = refl; parts = same_parts _ _ refl refl refl refl refl refl same refl refl refl refl; failed = refl }
+    record { alloc = refl; parts = same_parts _ _ refl refl refl refl refl refl same refl refl refl refl refl; failed = refl }

@@ -31,4 +31,4 @@ returns-clause-carried g c honest s holds =
     let rests = rests_rolled disk.now self.parts.blocks self.parts.kept self.parts.slot_name self.parts.held new.held self.parts.committed self.parts.working new.working s Done holds.rests holds.keeps
     (λ n low held. held_first self.parts.kept n self.parts.held new.held rolled.held low held) rolled.working in
     spared _ _ s holds Rollback (Ok Done) (answers_done s _ ⊥ Rollback s.working refl (λ never. never) refl)
-    disk (started _ _ refl) (next s Rollback (Ok Done)) refl rests (started _ _ (touches_nothing _ _)) (reads_unsynced _ _ (started _ _ refl)) (holds_same _) (λ _. rw (rolled.blocks, rolled.kept, rolled.slot_name, rolled.committed) (holds_alone holds.keeps rests))
+    disk (started _ _ refl) (next s Rollback (Ok Done)) refl rests (started _ _ (touches_nothing _ _)) (reads_unsynced _ _ (started _ _ refl)) (holds_same _) (λ _. rw (rolled.blocks, rolled.kept, rolled.slot_name, rolled.committed, rolled.marked) (holds_alone holds.keeps rests))

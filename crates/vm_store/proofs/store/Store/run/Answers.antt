@@ -102,6 +102,11 @@ returns-clause-isolated g c honest fine s holds name apart =
 pub returns-in_default-clause-isolated : goal.returns-in_default-clause-isolated
 returns-in_default-clause-isolated g c honest fine s holds name apart = (s, holds, refl)
 
+pub returns-clause-state : goal.returns-clause-state
+returns-clause-state g c honest fine s holds =
+    let after = c.loop-command.invariant in
+    rw (after.many) (after.holds honest s holds)
+
 pub returns-clause-kept : goal.returns-clause-kept
 returns-clause-kept g c honest sound s holds =
     let after = c.loop-command.invariant in

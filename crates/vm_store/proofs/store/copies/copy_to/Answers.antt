@@ -24,7 +24,7 @@ pub returns-clause-both : goal.returns-clause-both
 returns-clause-both g c = both_after c.has_header.ensures.any c.fill.ensures.both (λ is. is)
 
 pub returns-clause-same : goal.returns-clause-same
-returns-clause-same g c = record { alloc = refl; parts = same_parts _ _ refl refl refl refl refl refl refl refl refl refl refl; failed = refl }
+returns-clause-same g c = record { alloc = refl; parts = same_parts _ _ refl refl refl refl refl refl refl refl refl refl refl refl; failed = refl }
 
 pub returns-clause-late : goal.returns-clause-late
 returns-clause-late g c = refused_so _ IsOfFill _ fill_late c.fill.ensures.refusals

@@ -1,11 +1,11 @@
-use Rattle.std.proofs.Common.{IfErr, subst, sym, ap, ◌∙◌}
+use Rattle.std.proofs.Common.{IfErr, subst, sym, ap, ◌∙◌, arith}
 use Rattle.vm_disk.specs.Disk.{Contents, block, Medium}
 use Rattle.vm_disk.proofs.MomentLemmas.{then_reads, same_medium}
 use Rattle.vm_block.specs.Selector.{named_slot}
 use Rattle.vm_catalog.specs.Catalog.{SlotAt}
 use Rattle.vm_tree.proofs.Looking.{passed_on}
 use Rattle.vm_store.specs.Refused.{IsStore, IsRefused}
-use Rattle.vm_store.proofs.OpeningLemmas.{settled_then}
+use Rattle.vm_store.proofs.OpeningLemmas.{all_read, ok_so, ok_with, parts_show, settled_then, trees_under}
 use Rattle.vm_store.proofs.store.recovery.find_store.Goals as goal
 
 pub returns-clause-moments : goal.returns-clause-moments
@@ -21,8 +21,35 @@ returns-clause-holds g c honest =
     let synced = settled_then _ _ _ (c.in_ok-slot_name.ensures.synced (c.load_slot.ensures.any.earlier (c.read_maps.ensures.any.earlier honest)) (λ e. cc)) (c.load_slot.ensures.reads (c.read_maps.ensures.any.earlier honest)) in
     let found = c.in_ok-slot_name.ensures.found (c.load_slot.ensures.any.earlier (c.read_maps.ensures.any.earlier honest)) in
     let same = same_medium _ _ (c.load_slot.ensures.reads (c.read_maps.ensures.any.earlier honest)) in
-    c.read_maps.ensures.holds honest synced.clean (subst IsStore (sym synced.same) found.0) (found.1 ∙ ap (λ x. named_slot (block x 1)) (sym synced.same))
-    (subst (λ (m : Medium). SlotAt m.contents c.in_ok-slot_name.slot_name c.in_ok-slot.slot.blocks c.in_ok-slot.slot.entries.items) (sym same) (c.in_ok-slot.ensures.found (c.read_maps.ensures.any.earlier honest)))
+    let store = subst IsStore (sym synced.same) found.0 in
+    let in_use = found.1 ∙ ap (λ x. named_slot (block x 1)) (sym synced.same) in
+    let slot = subst (λ (m : Medium). SlotAt m.contents c.in_ok-slot_name.slot_name c.in_ok-slot.slot.blocks c.in_ok-slot.slot.entries.items) (sym same) (c.in_ok-slot.ensures.found (c.read_maps.ensures.any.earlier honest)) in
+    let read = same_medium _ _ (c.read_maps.ensures.reads honest) in
+    parts_show _ c.read_maps.result (λ seen shown. c.read_maps.ensures.holds honest synced.clean store in_use slot (trees_under _ _ read _ _ _ in_use slot seen shown))
+
+pub returns-clause-read : goal.returns-clause-read
+returns-clause-read g c inner honest =
+    let synced = settled_then _ _ _ (c.in_ok-slot_name.ensures.synced (c.load_slot.ensures.any.earlier (c.read_maps.ensures.any.earlier honest)) (λ e. cc)) (c.load_slot.ensures.reads (c.read_maps.ensures.any.earlier honest)) in
+    let found = c.in_ok-slot_name.ensures.found (c.load_slot.ensures.any.earlier (c.read_maps.ensures.any.earlier honest)) in
+    let same = same_medium _ _ (c.load_slot.ensures.reads (c.read_maps.ensures.any.earlier honest)) in
+    let store = subst IsStore (sym synced.same) found.0 in
+    let in_use = found.1 ∙ ap (λ x. named_slot (block x 1)) (sym synced.same) in
+    let slot = subst (λ (m : Medium). SlotAt m.contents c.in_ok-slot_name.slot_name c.in_ok-slot.slot.blocks c.in_ok-slot.slot.entries.items) (sym same) (c.in_ok-slot.ensures.found (c.read_maps.ensures.any.earlier honest)) in
+    let read = same_medium _ _ (c.read_maps.ensures.reads honest) in
+    let whole = g.met.D.Disk.whole c.load_slot.new.disk (c.read_maps.ensures.any.earlier honest) in
+    all_read _ _ read _ _ _ in_use slot c.read_maps.result store (omega (arith, whole, c.in_ok-slot.ensures.inside, c.load_slot.ensures.any.same_blocks)) (c.read_maps.ensures.topped inner honest)
+
+pub returns-clause-whole : goal.returns-clause-whole
+returns-clause-whole g c walk honest =
+    let synced = settled_then _ _ _ (c.in_ok-slot_name.ensures.synced (c.load_slot.ensures.any.earlier (c.read_maps.ensures.any.earlier honest)) (λ e. cc)) (c.load_slot.ensures.reads (c.read_maps.ensures.any.earlier honest)) in
+    let found = c.in_ok-slot_name.ensures.found (c.load_slot.ensures.any.earlier (c.read_maps.ensures.any.earlier honest)) in
+    let same = same_medium _ _ (c.load_slot.ensures.reads (c.read_maps.ensures.any.earlier honest)) in
+    let store = subst IsStore (sym synced.same) found.0 in
+    let in_use = found.1 ∙ ap (λ x. named_slot (block x 1)) (sym synced.same) in
+    let slot = subst (λ (m : Medium). SlotAt m.contents c.in_ok-slot_name.slot_name c.in_ok-slot.slot.blocks c.in_ok-slot.slot.entries.items) (sym same) (c.in_ok-slot.ensures.found (c.read_maps.ensures.any.earlier honest)) in
+    let read = same_medium _ _ (c.read_maps.ensures.reads honest) in
+    ok_so c.read_maps.result _ _ (λ parts hold. (hold.seen, hold.shown))
+    (ok_with c.read_maps.result _ (c.read_maps.ensures.whole walk honest) (λ trees. c.read_maps.ensures.holds honest synced.clean store in_use slot trees))
 
 pub returns-clause-refused : goal.returns-clause-refused
 returns-clause-refused g c honest =

@@ -11,7 +11,7 @@ use Rattle.vm_store.specs.Rest.{Rests}
 use Rattle.vm_store.proofs.StandingLemmas.{standing_in}
 use Rattle.vm_store.specs.Shown.{Shows}
 use Rattle.vm_store.proofs.AddedLemmas.{roots_count}
-use Rattle.vm_store.proofs.OpeningLemmas.{freed, freed_on, found_as_named, found_here, found_alike, trees_here, rests_named, shows_found, rests_found, fault_refused}
+use Rattle.vm_store.proofs.OpeningLemmas.{freed, freed_on, found_as_named, found_here, found_alike, trees_back, trees_here, rests_named, shows_found, rests_found, fault_refused}
 use Rattle.vm_store.proofs.SeriesLemmas.{holds_alone}
 use Rattle.vm_store.proofs.store.recovery.read_maps.Goals as goal
 
@@ -34,13 +34,13 @@ invariant_of-result g c =
     }
 
 pub returns-clause-holds : goal.returns-clause-holds
-returns-clause-holds g c honest clean store in_use slot =
+returns-clause-holds g c honest clean store in_use slot trees =
     let m = (g.D.Disk.state c.args.disk.now).now in
     let limit = c.args.slot.blocks in
-    let whole = g.met.D.Disk.whole c.args.disk.now (c.verify.ensures.looks.goes.earlier honest) in
+    let whole = g.met.D.Disk.whole c.args.disk.now (c.walk_trees.ensures.looks.goes.earlier honest) in
     let inside : limit ≤ length m.contents = omega (arith, whole, c.requires.inside) in
-    let read = same_medium _ _ (c.verify.ensures.looks.reads honest) in
-    let told = c.in_ok-roots.ensures.found honest in
+    let read = same_medium _ _ (c.walk_trees.ensures.looks.reads honest) in
+    let told = c.in_ok-roots.ensures.found honest (trees_here _ _ _ _ _ _ c.deref-2.ensures.value c.in-Some-Ok-Ok.ensures c.deref.ensures.value trees) in
     let found = found_here _ _ _ _ _ _ _ _ c.deref-2.ensures.value c.in-Some-Ok-Ok.ensures c.deref.ensures.value told in
     let are = c.in-Some.ensures in
     let alike = found_alike _ _ _ _ c.deref-3.ensures.value c.deref-4.ensures.value in
@@ -50,18 +50,36 @@ returns-clause-holds g c honest clean store in_use slot =
       seen = seen;
       shown = subst (λ (n : Medium). Shows n.contents seen) (sym read) (shows_found m limit c.args.slot_name c.args.slot.entries.items clean store in_use slot inside _ found.filed found.same
           (standing_in (IsMarked c.in_ok-roots.marks) Anywhere m.contents m.contents limit (λ n is. refl) (λ n is. tt) _ found.filed found.stands));
-      holds = holds_alone refl (subst (λ (n : Medium). Rests n limit c.args.slot_name c.replace.new.self c.in-Some.committed c.in-Some.working (opened seen)) (sym read)
-          (rests_named m limit c.args.slot_name c.replace.new.self _ c.in-Some.committed c.in-Some.working (opened seen) (are.0 ∙ alike) (are.1 ∙ alike) rests));
-      free = λ s holds. freed_on m _ limit c.args.slot_name c.replace.new.self c.in-Some.committed c.in-Some.working read
-          (freed m limit c.args.slot_name c.replace.new.self c.in-Some.committed c.in-Some.working c.args.slot.entries.items c.in_ok-roots.roots.items c.in_ok-roots.marks (are.0 ∙ alike) (are.1 ∙ alike)
-          (found_as_named _ _ _ _ _ _ _ _ c.deref-2.ensures.value c.in-Some-Ok-Ok.ensures c.deref.ensures.value told) (c.replace.ensures.count ∙ c.in-Some-Ok-Ok.ensures'.count) c.replace.ensures.system c.replace.ensures.marked) s holds.rests;
+      stands = record {
+        holds = holds_alone refl (subst (λ (n : Medium). Rests n limit c.args.slot_name c.replace.new.self c.in-Some.committed c.in-Some.working (opened seen)) (sym read)
+            (rests_named m limit c.args.slot_name c.replace.new.self _ c.in-Some.committed c.in-Some.working (opened seen) (are.0 ∙ alike) (are.1 ∙ alike) rests));
+        free = λ s holds. freed_on m _ limit c.args.slot_name c.replace.new.self c.in-Some.committed c.in-Some.working read
+            (freed m limit c.args.slot_name c.replace.new.self c.in-Some.committed c.in-Some.working c.args.slot.entries.items c.in_ok-roots.roots.items c.in_ok-roots.marks (are.0 ∙ alike) (are.1 ∙ alike)
+            (found_as_named _ _ _ _ _ _ _ _ c.deref-2.ensures.value c.in-Some-Ok-Ok.ensures c.deref.ensures.value told) (c.replace.ensures.count ∙ c.in-Some-Ok-Ok.ensures'.count) c.replace.ensures.system c.replace.ensures.marked) s holds.rests;
+      };
     }
+
+pub returns-clause-topped : goal.returns-clause-topped
+returns-clause-topped g c inner honest =
+    let are = c.in-Some.ensures in
+    let alike = found_alike _ _ _ _ c.deref-3.ensures.value c.deref-4.ensures.value in
+    record {
+      roots = c.in_ok-roots.roots.items;
+      blocks = refl;
+      committed = are.0 ∙ alike;
+      working = are.1 ∙ alike;
+      topped = c.in_ok-roots.ensures.topped inner honest;
+    }
+
+pub returns-clause-whole : goal.returns-clause-whole
+returns-clause-whole g c whole honest =
+    trees_back _ _ _ _ _ _ c.deref-2.ensures.value c.in-Some-Ok-Ok.ensures c.deref.ensures.value (c.in_ok-roots.ensures.whole whole honest)
 
 pub returns-in_err-roots-clause-refused : goal.returns-in_err-roots-clause-refused
 returns-in_err-roots-clause-refused g c honest store in_use slot =
     let m = (g.D.Disk.state c.args.disk.now).now in
-    let whole = g.met.D.Disk.whole c.args.disk.now (c.verify.ensures.looks.goes.earlier honest) in
+    let whole = g.met.D.Disk.whole c.args.disk.now (c.walk_trees.ensures.looks.goes.earlier honest) in
     let inside : c.args.slot.blocks ≤ length m.contents = omega (arith, whole, c.requires.inside) in
     rw (passed_on _ c.from_residual.ensures.1)
     (fault_refused m c.args.slot.blocks c.args.slot_name c.args.slot.entries.items store in_use slot inside c.in_err-roots.field-0.0
-    (λ trees. fault_lists c.in_err-roots.field-0.0 _ _ (c.in_err-roots.ensures.only honest (trees_here _ _ _ _ _ _ c.deref-2.ensures.value c.in-Some-Ok-Ok.ensures c.deref.ensures.value trees))))
+    (λ trees. fault_lists c.in_err-roots.field-0.0 _ _ (c.in_err-roots.ensures.found honest (trees_here _ _ _ _ _ _ c.deref-2.ensures.value c.in-Some-Ok-Ok.ensures c.deref.ensures.value trees))))
