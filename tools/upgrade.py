@@ -21,6 +21,7 @@ block. Versions share it, under the same key alone."""
 import argparse
 import contextlib
 import fcntl
+import functools
 import itertools
 import os
 import shutil
@@ -30,7 +31,7 @@ import struct
 import subprocess
 import sys
 import tempfile
-from typing import BinaryIO, Dict, Iterable, Iterator, List, NamedTuple, Optional, Tuple
+from typing import BinaryIO, Dict, Iterable, Iterator, List, NamedTuple, Optional, Tuple, Union
 
 BLOCK, FIRST, LEAST, MOST = 4096, 34, 64, 1 << 26
 HEAD, ROW, ROWS, SHORT, LONGEST, LONG_HEAD = 16, 252, 16, 240, 4000, 26
@@ -386,6 +387,8 @@ class Comparison:
 
 # --- the program, and files
 
+ENDING = signal.SIGINT, signal.SIGTERM, signal.SIGHUP
+
 
 def program(said: Optional[str]) -> str:
     """The program: the one that was said, else that of the sources or the installation that this script belongs to."""
@@ -394,19 +397,37 @@ def program(said: Optional[str]) -> str:
     return said or os.environ.get("ALTCTL") or next(filter(os.path.exists, near), shutil.which("altctl") or "altctl")
 
 
+@contextlib.contextmanager
+def started(words: List[str], **streams: Union[int, BinaryIO]) -> Iterator["subprocess.Popen[bytes]"]:
+    """A program, killed if what is done with it fails. A signal that comes while it starts waits until it can be."""
+    before = signal.pthread_sigmask(signal.SIG_BLOCK, ENDING)
+    restore = functools.partial(signal.pthread_sigmask, signal.SIG_SETMASK, before)
+    try:
+        ran = subprocess.Popen(words, preexec_fn=restore, **streams)
+        try:
+            restore()
+            yield ran
+        except BaseException:
+            ran.kill()
+            raise
+        finally:
+            ran.wait()
+    finally:
+        restore()
+
+
 def run(words: List[str], lines: Iterable[str], answers: BinaryIO) -> None:
     """Gives the program lines, and its answers to a file. A refusal ends both."""
-    ran = subprocess.Popen(words, stdin=subprocess.PIPE, stdout=answers, stderr=subprocess.PIPE)
-    try:
-        with contextlib.suppress(BrokenPipeError), ran.stdin:  # The program has ended. Its status and answers tell why.
+    with started(words, stdin=subprocess.PIPE, stdout=answers, stderr=subprocess.PIPE) as ran, ran.stderr:
+        try:
             for line in lines:
                 ran.stdin.write(f"{line}\n".encode())
-    except BaseException:
-        ran.kill()
-        raise
-    finally:
+            ran.stdin.close()
+        except BrokenPipeError:
+            pass  # The program has ended. Its status and answers tell why.
+        finally:
+            ran.stdin.raw.close()  # What is not yet written is dropped: nobody may be there to read it.
         said = ran.stderr.read().decode(errors="replace").strip()
-        ran.wait()
     if ran.returncode:
         answers.seek(0)
         last = answers.read().decode().splitlines()[-1:]
@@ -415,7 +436,11 @@ def run(words: List[str], lines: Iterable[str], answers: BinaryIO) -> None:
 
 def make(altctl: str, old: Old, part: str) -> None:
     """Makes the new store under its first name."""
-    subprocess.run([altctl, "create", part, str(old.blocks)], stdout=subprocess.DEVNULL, check=True)
+    words = [altctl, "create", part, str(old.blocks)]
+    with started(words, stdout=subprocess.DEVNULL) as ran:
+        ran.wait()
+    if ran.returncode:
+        raise subprocess.CalledProcessError(ran.returncode, words)
     with tempfile.TemporaryFile() as answers:
         run([altctl, "run", "--strict", "--grow", part], Maker(old).lines(), answers)
 
@@ -482,7 +507,7 @@ def main() -> int:
     words.add_argument("new", metavar="NEW", help="the file of the new store, which must not exist")
     words.add_argument("altctl", metavar="ALTCTL", nargs="?", help="the program of format 3")
     said = words.parse_args()
-    for number in (signal.SIGINT, signal.SIGTERM, signal.SIGHUP):
+    for number in ENDING:
         signal.signal(number, end)
     try:
         print(upgrade(said.old, said.new, program(said.altctl)))
