@@ -9,7 +9,7 @@ use Rattle.altstore.specs.declared.session.Session.{Session}
 use Rattle.altstore.specs.declared.slot.Slot.{Slot}
 use Rattle.altstore.specs.Lines.{Asks}
 use Rattle.altstore.specs.Handles.{KeepsOpened, behind}
-use Rattle.altstore.specs.Images.{Loads, OpensBlocks, blocks_of, joined}
+use Rattle.altstore.specs.Images.{Loads, OpensBlocks, blocks_of, image_of}
 use Rattle.altstore.specs.Outcomes.{asked_code}
 
 -- a session is opened behind a closed handle; behind one that is open nothing changes
@@ -39,4 +39,4 @@ pub record SavesBehind (old : Slot) (code : ℕ) (new : Slot) : Type 0 where
 
 -- if the number tells that all was done, all blocks of the store behind the handle were written, one after another
 abbrev pub SavesTo : {W : Type 0} → (W → Option (List ℕ)) → Slot → ℕ → W → W → Type 0
-SavesTo contents old code writer writer' = code ≡ DONE → IfSome (behind old) (λ session. Gains contents (joined (blocks_of session)) writer writer')
+SavesTo contents old code writer writer' = code ≡ DONE → IfSome (behind old) (λ session. Gains contents (image_of (blocks_of session)) writer writer')

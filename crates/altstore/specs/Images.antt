@@ -1,4 +1,4 @@
--- The image of a store: its blocks, one after another.
+-- The image of a store: its blocks with their checksums, one after another.
 use Rattle.std.specs.Prelude.{◌≡◌, ◌≢◌, ℕ, ◌*◌, ◌/◌, ◌<◌, ◌⊎◌, List, [], Result, Ok, Err, IfErr, IfOk, drop, flat_map, length, take}
 use Rattle.vm_types.specs.declared.refusal.Refusal.{Refusal}
 use Rattle.vm_types.specs.declared.refusal.Refusal.TheVariants.{BadSize, Device, Memory}
@@ -8,18 +8,24 @@ use Rattle.vm_store.specs.NewStore.{IsBadSize}
 use Rattle.vm_store.specs.Recovery.{OpensAs}
 use Rattle.vm_store.specs.Refused.{IsRefused}
 use Rattle.vm_disk.specs.Memory.{memory_state}
+use Rattle.vm_sums.specs.Summed.{shown_contents}
+use Rattle.vm_sums.specs.Sums.{summed}
 use Rattle.vm_store.specs.Shown.{Shows, ShowsNothing, new_store}
 use Rattle.vm_store.specs.Store.{disk_of}
 use Rattle.altstore.specs.declared.session.Session.{Session}
 
--- these are the whole blocks of the image; bytes after the last of them count for nothing
+-- these are what the whole blocks of the image show; bytes after the last of them count for nothing
 pub record HoldsImage (image : List ℕ) (contents : Contents) : Type 0 where
   pub count : length contents ≡ length image / BLOCK_SIZE
-  pub each : (n : ℕ) → n < length contents → block contents n ≡ take BLOCK_SIZE (drop (BLOCK_SIZE * n) image)
+  pub each : (n : ℕ) → n < length contents → block contents n ≡ summed n (take BLOCK_SIZE (drop (BLOCK_SIZE * n) image))
 
 -- blocks, one after another
 abbrev pub joined : Contents → List ℕ
 joined contents = flat_map (λ block. block) contents
+
+-- the image of blocks that show this: an exchange of the sums done twice changes nothing
+abbrev pub image_of : Contents → List ℕ
+image_of contents = joined (shown_contents contents)
 
 -- a disk holds what it held
 abbrev pub KeepsBlocks : DiskState → DiskState → Type 0

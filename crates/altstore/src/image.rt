@@ -1,23 +1,24 @@
-//! The image of a store: its blocks, one after another.
+//! The image of a store: its blocks with their checksums, one after another, as a file holds them.
 ghost use Rattle.std.specs.Prelude.{◌≡◌, ◌/◌, ◌≤◌, ◌<◌, ◌^◌, ◌+◌, IfErr, IfOk, OnErr, OnOk, length, take, []};
 ghost use Rattle.vm_cli.specs.Carried.{Gains};
 ghost use Rattle.vm_disk.specs.Between.{Between};
 ghost use Rattle.vm_disk.specs.Memory.{memory_state, room_of};
 ghost use Rattle.vm_types.specs.declared.sizes.TheConstants.{BLOCK_SIZE};
-ghost use Rattle.altstore.specs.Images.{HoldsImage, KeepsBlocks, Loads, OpensBlocks, joined};
+ghost use Rattle.altstore.specs.Images.{HoldsImage, KeepsBlocks, Loads, OpensBlocks, image_of};
 
 use crate::session::Session;
 use std::alloc::Global;
 use std::io::Write;
 use vm_disk::{Disk, MemDisk};
 use vm_store::open;
+use vm_sums::exchange_sum;
 use vm_types::Refusal;
 
 /// The image could not be written.
 #[derive(Clone, Copy, Debug, PartialEq, Eq)]
 pub struct SaveFault;
 
-/// A disk that holds the blocks of an image, with room for this many blocks, or for those of the
+/// A disk that holds what the blocks of an image show, with room for this many blocks, or for those of the
 /// image.
 pub fn disk_of_image(alloc: Global, image: &[u8], room: u32) -> Result<MemDisk, Refusal>
     ensures holds { IfOk result (λ disk. HoldsImage image.now (memory_state disk).now.contents) }
@@ -33,7 +34,7 @@ pub fn disk_of_image(alloc: Global, image: &[u8], room: u32) -> Result<MemDisk, 
     Ok(disk)
 }
 
-/// Writes the blocks of an image to a disk of that many blocks.
+/// Writes what the blocks of an image show to a disk of that many blocks.
 fn fill(disk: &mut MemDisk, image: &[u8], count: u32) -> Result<(), Refusal>
     requires blocks { (memory_state disk.old).blocks ≡ count }
     requires image { count ≡ length image.now / 4096 }
@@ -45,6 +46,7 @@ fn fill(disk: &mut MemDisk, image: &[u8], count: u32) -> Result<(), Refusal>
         let at = n as usize * 4096;
         let mut block = [0; 4096];
         block.copy_from_slice(&image[at..at + 4096]);
+        exchange_sum(n, &mut block);
         let Ok(()) = disk.write(n, &block) else {
             return Err(Refusal::Memory);
         };
@@ -63,10 +65,10 @@ fn put_all<W: Write>(writer: &mut W, bytes: &[u8]) -> Result<(), SaveFault>
     }
 }
 
-/// Writes the blocks of a disk, one after another.
+/// Writes the blocks of a disk with their checksums, one after another.
 pub fn write_blocks<W: Write>(disk: &mut MemDisk, writer: &mut W) -> Result<(), SaveFault>
     ensures kept { KeepsBlocks (memory_state disk.old) (memory_state disk.new) }
-    ensures written { OnOk result (Gains W.contents (joined (memory_state disk.old).now.contents)
+    ensures written { OnOk result (Gains W.contents (image_of (memory_state disk.old).now.contents)
         writer.old writer.new) }
 {
     let mut block = [0; 4096];
@@ -76,6 +78,7 @@ pub fn write_blocks<W: Write>(disk: &mut MemDisk, writer: &mut W) -> Result<(), 
         let Ok(()) = disk.read(n, &mut block) else {
             return Err(SaveFault);
         };
+        exchange_sum(n, &mut block);
         put_all(writer, &block)?;
         n += 1;
     }

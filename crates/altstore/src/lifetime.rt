@@ -1,7 +1,7 @@
 //! A session with a new store, and the end of one.
 ghost use Rattle.std.specs.Prelude.{◌≡◌, OnOk};
 ghost use Rattle.vm_cli.specs.Carried.{Gains};
-ghost use Rattle.altstore.specs.Images.{Creates, OpensBlocks, blocks_of, joined};
+ghost use Rattle.altstore.specs.Images.{Creates, OpensBlocks, blocks_of, image_of};
 
 use crate::image::{SaveFault, open_session, write_blocks};
 use crate::session::Session;
@@ -33,7 +33,7 @@ pub fn save<W: Write>(
     session: Session,
     writer: &mut W,
 ) -> (Result<(), SaveFault>, Result<Session, Refusal>)
-    ensures written { OnOk result.0 (Gains W.contents (joined (blocks_of session)) writer.old writer.new) }
+    ensures written { OnOk result.0 (Gains W.contents (image_of (blocks_of session)) writer.old writer.new) }
     ensures opened { OpensBlocks (blocks_of session) result.1 }
 {
     let mut disk = session.into_store().close();

@@ -69,7 +69,7 @@ copied_from Reads Opens Denied to seen used found mid left back exit old new bef
           record {
             start = lays.start;
             size = lays.size;
-            zero = lays.zero;
+            blank = lays.blank;
             fresh = lays.fresh;
             copies = record {
               end = lays.copies.end;
@@ -146,7 +146,7 @@ copied_between Reads Opens Reads' Opens' Denied Denied' from to seen used found 
           record {
             start = lays.start;
             size = lays.size;
-            zero = lays.zero;
+            blank = lays.blank;
             fresh = lays.fresh;
             copies = onto_between (Denied to) (Denied' to) (part_of to) to first old mid new (denied to) (same to)
                 (takes.others to apart_to) (takes.others (part_of to) apart_part) (takes.others_came to apart_to) (takes.others_came (part_of to) apart_part)
@@ -234,7 +234,7 @@ module _ (Reads Opens : Type 0) (Denied : Text → Type 0) (to : Text) (seen : S
         → MakesCopy Reads Opens Denied to seen used x x' exit old new before after errors errors') (sym part_is) (λ creates copies.
         let no_to : old.files to ≡ None = lacks.absent refl in
         let no_part : old.files (part_of to) ≡ None = sym (lacks.same (part_of to)) ∙ creates.absent in
-        let zero = creates.zero copies.was in
+        let blank = creates.blank copies.was in
         let others_kept : KeepsBut (part_of to) to old new =
         λ other off_part off_to. copies.back.others other off_part off_to ∙ creates.others other off_part ∙ lacks.same other in
         record {
@@ -245,8 +245,8 @@ module _ (Reads Opens : Type 0) (Denied : Text → Type 0) (to : Text) (seen : S
             no_part,
             record {
               start = start;
-              size = zero.0;
-              zero = zero.1;
+              size = blank.0;
+              blank = blank.1;
               fresh = creates.fresh;
               copies = onto_between Denied' (Denied to) (part_of to) to old made new new denied (creates.others to (part_apart to) ∙ lacks.same to)
                   refl refl refl refl seen used x x' start exit before after errors errors' others_kept copies;

@@ -37,6 +37,7 @@ pub mod TalkKeepLemmas
 pub mod SessionLemmas
 mod CopyingLemmas
 mod FilesLemmas
+mod PlaceLemmas
 mod RealFilesLemmas
 mod CachingLemmas
 mod DelayingLemmas

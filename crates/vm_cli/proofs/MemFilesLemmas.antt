@@ -14,6 +14,7 @@ use Rattle.std.specs.String.{string_cmp}
 use Rattle.vm_disk.specs.Disk.{IsClean, Medium, DiskState, block}
 use Rattle.vm_disk.specs.Memory.{IsBlank, filled, memory_state}
 use Rattle.vm_disk.specs.declared.memory.MemDisk.{MemDisk}
+use Rattle.vm_cli.proofs.PlaceLemmas.{zeros_are_new}
 use Rattle.vm_cli.specs.MemFiles.{IsLast, IsSameState, slot_file, slot_state}
 use Rattle.vm_cli.specs.Places.{Creates, Finds, Links, PlaceState, Removes, TakesBack}
 use Rattle.vm_cli.specs.declared.program.mem_files.Slot.{Slot}
@@ -84,7 +85,7 @@ module _ {Y : Type 0} (honest : Bool) (path : List ℕ) (old new : BTreeMap (Str
         let none = no_slot (option_and_then slot_file (get_by_text old path)) absent in
         record {
           absent = none;
-          zero = λ honest. (blank.blocks, blank.zero);
+          blank = λ honest. (blank.blocks, zeros_are_new blocks _ blank.zero);
           fresh = blank.past;
           stays = λ contents there. let no : None ≡ Some contents = sym none ∙ there in absurd cc;
           others = λ other differ. ap (option_and_then slot_file) (others other differ);

@@ -1,12 +1,13 @@
 -- Why a disk is refused.
-use Rattle.std.proofs.Common.{◌≡◌, inl, inr, [], ◌∷◌, length, sym, subst, ◌∙◌, arith}
+use Rattle.std.proofs.Common.{◌≡◌, ℕ, inl, inr, [], ◌∷◌, length, sym, subst, ◌∙◌, arith}
 use Rattle.vm_types.specs.declared.refusal.Refusal.{Refusal}
-use Rattle.vm_types.specs.declared.refusal.Refusal.TheVariants.{Device, NotAStore}
+use Rattle.vm_types.specs.declared.refusal.Refusal.TheVariants.{Damaged, Device, NotAStore}
 use Rattle.vm_disk.specs.Disk.{Contents, Medium, block}
 use Rattle.vm_block.specs.Header.{IsEarlierHeader, header_bytes_of}
 use Rattle.vm_store.specs.Refused.{IsRefused, IsSynced}
-use Rattle.vm_cli.specs.Openings.{KeepsRefusal, TellsEarlier, refusal_of}
+use Rattle.vm_cli.specs.Openings.{KeepsRefusal, LacksSum, TellsEarlier, refusal_of}
 use Rattle.vm_cli.specs.declared.program.opening.NoStore.{NoStore}
+use Rattle.vm_cli.specs.declared.program.opening.NoStore.TheVariants.{Refused}
 
 -- the reason of an opening stays, or is that the device failed
 pub reason_kept : (x : Contents) (refusal : Refusal) (why : NoStore) → KeepsRefusal refusal why → IsRefused x refusal → IsRefused x (refusal_of why)
@@ -15,10 +16,20 @@ reason_kept x refusal why (inr failed) refused = subst (IsRefused x) (sym failed
 
 -- a disk that is synced first has the same header
 pub earlier_kept : (old mid : Medium) (refusal : Refusal) (why : NoStore) → KeepsRefusal refusal why → ((refusal ≡ Device → ⊥) → IsSynced old mid) → TellsEarlier mid.contents why → TellsEarlier old.contents why
-earlier_kept old mid refusal why (inl same) synced tells = λ none.
-    let is : refusal ≡ NotAStore = sym same ∙ none in
-    subst (λ (x : Contents). TellsEarlier x why) (synced (λ device. cc (is, device))).same tells none
-earlier_kept old mid refusal why (inr failed) synced tells = λ none. cc (none, failed.1)
+earlier_kept old mid refusal why (inl same) synced tells =
+    record {
+      header = λ none.
+          let is : refusal ≡ NotAStore = sym same ∙ none in
+          (subst (λ (x : Contents). TellsEarlier x why) (synced (λ device. cc (is, device))).same tells).header none;
+      sums = λ n there.
+          let is : refusal ≡ Damaged n = sym same ∙ there in
+          (subst (λ (x : Contents). TellsEarlier x why) (synced (λ device. cc (is, device))).same tells).sums n there;
+    }
+earlier_kept old mid refusal why (inr failed) synced tells =
+    record {
+      header = λ none. cc (none, failed.1);
+      sums = λ n there. cc (there, failed.1);
+    }
 
 -- no bytes are no header
 no_bytes : IsEarlierHeader [] → ⊥
@@ -30,3 +41,13 @@ no_bytes (inr is) = cc
 pub none_there : (x : Contents) → length x ≡ 0 → IsEarlierHeader (block x 0) → ⊥
 none_there [] none is = no_bytes is
 none_there (b ∷ x) none is = absurd (omega (arith, none))
+
+-- of a damaged block that is none of a slot without a checksum, just that is told
+pub not_of_slot : (x : Contents) (n : ℕ) → (LacksSum x n → ⊥) → TellsEarlier x (Refused (Damaged n))
+not_of_slot x n none =
+    record {
+      header = λ is. cc;
+      sums = λ k is.
+          let same : n ≡ k = cc in
+          (λ told. cc, λ lacks. absurd (none (subst (LacksSum x) (sym same) lacks)));
+    }

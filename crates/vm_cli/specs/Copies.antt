@@ -1,9 +1,8 @@
 -- What becomes of a store that is copied to a new file, and of that file.
-use Rattle.std.specs.Prelude.{◌≡◌, ◌≢◌, ◌⊎◌, ℕ, ◌+◌, ◌-◌, ◌<◌, ◌≤◌, true, List, [], ◌∷◌, Option, Some, None, IfErr, IfOk, Result, codes, replicate}
+use Rattle.std.specs.Prelude.{◌≡◌, ◌≢◌, ◌⊎◌, ℕ, ◌+◌, ◌-◌, ◌<◌, ◌≤◌, true, List, [], ◌∷◌, Option, Some, None, IfErr, IfOk, Result, codes}
 use Rattle.clap.specs.Words.{Text}
 use Rattle.vm_types.specs.declared.refusal.Refusal.{Refusal}
 use Rattle.vm_types.specs.declared.refusal.Refusal.TheVariants.{AlreadyAStore, BadSize, Device, Full, Memory}
-use Rattle.vm_types.specs.declared.sizes.TheConstants.{BLOCK_SIZE}
 use Rattle.vm_types.specs.State.{Seen}
 use Rattle.vm_disk.specs.Disk.{Contents, DiskState}
 use Rattle.vm_disk.specs.Moments.{Throughout}
@@ -15,7 +14,7 @@ use Rattle.vm_store.specs.Rest.{spare_of}
 use Rattle.vm_store.specs.Store.{FromState, blocks_of, disk_of, free_of}
 use Rattle.vm_store.specs.declared.store.Store.{Store}
 use Rattle.vm_cli.specs.Exits.{Tells, copied_text, file_text, no_store_text, part_of, refused_text}
-use Rattle.vm_cli.specs.Places.{KeepsBut, KeepsOthers, PlaceState}
+use Rattle.vm_cli.specs.Places.{IsNew, KeepsBut, KeepsOthers, PlaceState}
 use Rattle.vm_cli.specs.Openings.{HasRefused}
 use Rattle.vm_cli.specs.Sessions.{HasShown, IsAnyStore}
 use Rattle.vm_cli.specs.declared.program.Exit.{Exit}
@@ -112,13 +111,13 @@ pub record CopiesOnto (Denied : Type 0) (part to : Text) (seen : Seen) (used : �
   pub moments : Throughout start end (IsCopying seen start.now)
   pub told : ToldOfCopy Denied to seen used s s' start end exit old new before after errors errors'
 
--- a disk of zero blocks was made, as many as the copy has, under the name with `.part` after it, the store was copied to it, and it came
+-- a disk was made, of as many blocks as the copy has, of which the first is zero, under the name with `.part` after it, the store was copied to it, and it came
 -- back under that name. Only then, and only if it is the copy, the file got the name that was asked for: until then no disk had that
 pub record LaysCopy (Denied : Text → Type 0) (to : Text) (seen : Seen) (used : ℕ) (s s' : DiskState) (exit : Exit) (old new : PlaceState)
     (before after errors errors' : Option (List ℕ)) : Type 0 where
   pub start : DiskState
   pub size : start.blocks ≡ seen.blocks
-  pub zero : start.now.contents ≡ replicate seen.blocks (replicate BLOCK_SIZE 0)
+  pub blank : IsNew seen.blocks start.now.contents
   pub fresh : start.past ≡ []
   pub copies : CopiesOnto (Denied to) (part_of to) to seen used s s' start exit old new before after errors errors'
 

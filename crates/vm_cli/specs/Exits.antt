@@ -8,7 +8,7 @@ use Rattle.clap.specs.declared.error.kind.ErrorKind.{ErrorKind}
 use Rattle.clap.specs.declared.error.kind.ErrorKind.TheVariants.{DisplayHelp, DisplayVersion, OutOfMemory}
 use Rattle.vm_types.specs.Texts.{refusal_text}
 use Rattle.vm_types.specs.declared.refusal.Refusal.{Refusal}
-use Rattle.vm_types.specs.declared.refusal.Refusal.TheVariants.{NotAStore}
+use Rattle.vm_types.specs.declared.refusal.Refusal.TheVariants.{Damaged, NotAStore}
 use Rattle.vm_store.specs.NewStore.{IsOfFormat}
 use Rattle.vm_cli.specs.Carried.{WritesStart}
 use Rattle.vm_cli.specs.Branches.{Branch, drawing}
@@ -18,7 +18,7 @@ use Rattle.vm_cli.specs.declared.program.Exit.{Exit}
 use Rattle.vm_cli.specs.declared.program.file_lock.NoLock.{NoLock}
 use Rattle.vm_cli.specs.declared.program.file_lock.NoLock.TheVariants.{Memory as NoMemory, InUse, CannotOpen, CannotLock}
 use Rattle.vm_cli.specs.declared.program.opening.NoStore.{NoStore}
-use Rattle.vm_cli.specs.declared.program.opening.NoStore.TheVariants.{Earlier, Refused as NotOpened}
+use Rattle.vm_cli.specs.declared.program.opening.NoStore.TheVariants.{Earlier, Refused as NotOpened, WithoutSums}
 use Rattle.vm_cli.specs.declared.program.store_counts.Counts.{Counts}
 use Rattle.vm_cli.specs.declared.program.task.InMemory.{InMemory}
 use Rattle.vm_cli.specs.declared.program.Exit.TheVariants.{Done, LineRefused, Refused, WrongWords, Stopped}
@@ -78,10 +78,16 @@ abbrev pub earlier_text : List ℕ
 earlier_text =
     refused_text NotAStore ++ (codes "altctl: the file is of an earlier format: tools/upgrade.py OLD NEW carries it over" ++ 10 ∷ [])
 
+-- a slot is damaged, and has no checksums
+abbrev pub without_sums_text : ℕ → List ℕ
+without_sums_text n =
+    refused_text (Damaged n) ++ (codes "altctl: the file has no checksums: tools/upgrade.py OLD NEW carries it over" ++ 10 ∷ [])
+
 -- why a disk is refused
 abbrev pub no_store_text : NoStore → List ℕ
 no_store_text (NotOpened refusal) = refused_text refusal
 no_store_text Earlier = earlier_text
+no_store_text (WithoutSums n) = without_sums_text n
 
 -- the program stopped
 abbrev pub stopped_text : List ℕ

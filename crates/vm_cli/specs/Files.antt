@@ -1,7 +1,6 @@
 -- What a run of the program does to the files of its place.
-use Rattle.std.specs.Prelude.{◌≡◌, ◌⊎◌, ℕ, List, Option, Some, None, codes, replicate}
+use Rattle.std.specs.Prelude.{◌≡◌, ◌⊎◌, ℕ, List, Option, Some, None, codes}
 use Rattle.clap.specs.Words.{Text}
-use Rattle.vm_types.specs.declared.sizes.TheConstants.{BLOCK_SIZE}
 use Rattle.vm_types.specs.declared.refusal.Refusal.{Refusal}
 use Rattle.vm_types.specs.State.{Seen, opened}
 use Rattle.vm_disk.specs.Disk.{Contents, IsClean, Medium}
@@ -16,7 +15,7 @@ use Rattle.vm_cli.specs.Branches.{tree_text}
 use Rattle.vm_cli.specs.Copies.{IsInUse, MakesCopy, copy_of}
 use Rattle.vm_cli.specs.Exits.{IsJob, Tells, check_text, created_text, file_text, no_store_text, refused_text}
 use Rattle.vm_cli.specs.Keeps.{Keeps}
-use Rattle.vm_cli.specs.Places.{KeepsCame, KeepsOthers, PlaceState, WasLent}
+use Rattle.vm_cli.specs.Places.{IsNew, KeepsCame, KeepsOthers, PlaceState, WasLent}
 use Rattle.vm_cli.specs.Openings.{HasRefused}
 use Rattle.vm_cli.specs.Sessions.{HasCounted, HasMade, HasMadeNone, HasShown}
 use Rattle.vm_cli.specs.Words.{Wanted}
@@ -33,13 +32,13 @@ abbrev pub KeepsAll : PlaceState → PlaceState → Type 0
 KeepsAll old new = (name : List ℕ) → new.files name ≡ old.files name
 
 module _ {D : Type 0} (members : Ghosts D) where
-  -- a disk of this many zero blocks was made, for a store on it, and the file of this name holds what it held when it came back:
+  -- a disk of this many blocks, of which the first is zero, was made, for a store on it, and the file of this name holds what it held when it came back:
   -- at each moment it is as it was made, at most synced, or a crash shows at most the new store. The store was made, and that is told; or
   -- it is told why it was not, and that the device failed only if a call of this disk did
   pub record LaysOut (name : List ℕ) (blocks : ℕ) (exit : Exit) (new : PlaceState) (before after errors errors' : Option (List ℕ)) : Type 0 where
     pub start : D
     pub end : D
-    pub zero : (members.state start).now.contents ≡ replicate blocks (replicate BLOCK_SIZE 0)
+    pub blank : IsNew blocks (members.state start).now.contents
     pub lent : WasLent name (members.state start) (members.state end) new
     pub moments : Throughout (members.state start) (members.state end) (IsFormatting blocks (members.state start).now)
     pub told : (HasMade (members.state start) (members.state end) blocks × Tells Done exit before after (created_text blocks))

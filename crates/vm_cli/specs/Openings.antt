@@ -1,35 +1,48 @@
 -- What becomes of a disk that is opened, and why it is refused.
-use Rattle.std.specs.Prelude.{◌≡◌, ◌⊎◌, ◌↔◌, true, false}
+use Rattle.std.specs.Prelude.{◌≡◌, ◌⊎◌, ◌↔◌, ◌<◌, ℕ, length, true, false}
 use Rattle.vm_types.specs.declared.refusal.Refusal.{Refusal}
-use Rattle.vm_types.specs.declared.refusal.Refusal.TheVariants.{Device, NotAStore}
+use Rattle.vm_types.specs.declared.refusal.Refusal.TheVariants.{Damaged, Device, NotAStore}
+use Rattle.vm_types.specs.declared.sizes.TheConstants.{FIRST_DATA}
 use Rattle.vm_disk.specs.Disk.{Contents, DiskState, Goes, block}
 use Rattle.vm_disk.specs.Moments.{Throughout}
 use Rattle.vm_block.specs.Header.{IsEarlierHeader}
 use Rattle.vm_store.specs.Refused.{IsAtMostSynced, IsRefused, IsSynced}
+use Rattle.vm_sums.specs.Sums.{IsWithoutSum}
 use Rattle.vm_store.specs.Store.{disk_of, has_failed}
 use Rattle.vm_store.specs.declared.store.Store.{Store}
 use Rattle.vm_cli.specs.declared.program.opening.NoStore.{NoStore}
-use Rattle.vm_cli.specs.declared.program.opening.NoStore.TheVariants.{Earlier, Refused}
+use Rattle.vm_cli.specs.declared.program.opening.NoStore.TheVariants.{Earlier, Refused, WithoutSums}
 
 -- the refusal of a disk
 abbrev pub refusal_of : NoStore → Refusal
 refusal_of (Refused refusal) = refusal
 refusal_of Earlier = NotAStore
+refusal_of (WithoutSums n) = Damaged n
 
--- of contents that are no store, it is told exactly if block 0 is the header of one of an earlier format
-abbrev pub TellsEarlier : Contents → NoStore → Type 0
-TellsEarlier x why = refusal_of why ≡ NotAStore → (why ≡ Earlier) ↔ IsEarlierHeader (block x 0)
+-- block n, one of a slot, has no checksum
+abbrev pub LacksSum : Contents → ℕ → Type 0
+LacksSum x n = (n < FIRST_DATA) × (n < length x) × IsWithoutSum n (block x n)
 
--- the refusal is this one, or, if this one is that there is no store, that the device failed
+-- what is told of an earlier program's file
+pub record TellsEarlier (x : Contents) (why : NoStore) : Type 0 where
+  -- of contents that are no store, exactly if block 0 is the header of one of an earlier format
+  pub header : refusal_of why ≡ NotAStore → (why ≡ Earlier) ↔ IsEarlierHeader (block x 0)
+  -- of a slot that is damaged, exactly if its first block has no checksum
+  pub sums : (n : ℕ) → refusal_of why ≡ Damaged n → (why ≡ WithoutSums n) ↔ LacksSum x n
+
+-- the file is looked at again for this refusal
+abbrev pub IsLookedAt : Refusal → Type 0
+IsLookedAt refusal = (refusal ≡ NotAStore) ⊎ ((n : ℕ) × (refusal ≡ Damaged n))
+
+-- the refusal is this one, or, if the file was looked at again for it, that the device failed
 abbrev pub KeepsRefusal : Refusal → NoStore → Type 0
-KeepsRefusal refusal why = (refusal_of why ≡ refusal) ⊎ ((refusal ≡ NotAStore) × (refusal_of why ≡ Device))
+KeepsRefusal refusal why = (refusal_of why ≡ refusal) ⊎ (IsLookedAt refusal × (refusal_of why ≡ Device))
 
 -- the disk was refused for this reason, Device only if a call of this disk failed, and at each moment nothing has changed, or all is
 -- synced
 pub record HasRefused (old new : DiskState) (told : NoStore) : Type 0 where
   pub goes : Goes (refusal_of told ≡ Device) old new
   pub why : new.honest ≡ true → IsRefused old.now.contents (refusal_of told)
-  -- if there is no store, it is told exactly if block 0 is the header of one of an earlier format
   pub earlier : new.honest ≡ true → TellsEarlier old.now.contents told
   pub moments : new.honest ≡ true → Throughout old new (IsAtMostSynced old.now)
 

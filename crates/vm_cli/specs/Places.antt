@@ -1,7 +1,7 @@
 -- What is known of a place where disks are found by name, and what its calls do to it.
-use Rattle.std.specs.Prelude.{◌≡◌, ◌≢◌, ◌⊎◌, ℕ, Bool, true, false, List, [], Option, Some, None, IfSome, map, option_map, replicate, reverse}
+use Rattle.std.specs.Prelude.{◌≡◌, ◌≢◌, ◌⊎◌, ◌<◌, ℕ, Bool, true, false, List, [], Option, Some, None, IfSome, length, map, option_map, replicate, reverse}
 use Rattle.vm_types.specs.declared.sizes.TheConstants.{BLOCK_SIZE}
-use Rattle.vm_disk.specs.Disk.{Contents, DiskState, IsClean}
+use Rattle.vm_disk.specs.Disk.{Contents, DiskState, IsClean, block}
 use Rattle.vm_disk.specs.Past.{noted}
 use Rattle.vm_disk.specs.declared.history.History.{History}
 
@@ -34,10 +34,16 @@ KeepsOthersCame name old new = (other : List ℕ) → other ≢ name → new.cam
 abbrev pub names_in : History (History ℕ) → List (List ℕ)
 names_in names = map (λ name. reverse (noted name)) (noted names)
 
--- a disk of this many zero blocks is made where there was no file of this name, and no moment of it is past; a file that was there stays as it was
+-- as many blocks, of which the first is zero: no store
+pub record IsNew (blocks : ℕ) (contents : Contents) : Type 0 where
+  pub count : length contents ≡ blocks
+  pub first : 0 < blocks → block contents 0 ≡ replicate BLOCK_SIZE 0
+
+-- a disk of this many blocks, of which the first is zero, is made where there was no file of this name, and no moment of it is past; a file
+-- that was there stays as it was
 pub record Creates (name : List ℕ) (blocks : ℕ) (made : Option DiskState) (old new : PlaceState) : Type 0 where
   pub absent : IfSome made (λ s. old.files name ≡ None)
-  pub zero : IfSome made (λ s. s.honest ≡ true → (s.blocks ≡ blocks) × (s.now.contents ≡ replicate blocks (replicate BLOCK_SIZE 0)))
+  pub blank : IfSome made (λ s. s.honest ≡ true → (s.blocks ≡ blocks) × IsNew blocks s.now.contents)
   pub fresh : IfSome made (λ s. s.past ≡ [])
   pub stays : (contents : Contents) → old.files name ≡ Some contents → new.files name ≡ Some contents
   pub others : KeepsOthers name old new
@@ -99,7 +105,7 @@ abbrev pub StaysHonest : PlaceState → PlaceState → Type 0
 StaysHonest old new = old.honest ≡ true → new.honest ≡ true
 
 module _ {P D : Type 0} (state : P → PlaceState) (disk_state : D → DiskState) where
-  -- if the place is honest after it, a disk of this many zero blocks is made under this name, or none is
+  -- if the place is honest after it, a disk of this many blocks is made under this name, or none is
   abbrev pub CreatesIn : List ℕ → ℕ → Option D → P → P → Type 0
   CreatesIn name blocks made old new = (state new).honest ≡ true → Creates name blocks (option_map disk_state made) (state old) (state new)
 

@@ -9,6 +9,8 @@ use Rattle.vm_disk.specs.System.{is_read_alone, name_of, opening_of, system_stat
 use Rattle.vm_disk.specs.declared.file.FileDisk.{FileDisk}
 use Rattle.vm_disk.specs.declared.history.History.{History}
 use Rattle.vm_disk.specs.declared.system.SystemFile.{SystemFile}
+use Rattle.vm_sums.specs.Summed.{inner_of, shown_contents, summed_state}
+use Rattle.vm_sums.specs.declared.summed.SummedDisk.{SummedDisk}
 use Rattle.vm_cli.specs.Places.{PlaceState, CreatesIn, FindsIn, StaysHonest, names_in}
 use Rattle.vm_cli.specs.Progress.{file_below}
 use Rattle.vm_cli.specs.declared.program.place.Event.{Event}
@@ -37,9 +39,17 @@ abbrev pub is_absent : Option Contents → Bool
 is_absent None = true
 is_absent (Some contents) = false
 
--- the blocks of a file when this many had been opened, as the world says
+-- a file as a disk with checksums
+abbrev pub RealDisk : Type 0 → Type 0
+RealDisk W = SummedDisk (FileDisk (Watched (SystemFile W)))
+
+-- what the whole blocks of these bytes show
+abbrev pub shown_blocks : List ℕ → Contents
+shown_blocks bytes = shown_contents (whole_blocks bytes)
+
+-- what the blocks of a file showed when this many had been opened, as the world says
 abbrev pub blocks_held : (ℕ → List ℕ → Option (List ℕ)) → ℕ → List ℕ → Option Contents
-blocks_held held opened name = option_map whole_blocks (held opened name)
+blocks_held held opened name = option_map shown_blocks (held opened name)
 
 -- how often a writable one was asked for, by what was done: each that was opened for more than reading, and each that was
 -- missed
@@ -84,9 +94,9 @@ NotesLooked {W = W} name old new =
     ⊎ ((file : Snapshot (SystemFile W)) × (noted new.events ≡ Found file ∷ noted old.events) × IsNext old name file.value)
 
 -- all that was done is that this disk came back under this name
-abbrev pub NotesGiven : {R W : Type 0} → List ℕ → FileDisk (Watched (SystemFile W)) → RealFiles R W → RealFiles R W → Type 0
+abbrev pub NotesGiven : {R W : Type 0} → List ℕ → RealDisk W → RealFiles R W → RealFiles R W → Type 0
 NotesGiven {W = W} name disk old new =
-    (given : History ℕ) × (kept : Snapshot (FileDisk (Watched (SystemFile W)))) × (noted new.events ≡ Given given kept ∷ noted old.events)
+    (given : History ℕ) × (kept : Snapshot (RealDisk W)) × (noted new.events ≡ Given given kept ∷ noted old.events)
     × (reverse (noted given) ≡ name) × (kept.value ≡ disk)
 
 -- all that was done is that a file got another name
@@ -125,12 +135,12 @@ untouched held = record { honest = true; files = blocks_held held 0; came = λ n
 
 module _ {W : Type 0} (held : ℕ → List ℕ → Option (List ℕ)) (torn : ℕ → List ℕ → ℕ → List ℕ) where
   -- what is known of a file's disk
-  abbrev pub real_disk : FileDisk (Watched (SystemFile W)) → DiskState
-  real_disk = file_state (λ file. system_state held torn (file_below file))
+  abbrev pub real_disk : RealDisk W → DiskState
+  real_disk = summed_state (file_state (λ file. system_state held torn (file_below file)))
 
   -- the name of a disk's file
-  abbrev pub disk_name : FileDisk (Watched (SystemFile W)) → List ℕ
-  disk_name disk = name_of (file_below (file_of disk))
+  abbrev pub disk_name : RealDisk W → List ℕ
+  disk_name disk = name_of (file_below (file_of (inner_of disk)))
 
   -- what the file of a name holds after these events, the newest first: what a disk that came back holds, and else what the world
   -- says. Of a file that is being made the world says it
@@ -176,13 +186,13 @@ module _ {W : Type 0} (held : ℕ → List ℕ → Option (List ℕ)) (torn : �
       record { honest = honest_after events; files = files_after events; came = came_after events }
 
   -- as files of the system that are honest after it create a disk
-  abbrev pub CreatesReal : {R : Type 0} → List ℕ → ℕ → Option (FileDisk (Watched (SystemFile W))) → RealFiles R W → RealFiles R W → Type 0
+  abbrev pub CreatesReal : {R : Type 0} → List ℕ → ℕ → Option (RealDisk W) → RealFiles R W → RealFiles R W → Type 0
   CreatesReal name blocks made old new = CreatesIn real_state real_disk name blocks made old new
 
   -- as files of the system that are honest after it find a disk
-  abbrev pub FindsReal : {R : Type 0} → List ℕ → Option (FileDisk (Watched (SystemFile W))) → RealFiles R W → RealFiles R W → Type 0
+  abbrev pub FindsReal : {R : Type 0} → List ℕ → Option (RealDisk W) → RealFiles R W → RealFiles R W → Type 0
   FindsReal name found old new = FindsIn real_state real_disk name found old new
 
   -- files of the system that were honest are so after a disk came back that kept the disk model, under its own name
-  abbrev pub StaysReal : {R : Type 0} → List ℕ → FileDisk (Watched (SystemFile W)) → RealFiles R W → RealFiles R W → Type 0
+  abbrev pub StaysReal : {R : Type 0} → List ℕ → RealDisk W → RealFiles R W → RealFiles R W → Type 0
   StaysReal name disk old new = disk_name disk ≡ name → (real_disk disk).honest ≡ true → StaysHonest (real_state old) (real_state new)

@@ -3,8 +3,8 @@ ghost use Rattle.std.specs.Prelude.{◌≡◌, true, IfErr, IfOk};
 ghost use Rattle.vm_disk.specs.Disk.{Goes};
 ghost use Rattle.vm_disk.specs.Moments.{OnlyReads};
 ghost use Rattle.vm_store.specs.Recovery.{OpensAs, OpensWhole};
-ghost use Rattle.vm_cli.specs.Exits.{RefusesOn, earlier_text, no_store_text};
-ghost use Rattle.vm_cli.specs.Openings.{HasOpened, HasRefused, KeepsRefusal, TellsEarlier, refusal_of};
+ghost use Rattle.vm_cli.specs.Exits.{RefusesOn, earlier_text, no_store_text, without_sums_text};
+ghost use Rattle.vm_cli.specs.Openings.{HasOpened, HasRefused, IsLookedAt, KeepsRefusal, TellsEarlier, refusal_of};
 
 use crate::answers::reply::push_refusal;
 use crate::answers::text::Text;
@@ -14,7 +14,8 @@ use std::io::Write;
 use vm_block::is_earlier_header;
 use vm_disk::Disk;
 use vm_store::{Store, open, open_whole};
-use vm_types::Refusal;
+use vm_sums::is_without_sum;
+use vm_types::{BlockNumber, FIRST_DATA, Refusal};
 
 /// Why a disk is refused.
 #[derive(Clone, Copy, Debug, PartialEq, Eq)]
@@ -23,10 +24,14 @@ pub enum NoStore {
     Refused(Refusal),
     /// It is no store of this format: it has the header of one of an earlier format.
     Earlier,
+    /// The slot with this first block is damaged: that block has no checksum, as in a store that
+    /// was written before there were any.
+    WithoutSums(BlockNumber),
 }
 
 /// Opens the store on a disk. If the disk is no store, reads block 0 once more, to tell whether it
-/// has one of an earlier format.
+/// has one of an earlier format; if a slot is damaged, its first block, to tell whether that has a
+/// checksum.
 pub(crate) fn open_store<D: Disk>(alloc: Global, disk: D) -> Result<Store<D>, (D, NoStore)>
     ensures opened { IfOk result (HasOpened OpensAs (D.state disk)) }
     ensures refused { IfErr result (λ e. HasRefused (D.state disk) (D.state e.0) e.1) }
@@ -56,7 +61,7 @@ pub(crate) fn open_whole_store<D: Disk>(alloc: Global, disk: D) -> Result<Store<
 
 /// Why a disk is refused whose opening gave this refusal.
 fn why_refused<D: Disk>(disk: &mut D, refusal: Refusal) -> NoStore
-    ensures any { Goes ((refusal ≡ Refusal.NotAStore) × (refusal_of result ≡ Refusal.Device))
+    ensures any { Goes (IsLookedAt refusal × (refusal_of result ≡ Refusal.Device))
         (D.state disk.old) (D.state disk.new) }
     ensures reads { (D.state disk.new).honest ≡ true
         → OnlyReads (D.state disk.old) (D.state disk.new) }
@@ -66,6 +71,7 @@ fn why_refused<D: Disk>(disk: &mut D, refusal: Refusal) -> NoStore
 {
     match refusal {
         Refusal::NotAStore => no_store(disk),
+        Refusal::Damaged(n) => damaged(disk, n),
         refusal => NoStore::Refused(refusal),
     }
 }
@@ -93,6 +99,29 @@ fn no_store<D: Disk>(disk: &mut D) -> NoStore
     }
 }
 
+/// Why a disk is refused of which this block is damaged.
+fn damaged<D: Disk>(disk: &mut D, n: BlockNumber) -> NoStore
+    ensures any { Goes (refusal_of result ≡ Refusal.Device) (D.state disk.old) (D.state disk.new) }
+    ensures reads { (D.state disk.new).honest ≡ true
+        → OnlyReads (D.state disk.old) (D.state disk.new) }
+    ensures only { KeepsRefusal (Refusal.Damaged n) result }
+    ensures told { (D.state disk.new).honest ≡ true
+        → TellsEarlier (D.state disk.old).now.contents result }
+{
+    if n >= FIRST_DATA || n >= disk.blocks() {
+        return NoStore::Refused(Refusal::Damaged(n));
+    }
+    let mut block = [0; 4096];
+    let Ok(()) = disk.read(n, &mut block) else {
+        return NoStore::Refused(Refusal::Device);
+    };
+    if is_without_sum(n, &block) {
+        NoStore::WithoutSums(n)
+    } else {
+        NoStore::Refused(Refusal::Damaged(n))
+    }
+}
+
 /// Says why a disk is refused.
 pub(crate) fn unopened<F: Write>(why: &NoStore, errors: &mut F) -> Exit
     ensures { RefusesOn F.contents result errors.old errors.new (no_store_text why.now) }
@@ -100,6 +129,7 @@ pub(crate) fn unopened<F: Write>(why: &NoStore, errors: &mut F) -> Exit
     match why {
         NoStore::Refused(refusal) => refused(refusal, errors),
         NoStore::Earlier => of_earlier_format(errors),
+        NoStore::WithoutSums(n) => without_sums(*n, errors),
     }
 }
 
@@ -112,6 +142,19 @@ fn of_earlier_format<F: Write>(errors: &mut F) -> Exit
     push_refusal(&mut text, &Refusal::NotAStore);
     text.push(b'\n');
     text.push_bytes(b"altctl: the file is of an earlier format: ");
+    text.push_bytes(b"tools/upgrade.py OLD NEW carries it over\n");
+    unless_fault(say(errors, text.as_bytes()), Exit::Refused)
+}
+
+/// Says that a slot is damaged, and in a second line that the file has no checksums.
+fn without_sums<F: Write>(n: BlockNumber, errors: &mut F) -> Exit
+    ensures { RefusesOn F.contents result errors.old errors.new (without_sums_text n) }
+{
+    let mut text = Text::new();
+    text.push_bytes(b"altctl: ");
+    push_refusal(&mut text, &Refusal::Damaged(n));
+    text.push(b'\n');
+    text.push_bytes(b"altctl: the file has no checksums: ");
     text.push_bytes(b"tools/upgrade.py OLD NEW carries it over\n");
     unless_fault(say(errors, text.as_bytes()), Exit::Refused)
 }

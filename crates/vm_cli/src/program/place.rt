@@ -1,6 +1,7 @@
 //! Finding disks by name.
 ghost use Rattle.std.specs.Prelude.{◌≡◌, ◌+◌, ◌∷◌, ℕ, List, [], true, false, None, IfSome, option_map};
 ghost use Rattle.vm_disk.specs.Between.{Between};
+ghost use Rattle.vm_sums.specs.Summed.{inner_of};
 ghost use Rattle.vm_cli.specs.Places.{PlaceState, CreatesIn, FindsIn, LacksIn, LinksIn, RemovesIn, TakesBackIn, WasHonest, names_in};
 
 use crate::program::progress::{Progress, Watched};
@@ -12,6 +13,7 @@ use std::os::fd::AsRawFd;
 use std::rt::Files;
 use std::snapshot::Snapshot;
 use vm_disk::{Disk, FileDisk, History, LAST_STANDARD, SystemFile, World, noted_bytes};
+use vm_sums::SummedDisk;
 
 /// A file system, in which disks are found by name.
 ///
@@ -29,7 +31,7 @@ pub trait Place {
     /// How often it was asked for a writable disk, for contracts alone.
     ghost to_write: { Self → ℕ };
 
-    /// Makes a disk that does not exist yet, of this many zero blocks.
+    /// Makes a disk that does not exist yet, of this many blocks. The first is zero.
     fn create(&mut self, file: &str, blocks: u32) -> Option<Self::D>
         ensures none { result ≡ None → denied self.new ≡ file.now ∷ denied self.old }
         ensures some { IfSome result (λ disk. denied self.new ≡ denied self.old) }
@@ -93,6 +95,19 @@ pub(crate) fn note_name(names: &mut History<History<u8>>, name: &str)
     names.note(&name);
 }
 
+/// A file of the system as a disk with checksums.
+type RealDisk<'a, W> = SummedDisk<FileDisk<Watched<'a, SystemFile<W>>>>;
+
+/// A disk with checksums over another, if there is one.
+fn with_sums<D: Disk>(disk: Option<D>) -> Option<SummedDisk<D>>
+    ensures { option_map inner_of result ≡ disk }
+{
+    match disk {
+        Some(disk) => Some(SummedDisk::new(disk)),
+        None => None,
+    }
+}
+
 /// What was done with a file of the system. `Missed`: a writable file was requested and could not
 /// be opened. `Lacking`: nothing had this name. `Linked`: the file of the first name got the
 /// second. `Removed`: a file lost this name.
@@ -101,7 +116,7 @@ enum Event<'a, W> {
     Found(Snapshot<SystemFile<W>>),
     Made(Snapshot<SystemFile<W>>),
     Missed,
-    Given(History<u8>, Snapshot<FileDisk<Watched<'a, SystemFile<W>>>>),
+    Given(History<u8>, Snapshot<RealDisk<'a, W>>),
     Lacking(History<u8>),
     Linked(History<u8>, History<u8>),
     Removed(History<u8>),
@@ -170,7 +185,7 @@ impl<'a, R: Files<File = File>, W: World> RealFiles<'a, R, W> {
     ghost use Rattle.vm_cli.specs.RealFiles.{asked_to_write, real_state, names_denied, CreatesReal, FindsReal, NotesFound, NotesLooked, NotesMade};
 
     /// Makes a file that does not exist yet, and a disk of it.
-    fn made(&mut self, file: &str, blocks: u32) -> Option<FileDisk<Watched<'a, SystemFile<W>>>>
+    fn made(&mut self, file: &str, blocks: u32) -> Option<RealDisk<'a, W>>
         ensures denied { names_denied self.new ≡ names_denied self.old }
         ensures to_write { asked_to_write self.new ≡ asked_to_write self.old + 1 }
         ensures earlier { Between (real_state W.held W.torn) WasHonest self.old self.new }
@@ -184,11 +199,11 @@ impl<'a, R: Files<File = File>, W: World> RealFiles<'a, R, W> {
         self.opened.note(&());
         self.events.note(&Event::Made(Snapshot::of(&made)));
         self.progress.begin(u64::from(blocks));
-        FileDisk::create(Watched::new(made, self.progress), blocks).ok()
+        with_sums(FileDisk::create(Watched::new(made, self.progress), blocks).ok())
     }
 
     /// Opens an existing file as a disk, once its selector was written again.
-    fn found(&mut self, file: &str) -> Option<FileDisk<Watched<'a, SystemFile<W>>>>
+    fn found(&mut self, file: &str) -> Option<RealDisk<'a, W>>
         ensures denied { names_denied self.new ≡ names_denied self.old }
         ensures to_write { asked_to_write self.new ≡ asked_to_write self.old + 1 }
         ensures earlier { Between (real_state W.held W.torn) WasHonest self.old self.new }
@@ -204,11 +219,11 @@ impl<'a, R: Files<File = File>, W: World> RealFiles<'a, R, W> {
         let Ok(()) = rewrite_selector(&mut found) else {
             return None;
         };
-        FileDisk::open(Watched::new(found, self.progress)).ok()
+        with_sums(FileDisk::open(Watched::new(found, self.progress)).ok())
     }
 
     /// Opens an existing file read only, as a disk.
-    fn looked(&mut self, file: &str) -> Option<FileDisk<Watched<'a, SystemFile<W>>>>
+    fn looked(&mut self, file: &str) -> Option<RealDisk<'a, W>>
         ensures denied { names_denied self.new ≡ names_denied self.old }
         ensures to_write { asked_to_write self.new ≡ asked_to_write self.old }
         ensures earlier { Between (real_state W.held W.torn) WasHonest self.old self.new }
@@ -218,7 +233,7 @@ impl<'a, R: Files<File = File>, W: World> RealFiles<'a, R, W> {
         let found = SystemFile::open_to_read(self.rt, file, &self.opened)?;
         self.opened.note(&());
         self.events.note(&Event::Found(Snapshot::of(&found)));
-        FileDisk::open(Watched::new(found, self.progress)).ok()
+        with_sums(FileDisk::open(Watched::new(found, self.progress)).ok())
     }
 }
 
@@ -254,7 +269,7 @@ fn is_lacking(rt: &impl Files, file: &str) -> bool {
 }
 
 impl<'a, R: Files<File = File>, W: World> Place for RealFiles<'a, R, W> {
-    type D = FileDisk<Watched<'a, SystemFile<W>>>;
+    type D = RealDisk<'a, W>;
 
     ghost use Rattle.vm_cli.specs.RealFiles.{asked_to_write, real_disk, real_state, names_denied, CreatesReal, FindsReal, NotesFound, NotesGiven, NotesLacking, NotesLinked, NotesLooked, NotesMade, NotesRemoved, StaysReal};
 
@@ -264,7 +279,7 @@ impl<'a, R: Files<File = File>, W: World> Place for RealFiles<'a, R, W> {
 
     ghost to_write = { asked_to_write };
 
-    fn create(&mut self, file: &str, blocks: u32) -> Option<FileDisk<Watched<'a, SystemFile<W>>>>
+    fn create(&mut self, file: &str, blocks: u32) -> Option<RealDisk<'a, W>>
         ensures none { result ≡ None → names_denied self.new ≡ file.now ∷ names_denied self.old }
         ensures some { IfSome result (λ disk. names_denied self.new ≡ names_denied self.old) }
         ensures writes { asked_to_write self.new ≡ asked_to_write self.old + 1 }
@@ -279,7 +294,7 @@ impl<'a, R: Files<File = File>, W: World> Place for RealFiles<'a, R, W> {
         made
     }
 
-    fn find(&mut self, file: &str) -> Option<FileDisk<Watched<'a, SystemFile<W>>>>
+    fn find(&mut self, file: &str) -> Option<RealDisk<'a, W>>
         ensures none { result ≡ None → names_denied self.new ≡ file.now ∷ names_denied self.old }
         ensures some { IfSome result (λ disk. names_denied self.new ≡ names_denied self.old) }
         ensures writes { asked_to_write self.new ≡ asked_to_write self.old + 1 }
@@ -294,7 +309,7 @@ impl<'a, R: Files<File = File>, W: World> Place for RealFiles<'a, R, W> {
         found
     }
 
-    fn look(&mut self, file: &str) -> Option<FileDisk<Watched<'a, SystemFile<W>>>>
+    fn look(&mut self, file: &str) -> Option<RealDisk<'a, W>>
         ensures none { result ≡ None → names_denied self.new ≡ file.now ∷ names_denied self.old }
         ensures some { IfSome result (λ disk. names_denied self.new ≡ names_denied self.old) }
         ensures reads { asked_to_write self.new ≡ asked_to_write self.old }
@@ -309,7 +324,7 @@ impl<'a, R: Files<File = File>, W: World> Place for RealFiles<'a, R, W> {
         found
     }
 
-    fn give_back(&mut self, file: &str, disk: FileDisk<Watched<'a, SystemFile<W>>>)
+    fn give_back(&mut self, file: &str, disk: RealDisk<'a, W>)
         ensures denied { names_denied self.new ≡ names_denied self.old }
         ensures reads { asked_to_write self.new ≡ asked_to_write self.old }
         ensures earlier { Between (real_state W.held W.torn) WasHonest self.old self.new }

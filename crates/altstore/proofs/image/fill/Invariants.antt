@@ -2,6 +2,7 @@ use Rattle.std.proofs.Common.{◌-◌, ◌≡◌, ◌/◌, ◌≤◌, ◌<◌, �
 use Rattle.std.specs.Prelude.{drop}
 use Rattle.vm_types.specs.declared.sizes.TheConstants.{BLOCK_SIZE}
 use Rattle.vm_disk.specs.Disk.{block}
+use Rattle.vm_sums.specs.Sums.{summed}
 use Rattle.altstore.proofs.image.fill.Given as goal
 
 -- the blocks before this one are those of the image
@@ -10,7 +11,7 @@ invariant-loop-n l = record {
   as_many : length l.disk.platter.blocks.items ≡ l.count;
   count : l.count ≡ length l.image / BLOCK_SIZE;
   most : l.n ≤ l.count;
-  filled : (k : ℕ) → k < l.n → block l.disk.platter.blocks.items k ≡ take BLOCK_SIZE (drop (BLOCK_SIZE * k) l.image);
+  filled : (k : ℕ) → k < l.n → block l.disk.platter.blocks.items k ≡ summed k (take BLOCK_SIZE (drop (BLOCK_SIZE * k) l.image));
 }
 
 abbrev pub decreases-loop-n : goal.decreases-loop-n

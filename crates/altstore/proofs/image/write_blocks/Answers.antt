@@ -1,6 +1,9 @@
-use Rattle.std.proofs.Common.{◌≡◌, ◌<◌, length, refl, ap, ◌∙◌, arith}
+use Rattle.std.proofs.Common.{◌≡◌, ◌<◌, length, refl, sym, ap, ◌∙◌, arith}
 use Rattle.vm_cli.proofs.Known.{Appends-then}
 use Rattle.vm_disk.specs.Disk.{Contents, Medium, block}
+use Rattle.vm_sums.proofs.ShownLemmas.{shown_block}
+use Rattle.vm_sums.specs.Summed.{shown_contents, shown_length}
+use Rattle.vm_sums.specs.Sums.{summed}
 use Rattle.altstore.proofs.ImageLemmas.{joined-next}
 use Rattle.altstore.proofs.image.write_blocks.Goals as goal
 
@@ -11,10 +14,12 @@ pub loop-n-preserved : goal.loop-n-preserved
 loop-n-preserved g c =
     let so_far = c.loop-n.invariant in let read = c.in-Ok.ensures.honest refl in
     let lt : c.loop-n.n < length c.args.disk.now.platter.blocks.items = rw so_far.count at c.loop-n-test.true in
-    let is : c.read.new.into ≡ block c.args.disk.now.platter.blocks.items c.loop-n.n = read.bytes_are ∙ ap (λ (x : Contents). block x c.loop-n.n) so_far.same in
+    let items = c.args.disk.now.platter.blocks.items in
+    let is : c.exchange_sum.new.block ≡ block (shown_contents items) c.loop-n.n =
+    c.exchange_sum.ensures ∙ ap (summed c.loop-n.n) (read.bytes_are ∙ ap (λ (x : Contents). block x c.loop-n.n) so_far.same) ∙ sym (shown_block items c.loop-n.n lt) in
     record {
       same = ap (λ (m : Medium). m.contents) read.same ∙ so_far.same;
       count = so_far.count;
       most = (let test = c.loop-n-test.true in omega arith);
-      written = rw (joined-next _ c.loop-n.n lt) (Appends-then _ _ _ _ _ so_far.written (rw is at c.in_ok-put_all.ensures.ok));
+      written = rw (joined-next _ c.loop-n.n (omega (arith, lt, shown_length items))) (Appends-then _ _ _ _ _ so_far.written (rw is at c.in_ok-put_all.ensures.ok));
     }

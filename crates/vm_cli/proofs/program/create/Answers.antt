@@ -11,7 +11,7 @@ returns-clause-files g c honest =
       | inl shown ↦ shown.1.goes.earlier back.honest
       | inr none ↦ none.1.2.goes.earlier back.honest
     ] in
-    let zero = made.zero was in
+    let blank = made.blank was in
     record {
       made = λ done. elim c.make_store-exit.ensures.made [
         | inl shown ↦ (made.absent, ((g.P.D.Disk.state c.make_store-exit.result.1).now, back.holds, shown.1.shown back.honest))
@@ -22,7 +22,7 @@ returns-clause-files g c honest =
         record {
           start = c.in-Some.disk;
           end = c.make_store-exit.result.1;
-          zero = zero.1;
+          blank = blank.1;
           lent = record { fresh = made.fresh; honest = back.honest; holds = back.holds; came = back.came };
           moments = c.make_store-exit.ensures.moments back.honest;
           told = elim c.make_store-exit.ensures.made [

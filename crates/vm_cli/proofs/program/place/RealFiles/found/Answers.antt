@@ -12,7 +12,7 @@ returns-clause-honest g c honest =
     let torn = g.W.World.torn in
     let kept = subst (λ (f : SystemFile _). (system_state held torn f).honest ≡ true → KeepsState (system_state held torn file.found) (system_state held torn f)) (sym c.new.ensures) c.rewrite_selector.ensures.honest in
     finds held torn c.args.file.now _ _ file.found _ c.of.ensures file.ensures.name (file_below c.new.result) kept _ file.ensures.opening
-    c.note-3.ensures file.ensures.state c.open-2.result c.open-2.ensures.over c.open-2.ensures.opened _ c.ok.ensures.value honest
+    c.note-3.ensures file.ensures.state c.open-2.result c.open-2.ensures.over c.open-2.ensures.opened _ (c.with_sums.ensures ∙ c.ok.ensures.value) honest
 
 pub returns-clause-notes : goal.returns-clause-notes
 returns-clause-notes g c =

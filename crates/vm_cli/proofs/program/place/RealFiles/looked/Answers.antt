@@ -9,7 +9,7 @@ returns-clause-honest g c honest =
     let file = c.in_ok-found in
     let below = c.new.ensures in
     finds g.W.World.held g.W.World.torn c.args.file.now _ _ (file_below c.new.result) _ (c.of.ensures ∙ sym below) (rw below file.ensures.name) (file_below c.new.result) (kept_as_is _) _ (ap opening_of below ∙ file.ensures.opening)
-    c.note-2.ensures (rw below file.ensures.state) c.open.result c.open.ensures.over c.open.ensures.opened _ c.ok.ensures.value honest
+    c.note-2.ensures (rw below file.ensures.state) c.open.result c.open.ensures.over c.open.ensures.opened _ (c.with_sums.ensures ∙ c.ok.ensures.value) honest
 
 pub returns-clause-notes : goal.returns-clause-notes
 returns-clause-notes g c =

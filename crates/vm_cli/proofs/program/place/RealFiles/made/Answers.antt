@@ -9,7 +9,7 @@ returns-clause-honest g c honest =
     let file = c.in-Some in
     let below = c.new.ensures in
     creates g.W.World.held g.W.World.torn c.args.file.now _ _ (file_below c.new.result) _ (c.of.ensures ∙ sym below) (rw below file.ensures.name) c.args.blocks
-    c.note-3.ensures (rw below file.ensures.state) c.create-2.result c.create-2.ensures.made c.create-2.ensures.created _ c.ok.ensures.value honest
+    c.note-3.ensures (rw below file.ensures.state) c.create-2.result c.create-2.ensures.made c.create-2.ensures.created _ (c.with_sums.ensures ∙ c.ok.ensures.value) honest
 
 pub returns-clause-notes : goal.returns-clause-notes
 returns-clause-notes g c =

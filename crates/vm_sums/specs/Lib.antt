@@ -1,0 +1,3 @@
+pub mod Hash
+pub mod Sums
+pub mod Summed
