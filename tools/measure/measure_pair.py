@@ -4,9 +4,9 @@
 
 For values of 16 and of 200 bytes and for the mixture of a network (`measure_sizes.py`) it loads 100,000 records in
 random order and by rising keys, gets them, lists them, and has 20 designs of 100 changes each told and merged with as
-many changes of their parent. All answers have to be the same. A time is the least one of the rounds, of the processor
-and without that of an opening. Times are looked at, never tested: the status tells only whether all was answered
-alike."""
+many changes of their parent. All answers have to be the same. A time is the least one of the rounds, of the processor,
+from start to end: what one program reads as it opens a store, another may read later. Times are looked at, never
+tested: the status tells only whether all was answered alike."""
 import argparse
 import os
 import random
@@ -67,9 +67,7 @@ def measure(program, folder, records, steps):
     file, found = os.path.join(folder, "store"), []
     subprocess.run([program, "create", file, str(4096 + records)], stdout=subprocess.DEVNULL, check=True)
     for _, lines in steps:
-        opening = run(program, file, b"")[1]
-        answers, took = run(program, file, lines)
-        found.append((answers, max(took - opening, 0)))
+        found.append(run(program, file, lines))
     os.remove(file)
     return found
 
