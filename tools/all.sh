@@ -54,6 +54,7 @@ try 300 gate/test_words.py
 try 300 gate/python.sh
 try 300 gate/manual.py --check
 try 900 gate/documents.py
+try 300 test_sums.py
 try 300 test_upgrade.py
 try 900 gate/session.sh
 try 600 ../clients/python/test_altctl.py
