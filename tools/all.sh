@@ -68,6 +68,7 @@ if [ -n "$quick" ]; then
     try 600 faults/kill.py "$tools/../altctl" 8
     try 300 faults/kill_copy.py "$tools/../altctl" 20
     try 600 faults/crashes.py -n 1
+    try 300 faults/damage.py --files 300
     try 600 ../desk/test_altserve.py StoreTests
     try 600 faults/kill_service.py "$tools/../altctl" 2
     try 600 ../desk/test_altgis.py InterruptionTests
@@ -81,6 +82,7 @@ else
     try 300 faults/kill.py "$tools/../altctl" 60
     try 300 faults/kill_copy.py
     try 600 faults/crashes.py
+    try 1800 faults/damage.py
     try 600 faults/largest.py
     try 300 faults/space.py
     try 600 faults/failing_device.py
