@@ -6,7 +6,7 @@ Of the file every byte is compared where no written block waits (half of the fil
 each block that a committed version reaches, since blocks that nobody needs are not written then. Now and then the file
 is copied to another size, after a session or between two of its lines, and each byte of the copy is compared. At the
 end it spoils bytes of the file, and compares what a check and an opening for lines are answered. Most spoiled blocks
-get the sum of their new bytes, so that their form alone tells; the others keep the old one. The model goes by
+get the sum of their new bytes, so that their form alone tells; others keep the old one, or have none. The model goes by
 docs/MODEL.md and docs/FORMATS.md, and shares nothing with the store. It stands beside the gate."""
 import argparse
 import os
@@ -636,15 +636,18 @@ def roots_of(entries):
     return [root for it in entries for root in (it.current, it.base)]
 
 
+def lacks_sum(disk, block):
+    """Whether the file has zero in the place of the sum of a block in front of the data."""
+    return block < FIRST and not any(disk[block][place_of(block) :][:4])
+
+
 def refusal(disk, is_whole):
     """What opening a file of these blocks is answered, if it is refused: a whole opening, which reads every block, or
     one for lines."""
+    script = "tools/upgrade.py OLD NEW carries it over"
     if len(disk) < LEAST or disk[0] != header(3):
         is_earlier = disk[0] in (header(1), header(2))
-        return (
-            "19 NotAStore"
-            + "\naltctl: the file is of an earlier format: tools/upgrade.py OLD NEW carries it over" * is_earlier
-        )
+        return "19 NotAStore" + f"\naltctl: the file is of an earlier format: {script}" * is_earlier
     try:
         blocks, entries = slot_in(disk, 18 if disk[1][0] & 1 else 2)
         if blocks > len(disk):
@@ -656,7 +659,9 @@ def refusal(disk, is_whole):
         for root in filter(None, roots_of(entries)):
             walk.visit(root, None)
     except Damaged as damaged:
-        return f"18 Damaged {damaged.args[0]}"
+        block = damaged.args[0]
+        told = f"\naltctl: the file has no checksums: {script}" * lacks_sum(disk, block)
+        return f"18 Damaged {block}{told}"
     return None
 
 
@@ -720,18 +725,18 @@ def spoiled_text(rng, block, text, other):
 
 def spoiled(rng, disk):
     """The blocks of a file, of which some are spoiled, or that is cut off. Most of those have the sum of their new
-    bytes, so that nothing but their form is wrong."""
+    bytes, so that nothing but their form is wrong; others keep the old sum, or have none."""
     disk = list(disk)
     if rng.random() < 0.05:
         return disk[: rng.choice([20, 63, len(disk) - 1])]
     used = [0, 1, 2, 2, 18, 18, *(it for it in range(FIRST, len(disk)) if any(disk[it]))]
     for _ in range(rng.choice([1, 1, 2])):
-        block, other = rng.choice(used), rng.choice(used)
-        if rng.random() < 0.75:
-            text = spoiled_text(rng, block, exchanged(block, disk[block]), exchanged(other, disk[other]))
-            disk[block] = exchanged(block, text)
-        else:
+        block, other, draw = rng.choice(used), rng.choice(used), rng.random()
+        if draw < 0.15:
             disk[block] = spoiled_text(rng, block, disk[block], disk[other])
+        else:
+            text = spoiled_text(rng, block, exchanged(block, disk[block]), exchanged(other, disk[other]))
+            disk[block] = text if draw < 0.25 else exchanged(block, text)
     return disk
 
 

@@ -131,11 +131,18 @@ class Trees:
         """The block by which the program names a damaged one: of a slot, the first."""
         return self.slot if block in self.slot_blocks else block
 
-    def refusal(self, damaged):
-        """What a check says of damaged blocks on the standard error, or None if it accepts the file. It names the first
-        one that it meets. Here is the one place to change once it names all of them."""
+    def refusal(self, text, damaged):
+        """What a check says of a file of these bytes on the standard error, or None if it accepts it: it names the
+        first one of the damaged blocks that it meets. Here is the one place to change once it names all of them."""
         found = [self.named(it) for it in self.met if it in damaged]
-        return f"altctl: 18 Damaged {found[0]}\n" if found else None
+        return refused_by(text, found[0]) if found else None
+
+
+def refused_by(text, block):
+    """What an opening says on the standard error of a damaged block, and of a slot's first one that has no sum."""
+    told = "altctl: the file has no checksums: tools/upgrade.py OLD NEW carries it over\n"
+    lacks_sum = block < FIRST and not any(bytes_of(text, block)[place_of(block) :][:4])
+    return f"altctl: 18 Damaged {block}\n" + told * lacks_sum
 
 
 class Question(NamedTuple):
@@ -304,12 +311,12 @@ def answers_in(output, questions):
     expect("nothing follows the answers", [], [*lines])
 
 
-def try_session(program, file, made, blocks, count):
-    """Asks all questions over a damaged file."""
+def try_session(program, file, made, text, blocks, count):
+    """Asks all questions over a file of these bytes, of which these blocks are damaged."""
     lines = "".join(f"{it.line}\n" for it in made.questions)
     ran = subprocess.run([program, "run", file], input=lines, capture_output=True, text=True, timeout=60)
     if blocks & made.trees.opening:
-        due = {f"altctl: 18 Damaged {made.trees.named(it)}\n" for it in blocks & made.trees.opening}
+        due = {refused_by(text, made.trees.named(it)) for it in blocks & made.trees.opening}
         expect("an opening: status and output", (1, ""), (ran.returncode, ran.stdout))
         expect(f"an opening: one of {sorted(due)}", True, ran.stderr in due)
         count["sessions that were not opened"] += 1
@@ -336,10 +343,10 @@ def try_file(program, file, made, way, is_broken, count):
     with open(file, "wb") as it:
         it.write(text)
     try:
-        refusal = made.trees.refusal(blocks)
+        refusal = made.trees.refusal(text, blocks)
         due = (1, "", refusal) if refusal else (0, made.checked, "")
         expect("a check", due, started(program, "check", file))
-        try_session(program, file, made, blocks, count)
+        try_session(program, file, made, text, blocks, count)
     except Failure as failure:
         with open("damaged.alt", "wb") as it:
             it.write(text)

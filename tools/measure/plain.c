@@ -56,6 +56,7 @@ static const char *const refusal_names[] = {
 
 static jmp_buf refused;
 static int refusal;
+static uint32_t damaged_block;
 static char refusal_text[96];
 
 /* Ends a line, or an opening, with a refusal, and what it tells beside its name. */
@@ -77,6 +78,7 @@ __attribute__((noreturn)) static void refuse(int number)
 
 __attribute__((noreturn)) static void damaged(uint32_t block)
 {
+    damaged_block = block;
     refuse_with(DAMAGED, " %u", block);
 }
 
@@ -218,6 +220,14 @@ static void write_file(uint32_t block, const byte *from, uint32_t count)
         exchange_sum(block + i, with_sums + i * BLOCK);
     if (pwrite(file, with_sums, size, (off_t)block * BLOCK) != (ssize_t)size)
         refuse(DEVICE);
+}
+
+/* Whether the file has zero in the place of the sum of a block in front of the data. */
+static bool lacks_sum(uint32_t block)
+{
+    byte place[4];
+    return block < FIRST && pread(file, place, sizeof place, (off_t)block * BLOCK + SLOT_SUM) == sizeof place
+        && is_zero(place, sizeof place);
 }
 
 static void sync_file(void)
@@ -1974,6 +1984,8 @@ static void open_file(const char *name, int how, bool is_whole)
         fprintf(stderr, "altctl: %s\n", refusal_text);
         if (is_earlier)
             fputs("altctl: the file is of an earlier format: tools/upgrade.py OLD NEW carries it over\n", stderr);
+        else if (refusal == DAMAGED && lacks_sum(damaged_block))
+            fputs("altctl: the file has no checksums: tools/upgrade.py OLD NEW carries it over\n", stderr);
         exit(1);
     }
     open_store(is_whole);
