@@ -192,7 +192,7 @@ class Made:
     def gets(self, word):
         """Gets of keys of a version, and of one that it may lack."""
         keys = sorted(self.store.version(word))
-        return [["get", word, it] for it in [*self.chance.sample(keys, 4), (8, 1)]]
+        return [["get", word, it] for it in [*self.chance.sample(keys, min(4, len(keys))), (8, 1)]]
 
     def asked(self):
         """Questions before any merge."""
