@@ -82,7 +82,7 @@ else
     try 300 faults/kill.py "$tools/../altctl" 60
     try 300 faults/kill_copy.py
     try 600 faults/crashes.py
-    try 1800 faults/damage.py
+    try 900 faults/damage.py
     try 600 faults/largest.py
     try 300 faults/space.py
     try 600 faults/failing_device.py
