@@ -8,7 +8,8 @@ block has the bytes of another one, two blocks have changed places, a block is z
 those from before the last commit. A check has to name the first damaged block that it meets, if the slot in use or its
 trees have one, and else to say what it says of the store. Each line of a session, merges among them, has to be answered
 as over the undamaged file, or `error 18 Damaged` with a damaged block, if a version that it names has one. What is in
-use is found by a walk over the bytes of the file; the answers are those of the model of `tools/faults/compare.py`.
+use is found by a walk over the bytes of the file; the answers are those of the model of `tools/faults/compare.py`,
+which has to make the same file.
 
 A whole older block with its number is not among the damages: a sum does not tell it. With `--broken` each damaged block
 gets the sum of its new bytes, so the script has to fail. With `--plain` only lines come that `tools/measure/plain.c`
@@ -76,11 +77,8 @@ def typed(words):
     verb, *rest = words
     if verb == "merge":
         return " ".join([verb, rest[0], *(f"{key[0]}:{key[1]}={side}" for key, side in rest[1])])
-    return " ".join(spelled(it) if isinstance(it, bytes) else str(it) for word in words for it in parts(word))
-
-
-def parts(word):
-    return word if isinstance(word, tuple) else (word,)
+    flat = (it for word in words for it in (word if isinstance(word, tuple) else (word,)))
+    return " ".join(spelled(it) if isinstance(it, bytes) else str(it) for it in flat)
 
 
 def carried_out(program, file, store, lines):
@@ -113,7 +111,7 @@ class Trees:
         self.opening = {*self.slot_blocks, *self.roots, *(it for it in self.met if self.is_node(it))}
 
     def is_node(self, block):
-        return block >= FIRST and self.text[block * BLOCK :][:4] == b"NODE"
+        return block >= FIRST and bytes_of(self.text, block)[:4] == b"NODE"
 
     def visit(self, block, met):
         """Adds a block and all that lies under it to those that were met."""
@@ -301,14 +299,15 @@ def give_sums(text, blocks):
 
 def answers_in(output, questions):
     """The answers of the questions, each as a text."""
-    lines = iter(output.splitlines())
+    lines, answers = iter(output.splitlines()), []
     for it in questions:
         found = [next(lines, "")]
         if it.line.split()[0] in ("list", "alts", "checks", "changes"):
             while found[-1] and not found[-1].startswith(("end ", "error ")):
                 found.append(next(lines, ""))
-        yield "\n".join(found)
-    expect("nothing follows the answers", [], [*lines])
+        answers.append("\n".join(found))
+    expect("what follows the answers", [], [*lines])
+    return answers
 
 
 def try_session(program, file, made, text, blocks, count):
@@ -347,7 +346,7 @@ def try_file(program, file, made, way, is_broken, count):
         due = (1, "", refusal) if refusal else (0, made.checked, "")
         expect("a check", due, started(program, "check", file))
         try_session(program, file, made, text, blocks, count)
-    except Failure as failure:
+    except (Failure, subprocess.TimeoutExpired) as failure:
         with open("damaged.alt", "wb") as it:
             it.write(text)
         raise Failure(f"{way}, blocks {sorted(blocks)}, left as damaged.alt: {failure}") from None
@@ -381,9 +380,9 @@ def main():
     if not said.program:
         build_program()
     program = os.path.abspath(said.program or PROGRAM)
-    each = min(COPIES, -(-said.files // WORKERS))
-    parts = [min(each, said.files - done) for done in range(0, said.files, each)]
-    tasks = [(program, seed, files, said.plain, said.broken) for seed, files in enumerate(parts, said.seed)]
+    each = max(1, min(COPIES, -(-said.files // WORKERS)))
+    sizes = [min(each, said.files - done) for done in range(0, said.files, each)]
+    tasks = [(program, seed, files, said.plain, said.broken) for seed, files in enumerate(sizes, said.seed)]
     count = Counter()
     with multiprocessing.Pool(WORKERS) as pool:
         for found in pool.imap_unordered(try_store, tasks):
