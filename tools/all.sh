@@ -54,6 +54,7 @@ try 300 gate/test_words.py
 try 300 gate/python.sh
 try 300 gate/manual.py --check
 try 900 gate/documents.py
+try 300 test_sums.py
 try 300 test_upgrade.py
 try 900 gate/session.sh
 try 600 ../clients/python/test_altctl.py
@@ -67,6 +68,7 @@ if [ -n "$quick" ]; then
     try 600 faults/kill.py "$tools/../altctl" 8
     try 300 faults/kill_copy.py "$tools/../altctl" 20
     try 600 faults/crashes.py -n 1
+    try 300 faults/damage.py --files 300
     try 600 ../desk/test_altserve.py StoreTests
     try 600 faults/kill_service.py "$tools/../altctl" 2
     try 600 ../desk/test_altgis.py InterruptionTests
@@ -80,6 +82,7 @@ else
     try 300 faults/kill.py "$tools/../altctl" 60
     try 300 faults/kill_copy.py
     try 600 faults/crashes.py
+    try 900 faults/damage.py
     try 600 faults/largest.py
     try 300 faults/space.py
     try 600 faults/failing_device.py

@@ -1,10 +1,12 @@
 #!/usr/bin/env python3
 """Tests of `tools/upgrade.py`: `tools/test_upgrade.py`. What an upgraded store has to show is what the model of
-`tools/faults/compare.py`, which shares nothing with it, shows after the lines that made the old one.
+`tools/faults/compare.py`, which shares nothing with it but the sums in blocks, shows after the lines that made the old
+one.
 
 `old-stores/format-2.alt.gz` was made by the last program that wrote format 2, by the lines of `lines_of(2)`, and
 `old-stores/format-1.alt.gz` by the C program of commit 775ff4e3 (`tools/plain.c`), which wrote format 1 like the
-program of its day, by those of `lines_of(1)`; both over 200 blocks."""
+program of its day, by those of `lines_of(1)`; `old-stores/format-3.alt.gz` by the last program without checksums, by
+those of `lines_of(3)`, without waiting blocks; all over 200 blocks."""
 import fcntl
 import gzip
 import os
@@ -30,8 +32,8 @@ LAST = 2**64 - 1
 
 
 def lines_of(form):
-    """The lines of an old store, each as words of the model. Values of more than 240 bytes are of format 2."""
-    longest = 4000 if form == 2 else 240
+    """The lines of an old store, each as words of the model. Format 1 has no values of more than 240 bytes."""
+    longest = 240 if form == 1 else 4000
     values = [b"", b"-", b"%", bytes(range(60)), b"v" * 240, b"w" * min(241, longest), b"x" * longest]
     few = [(table, number) for table in (0, 1, 65535) for number in (0, 5, 256, LAST)]
     many = [(7, number) for number in range(400)]
@@ -157,6 +159,13 @@ class UpgradeTests(unittest.TestCase):
         text = self.upgraded(2)
         self.assertEqual((b"ALTSTORE\3\0\0\0", BLOCKS * BLOCK), (text[:12], len(text)))
 
+    def test_a_store_of_format_3_without_checksums_gets_them(self):
+        text = self.upgraded(3)
+        self.assertTrue(text == b"".join(model_of(3).disk), "the new file has other bytes than the model")
+        self.assertNotEqual(text, unpacked(3))
+        os.replace(self.new, self.old)
+        self.refused(f"upgrade: {self.old}: its blocks have their checksums already\n")
+
     def test_the_old_stores_are_of_the_formats_that_they_are_named_for(self):
         for form in (1, 2):
             text = unpacked(form)
@@ -164,20 +173,28 @@ class UpgradeTests(unittest.TestCase):
             self.assertEqual((b"ALTSTORE\1\0\0\0", b"SLOT" + bytes([form])), (text[:12], text[slot * BLOCK :][:5]))
         letters = {text[at : at + 4] for text in (unpacked(2),) for at in range(34 * BLOCK, len(text), BLOCK)}
         self.assertEqual({b"LEAF", b"LEF2", b"LONG", b"NODE", bytes(4)}, letters)
+        text = unpacked(3)
+        heads = [text[at : at + 16] for at in range(34 * BLOCK, len(text), BLOCK)]
+        self.assertEqual(b"ALTSTORE\3\0\0\0", text[:12])
+        self.assertEqual({b"LEF3", b"NODE", bytes(4)}, {it[:4] for it in heads})
+        self.assertEqual({bytes(4)}, {it[12:] for it in heads})
+        self.assertEqual({bytes(4)}, {text[at + 124 : at + 128] for at in range(2 * BLOCK, 34 * BLOCK, BLOCK)})
 
     def test_bytes_behind_the_blocks_of_a_store_are_left_out(self):
-        self.write(unpacked(2) + b"\1" * (BLOCK + 5))
-        self.assertEqual(0, self.upgrade()[0])
-        self.assertEqual(BLOCKS * BLOCK, len(read(self.new)))
-        self.assertEqual(0o600, stat.S_IMODE(os.stat(self.new).st_mode))
+        for form in (2, 3):
+            self.write(unpacked(form) + b"\1" * (BLOCK + 5))
+            self.assertEqual(0, self.upgrade()[0])
+            self.assertEqual(BLOCKS * BLOCK, len(read(self.new)))
+            self.assertEqual(0o600, stat.S_IMODE(os.stat(self.new).st_mode))
+            os.remove(self.new)
 
-    def damaged(self, form, said, at, *values):
+    def damaged(self, form, said, at, *values, by_program=False):
         """Refuses the old store with these bytes there."""
         text = bytearray(unpacked(form))
         text[at : at + len(values)] = bytes(values)
         self.assertNotEqual(text, unpacked(form))
         self.write(text)
-        self.refused(f"upgrade: {self.old}: {said}\n")
+        self.refused(f"altctl: {said}\n" if by_program else f"upgrade: {self.old}: {said}\n")
 
     def test_a_damaged_store_is_refused_with_the_block(self):
         text = unpacked(2)
@@ -224,6 +241,22 @@ class UpgradeTests(unittest.TestCase):
         # Format 1 knew no long values.
         self.damaged(2, f"18 Damaged {linked // BLOCK}", slot * BLOCK + 4, 1)
 
+    def test_a_damaged_store_without_checksums_is_refused_with_the_block(self):
+        text = unpacked(3)
+        slot, reached = 18 if text[BLOCK] & 1 else 2, self.reached(text)
+        for at, value in ((0, ord("s")), (4, 2), (8, 63), (11, 255), (124, 1), (127, 1)):
+            self.damaged(3, f"18 Damaged {slot}", slot * BLOCK + at, value)
+        self.damaged(3, "21 BadSize", slot * BLOCK + 8, 201)
+        # In the first entry, in one of the second block, and in the place of its sum.
+        for at in (128, BLOCK + 35, BLOCK + 124):
+            self.damaged(3, f"18 Damaged {slot}", slot * BLOCK + at, 1, by_program=True)
+        kinds = {text[it * BLOCK :][:4]: it for it in reversed(reached)}
+        # The head of an inner block; that of a leaf, and its first key, which is not the one that stands above.
+        for kind, places in ((b"NODE", (3, 8, 12, 15)), (b"LEF3", (3, 8, 12, 15, 18))):
+            block = kinds[kind]
+            for place in (block * BLOCK + at for at in places):
+                self.damaged(3, f"18 Damaged {block}", place, text[place] ^ 1, by_program=True)
+
     @staticmethod
     def reached(text):
         """The blocks of the trees of top's records, in the order in which they are found."""
@@ -246,10 +279,11 @@ class UpgradeTests(unittest.TestCase):
         self.refused("19 NotAStore")
         self.write(unpacked(2)[: 63 * BLOCK])
         self.refused("19 NotAStore")
-        self.write(unpacked(2)[: 199 * BLOCK])
-        self.refused("21 BadSize")
+        for form in (2, 3):
+            self.write(unpacked(form)[: 199 * BLOCK])
+            self.refused("21 BadSize")
         self.write(b"".join(Store(64).disk))
-        self.refused("it is of format 3 already")
+        self.refused("its blocks have their checksums already")
 
     def test_names_that_are_there_and_a_store_in_use_are_refused(self):
         self.write(unpacked(1))
@@ -277,6 +311,9 @@ class UpgradeTests(unittest.TestCase):
         for said, text in programs.items():
             with self.subTest(said):
                 self.refused(said, script(os.path.join(self.folder, "program"), text))
+        self.write(unpacked(3))
+        self.refused("No such file", os.path.join(self.folder, "nothing"))
+        self.refused("status 3", script(os.path.join(self.folder, "program"), "exit 3"))
 
     def test_a_store_that_differs_is_refused(self):
         self.write(unpacked(2))
@@ -294,9 +331,9 @@ class UpgradeTests(unittest.TestCase):
                 self.refused(said, script(os.path.join(self.folder, "program"), text))
 
     def test_nothing_is_left_if_it_is_ended(self):
-        self.write(unpacked(2))
         slow = script(os.path.join(self.folder, "program"), '[ "$1" = create ] && exec "$program" "$@"\nexec sleep 60')
-        for number in (signal.SIGTERM, signal.SIGINT):
+        for number, form in ((signal.SIGTERM, 2), (signal.SIGINT, 2), (signal.SIGTERM, 3)):
+            self.write(unpacked(form))
             ran = subprocess.Popen([UPGRADE, self.old, self.new, slow], stdout=subprocess.PIPE, stderr=subprocess.PIPE)
             part, late = f"{self.new}.part", time.monotonic() + 60
             while not (os.path.exists(part) and os.path.getsize(part) == BLOCKS * BLOCK) and time.monotonic() < late:

@@ -1,13 +1,14 @@
 #!/usr/bin/env python3
-"""Makes a store of format 3 of one of format 1 or 2: `tools/upgrade.py OLD NEW [ALTCTL]`.
+"""Makes a store of one of format 1 or 2, or of format 3 without checksums: `tools/upgrade.py OLD NEW [ALTCTL]`.
 
 NEW has the alternatives, bases and checkpoints of OLD with the same records, and as many blocks, or more if it needs
-them. OLD is only read, and locked meanwhile. It is read by this script; NEW is made by lines that `altctl run` gets,
-and in the end compared with OLD as a whole. Until then its name is NEW.part. If anything fails, neither is left, and
-the status is 1; a damaged OLD is refused with the number of the block, as `18 Damaged 34`.
+them. OLD is only read, and locked meanwhile. One of format 1 or 2 is read by this script; NEW is made by lines that
+`altctl run` gets, and in the end compared with OLD as a whole. Of one of format 3 NEW gets the same blocks with their
+sums, and `altctl check` has to accept it. Until then its name is NEW.part. If anything fails, neither is left, and the
+status is 1; a damaged OLD is refused with the number of the block, as `18 Damaged 34`.
 
-How the old formats lie in a file, if it is not said otherwise in docs/FORMATS.md of format 3, which has the same
-selector, slots and inner blocks:
+How formats 1 and 2 lie in a file, if it is not said otherwise in docs/FORMATS.md of format 3, which has the same
+selector, slots and inner blocks, but for the sums:
 
     header        ALTSTORE, u32 1, u32 4096, then zero
     slot          u32 format 1 or 2 in its first cell
@@ -32,6 +33,9 @@ import subprocess
 import sys
 import tempfile
 from typing import BinaryIO, Dict, Iterable, Iterator, List, NamedTuple, Optional, Tuple, Union
+
+sys.dont_write_bytecode = True
+from sums import exchanged, place_of, sum_of
 
 BLOCK, FIRST, LEAST, MOST = 4096, 34, 64, 1 << 26
 HEAD, ROW, ROWS, SHORT, LONGEST, LONG_HEAD = 16, 252, 16, 240, 4000, 26
@@ -97,34 +101,43 @@ def version_in(cell: bytes, earlier: List[Version]) -> Optional[Version]:
     return Version(is_alternative, name, owner, current, base)
 
 
-class Old:
-    """The store in a file of format 1 or 2. It is verified as a whole before anything is taken from it."""
-
-    # In `met`: that a block was not met yet, or is that of a long value; else it has the level and 1.
-    UNMET, LONG = 0, 255
+class Blocks:
+    """The blocks of a file that a store may be in."""
 
     def __init__(self, file: BinaryIO):
-        self.file, size = file.fileno(), file.seek(0, os.SEEK_END) // BLOCK
-        if size < LEAST:
+        self.file, self.size = file.fileno(), file.seek(0, os.SEEK_END) // BLOCK
+        if self.size < LEAST:
             raise Fault("19 NotAStore")
-        if self.block(0) == header(3):
-            raise Fault("it is of format 3 already")
-        if self.block(0) != header(1):
-            raise Fault("19 NotAStore")
-        self.format, self.blocks, self.versions = self.slot(18 if self.block(1)[0] & 1 else 2)
-        if self.blocks > size:
-            raise Fault("21 BadSize")
-        self.met = bytearray(self.blocks)
-        for version in self.versions:
-            for root in (version.current, version.base):
-                if root:
-                    self.verify(root, None)
 
     def block(self, number: int) -> bytes:
         text = os.pread(self.file, BLOCK, number * BLOCK)
         if len(text) != BLOCK:
             raise Fault(f"block {number} cannot be read")
         return text
+
+    def slot_in_use(self) -> int:
+        """The first block of the slot that the selector names."""
+        return 18 if self.block(1)[0] & 1 else 2
+
+
+class Old:
+    """The store in a file of format 1 or 2. It is verified as a whole before anything is taken from it."""
+
+    # In `met`: that a block was not met yet, or is that of a long value; else it has the level and 1.
+    UNMET, LONG = 0, 255
+
+    def __init__(self, found: Blocks):
+        self.block = found.block
+        if self.block(0) != header(1):
+            raise Fault("19 NotAStore")
+        self.format, self.blocks, self.versions = self.slot(found.slot_in_use())
+        if self.blocks > found.size:
+            raise Fault("21 BadSize")
+        self.met = bytearray(self.blocks)
+        for version in self.versions:
+            for root in (version.current, version.base):
+                if root:
+                    self.verify(root, None)
 
     def slot(self, first: int) -> Tuple[int, int, List[Version]]:
         """The format, the number of blocks and the entries of the slot that begins with a block."""
@@ -265,6 +278,34 @@ class Old:
                 yield key, old, new
             mine = next(before, None) if old is not None else mine
             theirs = next(after, None) if new is not None else theirs
+
+
+class Unsummed:
+    """The store in a file of format 3 whose blocks have no sums. The program verifies it, once they have them."""
+
+    def __init__(self, found: Blocks):
+        self.block, first = found.block, found.slot_in_use()
+        head, at = self.block(first), place_of(first)
+        form, self.blocks = struct.unpack_from("<II", head, 4)
+        stored, = struct.unpack_from("<I", head, at)
+        if stored and stored == sum_of(first, head):
+            raise Fault("its blocks have their checksums already")
+        if stored or head[:4] != b"SLOT" or form != 3 or not LEAST <= self.blocks <= MOST:
+            raise damaged(first)
+        if self.blocks > found.size:
+            raise Fault("21 BadSize")
+
+    def copy(self, part: str) -> None:
+        """Writes the blocks with their sums into a new file. One of zero bytes becomes a hole: no version has it."""
+        with open(os.open(part, os.O_WRONLY | os.O_CREAT | os.O_EXCL, 0o600), "wb") as new:
+            for number in range(self.blocks):
+                text = self.block(number)
+                if text != ZEROS:
+                    new.seek(number * BLOCK)
+                    new.write(exchanged(number, text))
+            new.truncate(self.blocks * BLOCK)
+            new.flush()
+            os.fsync(new.fileno())
 
 
 # --- the lines that make the new store
@@ -456,6 +497,24 @@ def compare(altctl: str, old: Old, part: str) -> None:
                 raise Fault(f"the new store differs: {str(answer)[:100]} in place of {str(due)[:100]}")
 
 
+def carry_over(altctl: str, old: Old, part: str) -> Tuple[int, int]:
+    """Makes the new store of one of format 1 or 2, and gives how many alternatives and checkpoints it has."""
+    make(altctl, old, part)
+    compare(altctl, old, part)
+    alternatives = sum(it.is_alternative for it in old.versions)
+    return alternatives, len(old.versions) - alternatives
+
+
+def give_sums(altctl: str, old: Unsummed, part: str) -> Tuple[int, int]:
+    """The same of one of format 3. A refusal of the new blocks is one of the old ones, which have the same numbers."""
+    old.copy(part)
+    with tempfile.TemporaryFile() as answers:
+        run([altctl, "check", part], [], answers)
+        answers.seek(0)
+        alternatives, checkpoints, _ = (int(line.split()[1]) for line in answers)
+    return alternatives, checkpoints
+
+
 def name_whole(part: str, new: str) -> None:
     """Gives the new store its name, if nothing has that meanwhile."""
     try:
@@ -486,15 +545,14 @@ def upgrade(old_name: str, new_name: str, altctl: str) -> str:
             if os.path.lexists(name):
                 raise Fault(f"{name} is there")
         try:
-            old = Old(file)
+            found = Blocks(file)
+            old = Unsummed(found) if found.block(0) == header(3) else Old(found)
         except Fault as fault:
             raise Fault(f"{old_name}: {fault}") from None
         undone.callback(lambda: os.path.lexists(part) and os.remove(part))
-        make(altctl, old, part)
-        compare(altctl, old, part)
+        done = give_sums(altctl, old, part) if isinstance(old, Unsummed) else carry_over(altctl, old, part)
         name_whole(part, new_name)
-        alternatives = sum(it.is_alternative for it in old.versions)
-        return f"upgraded: {alternatives} alternatives, {len(old.versions) - alternatives} checkpoints"
+        return "upgraded: {} alternatives, {} checkpoints".format(*done)
 
 
 def end(number: int, _: object) -> None:
@@ -503,9 +561,10 @@ def end(number: int, _: object) -> None:
 
 def main() -> int:
     words = argparse.ArgumentParser(description=__doc__.split("\n")[0].split(":")[0])
-    words.add_argument("old", metavar="OLD", help="the store of format 1 or 2, which is only read")
+    older = "the store of format 1 or 2, or of format 3 without checksums, which is only read"
+    words.add_argument("old", metavar="OLD", help=older)
     words.add_argument("new", metavar="NEW", help="the file of the new store, which must not exist")
-    words.add_argument("altctl", metavar="ALTCTL", nargs="?", help="the program of format 3")
+    words.add_argument("altctl", metavar="ALTCTL", nargs="?", help="the program, which has checksums")
     said = words.parse_args()
     for number in ENDING:
         signal.signal(number, end)

@@ -5,7 +5,8 @@ after each session: `tools/faults/compare.py [-n FILES] [-s SEED] [--plain] [ALT
 Of the file every byte is compared where no written block waits (half of the files), and else those of header, slots and
 each block that a committed version reaches, since blocks that nobody needs are not written then. Now and then the file
 is copied to another size, after a session or between two of its lines, and each byte of the copy is compared. At the
-end it spoils bytes of the file, and compares what a check and an opening for lines are answered. The model goes by
+end it spoils bytes of the file, and compares what a check and an opening for lines are answered. Most spoiled blocks
+get the sum of their new bytes, so that their form alone tells; others keep the old one, or have none. The model goes by
 docs/MODEL.md and docs/FORMATS.md, and shares nothing with the store. It stands beside the gate."""
 import argparse
 import os
@@ -16,6 +17,10 @@ import sys
 import tempfile
 import time
 from itertools import accumulate
+
+sys.dont_write_bytecode = True
+sys.path.insert(0, os.path.join(os.path.dirname(os.path.abspath(__file__)), ".."))
+from sums import exchanged, place_of
 
 BLOCK, FIRST = 4096, 34
 LEAST, MOST = 64, 1 << 26
@@ -103,28 +108,29 @@ def header(version):
 
 
 class Store:
-    """A file: blocks are bytes, and trees are decoded from them anew for each use. The file may have more blocks than
-    the store, which has as many as the last commit said, and in a session those of its growths."""
+    """A file: blocks are bytes with their sums, and trees are decoded from them anew for each use. The file may have
+    more blocks than the store, which has as many as the last commit said, and in a session those of its growths."""
 
     def __init__(self, blocks):
         self.disk, self.kept, self.blocks = [bytes(BLOCK)] * blocks, blocks, blocks
-        self.disk[2] = self.slot_blocks([Alternative(b"A", "top", "", 0, 0)])[0]
+        self.write_slot(2, [Alternative(b"A", "top", "", 0, 0)])
         self.disk[0] = header(3)
 
     # --- the slots
 
-    def slot_blocks(self, entries):
+    def write_slot(self, slot, entries):
         head = b"SLOT" + struct.pack("<III", 3, self.blocks, len(entries))
         text = head.ljust(128, b"\0") + b"".join(it.encoded() for it in entries)
-        text = text.ljust((len(entries) + 32) // 32 * BLOCK, b"\0")
-        return [text[at : at + BLOCK] for at in range(0, len(text), BLOCK)]
+        for at in range(0, len(text), BLOCK):
+            block = slot + at // BLOCK
+            self.disk[block] = exchanged(block, text[at : at + BLOCK].ljust(BLOCK, b"\0"))
 
     def open(self):
         """What a session begins with."""
         slot = 18 if self.disk[1][0] & 1 else 2
         self.kept, count = struct.unpack_from("<II", self.disk[slot], 8)
         self.blocks = self.kept
-        text = b"".join(self.disk[slot : slot + 16])
+        text = slot_text(self.disk, slot, count)
         self.working = []
         for at in range(128, 128 * (count + 1), 128):
             name = text[at + 2 : at + 2 + text[at + 1]].decode()
@@ -135,8 +141,7 @@ class Store:
 
     def commit(self):
         slot = 2 if self.disk[1][0] & 1 else 18
-        for at, block in enumerate(self.slot_blocks(self.working)):
-            self.disk[slot + at] = block
+        self.write_slot(slot, self.working)
         self.disk[1] = bytes([1 if slot == 18 else 0]).ljust(BLOCK, b"\0")
         self.committed, self.kept = [it.copy() for it in self.working], self.blocks
 
@@ -150,9 +155,9 @@ class Store:
 
     def decoded(self, block):
         """The level of a block, and its records or its children: keys with values, or with blocks."""
-        text = self.disk[block]
-        level, count = struct.unpack_from("<II", text, 4)
-        assert text[:4] == (b"NODE" if level else b"LEF3")
+        text = exchanged(block, self.disk[block])
+        level, count, zero = struct.unpack_from("<III", text, 4)
+        assert text[:4] == (b"NODE" if level else b"LEF3") and not zero
         return level, (children_in if level else records_in)(text, count)
 
     def take(self):
@@ -164,7 +169,7 @@ class Store:
     def write(self, level, items):
         """Writes items into the lowest block that isn't held, and gives their first key, and the block."""
         block = self.take()
-        self.disk[block] = node_of(level, items) if level else leaf_of(items)
+        self.disk[block] = exchanged(block, node_of(level, items) if level else leaf_of(items))
         return items[0][0], block
 
     def write_divided(self, level, children):
@@ -257,8 +262,7 @@ class Store:
         for it in copy.working:
             it.current = self.copy_under(it.current, copy, numbers)
             it.base = self.copy_under(it.base, copy, numbers)
-        for at, block in enumerate(copy.slot_blocks(copy.working), 2):
-            copy.disk[at] = block
+        copy.write_slot(2, copy.working)
         return copy
 
     def copy_under(self, root, copy, numbers):
@@ -501,15 +505,20 @@ def name_in(text, size, least):
     return text[:size].decode()
 
 
+def slot_text(disk, slot, count):
+    """What the blocks of a slot with so many entries show."""
+    return b"".join(exchanged(it, disk[it]) for it in range(slot, slot + (count + 32) // 32))
+
+
 def slot_in(disk, slot):
     """The number of blocks and the entries of a slot, where it is one."""
-    head = disk[slot][:128]
+    head = slot_text(disk, slot, 1)[:128]
     form, blocks, count = struct.unpack_from("<III", head, 4)
     if head[:4] != b"SLOT" or form != 3 or any(head[16:]):
         raise Damaged(slot)
     if not LEAST <= blocks <= MOST or not 1 <= count <= 511:
         raise Damaged(slot)
-    text, entries = b"".join(disk[slot : slot + (count + 32) // 32]), []
+    text, entries = slot_text(disk, slot, count), []
     for at in range(128, 128 * (count + 1), 128):
         it, is_top = text[at : at + 128], at == 128
         name, owner = name_in(it[2:34], it[1], 1), name_in(it[35:67], it[34], 0 if is_top else 1)
@@ -554,7 +563,7 @@ class Walk:
 
     def items(self, block):
         """The level and the items of a block: records or children."""
-        text = self.disk[block]
+        text = exchanged(block, self.disk[block])
         level, count, zero = struct.unpack_from("<III", text, 4)
         if zero or not (
             text[:4] == b"LEF3" and level == 0 and is_leaf(text, count)
@@ -627,15 +636,18 @@ def roots_of(entries):
     return [root for it in entries for root in (it.current, it.base)]
 
 
+def lacks_sum(disk, block):
+    """Whether the file has zero in the place of the sum of a block in front of the data."""
+    return block < FIRST and not any(disk[block][place_of(block) :][:4])
+
+
 def refusal(disk, is_whole):
     """What opening a file of these blocks is answered, if it is refused: a whole opening, which reads every block, or
     one for lines."""
+    script = "tools/upgrade.py OLD NEW carries it over"
     if len(disk) < LEAST or disk[0] != header(3):
         is_earlier = disk[0] in (header(1), header(2))
-        return (
-            "19 NotAStore"
-            + "\naltctl: the file is of an earlier format: tools/upgrade.py OLD NEW carries it over" * is_earlier
-        )
+        return "19 NotAStore" + f"\naltctl: the file is of an earlier format: {script}" * is_earlier
     try:
         blocks, entries = slot_in(disk, 18 if disk[1][0] & 1 else 2)
         if blocks > len(disk):
@@ -647,7 +659,9 @@ def refusal(disk, is_whole):
         for root in filter(None, roots_of(entries)):
             walk.visit(root, None)
     except Damaged as damaged:
-        return f"18 Damaged {damaged.args[0]}"
+        block = damaged.args[0]
+        told = f"\naltctl: the file has no checksums: {script}" * lacks_sum(disk, block)
+        return f"18 Damaged {block}{told}"
     return None
 
 
@@ -682,36 +696,47 @@ def spoiled_place(rng, text):
     return min(place, BLOCK - 1)
 
 
+def spoiled_text(rng, block, text, other):
+    """The bytes of a block with some of them changed where they count, now and then those of another block."""
+    text = bytearray(text)
+    places = [rng.randrange(16), rng.randrange(128, 256), rng.randrange(300), rng.randrange(BLOCK)]
+    at = rng.choice([*places, place_of(block) + rng.randrange(4)])
+    if block >= FIRST and rng.random() < 0.3:
+        return other
+    if block == 0 and rng.random() < 0.3:
+        return header(rng.choice([1, 1, 2, 4]))
+    if text[:4] == b"NODE" and rng.random() < 0.6:
+        at = 16 + 14 * rng.randrange(count_in(text, 256)) + rng.choice([2, 10, 10, 11])
+        text[at] = rng.choice([0, 1, 33, 34, 35, rng.randrange(256)])
+    elif text[:4] == b"LEF3" and rng.random() < 0.7:
+        at = spoiled_place(rng, text)
+        text[at] = rng.choice(
+            [0, 1, 15, 16, 255, text[at] ^ 1, (text[at] + 1) % 256, text[at] - 1 & 255, rng.randrange(256)]
+        )
+    elif block in (2, 18) and rng.random() < 0.2:
+        text[4] = rng.choice([0, 1, 2, 4, 255])
+    elif block in (2, 18) and rng.random() < 0.4:
+        at = 128 * rng.randrange(1, 6) + rng.choice([0, 1, 2, 34, 35, 67, 67, 71, 71])
+        text[at] = rng.choice([0, 1, 0x41, 0x43, 34, 35, rng.randrange(256)])
+    else:
+        text[at] = rng.choice([0, 1, 255, text[at] ^ 1, rng.randrange(256)])
+    return bytes(text)
+
+
 def spoiled(rng, disk):
-    """The blocks with some bytes changed where they count, or cut off."""
+    """The blocks of a file, of which some are spoiled, or that is cut off. Most of those have the sum of their new
+    bytes, so that nothing but their form is wrong; others keep the old sum, or have none."""
     disk = list(disk)
     if rng.random() < 0.05:
         return disk[: rng.choice([20, 63, len(disk) - 1])]
     used = [0, 1, 2, 2, 18, 18, *(it for it in range(FIRST, len(disk)) if any(disk[it]))]
     for _ in range(rng.choice([1, 1, 2])):
-        block = rng.choice(used)
-        text = bytearray(disk[block])
-        at = rng.choice([rng.randrange(16), rng.randrange(128, 256), rng.randrange(300), rng.randrange(BLOCK)])
-        if block >= FIRST and rng.random() < 0.3:
-            text = bytearray(disk[rng.choice(used)])
-        elif block == 0 and rng.random() < 0.3:
-            text = bytearray(header(rng.choice([1, 1, 2, 4])))
-        elif text[:4] == b"NODE" and rng.random() < 0.6:
-            at = 16 + 14 * rng.randrange(count_in(text, 256)) + rng.choice([2, 10, 10, 11])
-            text[at] = rng.choice([0, 1, 33, 34, 35, rng.randrange(256)])
-        elif text[:4] == b"LEF3" and rng.random() < 0.7:
-            at = spoiled_place(rng, text)
-            text[at] = rng.choice(
-                [0, 1, 15, 16, 255, text[at] ^ 1, (text[at] + 1) % 256, text[at] - 1 & 255, rng.randrange(256)]
-            )
-        elif block in (2, 18) and rng.random() < 0.2:
-            text[4] = rng.choice([0, 1, 2, 4, 255])
-        elif block in (2, 18) and rng.random() < 0.4:
-            at = 128 * rng.randrange(1, 6) + rng.choice([0, 1, 2, 34, 35, 67, 67, 71, 71])
-            text[at] = rng.choice([0, 1, 0x41, 0x43, 34, 35, rng.randrange(256)])
+        block, other, draw = rng.choice(used), rng.choice(used), rng.random()
+        if draw < 0.15:
+            disk[block] = spoiled_text(rng, block, disk[block], disk[other])
         else:
-            text[at] = rng.choice([0, 1, 255, text[at] ^ 1, rng.randrange(256)])
-        disk[block] = bytes(text)
+            text = spoiled_text(rng, block, exchanged(block, disk[block]), exchanged(other, disk[other]))
+            disk[block] = text if draw < 0.25 else exchanged(block, text)
     return disk
 
 

@@ -146,11 +146,12 @@ def make_far(chance, file):
     keys = [(0, number) for number in range(FAR_RECORDS * len(leaves))]
     written = compare.Store(64)
     written.blocks = MOST
-    disk = {0: compare.header(3), root: compare.node_of(1, list(zip(keys[::FAR_RECORDS], leaves)))}
-    slot = written.slot_blocks([compare.Alternative(b"A", "top", "", root, 0)])
-    disk.update(enumerate(slot, 2))
+    written.write_slot(2, [compare.Alternative(b"A", "top", "", root, 0)])
+    trees = {root: compare.node_of(1, list(zip(keys[::FAR_RECORDS], leaves)))}
     for at, leaf in enumerate(leaves):
-        disk[leaf] = compare.leaf_of([(key, b"far") for key in keys[at * FAR_RECORDS :][:FAR_RECORDS]])
+        trees[leaf] = compare.leaf_of([(key, b"far") for key in keys[at * FAR_RECORDS :][:FAR_RECORDS]])
+    disk = {it: written.disk[it] for it in (0, 2)}
+    disk.update((block, compare.exchanged(block, text)) for block, text in trees.items())
     with open(file, "wb") as it:
         for block, text in disk.items():
             it.seek(block * BLOCK)

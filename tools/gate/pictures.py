@@ -323,6 +323,7 @@ def strip():
     lines = [
         "Only the slot that the selector names counts. Its entries name",
         "the roots. A block that no version needs is free after a marking.",
+        "In the file each block from 2 on has a checksum.",
     ]
     it.texts(24, 360, lines, 12, 17, colour=GREY)
     it.text(544, 322, "An inner block: up to 256 children of 14 bytes", 14, bold=True)

@@ -633,6 +633,18 @@ for words in 'run earlier' 'run --read-only earlier' 'do earlier free' 'check ea
 done
 absent 'a copy of an earlier format' made
 
+# A store without checksums.
+gzip -dc "$tools/old-stores/format-3.alt.gz" >unsummed
+cp unsummed unsummed.before
+for words in 'run unsummed' 'run --read-only unsummed' 'do unsummed free' 'check unsummed' 'tree unsummed' \
+    'copy unsummed made'; do
+    echo 'altctl: 18 Damaged 2' >faults
+    echo 'altctl: the file has no checksums: tools/upgrade.py OLD NEW carries it over' >>faults
+    program "$words, without checksums" 1 $words
+    compare "$words, without checksums: the file" unsummed.before unsummed
+done
+absent 'a copy of a store without checksums' made
+
 # A store that was cut.
 for length in 0 1 86016 258048 262143; do
     head -c "$length" longer >short

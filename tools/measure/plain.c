@@ -1,7 +1,7 @@
 /* A store in altctl's format, written by hand in C, with no proofs, for measuring beside altctl: `measure.sh`
    compiles and calls it. It is what one writes straightforwardly: each block that a change makes is written at once,
-   by one call; 256 blocks are kept in memory, those that were used last; blocks are read where they lie, and of a path
-   only heads are tested. Files, lines, answers and statuses are those of docs/FORMATS.md, so each program opens the
+   by one call; 256 blocks are kept in memory, those that were used last, without their sums; blocks are read where they
+   lie, and of a path only heads are tested. Files, lines, answers and statuses are those of docs/FORMATS.md, so each program opens the
    files of the other, and `compare.py --plain` tries this one, too. It has the lines alone that both are measured by.
    It is trusted with nothing: memory that is refused and a file that fails end it.
 
@@ -23,6 +23,7 @@
 
 enum { FORMAT = 3, BLOCK = 4096, FIRST = 34, LEAST_BLOCKS = 64, MOST_BLOCKS = 1 << 26 };
 enum { SLOT_A = 2, SLOT_B = 18, SLOT_BLOCKS = 16, CELL = 128, ENTRIES = 511, NAME = 33 };
+enum { SLOT_SUM = 124, DATA_SUM = 12, LANES = 4 };
 enum { HEAD = 16, LEAF_ROOM = BLOCK - HEAD, ENTRY = 12, FAN = 256, LEVELS = 8, CHILD = 14, VALUE = 4000 };
 enum { BLOCKS_A_CHANGE = 17, KEPT = 256, BUCKETS = 512, LINE = 1 << 20, CHUNK = 1 << 16 };
 
@@ -55,6 +56,7 @@ static const char *const refusal_names[] = {
 
 static jmp_buf refused;
 static int refusal;
+static uint32_t damaged_block;
 static char refusal_text[96];
 
 /* Ends a line, or an opening, with a refusal, and what it tells beside its name. */
@@ -76,6 +78,7 @@ __attribute__((noreturn)) static void refuse(int number)
 
 __attribute__((noreturn)) static void damaged(uint32_t block)
 {
+    damaged_block = block;
     refuse_with(DAMAGED, " %u", block);
 }
 
@@ -140,6 +143,51 @@ static bool is_zero(const byte *bytes, size_t count)
     return count == 0 || (bytes[0] == 0 && memcmp(bytes, bytes + 1, count - 1) == 0);
 }
 
+/* --- the sums in blocks -------------------------------------------------------------------------- */
+
+static const uint64_t primes[] = {
+    0, 0x9e3779b185ebca87, 0xc2b2ae3d27d4eb4f, 0x165667b19e3779f9, 0x85ebca77c2b2ae63,
+};
+
+static uint64_t rotated(uint64_t number, int by)
+{
+    return number << by | number >> (64 - by);
+}
+
+/* A lane after a word. */
+static uint64_t with_word(uint64_t lane, uint64_t word)
+{
+    return rotated(lane + word * primes[2], 31) * primes[1];
+}
+
+/* XXH64 of a block, with seed 0. */
+static uint64_t hash_of(const byte *block)
+{
+    uint64_t lanes[LANES] = {primes[1] + primes[2], primes[2], 0, -primes[1]};
+    for (const byte *at = block; at < block + BLOCK; at += 8 * LANES)
+        for (int i = 0; i < LANES; i++)
+            lanes[i] = with_word(lanes[i], load64(at + 8 * i));
+    uint64_t hash = rotated(lanes[0], 1) + rotated(lanes[1], 7) + rotated(lanes[2], 12) + rotated(lanes[3], 18);
+    for (int i = 0; i < LANES; i++)
+        hash = (hash ^ with_word(0, lanes[i])) * primes[1] + primes[4];
+    hash += BLOCK;
+    hash = (hash ^ hash >> 33) * primes[2];
+    hash = (hash ^ hash >> 29) * primes[3];
+    return hash ^ hash >> 32;
+}
+
+/* Exchanges the number in the place of a block's sum for that number XOR the sum, so zero for the sum, and the sum for
+   zero. The header and the selector have none. */
+static void exchange_sum(uint32_t number, byte *block)
+{
+    if (number < SLOT_A)
+        return;
+    byte *place = block + (number < FIRST ? SLOT_SUM : DATA_SUM);
+    uint32_t stored = load32(place);
+    store32(place, number);
+    store32(place, stored ^ (uint32_t)hash_of(block));
+}
+
 /* --- the file, and the blocks of it that are kept ------------------------------------------------ */
 
 /* A block that is kept, in the order of use and among those with the same bucket. Place 0 keeps none: it is the end
@@ -159,12 +207,27 @@ static void read_file(uint32_t block, byte *into)
 {
     if (pread(file, into, BLOCK, (off_t)block * BLOCK) != BLOCK)
         refuse(DEVICE);
+    exchange_sum(block, into);
 }
 
+/* Writes so many blocks, as many as a slot has at most. */
 static void write_file(uint32_t block, const byte *from, uint32_t count)
 {
-    if (pwrite(file, from, (size_t)count * BLOCK, (off_t)block * BLOCK) != (ssize_t)count * BLOCK)
+    static byte with_sums[SLOT_BLOCKS * BLOCK];
+    size_t size = (size_t)count * BLOCK;
+    memcpy(with_sums, from, size);
+    for (uint32_t i = 0; i < count; i++)
+        exchange_sum(block + i, with_sums + i * BLOCK);
+    if (pwrite(file, with_sums, size, (off_t)block * BLOCK) != (ssize_t)size)
         refuse(DEVICE);
+}
+
+/* Whether the file has zero in the place of the sum of a block in front of the data. */
+static bool lacks_sum(uint32_t block)
+{
+    byte place[4];
+    return block < FIRST && pread(file, place, sizeof place, (off_t)block * BLOCK + SLOT_SUM) == sizeof place
+        && is_zero(place, sizeof place);
 }
 
 static void sync_file(void)
@@ -1921,6 +1984,8 @@ static void open_file(const char *name, int how, bool is_whole)
         fprintf(stderr, "altctl: %s\n", refusal_text);
         if (is_earlier)
             fputs("altctl: the file is of an earlier format: tools/upgrade.py OLD NEW carries it over\n", stderr);
+        else if (refusal == DAMAGED && lacks_sum(damaged_block))
+            fputs("altctl: the file has no checksums: tools/upgrade.py OLD NEW carries it over\n", stderr);
         exit(1);
     }
     open_store(is_whole);

@@ -15,6 +15,7 @@ files() {
 644 clients/python/altctl.py share/zonegrater/clients/python/altctl.py
 644 clients/lines.json share/zonegrater/clients/lines.json
 755 tools/upgrade.py share/zonegrater/tools/upgrade.py
+644 tools/sums.py share/zonegrater/tools/sums.py
 link ../../../share/zonegrater/clients/python/altctl.py lib/python3/dist-packages/altctl.py
 644 made/altserve@.service lib/systemd/system/altserve@.service
 644 tools/release/systemd/altserve@.socket lib/systemd/system/altserve@.socket
