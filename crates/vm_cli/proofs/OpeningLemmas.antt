@@ -1,7 +1,7 @@
 -- Why a disk is refused.
 use Rattle.std.proofs.Common.{◌≡◌, ℕ, inl, inr, [], ◌∷◌, length, sym, subst, ◌∙◌, arith}
 use Rattle.vm_types.specs.declared.refusal.Refusal.{Refusal}
-use Rattle.vm_types.specs.declared.refusal.Refusal.TheVariants.{Damaged, Device, NotAStore}
+use Rattle.vm_types.specs.declared.refusal.Refusal.TheVariants.{Damaged, Device, Memory, NotAStore}
 use Rattle.vm_disk.specs.Disk.{Contents, Medium, block}
 use Rattle.vm_block.specs.Header.{IsEarlierHeader, header_bytes_of}
 use Rattle.vm_store.specs.Refused.{IsRefused, IsSynced}
@@ -51,3 +51,10 @@ not_of_slot x n none =
           let same : n ≡ k = cc in
           (λ told. cc, λ lacks. absurd (none (subst (LacksSum x) (sym same) lacks)));
     }
+
+-- of an earlier program's file nothing is told for want of memory, or if the device failed
+pub memory_untold : (x : Contents) (refusal : Refusal) → refusal ≡ Memory → TellsEarlier x (Refused refusal)
+memory_untold x refusal memory = record { header = λ is. cc (is, memory); sums = λ n is. cc (is, memory) }
+
+pub device_untold : (x : Contents) (refusal : Refusal) → refusal ≡ Device → TellsEarlier x (Refused refusal)
+device_untold x refusal device = record { header = λ is. cc (is, device); sums = λ n is. cc (is, device) }

@@ -6,6 +6,7 @@ use Rattle.vm_disk.specs.Moments.{Throughout}
 use Rattle.vm_disk.proofs.GoesLemmas.{goes_at}
 use Rattle.vm_store.specs.Refused.{IsAtMostSynced, IsRefused}
 use Rattle.vm_cli.specs.declared.program.opening.NoStore.TheVariants.{Refused}
+use Rattle.vm_cli.proofs.OpeningLemmas.{memory_untold}
 use Rattle.vm_cli.proofs.CountingLemmas.{counted_shown, is_err, is_ok}
 use Rattle.vm_cli.proofs.program.check_disk.Goals as goal
 
@@ -45,10 +46,10 @@ returns-in-Err-counts-clause-told g c =
             let opens = c.in-Ok.ensures.opened.opens (there honest) in
             let memory = is_err _ c.count-counts.result _ c.in-Err-counts.is (c.count-counts.ensures.refused c.in-Ok.ensures.opened.well (opened opens.seen) opens.stands.holds) in
             subst (IsRefused old.now.contents) (sym memory) tt;
-        earlier = λ honest is.
+        earlier = λ honest.
             let opens = c.in-Ok.ensures.opened.opens (there honest) in
             let memory = is_err _ c.count-counts.result _ c.in-Err-counts.is (c.count-counts.ensures.refused c.in-Ok.ensures.opened.well (opened opens.seen) opens.stands.holds) in
-            cc (is, memory);
+            memory_untold old.now.contents refusal memory;
         moments = λ honest. subst (λ d. Throughout old (g.D.Disk.state d) (IsAtMostSynced old.now)) (sym c.close-disk.ensures.disk) (c.in-Ok.ensures.opened.moments (there honest));
       },
       c.refused.ensures,

@@ -9,6 +9,7 @@ use Rattle.vm_store.specs.Refused.{IsAtMostSynced, IsRefused}
 use Rattle.vm_cli.specs.Exits.{Tells}
 use Rattle.vm_cli.specs.declared.program.Exit.TheVariants.{Done}
 use Rattle.vm_cli.specs.declared.program.opening.NoStore.TheVariants.{Refused}
+use Rattle.vm_cli.proofs.OpeningLemmas.{device_untold, memory_untold}
 use Rattle.vm_cli.proofs.CountingLemmas.{is_err, is_ok}
 use Rattle.vm_cli.proofs.PassLemmas.{goes_both, passes_goes}
 use Rattle.vm_cli.proofs.program.tree_view.show_disk.Goals as goal
@@ -58,7 +59,7 @@ returns-in-Err-drawn-clause-told g c honest =
           | inl device ↦ subst (IsRefused old.now.contents) (sym device) tt
           | inr memory ↦ subst (IsRefused old.now.contents) (sym memory) tt
         ];
-        earlier = λ _ is. elim why [ inl device ↦ cc (is, device) | inr memory ↦ cc (is, memory) ];
+        earlier = λ _. elim why [ inl device ↦ device_untold _ _ device | inr memory ↦ memory_untold _ _ memory ];
         moments = λ _. subst (λ d. Throughout old (g.D.Disk.state d) (IsAtMostSynced old.now)) (sym c.close-disk.ensures.disk) (then_reads _ _ _ _ (c.in-Ok.ensures.opened.moments earlier) (passes.reads there refl));
       },
       c.refused.ensures,
