@@ -4,7 +4,7 @@ use Rattle.vm_types.specs.State.{State, outcome}
 use Rattle.vm_types.specs.declared.answer.Answer.{Answer}
 use Rattle.vm_types.specs.declared.answer.Answer.TheVariants.{Done}
 use Rattle.vm_types.specs.declared.command.Command.{Command}
-use Rattle.vm_types.specs.declared.command.Command.TheVariants.{Back, Checkpoint, Commit, Drop, Grow, Merge, New, NewAt, Post, Put, Reclaim, Remove, Rollback, Uncheck}
+use Rattle.vm_types.specs.declared.command.Command.TheVariants.{Commit, Grow, Merge, Post, Put, Reclaim, Remove, Rollback}
 use Rattle.vm_types.specs.declared.command.Side.{Side}
 use Rattle.vm_types.specs.declared.key.Key.{Key}
 use Rattle.vm_types.specs.declared.refusal.Refusal.{Refusal}
@@ -139,37 +139,14 @@ module _ {D : Type 0} {members : _} (old mid : Store D members) (failed : Bool) 
 
   -- it read as much
   reads_on : (a : Result Answer Refusal) (c : Command) → ReadsOnly c a old mid → ReadsOnly c a old new
-  reads_on a (New name parent) reads = reads
-  reads_on a (NewAt name parent checkpoint) reads = reads
-  reads_on a (Drop alt) reads = reads
-  reads_on a (Put alt key value) reads = reads
-  reads_on a (Remove alt key) reads = reads
-  reads_on a (Checkpoint alt name) reads = reads
-  reads_on a (Uncheck alt name) reads = reads
-  reads_on a (Back alt name) reads = reads
-  reads_on a (Merge alt settled) reads = reads
-  reads_on a (Post alt) reads = reads
-  reads_on a Commit reads = reads
-  reads_on a Rollback reads = reads
-  reads_on a Reclaim reads = reads
   reads_on a (Grow blocks) reads = reads
+  reads_on a c reads = reads
 
   -- it read as few blocks
   few_on : (a : Result Answer Refusal) (c : Command) → ReadsFew c a old mid → ReadsFew c a old new
-  few_on a (New name parent) few = tt
-  few_on a (NewAt name parent checkpoint) few = tt
-  few_on a (Drop alt) few = tt
-  few_on a (Put alt key value) few = tt
-  few_on a (Remove alt key) few = tt
-  few_on a (Checkpoint alt name) few = tt
-  few_on a (Uncheck alt name) few = tt
-  few_on a (Back alt name) few = tt
   few_on a (Merge alt settled) few = few
   few_on a (Post alt) few = few
-  few_on a Commit few = tt
-  few_on a Rollback few = tt
-  few_on a Reclaim few = tt
-  few_on a (Grow blocks) few = tt
+  few_on a c few = tt
 
   -- an early refusal leaves all but the disk as it was
   early_on : (a : Result Answer Refusal) → has_failed old ≡ false → (IsTrue failed → a ≡ Err Device) → EarlyKeeps a old mid → EarlyKeeps a old new
@@ -194,20 +171,10 @@ module _ {D : Type 0} {members : _} (old mid : Store D members) (failed : Bool) 
   )
 
   once_on : (a : Result Answer Refusal) (c : Command) → has_failed old ≡ false → (IsTrue failed → a ≡ Err Device) → MarksOnce c a old mid → MarksOnce c a old new
-  once_on a (New name parent) sound noted once = tt
-  once_on a (NewAt name parent checkpoint) sound noted once = tt
-  once_on a (Drop alt) sound noted once = tt
   once_on a (Put alt key value) sound noted once = (full_on a sound noted once.0, once.1)
   once_on a (Remove alt key) sound noted once = full_on a sound noted once
-  once_on a (Checkpoint alt name) sound noted once = tt
-  once_on a (Uncheck alt name) sound noted once = tt
-  once_on a (Back alt name) sound noted once = tt
   once_on a (Merge alt settled) sound noted once = full_on a sound noted once
-  once_on a (Post alt) sound noted once = tt
-  once_on a Commit sound noted once = tt
-  once_on a Rollback sound noted once = tt
-  once_on a Reclaim sound noted once = tt
-  once_on a (Grow blocks) sound noted once = tt
+  once_on a c sound noted once = tt
 
   -- what was done is the same
   pub carries_out : (c : Command) (a : Result Answer Refusal) → has_failed old ≡ false → (IsTrue failed ↔ a ≡ Err Device) → Performs old mid c a → CarriesOut old new c a

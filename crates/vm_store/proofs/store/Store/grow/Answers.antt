@@ -1,16 +1,13 @@
-use Rattle.std.proofs.Common.{rules, ◌≡◌, ◌⊎◌, inl, inr, ◌∙◌, ◌<◌, ◌≤◌, ℕ, Bool, true, List, None, Result, Ok, Err, length, refl, subst, sym, ap, arith}
+use Rattle.std.proofs.Common.{rules, ◌≡◌, inl, inr, ◌∙◌, ◌≤◌, ℕ, Bool, true, List, None, Ok, Err, length, refl, subst, sym, ap, arith}
 use Rattle.vm_types.specs.declared.command.Command.TheVariants.{Grow}
-use Rattle.vm_types.specs.State.{State, next, outcome}
-use Rattle.vm_types.specs.declared.answer.Answer.{Answer}
+use Rattle.vm_types.specs.State.{State, next}
 use Rattle.vm_types.specs.declared.answer.Answer.TheVariants.{Done}
-use Rattle.vm_types.specs.declared.refusal.Refusal.{Refusal}
-use Rattle.vm_types.specs.declared.refusal.Refusal.TheVariants.{BadSize, Device, Memory}
-use Rattle.vm_types.proofs.Growing.{good_size, no_more_is_bad, too_many_is_bad}
+use Rattle.vm_types.specs.declared.refusal.Refusal.TheVariants.{BadSize, Memory}
+use Rattle.vm_types.proofs.Growing.{no_more_is_bad, too_many_is_bad}
 use Rattle.vm_disk.specs.Disk.{Enlarges}
 use Rattle.vm_disk.specs.Moments.{Throughout}
 use Rattle.vm_alloc.specs.Held.{IsHeld}
 use Rattle.vm_tree.proofs.Looking.{passed_on}
-use Rattle.vm_store.specs.Answers.{IsGrowDue}
 use Rattle.vm_store.specs.Guarded.{IsGuarded}
 use Rattle.vm_store.specs.Rest.{HoldsWith}
 use Rattle.vm_store.specs.Store.{Holds}
@@ -20,10 +17,6 @@ use Rattle.vm_store.proofs.PerformLemmas.{performs_grow, refuses_grow}
 use Rattle.vm_store.proofs.SeriesLemmas.{holds_alone}
 use Rattle.vm_store.proofs.store.Store.grow.Goals as goal
 use Rattle.vm_store.proofs.store.Store.grow.Goals.{then-blocks-self-via-then-blocks-self, then-blocks-self-via-else-blocks-self+then-blocks-gt-MAX_BLOCKS}
-
--- a Grow to more blocks than the store has
-accepted : (s : State) (old blocks : ℕ) (a : Result Answer Refusal) → old ≡ s.blocks → old < blocks → blocks ≤ 67108864 → (a ≡ Err Device) ⊎ ((a ≡ Err Memory) ⊎ (a ≡ Ok Done)) → IsGrowDue (outcome s (Grow blocks)) a
-accepted s old blocks a same more few due = grow_is_accepted s blocks a (good_size s.blocks blocks (omega arith) few) due
 
 pub returns-then-blocks-self : goal.returns-then-blocks-self
 returns-then-blocks-self g c =
@@ -35,15 +28,15 @@ returns-then-blocks-self g c =
 
 pub returns-in_default : goal.returns-in_default
 returns-in_default g c =
-    refuses_grow c.args.self.now c.args.blocks Memory (λ is. cc, λ is. cc) (λ s holds. accepted s _ _ _ holds.rests.blocks c.if-blocks-self.false (omega (arith, c.if-blocks-gt-MAX_BLOCKS.false)) (inr (inl refl)))
+    refuses_grow c.args.self.now c.args.blocks Memory (λ is. cc, λ is. cc) (λ s holds. grow_is_accepted s _ _ _ holds.rests.blocks c.if-blocks-self.false (omega (arith, c.if-blocks-gt-MAX_BLOCKS.false)) (inr (inl refl)))
 
 pub returns-in_default-new : goal.returns-in_default-new
 returns-in_default-new g c =
-    refuses_grow c.args.self.now c.args.blocks Memory (λ is. cc, λ is. cc) (λ s holds. accepted s _ _ _ holds.rests.blocks c.if-blocks-self.false (omega (arith, c.if-blocks-gt-MAX_BLOCKS.false)) (inr (inl refl)))
+    refuses_grow c.args.self.now c.args.blocks Memory (λ is. cc, λ is. cc) (λ s holds. grow_is_accepted s _ _ _ holds.rests.blocks c.if-blocks-self.false (omega (arith, c.if-blocks-gt-MAX_BLOCKS.false)) (inr (inl refl)))
 
 pub returns-in_default-new-2 : goal.returns-in_default-new-2
 returns-in_default-new-2 g c =
-    refuses_grow c.args.self.now c.args.blocks Memory (λ is. cc, λ is. cc) (λ s holds. accepted s _ _ _ holds.rests.blocks c.if-blocks-self.false (omega (arith, c.if-blocks-gt-MAX_BLOCKS.false)) (inr (inl refl)))
+    refuses_grow c.args.self.now c.args.blocks Memory (λ is. cc, λ is. cc) (λ s holds. grow_is_accepted s _ _ _ holds.rests.blocks c.if-blocks-self.false (omega (arith, c.if-blocks-gt-MAX_BLOCKS.false)) (inr (inl refl)))
 
 pub returns-in_err-lengthen : goal.returns-in_err-lengthen
 returns-in_err-lengthen g c =
@@ -56,7 +49,7 @@ returns-in_err-lengthen g c =
     (λ honest s holds.
     let longer : Enlarges (g.D.Disk.state old.disk) (g.D.Disk.state new.disk) = lengthened.longer honest in
     record {
-      answers = accepted s _ _ _ holds.rests.blocks c.if-blocks-self.false few (inl refl);
+      answers = grow_is_accepted s _ _ _ holds.rests.blocks c.if-blocks-self.false few (inl refl);
       state = λ fine. absurd (fine refl);
       crash = longer_crash _ _ longer _ _ _ _ _ s holds.rests (Grow c.args.blocks);
       guarded = subst (λ (bits : List Bool). Throughout (g.D.Disk.state old.disk) (g.D.Disk.state new.disk) (IsGuarded bits)) (sym (ap (λ (p : Parts). p.held) lengthened.same.parts)) (longer_guarded _ _ longer _ _ _ _ _ s holds.rests old.parts.held (λ n held. held));
@@ -83,7 +76,7 @@ returns g c =
     (λ honest s holds.
     let longer : Enlarges (g.D.Disk.state old.disk) (g.D.Disk.state new.disk) = lengthened.longer honest in
     record {
-      answers = accepted s _ _ _ holds.rests.blocks c.if-blocks-self.false few (inr (inr refl));
+      answers = grow_is_accepted s _ _ _ holds.rests.blocks c.if-blocks-self.false few (inr (inr refl));
       state = λ fine. stands honest s holds;
       crash = longer_crash _ _ longer _ _ _ _ _ s holds.rests (Grow c.args.blocks);
       guarded = longer_guarded _ _ longer _ _ _ _ _ s holds.rests parts.held still;

@@ -24,7 +24,7 @@ use Rattle.vm_store.proofs.RestingLemmas.{rests_more, rests_as}
 use Rattle.vm_store.proofs.SeriesLemmas.{holds_alone, read_holds}
 use Rattle.vm_store.specs.Versions.{is_alternative_of, with_base}
 use Rattle.vm_types.specs.Firsts.{change_first}
-use Rattle.vm_store.proofs.SharedLemmas.{base_rooted, current_rooted, pair_counts}
+use Rattle.vm_store.proofs.SharedLemmas.{few_on_sides}
 use Rattle.vm_store.proofs.SpareTests.{room_for, full_for}
 use Rattle.vm_store.proofs.TopLemmas.{grown_of, grown_small}
 use Rattle.vm_store.specs.Store.{Holds, IsHonest, free_of}
@@ -66,11 +66,7 @@ returns-in_err-plan g c =
     looked _ _ s holds (Merge alt settled) _ (by_reason _ _ _ (plan honest s holds) (λ device. inl (ap Err device)) (λ memory. inr (inl (ap Err memory, subst IsOk (sym (conflicts_there _ _ _ _ _ _ s rests alt pair is)) refl))) (λ refused. merges_refused s _ _ alt settled _ (merge_refusal _ _ _ _ _ _ s rests alt pair is settled _ refused)))
     (failed.reads honest) holds'.rests (λ _. holds'))
     (λ honest. (λ first. failed.reads honest, λ s holds none done. absurd (false≢true done)))
-    (λ honest s holds none.
-    let base = base_rooted _ _ _ _ _ _ s holds.rests alt c.in_ok-own.own is.own in
-    let current = current_rooted _ _ _ _ _ _ s holds.rests alt c.in_ok-own.own is.own in
-    let parent = current_rooted _ _ _ _ _ _ s holds.rests c.in_ok-own.parent.name c.in_ok-own.parent is.parent in
-    omega (arith, failed.bound honest base.0 parent.0 current.0 _ _ _ base.1 parent.1 current.1, pair_counts _ _ _ _ _ _ s holds.rests alt pair is))
+    (λ honest s holds none. few_on_sides (g.D.Disk.state old.disk) (g.D.Disk.state c.plan_of_merge.new.disk) _ _ _ _ _ s holds.rests alt pair is honest failed.bound)
     (λ honest s holds. unmarked_takes _ _ _ _ _ (λ enough. refl) (sides_unmarked _ _ _ _ _ (plan honest s holds)))
     (λ honest is s holds. absurd (unmarked_not_full _ (sides_unmarked _ _ _ _ _ (plan honest s holds)) is))
     (λ honest is s holds. absurd (unmarked_not_full _ (sides_unmarked _ _ _ _ _ (plan honest s holds)) is))
@@ -156,8 +152,10 @@ returns g c =
     c.in_ok-plan.ensures.plan (spare.any.earlier honest) _ _ _ _ _ _ own.stands.base.rooted parent.stands.current.rooted own.stands.current.rooted in
     let many : IsHonest mid → (s : State) → Holds old s → changes_made s.working (Merge alt settled) ≡ c.len.result =
     λ honest s holds. merge_made _ _ _ _ _ _ s holds.rests alt pair is settled (plan honest s holds).0 ∙ sym (c.len.ensures ∙ ap (λ (cs : List Change). length cs) (plan honest s holds).1.changes) in
-    let untouched : length c.in_ok-plan.plan.changes ≡ 0 → c.make_changes.new.disk ≡ c.plan_of_merge.new.disk =
-    λ empty. (done.none empty).0 ∙ ap (λ (store : Store _ _). store.disk) (spare.enough (omega (arith, c.len.ensures, empty))) in
+    let untouched : IsHonest mid → (s : State) → Holds old s → changes_made s.working (Merge alt settled) ≡ 0 → c.make_changes.new.disk ≡ c.plan_of_merge.new.disk =
+    λ honest s holds none.
+    let empty : length c.in_ok-plan.plan.changes ≡ 0 = omega (arith, many honest s holds, c.len.ensures, none) in
+    (done.none empty).0 ∙ ap (λ (store : Store _ _). store.disk) (spare.enough (omega (arith, c.len.ensures, empty))) in
     performs_merge old _ _ alt settled
     (λ honest s holds.
     let rests = holds.rests in
@@ -179,15 +177,14 @@ returns g c =
     (λ _. holds_alone holds'.keeps (rests_as _ _ _ _ _ _ _ _ (sym both)
     (merge_rests _ _ _ _ _ _ s rests' alt pair is' settled plan'.0 _ c.make_changes.new.held c.in_ok-root.root (grown_small _ _ _ _ _ mid.parts.most grown)
     (at_end _ _ _ (done.moments honest)) done.still grown))))
-    (λ honest. (tt,
-    λ s holds none _. subst (λ d. OnlyReads (g.D.Disk.state old.disk) (g.D.Disk.state d)) (sym (untouched (omega (arith, many (done.any.earlier honest) s holds, c.len.ensures, none))))
-    (c.in_ok-plan.ensures.reads (spare.any.earlier (done.any.earlier honest)))))
+    (λ honest. (
+      tt,
+      λ s holds none _. subst (λ d. OnlyReads (g.D.Disk.state old.disk) (g.D.Disk.state d)) (sym (untouched (done.any.earlier honest) s holds none))
+          (c.in_ok-plan.ensures.reads (spare.any.earlier (done.any.earlier honest))),
+    ))
     (λ honest s holds none.
-    let base = base_rooted _ _ _ _ _ _ s holds.rests alt c.in_ok-own.own is.own in
-    let current = current_rooted _ _ _ _ _ _ s holds.rests alt c.in_ok-own.own is.own in
-    let parent = current_rooted _ _ _ _ _ _ s holds.rests c.in_ok-own.parent.name c.in_ok-own.parent is.parent in
-    let still = untouched (omega (arith, many (done.any.earlier honest) s holds, c.len.ensures, none)) in
-    omega (arith, c.in_ok-plan.ensures.bound (spare.any.earlier (done.any.earlier honest)) base.0 parent.0 current.0 _ _ _ base.1 parent.1 current.1, pair_counts _ _ _ _ _ _ s holds.rests alt pair is, ap (λ d. (g.D.Disk.state d).reads) still))
+    let marked = done.any.earlier honest in
+    omega (arith, few_on_sides (g.D.Disk.state old.disk) (g.D.Disk.state c.plan_of_merge.new.disk) _ _ _ _ _ s holds.rests alt pair is (spare.any.earlier marked) c.in_ok-plan.ensures.bound, ap (λ d. (g.D.Disk.state d).reads) (untouched marked s holds none)))
     (λ honest s holds.
     let marked = done.any.earlier honest in (
       λ enough. omega (arith, many marked s holds, c.len.ensures, ap free_of (spare.enough (omega (arith, many marked s holds, enough))), done.taken),

@@ -11,7 +11,7 @@ use Rattle.vm_store.proofs.CarryLemmas.{looked, stayed}
 use Rattle.vm_store.proofs.PairLemmas.{lacking, own_there, parent_there, post_step, post_refused, post_rests, told_equal, told_other}
 use Rattle.vm_store.proofs.PerformLemmas.{performs_post}
 use Rattle.vm_store.proofs.RestingLemmas.{read_rests, rests_as}
-use Rattle.vm_store.proofs.SharedLemmas.{base_rooted, current_rooted, pair_counts}
+use Rattle.vm_store.proofs.SharedLemmas.{few_with_parent}
 use Rattle.vm_store.proofs.SidesLemmas.{rooted_map}
 use Rattle.vm_store.proofs.VersionLemmas.{answers_refused, answers_done}
 use Rattle.vm_store.proofs.SeriesLemmas.{holds_alone, read_holds}
@@ -41,10 +41,7 @@ returns-then-not-branch g c =
     let holds' = read_holds _ _ _ _ _ _ _ _ _ s (same.looks.reads honest) holds in
     looked _ _ s holds (Post alt) _ (answers_refused s (spare_of rests) ⊥ (Post alt) _ (post_refused _ _ _ _ _ _ s rests alt pair is (told_other _ _ _ told c.if-not-branch.true)))
     (same.looks.reads honest) holds'.rests (λ _. holds'))
-    (λ honest s holds.
-    let base = base_rooted _ _ _ _ _ _ s holds.rests alt c.in_ok-own.own is.own in
-    let parent = current_rooted _ _ _ _ _ _ s holds.rests c.in_ok-own.parent.name c.in_ok-own.parent is.parent in
-    omega (arith, same.bound honest sizes base.0 parent.0 _ _ base.1 parent.1, pair_counts _ _ _ _ _ _ s holds.rests alt pair is))
+    (λ honest s holds. few_with_parent (g.D.Disk.state c.args.self.now.disk) (g.D.Disk.state c.same.new.disk) _ _ _ _ _ s holds.rests alt pair is honest same.bound)
     same.looks.reads (search rules) (search rules) refl (λ early. search rules) refl
 
 pub returns-in_err-same : goal.returns-in_err-same
@@ -62,10 +59,7 @@ returns-in_err-same g c =
     let holds' = read_holds _ _ _ _ _ _ _ _ _ s (same.looks.reads honest) holds in
     looked _ _ s holds (Post alt) _ (inl (ap Err (ap refusal_of (same.equal honest sizes _ _ _ _ own.stands.base.rooted parent.stands.current.rooted))))
     (same.looks.reads honest) holds'.rests (λ _. holds'))
-    (λ honest s holds.
-    let base = base_rooted _ _ _ _ _ _ s holds.rests alt c.in_ok-own.own is.own in
-    let parent = current_rooted _ _ _ _ _ _ s holds.rests c.in_ok-own.parent.name c.in_ok-own.parent is.parent in
-    omega (arith, same.bound honest sizes base.0 parent.0 _ _ base.1 parent.1, pair_counts _ _ _ _ _ _ s holds.rests alt pair is))
+    (λ honest s holds. few_with_parent (g.D.Disk.state c.args.self.now.disk) (g.D.Disk.state c.same.new.disk) _ _ _ _ _ s holds.rests alt pair is honest same.bound)
     same.looks.reads (search rules) (search rules) refl (λ early. search rules) refl)
 
 pub returns : goal.returns
@@ -86,8 +80,5 @@ returns g c =
     (same.looks.reads honest) (read_rests _ _ _ _ _ _ _ s (same.looks.reads honest) rests)
     (λ _. holds_alone holds.keeps (read_rests _ _ _ _ _ _ _ _ (same.looks.reads honest)
     (rests_as _ _ _ _ _ _ _ _ (sym both) (post_rests _ _ _ _ _ _ s rests alt pair is equal)))))
-    (λ honest s holds.
-    let base = base_rooted _ _ _ _ _ _ s holds.rests alt c.in_ok-own.own is.own in
-    let parent = current_rooted _ _ _ _ _ _ s holds.rests c.in_ok-own.parent.name c.in_ok-own.parent is.parent in
-    omega (arith, same.bound honest sizes base.0 parent.0 _ _ base.1 parent.1, pair_counts _ _ _ _ _ _ s holds.rests alt pair is))
+    (λ honest s holds. few_with_parent (g.D.Disk.state c.args.self.now.disk) (g.D.Disk.state c.same.new.disk) _ _ _ _ _ s holds.rests alt pair is honest same.bound)
     same.looks.reads (search rules) (search rules) tt tt refl

@@ -1,4 +1,4 @@
-use Rattle.std.proofs.Common.{rules, find, Err, inl, refl, subst, sym, ap, ◌∙◌, arith}
+use Rattle.std.proofs.Common.{rules, ◌<◌, ◌^◌, find, Err, inl, refl, subst, sym, ap, ◌∙◌, arith}
 use Rattle.vm_types.specs.declared.command.Command.TheVariants.{Put}
 use Rattle.vm_disk.specs.Disk.{Medium}
 use Rattle.vm_disk.proofs.MomentLemmas.{at_end, same_medium, started}
@@ -55,6 +55,7 @@ returns g c =
     let ok = c.in_ok-has_spare.ensures in
     let done = c.in_ok-root.ensures in
     let mid = c.has_spare.new.self in
+    let small : c.in_ok-root.root.block < 2 ^ 32 = omega (arith, done.block, done.still.same_length, mid.parts.bits, mid.parts.most) in
     performs_put _ _ _ _ _ _
     (λ honest s holds.
     let rests = holds.rests in
@@ -78,7 +79,7 @@ returns g c =
     _ (spare.reads marked) series (done.moments honest series.wider) (done.unsynced honest) done.still
     (λ _. holds_as refl c.set_current.ensures
     (holds_then c.args.alt.now _ _ c.go_on.ensures.series stays
-    (put_holds _ _ _ _ _ _ _ s rests' c.args.alt.now e is series _ c.put_forgetting.new.held c.in_ok-root.root (omega (arith, done.block, done.still.same_length, mid.parts.bits, mid.parts.most))
+    (put_holds _ _ _ _ _ _ _ s rests' c.args.alt.now e is series _ c.put_forgetting.new.held c.in_ok-root.root small
     (at_end _ _ _ (done.moments honest series.wider)) done.still c.args.key holds'.keeps c.args.value.now grown))))
     (λ honest. tt)
     (λ enough. omega (arith, ap free_of (spare.enough enough), done.taken), λ honest few late s holds. omega (arith, ok.exact (done.any.earlier honest) few s holds, done.taken))
