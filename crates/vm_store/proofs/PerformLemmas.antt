@@ -1,4 +1,4 @@
--- From what a command's own function promises to what `apply` does.
+-- What is promised of each command, from what is known where its function returns, and from there to what `apply` does.
 use Rattle.std.proofs.Common.{◌≡◌, ◌≢◌, ◌⊎◌, inl, ◌↔◌, ◌≤◌, ℕ, Bool, false, List, Result, Ok, Err, OnErr, IsTrue, refl, sym, ap, subst, ◌∙◌, rules}
 use Rattle.vm_types.specs.State.{State, outcome}
 use Rattle.vm_types.specs.declared.answer.Answer.{Answer}
@@ -43,16 +43,16 @@ module _ {D : Type 0} {members : _} where
   }
 
   module _ (old new : Store D members) (a : Result Answer Refusal) where
-    -- a command that is no Grow
-    pub performs_fixed : (c : Command) → (IsGrow c → ⊥) → IsCarriedOut old new c a → a ≢ Err Failed → (a ≡ Err Memory → TakesMemory c) → GoesOn (a ≡ Err Device) old new → OnErr a (entries_of new ≡ entries_of old) → EarlyKeeps a old new
+    -- the record, field by field
+    performs_as : (c : Command) → IsCarriedOut old new c a → a ≢ Err Failed → (a ≡ Err Memory → TakesMemory c) → GrowsOn (a ≡ Err Device) old new → GrowsAsAsked old new c a → OnErr a (entries_of new ≡ entries_of old) → EarlyKeeps a old new
         → (ChangesEntriesAlone c → LeavesBlocks old new) → (IsHonest new → MarksAll a old new c) → (IsHonest new → MarksOnce c a old new) → (IsHonest new → ReadsOnly c a old new) → ReadsFew c a old new → KeepsFree c a old new
         → (c ≡ Commit → WritesCommit a old new) → (c ≡ Rollback → RollsBack a old new) → Performs old new c a
-    performs_fixed c fixed carried only_then memory any same unchanged blocks marked once reads few free written back = record {
+    performs_as c carried only_then memory goes size same unchanged blocks marked once reads few free written back = record {
       carried = carried;
       only_then = only_then;
       memory = memory;
-      goes = goes_grow _ _ _ any;
-      size = not_grown old new c a fixed any;
+      goes = goes;
+      size = size;
       same = same;
       unchanged = unchanged;
       blocks = blocks;
@@ -65,68 +65,60 @@ module _ {D : Type 0} {members : _} where
       back = back;
     }
 
+    -- and for each command, from what is known of it: first what its function has to show by itself, then what is alike in many
     pub performs_put : (alt : List ℕ) (key : Key) (value : List ℕ) → IsCarriedOut old new (Put alt key value) a → (IsHonest new → FirstReads a old new) → TakesUpTo 16 a old new → (IsHonest new → FullLeavesSpare a old new)
         → (IsHonest new → FullAgain a old new) → FullAtOnce a old new → GoesOn (a ≡ Err Device) old new → (a ≢ Err Failed) × (a ≢ Err Memory) → OnErr a (entries_of new ≡ entries_of old) → EarlyKeeps a old new → Performs old new (Put alt key value) a
     performs_put alt key value carried reads free marked once at_once any never same unchanged =
-        performs_fixed (Put alt key value) (λ grow. grow) carried never.0 (λ is. absurd (never.1 is)) any same unchanged (λ alone. absurd alone) marked (λ honest. (once honest, at_once)) reads tt free (λ is. cc) (λ is. cc)
+        performs_as (Put alt key value) carried never.0 (λ is. absurd (never.1 is)) (goes_grow _ _ _ any) (not_grown _ _ _ _ (λ grow. grow) any) same unchanged (λ alone. absurd alone) marked (λ honest. (once honest, at_once)) reads tt free (λ is. cc) (λ is. cc)
 
     pub performs_remove : (alt : List ℕ) (key : Key) → IsCarriedOut old new (Remove alt key) a → (IsHonest new → FirstReads a old new) → TakesUpTo 8 a old new → (IsHonest new → FullLeavesSpare a old new)
         → (IsHonest new → FullAgain a old new) → GoesOn (a ≡ Err Device) old new → (a ≢ Err Failed) × (a ≢ Err Memory) → OnErr a (entries_of new ≡ entries_of old) → EarlyKeeps a old new → Performs old new (Remove alt key) a
     performs_remove alt key carried reads free marked once any never same unchanged =
-        performs_fixed (Remove alt key) (λ grow. grow) carried never.0 (λ is. absurd (never.1 is)) any same unchanged (λ alone. absurd alone) marked once reads tt free (λ is. cc) (λ is. cc)
+        performs_as (Remove alt key) carried never.0 (λ is. absurd (never.1 is)) (goes_grow _ _ _ any) (not_grown _ _ _ _ (λ grow. grow) any) same unchanged (λ alone. absurd alone) marked once reads tt free (λ is. cc) (λ is. cc)
 
     pub performs_merge : (alt : List ℕ) (settled : List (Key × Side)) → IsCarriedOut old new (Merge alt settled) a → (IsHonest new → ReadsOnly (Merge alt settled) a old new) → ReadsFew (Merge alt settled) a old new → KeepsFree (Merge alt settled) a old new
         → (IsHonest new → FullLeavesSpare a old new) → (IsHonest new → FullAgain a old new) → GoesOn (a ≡ Err Device) old new → a ≢ Err Failed → OnErr a (entries_of new ≡ entries_of old) → EarlyKeeps a old new → Performs old new (Merge alt settled) a
     performs_merge alt settled carried reads few free marked once any never same unchanged =
-        performs_fixed (Merge alt settled) (λ grow. grow) carried never (λ is. tt) any same unchanged (λ alone. absurd alone) marked once reads few free (λ is. cc) (λ is. cc)
+        performs_as (Merge alt settled) carried never (λ is. tt) (goes_grow _ _ _ any) (not_grown _ _ _ _ (λ grow. grow) any) same unchanged (λ alone. absurd alone) marked once reads few free (λ is. cc) (λ is. cc)
 
     pub performs_post : (alt : List ℕ) → IsCarriedOut old new (Post alt) a → ReadsFew (Post alt) a old new → (IsHonest new → ReadsAlone old new) → GoesOn (a ≡ Err Device) old new → (a ≢ Err Failed) × (a ≢ Err Memory)
         → OnErr a (entries_of new ≡ entries_of old) → EarlyKeeps a old new → held_of new ≡ held_of old → Performs old new (Post alt) a
     performs_post alt carried few reads any never same unchanged held =
-        performs_fixed (Post alt) (λ grow. grow) carried never.0 (λ is. absurd (never.1 is)) any same unchanged (λ alone. absurd alone) (λ honest is. absurd is) (λ honest. tt) reads few held (λ is. cc) (λ is. cc)
+        performs_as (Post alt) carried never.0 (λ is. absurd (never.1 is)) (goes_grow _ _ _ any) (not_grown _ _ _ _ (λ grow. grow) any) same unchanged (λ alone. absurd alone) (λ honest is. absurd is) (λ honest. tt) reads few held (λ is. cc) (λ is. cc)
 
     pub performs_commit : IsCarriedOut old new Commit a → WritesCommit a old new → (a ≡ Ok Done) ⊎ (a ≡ Err Device) → GoesOn (a ≡ Err Device) old new → OnErr a (entries_of new ≡ entries_of old) → held_of new ≡ held_of old → Performs old new Commit a
     performs_commit carried written result any same held =
-        performs_fixed Commit (λ grow. grow) carried (search rules) (search rules) any same (search rules) (λ alone. absurd alone) (λ honest is. absurd is) (λ honest. tt) (λ honest. done_or_device a old new result) tt held (λ is. written) (λ is. cc)
+        performs_as Commit carried (search rules) (search rules) (goes_grow _ _ _ any) (not_grown _ _ _ _ (λ grow. grow) any) same (search rules) (λ alone. absurd alone) (λ honest is. absurd is) (λ honest. tt) (λ honest. done_or_device a old new result) tt held (λ is. written) (λ is. cc)
 
     pub performs_reclaim : IsCarriedOut old new Reclaim a → (IsHonest new → SpareIsFree a old new) → (IsHonest new → ReadsAlone old new) → GoesOn (a ≡ Err Device) old new → (a ≢ Err Failed) × (a ≢ Err Memory)
         → OnErr a (entries_of new ≡ entries_of old) → EarlyKeeps a old new → Performs old new Reclaim a
     performs_reclaim carried exact reads any never same unchanged =
-        performs_fixed Reclaim (λ grow. grow) carried never.0 (λ is. absurd (never.1 is)) any same unchanged (λ alone. absurd alone) (λ honest is s holds. when_ok a _ (exact honest s holds) is) (λ honest. tt) reads tt tt (λ is. cc) (λ is. cc)
+        performs_as Reclaim carried never.0 (λ is. absurd (never.1 is)) (goes_grow _ _ _ any) (not_grown _ _ _ _ (λ grow. grow) any) same unchanged (λ alone. absurd alone) (λ honest is s holds. when_ok a _ (exact honest s holds) is) (λ honest. tt) reads tt tt (λ is. cc) (λ is. cc)
 
     -- a command on entries alone
     pub performs_entries : (c : Command) → ChangesEntriesAlone c → IsCarriedOut old new c a → (a ≢ Err Device) × (a ≢ Err Failed) × (a ≢ Err Memory) → OnErr a (entries_of new ≡ entries_of old) → EarlyKeeps a old new
         → disk_of new ≡ disk_of old → held_of new ≡ held_of old → Performs old new c a
     performs_entries c alone carried never same unchanged disk held =
-        performs_fixed c (search rules) carried never.1 (λ is. absurd (never.2 is)) (goes_nowhere _ _ _ (ap members.state disk) never.0) same unchanged (λ alone. (disk, held)) (λ honest is. absurd (entries_unmarked c a alone is)) (λ honest. entries_once c a old new alone)
+        let nowhere = goes_nowhere _ _ _ (ap members.state disk) never.0 in
+        performs_as c carried never.1 (λ is. absurd (never.2 is)) (goes_grow _ _ _ nowhere) (not_grown _ _ c _ (search rules) nowhere) same unchanged (λ alone. (disk, held)) (λ honest is. absurd (entries_unmarked c a alone is)) (λ honest. entries_once c a old new alone)
         (λ honest. entries_read c a old new alone disk) (entries_few c a old new alone) (entries_keep c a old new alone) (λ is. absurd (subst ChangesEntriesAlone is alone)) (λ is. absurd (subst ChangesEntriesAlone is alone))
 
     pub performs_grow : (blocks : ℕ) → IsCarriedOut old new (Grow blocks) a → NewAreFree a old new blocks → a ≢ Err Failed → GrowsOn (a ≡ Err Device) old new → IsNoLonger old new blocks → EarlyLeavesDisk a old new
         → OnErr a (entries_of new ≡ entries_of old) → EarlyKeeps a old new → Performs old new (Grow blocks) a
-    performs_grow blocks carried grown only_then goes no_more untouched same unchanged = record {
-      carried = carried;
-      only_then = only_then;
-      memory = λ is. tt;
-      goes = goes;
-      size = record {
-        as_long = λ no. absurd (no tt);
-        no_more = λ n is. subst (λ (b : ℕ). IsNoLonger old new b) (same_grow blocks n is) no_more;
-        untouched = λ is. untouched;
-        grown = λ n is. subst (λ (b : ℕ). NewAreFree a old new b) (same_grow blocks n is) grown;
-      };
-      same = same;
-      unchanged = unchanged;
-      blocks = λ alone. absurd alone;
-      marked = λ honest is. absurd is;
-      once = λ honest. tt;
-      reads = λ honest. tt;
-      few = tt;
-      free = tt;
-      written = λ is. cc;
-      back = λ is. cc;
-    }
+    performs_grow blocks carried grown only_then goes no_more untouched same unchanged =
+        let size : GrowsAsAsked old new (Grow blocks) a = record {
+          as_long = λ no. absurd (no tt);
+          no_more = λ n is. subst (λ (b : ℕ). IsNoLonger old new b) (same_grow blocks n is) no_more;
+          untouched = λ is. untouched;
+          grown = λ n is. subst (λ (b : ℕ). NewAreFree a old new b) (same_grow blocks n is) grown;
+        } in
+        performs_as (Grow blocks) carried only_then (λ is. tt) goes size same unchanged (λ alone. absurd alone) (λ honest is. absurd is) (λ honest. tt) (λ honest. tt) tt tt (λ is. cc) (λ is. cc)
 
-  -- one that is refused before the disk is asked for blocks
+  -- the same of a command under another name
+  pub performs_same : (old new : Store D members) (a : Result Answer Refusal) (c d : Command) → c ≡ d → Performs old new d a → Performs old new c a
+  performs_same old new a c d same did = subst (λ (e : Command). Performs old new e a) (sym same) did
+
+  -- a Grow that is refused before the disk is asked for blocks
   pub refuses_grow : (store : Store D members) (blocks : ℕ) (refusal : Refusal) → (refusal ≢ Device) × (refusal ≢ Failed) → ((s : State) → Holds store s → IsGrowDue (outcome s (Grow blocks)) (Err refusal)) → Performs store store (Grow blocks) (Err refusal)
   refuses_grow store blocks refusal never due =
       performs_grow store store (Err refusal) blocks (λ honest s holds. stayed store s holds (Grow blocks) refusal (due s holds)) (λ s holds. tt) (λ is. never.1 cc) (goes_grow _ _ _ (goes_nowhere _ _ _ refl (λ is. never.0 cc)))
