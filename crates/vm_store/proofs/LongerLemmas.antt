@@ -10,7 +10,7 @@ use Rattle.vm_types.specs.declared.command.Command.{Command}
 use Rattle.vm_types.specs.declared.command.Command.TheVariants.{Grow}
 use Rattle.vm_types.specs.declared.refusal.Refusal.{Refusal}
 use Rattle.vm_types.specs.declared.refusal.Refusal.TheVariants.{BadSize, Device, Memory}
-use Rattle.vm_types.proofs.Growing.{grow_accepted, grow_refused}
+use Rattle.vm_types.proofs.Growing.{good_size, grow_accepted, grow_refused}
 use Rattle.vm_disk.specs.Disk.{DiskState, Enlarges, Goes, Lengthens, Medium}
 use Rattle.vm_disk.specs.Moments.{Leaves, Throughout}
 use Rattle.vm_disk.proofs.MomentLemmas.{goes_on, touches_nothing, started}
@@ -138,9 +138,9 @@ still_held bits count n held = let inner = held_inside bits n held in get_or_app
 pub grow_is_refused : (s : State) (blocks : ℕ) → is_bad_size s.blocks blocks ≡ true → IsGrowDue (outcome s (Grow blocks)) (Err BadSize)
 grow_is_refused s blocks bad = subst (λ (o : Outcome). IsGrowDue o (Err BadSize)) (sym (grow_refused s blocks bad)) refl
 
-pub grow_is_accepted : (s : State) (blocks : ℕ) (result : Result Answer Refusal) → is_bad_size s.blocks blocks ≡ false → (result ≡ Err Device) ⊎ ((result ≡ Err Memory) ⊎ (result ≡ Ok Done))
+pub grow_is_accepted : (s : State) (old blocks : ℕ) (result : Result Answer Refusal) → old ≡ s.blocks → old < blocks → blocks ≤ 67108864 → (result ≡ Err Device) ⊎ ((result ≡ Err Memory) ⊎ (result ≡ Ok Done))
     → IsGrowDue (outcome s (Grow blocks)) result
-grow_is_accepted s blocks result good due = subst (λ (o : Outcome). IsGrowDue o result) (sym (grow_accepted s blocks good)) due
+grow_is_accepted s old blocks result same more few due = subst (λ (o : Outcome). IsGrowDue o result) (sym (grow_accepted s blocks (good_size s.blocks blocks (omega arith) few))) due
 
 -- ---- the same store, with fields of its own
 

@@ -1,16 +1,18 @@
 -- The blocks of the trees of an alternative that was found.
-use Rattle.std.proofs.Common.{◌≡◌, ℕ, Bool, true, false, cond, List, [], ◌∷◌, find, Option, Some, unwrap_or, refl, sym, ap, ◌∙◌, subst}
+use Rattle.std.proofs.Common.{◌≡◌, ℕ, ◌+◌, ◌≤◌, Bool, true, false, cond, List, [], ◌∷◌, find, Option, Some, unwrap_or, refl, sym, ap, ◌∙◌, subst, arith}
 use Rattle.vm_types.specs.Map.{Map}
 use Rattle.vm_types.specs.State.{State}
-use Rattle.vm_disk.specs.Disk.{Contents, Medium}
+use Rattle.vm_disk.specs.Disk.{Contents, DiskState, Medium}
 use Rattle.vm_block.specs.declared.selector.SlotName.{SlotName}
 use Rattle.vm_alloc.specs.Held.{IsHeld}
+use Rattle.vm_diff.specs.Differ.{ReadsUnshared}
 use Rattle.vm_tree.specs.Root.{IsRooted, IsRootedIn}
 use Rattle.vm_tree.specs.declared.root.Root.{Root}
 use Rattle.vm_store.specs.Filed.{Filed, Standing}
 use Rattle.vm_store.specs.Pairs.{IsPair}
 use Rattle.vm_store.specs.Rest.{Rests}
-use Rattle.vm_store.specs.Shared.{base_blocks, base_chosen, current_blocks, current_chosen, parent_name, saved_chosen, unshared_from, unshared_with_parent}
+use Rattle.vm_store.specs.Shared.{base_blocks, base_chosen, current_blocks, current_chosen, parent_name, saved_chosen, unshared_from, unshared_on_sides, unshared_with_parent}
+use Rattle.vm_store.specs.Sides.{ReadsSides}
 use Rattle.vm_store.specs.Sizes.{sizes}
 use Rattle.vm_store.specs.Versions.{is_alternative_of, is_checkpoint_of}
 use Rattle.vm_store.specs.declared.version.Version.{Version}
@@ -69,3 +71,19 @@ module _ (m : Medium) (limit : ℕ) (slot_name : SlotName) (bits : List Bool) (c
   pair_counts alt pair is =
       let name : parent_name (find (is_alternative_of alt) working) ≡ pair.1.name = ap parent_name is.own ∙ ap (λ (o : Option (List ℕ)). unwrap_or o []) is.owner in
       ap (unshared_from rests alt) name
+
+-- no more blocks are read than the compared trees do not share, of an alternative and its parent in what the store stands for
+module _ (old new : DiskState) (limit : ℕ) (slot_name : SlotName) (bits : List Bool) (committed working : List Version) (s : State) (rests : Rests old.now limit slot_name bits committed working s)
+    (alt : List ℕ) (pair : Version × Version) (is : IsPair working alt pair) (honest : new.honest ≡ true) where
+  pub few_with_parent : ReadsUnshared old new limit pair.0.base pair.1.current → new.reads ≤ old.reads + unshared_with_parent rests alt
+  few_with_parent bound =
+      let base = base_rooted _ _ _ _ _ _ s rests alt pair.0 is.own in
+      let parent = current_rooted _ _ _ _ _ _ s rests pair.1.name pair.1 is.parent in
+      omega (arith, bound honest sizes base.0 parent.0 _ _ base.1 parent.1, pair_counts _ _ _ _ _ _ s rests alt pair is)
+
+  pub few_on_sides : ReadsSides old new limit (record { base = pair.0.base; parent = pair.1.current; own = pair.0.current }) → new.reads ≤ old.reads + unshared_on_sides rests alt
+  few_on_sides bound =
+      let base = base_rooted _ _ _ _ _ _ s rests alt pair.0 is.own in
+      let current = current_rooted _ _ _ _ _ _ s rests alt pair.0 is.own in
+      let parent = current_rooted _ _ _ _ _ _ s rests pair.1.name pair.1 is.parent in
+      omega (arith, bound honest base.0 parent.0 current.0 _ _ _ base.1 parent.1 current.1, pair_counts _ _ _ _ _ _ s rests alt pair is)

@@ -7,7 +7,7 @@ use Rattle.vm_types.specs.State.{State, accepted, answer_of, next, tree_after, c
 use Rattle.vm_types.specs.declared.answer.Answer.{Answer}
 use Rattle.vm_types.specs.declared.answer.Answer.TheVariants.{Done}
 use Rattle.vm_types.specs.declared.command.Command.{Command}
-use Rattle.vm_types.specs.declared.command.Command.TheVariants.{Back, Checkpoint, Commit, Drop, Merge, New, NewAt, Post, Put, Reclaim, Remove, Uncheck}
+use Rattle.vm_types.specs.declared.command.Command.TheVariants.{Back, Checkpoint, Commit, Drop, Grow, Merge, New, NewAt, Post, Put, Reclaim, Remove, Uncheck}
 use Rattle.vm_types.specs.declared.refusal.Refusal.{Refusal}
 use Rattle.vm_types.specs.declared.refusal.Refusal.TheVariants.{Device}
 use Rattle.vm_disk.specs.Disk.{Medium}
@@ -110,23 +110,20 @@ when_ok (Err e) P known is = cc
 
 -- a command that changes entries alone marks no blocks
 pub entries_unmarked : (c : Command) (a : Result Answer Refusal) → ChangesEntriesAlone c → HasMarked c a → ⊥
-entries_unmarked (New name parent) a alone marked = marked
-entries_unmarked (NewAt name parent checkpoint) a alone marked = marked
-entries_unmarked (Drop alt) a alone marked = marked
-entries_unmarked (Checkpoint alt name) a alone marked = marked
-entries_unmarked (Uncheck alt name) a alone marked = marked
-entries_unmarked (Back alt name) a alone marked = marked
-entries_unmarked c a alone marked = absurd alone
+entries_unmarked (Put alt key value) a alone marked = alone
+entries_unmarked (Remove alt key) a alone marked = alone
+entries_unmarked (Merge alt settled) a alone marked = alone
+entries_unmarked Reclaim a alone marked = alone
+entries_unmarked c a alone marked = marked
 
 -- nothing is said of the free blocks of such a command
 pub entries_keep : {D : Type 0} {members : _} (c : Command) (a : Result Answer Refusal) (old new : Store D members) → ChangesEntriesAlone c → KeepsFree c a old new
-entries_keep (New name parent) a old new alone = tt
-entries_keep (NewAt name parent checkpoint) a old new alone = tt
-entries_keep (Drop alt) a old new alone = tt
-entries_keep (Checkpoint alt name) a old new alone = tt
-entries_keep (Uncheck alt name) a old new alone = tt
-entries_keep (Back alt name) a old new alone = tt
-entries_keep c a old new alone = absurd alone
+entries_keep (Put alt key value) a old new alone = absurd alone
+entries_keep (Remove alt key) a old new alone = absurd alone
+entries_keep (Merge alt settled) a old new alone = absurd alone
+entries_keep (Post alt) a old new alone = absurd alone
+entries_keep Commit a old new alone = absurd alone
+entries_keep c a old new alone = tt
 
 -- whether the store has failed says nothing of them
 module _ {D : Type 0} {members : _} (a : Result Answer Refusal) (old new other : Store D members) (honest : IsHonest other → IsHonest new) (held : held_of other ≡ held_of new) where
@@ -150,30 +147,21 @@ module _ {D : Type 0} {members : _} (a : Result Answer Refusal) (old new other :
 
 -- nor of the reads of a command that changes entries alone
 pub entries_few : {D : Type 0} {members : _} (c : Command) (a : Result Answer Refusal) (old new : Store D members) → ChangesEntriesAlone c → ReadsFew c a old new
-entries_few (New name parent) a old new alone = tt
-entries_few (NewAt name parent checkpoint) a old new alone = tt
-entries_few (Drop alt) a old new alone = tt
-entries_few (Checkpoint alt name) a old new alone = tt
-entries_few (Uncheck alt name) a old new alone = tt
-entries_few (Back alt name) a old new alone = tt
-entries_few c a old new alone = absurd alone
+entries_few (Merge alt settled) a old new alone = absurd alone
+entries_few (Post alt) a old new alone = absurd alone
+entries_few c a old new alone = tt
 
 -- nor of what follows a marking
 pub entries_once : {D : Type 0} {members : _} (c : Command) (a : Result Answer Refusal) (old new : Store D members) → ChangesEntriesAlone c → MarksOnce c a old new
-entries_once (New name parent) a old new alone = tt
-entries_once (NewAt name parent checkpoint) a old new alone = tt
-entries_once (Drop alt) a old new alone = tt
-entries_once (Checkpoint alt name) a old new alone = tt
-entries_once (Uncheck alt name) a old new alone = tt
-entries_once (Back alt name) a old new alone = tt
-entries_once c a old new alone = absurd alone
+entries_once (Put alt key value) a old new alone = absurd alone
+entries_once (Remove alt key) a old new alone = absurd alone
+entries_once (Merge alt settled) a old new alone = absurd alone
+entries_once c a old new alone = tt
 
 -- it does not read
 pub entries_read : {D : Type 0} {members : _} (c : Command) (a : Result Answer Refusal) (old new : Store D members) → ChangesEntriesAlone c → disk_of new ≡ disk_of old → ReadsOnly c a old new
-entries_read (New name parent) a old new alone same = unread a old new same
-entries_read (NewAt name parent checkpoint) a old new alone same = unread a old new same
-entries_read (Drop alt) a old new alone same = unread a old new same
-entries_read (Checkpoint alt name) a old new alone same = unread a old new same
-entries_read (Uncheck alt name) a old new alone same = unread a old new same
-entries_read (Back alt name) a old new alone same = unread a old new same
-entries_read c a old new alone same = absurd alone
+entries_read (Merge alt settled) a old new alone same = absurd alone
+entries_read (Post alt) a old new alone same = absurd alone
+entries_read Reclaim a old new alone same = absurd alone
+entries_read (Grow blocks) a old new alone same = absurd alone
+entries_read c a old new alone same = unread a old new same

@@ -21,6 +21,7 @@ impl<D: Disk> Store<D> {
     ghost use Rattle.vm_store.specs.Commands.{Performs};
 
     /// Carries out one command. Noting that the device failed is left to `apply`.
+    #[tactic(auto, using(crate::proofs::PerformLemmas::performs_same))]
     pub(super) fn dispatch(&mut self, command: &Command) -> Result<Answer, Refusal>
         ensures { Performs self.old self.new command.now result }
     {

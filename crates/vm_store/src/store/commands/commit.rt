@@ -1,6 +1,4 @@
 //! The command that makes the working entries the committed ones.
-ghost use Rattle.std.specs.Prelude.{◌≡◌, ◌⊎◌, OnErr};
-
 use crate::store::Store;
 use crate::versions::write_entries;
 use vm_catalog::publish;
@@ -8,18 +6,12 @@ use vm_disk::Disk;
 use vm_types::{Answer, Command, Refusal};
 
 impl<D: Disk> Store<D> {
-    ghost use Rattle.vm_store.specs.Store.{has_failed, entries_of, held_of, IsCarriedOut, GoesOn, WritesCommit};
+    ghost use Rattle.vm_store.specs.Commands.{Performs};
 
     /// Makes the working entries the committed ones.
     #[inline(never)]
     pub(super) fn commit(&mut self) -> Result<Answer, Refusal>
-        ensures any { GoesOn (result ≡ Err Refusal.Device) self.old self.new }
-        ensures failed { has_failed self.new ≡ has_failed self.old }
-        ensures result { (result ≡ Ok Answer.Done) ⊎ (result ≡ Err Refusal.Device) }
-        ensures same { OnErr result (entries_of self.new ≡ entries_of self.old) }
-        ensures held { held_of self.new ≡ held_of self.old }
-        ensures written { WritesCommit result self.old self.new }
-        ensures carried { IsCarriedOut self.old self.new Command.Commit result }
+        ensures { Performs self.old self.new Command.Commit result }
     {
         write_entries(&mut self.parts.entries, self.parts.working.as_slice());
         match publish(

@@ -1,29 +1,21 @@
 //! Growing a store.
-ghost use Rattle.std.specs.Prelude.{◌≡◌, ◌≢◌, ◌≤◌, true, IfErr, OnOk};
+ghost use Rattle.std.specs.Prelude.{◌≡◌, ◌≤◌, IfErr, OnOk};
 ghost use Rattle.vm_disk.specs.Disk.{Enlarges};
-ghost use Rattle.vm_types.specs.declared.command.Command.TheVariants.{Grow};
 
 use crate::store::Store;
 use vm_alloc::{Baseline, Marks};
 use vm_disk::Disk;
-use vm_types::{Answer, MAX_BLOCKS, Refusal};
+use vm_types::{Answer, Command, MAX_BLOCKS, Refusal};
 
 impl<D: Disk> Store<D> {
-    ghost use Rattle.vm_store.specs.Store.{disk_of, has_failed, entries_of, EarlyLeavesDisk, IsCarriedOut, IsNoLonger, NewAreFree, IsHonest, IsSameButDisk, GrowsOn, EarlyKeeps};
+    ghost use Rattle.vm_store.specs.Commands.{Performs};
+    ghost use Rattle.vm_store.specs.Store.{disk_of, GrowsOn, IsHonest, IsNoLonger, IsSameButDisk};
 
     /// Grows the store to `blocks` blocks in all. Memory for the held and the marked blocks is
     /// allocated before the disk is asked for blocks, so that nothing has to be undone.
     #[inline(never)]
     pub(super) fn grow(&mut self, blocks: u32) -> Result<Answer, Refusal>
-        ensures any { GrowsOn (result ≡ Err Refusal.Device) self.old self.new }
-        ensures failed { has_failed self.new ≡ has_failed self.old }
-        ensures never { result ≢ Err Refusal.Failed }
-        ensures same { entries_of self.new ≡ entries_of self.old }
-        ensures unchanged { EarlyKeeps result self.old self.new }
-        ensures untouched { EarlyLeavesDisk result self.old self.new }
-        ensures no_more { IsNoLonger self.old self.new blocks }
-        ensures carried { IsCarriedOut self.old self.new (Grow blocks) result }
-        ensures grown { NewAreFree result self.old self.new blocks }
+        ensures { Performs self.old self.new (Command.Grow blocks) result }
     {
         if blocks <= self.parts.blocks || blocks > MAX_BLOCKS {
             return Err(Refusal::BadSize);

@@ -14,23 +14,14 @@ use vm_tree::has;
 use vm_types::{Answer, Key, Name, Refusal};
 
 impl<D: Disk> Store<D> {
+    ghost use Rattle.vm_store.specs.Commands.{Performs};
     ghost use Rattle.vm_store.specs.Store.{has_failed, entries_of, free_of, series_of, Carries, Holds, IsHonest, GoesOn, EarlyKeeps, FirstReads, FullAgain, FullLeavesSpare, TakesUpTo};
 
     /// Removes a record from the alternative. If its series goes on and enough blocks are free,
     /// there is only one descent to the record.
     #[inline(never)]
     pub(super) fn remove(&mut self, alt: &Name, key: Key) -> Result<Answer, Refusal>
-        ensures any { GoesOn (result ≡ Err Refusal.Device) self.old self.new }
-        ensures failed { has_failed self.new ≡ has_failed self.old }
-        ensures never { (result ≢ Err Refusal.Failed) × (result ≢ Err Refusal.Memory) }
-        ensures same { OnErr result (entries_of self.new ≡ entries_of self.old) }
-        ensures unchanged { EarlyKeeps result self.old self.new }
-        ensures marked { IsHonest self.new → FullLeavesSpare result self.old self.new }
-        ensures once { IsHonest self.new → FullAgain result self.old self.new }
-        ensures reads { IsHonest self.new → FirstReads result self.old self.new }
-        ensures free { TakesUpTo 8 result self.old self.new }
-        ensures carried { IsHonest self.new → (s : State) (holds : Holds self.old s)
-            → Carries self.old self.new s holds (Remove alt.now key) result }
+        ensures { Performs self.old self.new (Remove alt.now key) result }
     {
         let Some(version) = self.parts.working.alternative(alt) else {
             return Err(Refusal::NoSuchAlternative);

@@ -1,21 +1,19 @@
 //! The command that goes back to what was committed.
-ghost use Rattle.std.specs.Prelude.{◌≡◌, Ok};
+ghost use Rattle.std.specs.Prelude.{Ok};
 
 use crate::store::Store;
 use vm_disk::Disk;
 use vm_types::{Answer, Command};
 
 impl<D: Disk> Store<D> {
-    ghost use Rattle.vm_store.specs.Store.{has_failed, IsCarriedOut, RollsBack};
+    ghost use Rattle.vm_store.specs.Commands.{Performs};
 
     /// Makes the committed entries the working ones, and drops the blocks that a Grow added since
     /// then. It makes no device call, takes no block and is never refused. The blocks that only the
     /// entries from before need stay held until the next marking.
     #[inline(never)]
     pub(super) fn rollback(&mut self) -> Answer
-        ensures failed { has_failed self.new ≡ has_failed self.old }
-        ensures back { RollsBack (Ok result) self.old self.new }
-        ensures carried { IsCarriedOut self.old self.new Command.Rollback (Ok result) }
+        ensures { Performs self.old self.new Command.Rollback (Ok result) }
     {
         self.parts.roll_back();
         self.parts.series = None;

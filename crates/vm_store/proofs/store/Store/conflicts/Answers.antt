@@ -1,8 +1,8 @@
-use Rattle.std.proofs.Common.{◌∙◌, Err, ap, arith, inr, rules}
+use Rattle.std.proofs.Common.{◌∙◌, Err, ap, inr, rules}
 use Rattle.vm_tree.proofs.Looking.{passed_on}
 use Rattle.vm_store.proofs.Listing.{listed}
 use Rattle.vm_store.proofs.PairLemmas.{conflicts_lacking, conflicts_there, own_there, parent_there}
-use Rattle.vm_store.proofs.SharedLemmas.{base_rooted, current_rooted, pair_counts}
+use Rattle.vm_store.proofs.SharedLemmas.{few_on_sides}
 use Rattle.vm_store.proofs.QueryLemmas.{query_failed, query_read, query_unpaired}
 use Rattle.vm_store.specs.declared.version.Version.{Version}
 use Rattle.vm_store.proofs.store.Store.conflicts.Goals as goal
@@ -34,12 +34,4 @@ returns-clause-query g c =
 
 pub returns-clause-bound : goal.returns-clause-bound
 returns-clause-bound g c honest s holds =
-    let rests = holds.rests in
-    let alt = c.args.alt.now in
-    let pair : Version × Version = (c.in_ok-own.own, c.in_ok-own.parent) in
-    let is = c.in_ok-own.ensures.found in
-    let base = base_rooted _ _ _ _ _ _ s rests alt c.in_ok-own.own is.own in
-    let current = current_rooted _ _ _ _ _ _ s rests alt c.in_ok-own.own is.own in
-    let parent = current_rooted _ _ _ _ _ _ s rests c.in_ok-own.parent.name c.in_ok-own.parent is.parent in
-    let bound = c.conflicts_of.ensures.bound honest base.0 parent.0 current.0 _ _ _ base.1 parent.1 current.1 in
-    omega (arith, bound, pair_counts _ _ _ _ _ _ s rests alt pair is)
+    few_on_sides (g.D.Disk.state c.args.self.now.disk) (g.D.Disk.state c.conflicts_of.new.disk) _ _ _ _ _ s holds.rests c.args.alt.now (c.in_ok-own.own, c.in_ok-own.parent) c.in_ok-own.ensures.found honest c.conflicts_of.ensures.bound
