@@ -133,6 +133,8 @@ class Machine:
             f"--directory={self.root}",
             f"--network-namespace-path=/run/netns/{NET}-{self.name}",
             "--capability=all",
+            # A container may not do this otherwise, and a machine may: the service needs it.
+            "--system-call-filter=pidfd_getfd",
             f"--bind={self.folder}/brick:/srv/brick",
         ]
         words += ["--bind=/dev/fuse", "--boot"]
@@ -248,6 +250,8 @@ class Planner(threading.Thread):
         is_new = False
         while not self.ends:
             while self.rests and not self.ends:
+                # It reads on, so it connects again as soon as the service has ended.
+                self.ask(service, answers, "batches")
                 time.sleep(0.1)
             line = f"top {self.table} {self.number}"
             answer = "none" if is_new else self.ask(service, answers, f"get {line}")
@@ -283,6 +287,9 @@ def set_up(machines):
             for name in names:
                 machines[name].said("sh", "-c", f"cd /root && {command}")
     until(lambda: active(machines) is not None, "the service starts")
+    said = active(machines).said("journalctl", "--no-pager", "--unit", "altserve@map.service")
+    if "the lock is not on what the program writes with" in said:
+        raise Failed("the lock is not on what the program writes with")
 
 
 def active(machines):
