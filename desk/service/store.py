@@ -69,7 +69,7 @@ class Store:
             return
         written = written_by(self.program.process.pid, self.lock)
         if written is None:
-            self.say(f"{self.file}: the lock is not on what the program writes with: the system does not let it be there")
+            self.say(f"{self.file}: the lock is not on what the program writes with: the system does not let it")
         else:
             self._move_lock(written)
 
