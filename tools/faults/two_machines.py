@@ -8,7 +8,8 @@ is halted, goes on in the middle of its work once the other machine has taken ov
 still writes has to be refused. SEED (1 if none is given) decides how long planners have written when the machine goes.
 
 If something is not as it should be, the disks, logs and journals of the machines are kept, with what the machines told
-before they were ended, and the script says where. Several may run at once, with a ROOT that is there.
+before they were ended, and the script says where. Several may run at once, with a ROOT that is there; from six on they
+want more than 128 of fs.inotify.max_user_instances, or a machine does not boot.
 
 It is not one of the scripts of `tools/all.sh`: it takes a quarter of an hour, and has lost batches, as the page says.
 It takes the rights of root. If something is not installed or not allowed, it says so and ends with status 0."""
