@@ -13,7 +13,7 @@ from service_tests.test_archives import ArchiveTests, RestoreFromArchivesTests
 from service_tests.test_backups import BackupTests, PacingTests
 from service_tests.test_batches import BatchTests
 from service_tests.test_changed import ChangedTests, LastChangesTests
-from service_tests.test_crashes import CrashTests
+from service_tests.test_crashes import CrashTests, VolumeTests
 from service_tests.test_devices import DeviceTests, SyncTests
 from service_tests.test_fairness import BoundTests, FairnessTests, LeavingTests
 from service_tests.test_hostile import HostileTests

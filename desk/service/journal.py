@@ -11,6 +11,7 @@ from typing import Callable, Iterable, Iterator, Optional, Tuple
 
 from service.batch import Batch
 from service.lines import printable
+from service.locking import lock_on_volume
 from service.renewals import author
 
 # The line of a batch up to its own lines.
@@ -49,6 +50,7 @@ class Journal:
     def __init__(self, path: str, say: Callable[[object], None]):
         self.path, self.say = path, say
         self.file = os.open(path, os.O_RDWR | os.O_CREAT | os.O_APPEND | os.O_CLOEXEC, 0o600)
+        lock_on_volume(self.file)
         sync_folder(path)
         settle(self.file)
         self.end = os.fstat(self.file).st_size
@@ -141,6 +143,7 @@ class Journal:
 
     def go_on_in(self, file: int) -> None:
         """Goes on in another file, which has taken the journal's name."""
+        lock_on_volume(file)
         os.close(self.file)
         self.file, self.end = file, os.fstat(file).st_size
 

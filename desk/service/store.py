@@ -8,6 +8,7 @@ from altctl import why_unopened
 from service.entries import Entries
 from service.journal import settle
 from service.limits import refusal
+from service.locking import is_of_volume, move, written_by
 from service.lines import OWN
 from service.program import Ended, Program
 
@@ -29,6 +30,8 @@ class Store:
 
     def __init__(self, file: str, altctl: str, options: List[str], lock: int, say: Callable[[object], None]):
         self.file, self.altctl, self.lock, self.say = file, altctl, lock, say
+        # The descriptor that has the lock. On a volume it is that of the open file that the program writes with.
+        self.held = lock
         self.words = [altctl, "run", *options, "--", file]
         self.entries, self.kept, self.has_rollback = Entries(), 0, False
         # How often the program was started.
@@ -44,9 +47,11 @@ class Store:
         except OSError as fault:
             raise Fatal(f"it could not be synced: {fault}. The next start shows what the device has") from None
         for _ in range(TRIES):
+            self._take_lock_back()
             self.program, self.starts = self._started(), self.starts + 1
             try:
                 self.has_rollback = self.program.ask([b"rollback"]) == [b"ok"]
+                self._give_lock()
                 self._look()
                 if OWN not in self.entries.parents:
                     self._begin()
@@ -57,6 +62,34 @@ class Store:
                     break
         reason = why_unopened(self.file, False)
         raise Fatal(f"altctl ended with status {status} at its start" + (f"\n{self.file}: {reason}" if reason else ""))
+
+    def _give_lock(self) -> None:
+        """On a volume, moves the lock to the open file that the program writes with."""
+        if not is_of_volume(self.lock):
+            return
+        written = written_by(self.program.process.pid, self.lock)
+        if written is None:
+            self.say(f"{self.file}: the lock is not on what the program writes with: the system does not let it")
+        else:
+            self._move_lock(written)
+
+    def _take_lock_back(self) -> None:
+        """Has the lock from the program that has ended."""
+        if self.held != self.lock:
+            written = self.held
+            try:
+                self._move_lock(self.lock)
+            finally:
+                self.held = self.lock
+                os.close(written)
+
+    def _move_lock(self, to: int) -> None:
+        try:
+            move(self.held, to)
+        except OSError as fault:
+            self.program.end(kills=True)
+            raise Fatal(f"its lock is lost: {fault.strerror}") from None
+        self.held = to
 
     def _started(self) -> Program:
         for _ in range(WAITS):
@@ -104,7 +137,7 @@ class Store:
     def is_in_place(self) -> bool:
         """Whether the file still has its name."""
         try:
-            return os.path.samestat(os.stat(self.file), os.fstat(self.lock))
+            return os.path.samestat(os.stat(self.file), os.fstat(self.held))
         except OSError:
             return False
 

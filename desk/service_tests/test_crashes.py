@@ -1,12 +1,14 @@
 """Tests of the service: crashes."""
+import fcntl
 import os
 from pathlib import Path
+from unittest.mock import patch
 
 from service.batch import Batch
 from service.batches import Batches
-from service.locking import locked
+from service.locking import locked, written_by
 from service.rules import Person, Rules
-from service.store import Store
+from service.store import Fatal, Store
 from service_tests.support import ALTCTL, ServiceTest, entries
 
 
@@ -69,3 +71,59 @@ class CrashTests(ServiceTest):
         batches.end()
         os.close(lock)
         return len(rows)
+
+
+class VolumeTests(ServiceTest):
+    """On a volume the lock is on the open file that the program writes with. Here the file system stands for one."""
+
+    def setUp(self):
+        super().setUp()
+        self.lock, self.said = locked(self.file), []
+        self.addCleanup(os.close, self.lock)
+        volume = patch("service.store.is_of_volume", return_value=True)
+        volume.start()
+        self.addCleanup(volume.stop)
+
+    def store(self):
+        store = Store(self.file, ALTCTL, [], self.lock, self.said.append)
+        self.addCleanup(store.end)
+        if store.held == self.lock:
+            self.skipTest("the system gives no descriptor of another process")
+        self.addCleanup(lambda: store.held == self.lock or os.close(store.held))
+        return store
+
+    def has_lock(self, file):
+        try:
+            fcntl.flock(file, fcntl.LOCK_EX | fcntl.LOCK_NB)
+        except BlockingIOError:
+            return False
+        return True
+
+    def test_the_lock_goes_from_program_to_program(self):
+        store = self.store()
+        for _ in range(3):
+            self.assertFalse(self.has_lock(self.lock))
+            written = written_by(store.program.process.pid, self.lock)
+            self.assertTrue(self.has_lock(written))
+            os.close(written)
+            store.program.process.kill()
+            store.program.process.wait()
+            self.assertFalse(self.has_lock(self.lock))
+            store.reopen()
+        self.assertEqual([], self.said)
+
+    def test_no_program_is_started_once_the_lock_is_lost(self):
+        store = self.store()
+        fcntl.flock(store.held, fcntl.LOCK_UN)
+        other = locked(self.file)
+        starts = store.starts
+        self.assertRaisesRegex(Fatal, "its lock is lost", store.reopen)
+        self.assertEqual(starts, store.starts)
+        os.close(other)
+
+    def test_a_system_that_does_not_let_it_be_there(self):
+        with patch("service.store.written_by", return_value=None):
+            store = Store(self.file, ALTCTL, [], self.lock, self.said.append)
+        self.addCleanup(store.end)
+        self.assertEqual(self.lock, store.held)
+        self.assertRegex(self.said[0], "the lock is not on what the program writes with")

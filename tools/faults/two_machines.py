@@ -1,16 +1,21 @@
 #!/usr/bin/env python3
 """Takes the service over from one machine to the other, as docs/TWO-MACHINES.md has it: `tools/faults/two_machines.py
-[COUNT [ROOT]]`. Three Debians, each a copy of ROOT, or of one that debootstrap makes with the packages of the page, are
-booted by systemd-nspawn in network namespaces of their own, and do each command of the page. Then the machine of the
-service is killed, cut off, or frozen, in turn, COUNT times (6 if none is given) while planners write: after each time
-each acknowledged batch has to be there, and none may be done twice. One that is frozen, as a virtual machine that is
-halted, goes on in the middle of its work once the other machine has taken over, and so do its planners: what it still
-writes has to be refused.
+[COUNT [ROOT [SEED]]]`. Three Debians, each a copy of ROOT, or of one that debootstrap makes with the packages of the
+page, are booted by systemd-nspawn in network namespaces of their own, and do each command of the page. Then the machine
+of the service is killed, cut off, or frozen, in turn, COUNT times (6 if none is given) while planners write: after each
+time each acknowledged batch has to be there, and none may be done twice. One that is frozen, as a virtual machine that
+is halted, goes on in the middle of its work once the other machine has taken over, and so do its planners: what it
+still writes has to be refused. SEED (1 if none is given) decides how long planners have written when the machine goes.
+
+If something is not as it should be, the disks, logs and journals of the machines are kept, with what the machines told
+before they were ended, and the script says where. Several may run at once, with a ROOT that is there; from six on they
+want more than 128 of fs.inotify.max_user_instances, or a machine does not boot.
 
 It is not one of the scripts of `tools/all.sh`: it takes a quarter of an hour, and has lost batches, as the page says.
 It takes the rights of root. If something is not installed or not allowed, it says so and ends with status 0."""
 import contextlib
 import os
+import random
 import re
 import shutil
 import signal
@@ -28,12 +33,24 @@ NAMES = ("one", "two", "three")
 NET = f"alt{os.getpid()}"
 ENV = ("-i", "PATH=/usr/sbin:/usr/bin:/sbin:/bin", "LC_ALL=C.UTF-8", "HOME=/root", "TERM=dumb")
 QUIET = {"stdin": subprocess.DEVNULL, "stdout": subprocess.DEVNULL, "stderr": subprocess.DEVNULL}
-# How long a take-over, and the way back to three machines, may take.
-LATE_SECONDS = 300
+# How long a take-over, and the way back to three machines, may take, and a command on one of them.
+LATE_SECONDS = 600
 # How the machine of the service goes away, in turn.
 WAYS = ("killed", "cut off", "frozen")
 # Planners at each machine, and how long each rests between two batches.
 PLANNERS, REST_SECONDS = 3, 0.02
+# How long they write before a machine goes away.
+LOAD_SECONDS = 1, 6
+# What a machine is asked when something is not as it should be.
+ASKED = (
+    "crm_mon --one-shot --inactive --failcounts",
+    "gluster volume status map",
+    "gluster volume heal map info",
+    "systemctl status --no-pager --full altserve@map.service altserve@map.socket glusterd",
+    "ls -la --time-style=full-iso /var/lib/altserve /srv/brick/map",
+    "altserve status --socket /run/altserve/map.sock /var/lib/altserve/map.alt",
+    "journalctl --no-pager --output short-precise",
+)
 # Where a machine's processes may have a control group of their own: with one in common a systemd would see, and try to
 # end, those of the other machines.
 GROUPS = [Path("/sys/fs/cgroup/systemd"), Path("/sys/fs/cgroup/unified"), Path("/sys/fs/cgroup")]
@@ -111,12 +128,14 @@ class Machine:
         # The shell joins the groups, and becomes the program.
         words = ["sh", "-c", 'while [ "$1" != -- ]; do echo $$ >"$1"; shift; done; shift; exec "$@"', "sh"]
         words += [*(f"{it}/cgroup.procs" for it in self.groups), "--"]
+        words += ["systemd-nspawn", "--quiet", "--register=no", "--keep-unit", f"--machine={NET}-{self.name}"]
         words += [
-            "systemd-nspawn", "--quiet", "--register=no", "--keep-unit", f"--machine={self.name}", "-D", str(self.root),
-        ]
-        words += [
+            f"--hostname={self.name}",
+            f"--directory={self.root}",
             f"--network-namespace-path=/run/netns/{NET}-{self.name}",
             "--capability=all",
+            # A container may not do this otherwise, and a machine may: the service needs it.
+            "--system-call-filter=pidfd_getfd",
             f"--bind={self.folder}/brick:/srv/brick",
         ]
         words += ["--bind=/dev/fuse", "--boot"]
@@ -136,20 +155,28 @@ class Machine:
         return ["nsenter", "-t", str(self.leader()), "-m", "-u", "-i", "-n", "-p", "-C", "env", *ENV, *words]
 
     def tried(self, *words):
-        return self.leader() is not None and subprocess.run(self.words(*words), **QUIET, timeout=120).returncode == 0
+        with contextlib.suppress(subprocess.TimeoutExpired):
+            return self.leader() is not None and subprocess.run(self.words(*words), **QUIET, timeout=60).returncode == 0
+        return False
 
-    def said(self, *words):
-        ran = subprocess.run(
-            self.words(*words),
-            stdin=subprocess.DEVNULL,
-            stdout=subprocess.PIPE,
-            stderr=subprocess.STDOUT,
-            text=True,
-            timeout=300,
-        )
+    def said(self, *words, seconds=LATE_SECONDS):
+        how = {"stdin": subprocess.DEVNULL, "stdout": subprocess.PIPE, "stderr": subprocess.STDOUT, "text": True}
+        try:
+            ran = subprocess.run(self.words(*words), **how, timeout=seconds)
+        except subprocess.TimeoutExpired:
+            raise Failed(f"{self.name}: {' '.join(words)}: not within {seconds} seconds") from None
         if ran.returncode:
             raise Failed(f"{self.name}: {' '.join(words)}: status {ran.returncode}: {ran.stdout.strip()}")
         return ran.stdout
+
+    def tell_all(self, path):
+        """Writes what the machine tells about itself."""
+        with open(path, "w") as told:
+            for it in ASKED if self.leader() is not None else ():
+                print(f"\n# {it}", file=told, flush=True)
+                with contextlib.suppress(subprocess.TimeoutExpired):
+                    how = {"stdin": subprocess.DEVNULL, "stdout": told, "stderr": subprocess.STDOUT}
+                    subprocess.run(self.words("sh", "-c", it), **how, timeout=60)
 
     def freeze(self, is_frozen):
         """Has all processes of the machine stand still, or go on. Its kernel, which is that of all, goes on meanwhile,
@@ -224,6 +251,8 @@ class Planner(threading.Thread):
         is_new = False
         while not self.ends:
             while self.rests and not self.ends:
+                # It reads on, so it connects again as soon as the service has ended.
+                self.ask(service, answers, "batches")
                 time.sleep(0.1)
             line = f"top {self.table} {self.number}"
             answer = "none" if is_new else self.ask(service, answers, f"get {line}")
@@ -259,6 +288,9 @@ def set_up(machines):
             for name in names:
                 machines[name].said("sh", "-c", f"cd /root && {command}")
     until(lambda: active(machines) is not None, "the service starts")
+    said = active(machines).said("journalctl", "--no-pager", "--unit", "altserve@map.service")
+    if "the lock is not on what the program writes with" in said:
+        raise Failed("the lock is not on what the program writes with")
 
 
 def active(machines):
@@ -279,9 +311,9 @@ def has_answer(machine):
 def is_whole(machines):
     """Whether all machines are there again, and hold the same."""
     try:
-        nodes = machines["three"].said("crm_mon", "--one-shot")
-        healed = machines["three"].said("gluster", "volume", "heal", "map", "info")
-    except (Failed, subprocess.TimeoutExpired):
+        nodes = machines["three"].said("crm_mon", "--one-shot", seconds=60)
+        healed = machines["three"].said("gluster", "volume", "heal", "map", "info", seconds=60)
+    except Failed:
         return False
     online = re.search(r"Online: \[ (.*?) \]", nodes)
     return online is not None and len(online[1].split()) == 3 and healed.count("Number of entries: 0") == 3
@@ -298,7 +330,9 @@ class TakeOver:
     what became of the old service's lines after that."""
 
     def __init__(self, machines, number):
-        self.old = active(machines)
+        found = []
+        until(lambda: found.append(active(machines)) or found[-1], "the service answers")
+        self.old = found[-1]
         [self.new] = [it for it in machines.values() if it.name in ("one", "two") and it is not self.old]
         ways = [it for it in WAYS if it != "frozen" or self.old.freezers()]
         self.number, self.how, self.begun, self.late = number, ways[number % len(ways)], time.monotonic(), {}
@@ -340,9 +374,12 @@ class TakeOver:
         )
 
 
-def take_over(net, machines, number, acknowledged, planners):
-    one = TakeOver(machines, number)
+def take_over(net, machines, number, acknowledged, planners, seconds):
     before = len(acknowledged)
+    until(lambda: len(acknowledged) > before, "planners go on")
+    time.sleep(seconds)
+    loaded = len(acknowledged) - before
+    one = TakeOver(machines, number)
     one.run(net, planners)
     # What is written is shown as not healed, so all rest.
     everybody = [it for those in planners.values() for it in those]
@@ -355,7 +392,7 @@ def take_over(net, machines, number, acknowledged, planners):
     machines["three"].said("crm", "resource", "restart", "service")
     machines["three"].said("crm_resource", "--wait")
     until(lambda: active(machines) is not None, "the service starts again")
-    say(f"{one.told()}; {len(acknowledged) - before} batches")
+    say(f"{one.told()}; {len(acknowledged) - before} batches, {loaded} of them in {seconds:.1f} s before")
     compare(machines, acknowledged)
     for it in everybody:
         it.rests = False
@@ -368,7 +405,7 @@ def compare(machines, acknowledged):
     until(lambda: found.extend(rows_of(active(machines))) or found, "the service tells what is there")
     there = {tuple(map(int, it.split()[1:3])) for it in found if it.startswith("record ")}
     done = [tuple(map(int, it.split()[6:8])) for it in found if it.startswith("entry ") and it.split()[4] == "put"]
-    lost, twice = due - there, len(done) - len(set(done))
+    lost, twice = due - (there & set(done)), len(done) - len(set(done))
     load = os.getloadavg()[0]
     say(f"{len(due)} batches acknowledged, {len(lost)} lost, {twice} done twice; load {load:.0f}")
     if lost or twice or not due:
@@ -400,7 +437,32 @@ def say_times(done):
             )
 
 
-def try_all(root, deb, count, folder):
+def keep(folder, machines, planners):
+    """Has what tells how it came to this in the folder."""
+    for it in machines.values():
+        it.tell_all(folder / f"{it.name}.told")
+    rows = []
+    with contextlib.suppress(OSError):
+        rows = rows_of(active(machines))
+    (folder / "rows").write_text("".join(f"{it}\n" for it in rows))
+    with open(folder / "planners", "w") as told:
+        for it in (it for those in planners.values() for it in those):
+            for when, started, what in list(it.seen):
+                print(f"{it.machine.name} {it.table} {when:.3f} {started:.3f} {what}", file=told)
+            print(f"{it.machine.name} {it.table} next {it.number}", file=told)
+
+
+@contextlib.contextmanager
+def kept_if_failed(folder, machines, planners):
+    try:
+        yield
+    except Exception:
+        say(f"it fails at {time.strftime('%H:%M:%S')}, {time.monotonic():.3f} s of the planners' clock")
+        keep(folder, machines, planners)
+        raise
+
+
+def try_all(root, deb, count, folder, seed):
     with contextlib.ExitStack() as all_of_it:
         net = all_of_it.enter_context(Net())
         machines = {}
@@ -408,18 +470,19 @@ def try_all(root, deb, count, folder):
             machines[name] = Machine(name, root, folder, deb)
             all_of_it.callback(machines[name].clear)
             machines[name].boot()
-        set_up(machines)
         acknowledged, planners = set(), {}
+        all_of_it.enter_context(kept_if_failed(folder, machines, planners))
+        set_up(machines)
         for number, name in enumerate(("one", "two")):
             tables = range(number * PLANNERS + 1, number * PLANNERS + PLANNERS + 1)
             planners[name] = [Planner(machines[name], table, acknowledged) for table in tables]
             for it in planners[name]:
                 it.start()
         until(lambda: len(acknowledged) > 20, "the first batches")
-        done = []
+        done, draw = [], random.Random(seed)
         try:
             for number in range(count):
-                done.append(take_over(net, machines, number, acknowledged, planners))
+                done.append(take_over(net, machines, number, acknowledged, planners, draw.uniform(*LOAD_SECONDS)))
         finally:
             say(f"{len(done)} take-overs of {count}")
             say_times(done)
@@ -446,22 +509,27 @@ def root_of(folder):
 
 def main():
     signal.signal(signal.SIGTERM, lambda *_: sys.exit(1))
-    if len(sys.argv) > 3:
-        sys.exit("usage: tools/faults/two_machines.py [COUNT [ROOT]]")
+    if len(sys.argv) > 4:
+        sys.exit("usage: tools/faults/two_machines.py [COUNT [ROOT [SEED]]]")
     missing = [it for it in ("systemd-nspawn", "nsenter", "ip", "mount", "dpkg-deb") if shutil.which(it) is None]
     if missing or os.geteuid() or not os.path.exists("/dev/fuse"):
         say(f"skipped: {missing[0] + ' is not installed' if missing else 'it takes root, and /dev/fuse'}")
         return 0
-    with tempfile.TemporaryDirectory(prefix="two-") as folder:
-        root = Path(sys.argv[2]) if len(sys.argv) > 2 else root_of(Path(folder))
-        if root is None:
-            return 0
-        deb, _ = run(TOP / "tools/release/package.sh", f"{folder}/packages").split()
+    count, root, seed = sys.argv[1:] + [6, "", 1][len(sys.argv) - 1 :]
+    folder = Path(tempfile.mkdtemp(prefix="two-"))
+    with contextlib.ExitStack() as end:
+        end.callback(shutil.rmtree, folder, ignore_errors=True)
         try:
-            try_all(root, deb, int(sys.argv[1]) if len(sys.argv) > 1 else 6, Path(folder))
-        except Failed as fault:
-            say(fault)
-            return 1
+            found = Path(root) if root else root_of(folder)
+            if found is not None:
+                deb, _ = run(TOP / "tools/release/package.sh", f"{folder}/packages").split()
+                try_all(found, deb, int(count), folder, int(seed))
+        except Exception as fault:
+            end.pop_all()
+            say(f"{fault}\nwhat the machines left is in {folder}")
+            if isinstance(fault, Failed):
+                return 1
+            raise
     return 0
 
 
