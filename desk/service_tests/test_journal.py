@@ -142,6 +142,12 @@ class JournalTests(ServiceTest):
         self.assertEqual([*made, f"{len(made) + 1} put top 2 1 a"], self.log())
 
 
+    def ended(self):
+        """What a service said that has ended by itself."""
+        service, self.service = self.service, None
+        self.assertNotEqual(0, service.wait(60))
+        return self.said.read_text()
+
     def on_a_small_disk(self, blocks, *options):
         """A service over a store on a disk of 4 MiB, which is the folder that is returned."""
         small = os.path.join(self.folder, "small")
@@ -169,16 +175,19 @@ class JournalTests(ServiceTest):
                 if answer != "ok":
                     break
                 made.append(f"{number + 1} put top 1 {number} {value}")
-            self.assertIn(answer, ("error 15 Device", "error 97 NotJournaled ENOSPC"))
+            self.assertIn(answer, ("error 101 Unsure", "error 97 NotJournaled ENOSPC"))
+        if answer == "error 101 Unsure":  # A commit found no room.
+            self.ended()
+            self.start("--grow")
+        with self.planner() as one:
             self.assertEqual([f"value {value}"], one.ask("get top 1 0"))
-            before = int(one.ask("blocks")[0].split()[1])
             # Room is made on the disk, and the journal's entries go to another one.
             os.unlink(os.path.join(small, "backup"))
             self.assertEqual(["ok"], one.ask("put top 2 1 a"))
             os.symlink(self.folder, f"{self.file}.archives")
             self.assertEqual("ok", one.ask(f"archive old {len(made)}")[0].split()[0])
             self.assertEqual(["ok"] * 40, one.ask(*(f"put top 3 {number} {value}" for number in range(40))))
-            self.assertLess(before, int(one.ask("blocks")[0].split()[1]))
+            self.assertLess(64, int(one.ask("blocks")[0].split()[1]))
         self.assertEqual(0, self.stop())
         self.assertEqual(made, self.log("--archive", f"{self.folder}/old")[: len(made)])
         # What a growth has added in vain can be cut off.
@@ -203,8 +212,14 @@ class JournalTests(ServiceTest):
                 made.append(f"{len(made) + 1} put top 1 {number} {LONG}")
             self.assertEqual("error 97 NotJournaled ENOSPC", answer)
             self.assertEqual(["error 98 NoBackup EIO", "value a"], one.ask("backup a", "get top 1 0"))
-            # The program ends at a growth for which there is no room, and is started again.
-            self.assertEqual(["error 15 Device", "value a"], one.ask("grow 4096", "get top 1 0"))
+            # A commit for which there is no room ends the service. Started again, it shows what the device has.
+            self.assertEqual(["error 101 Unsure"], one.ask("grow 4096"))
+        said = self.ended()
+        self.assertIn(f"not journaled: {self.journal}: No space left on device\n", said)
+        self.assertIn("a device failed, or there is no space\n", said)
+        self.start()
+        with self.planner() as one:
+            self.assertEqual(["value a"], one.ask("get top 1 0"))
             os.unlink(os.path.join(small, "filler"))
             self.assertEqual(["ok"], one.ask("put top 2 1 b"))
             self.assertEqual(f"end {len(made) + 1}", one.rows("list top")[-1])
@@ -212,6 +227,3 @@ class JournalTests(ServiceTest):
         log = self.log()
         self.assertEqual(made, log[:-1])
         self.assertEqual("put top 2 1 b", log[-1].split(" ", 1)[1])
-        said = self.said.read_text()
-        self.assertIn(f"not journaled: {self.journal}: No space left on device\n", said)
-        self.assertIn(f"altctl ended: error 15 Device; it was started again, after batch {len(made)}\n", said)
