@@ -51,7 +51,7 @@ class PartsTests(unittest.TestCase):
         # No process has this number.
         copy.process = SimpleNamespace(pid=1 << 30, poll=lambda: None)
         copy.store, copy.part = SimpleNamespace(lock=0), "/nowhere/at/all"
-        copy.before, copy.is_open, copy.commits = None, False, 1
+        copy.before, copy.is_open, copy.is_last, copy.commits = None, False, False, 1
         self.assertFalse(copy.may_commit())
         copy.commits = 0
         self.assertTrue(copy.may_commit())
