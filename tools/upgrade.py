@@ -8,7 +8,7 @@ sums, and `altctl check` has to accept it. Until then its name is NEW.part. If a
 status is 1; a damaged OLD is refused with the number of the block, as `18 Damaged 34`.
 
 How formats 1 and 2 lie in a file, if it is not said otherwise in docs/FORMATS.md of format 3, which has the same
-selector, slots and inner blocks, but for the sums:
+selector, slots and inner blocks, apart from the sums:
 
     header        ALTSTORE, u32 1, u32 4096, then zero
     slot          u32 format 1 or 2 in its first cell

@@ -4,7 +4,7 @@
 //! a block is what the disk below holds there, with the number in the place of the sum exchanged for that number
 //! XOR the sum of the block. So a block that was written with zero in that place, as every form of a block has it,
 //! shows zero there as long as the disk below holds the bytes that were written; and where it holds others, or
-//! those of another block, what shows there is not zero, but for one chance in 2^32.
+//! those of another block, zero shows there by one chance in 2^32.
 //!
 //! The sum is the lower half of XXH64 of the block with its number in the place of the sum. Blocks 0 and 1, the
 //! header and the selector, have none.
