@@ -1,5 +1,6 @@
 /* Answers the lines of a load over another store, so that `measure.sh --peers` can measure altctl beside it:
-   over LMDB where it is compiled with -DLMDB and -llmdb, and else over SQLite with -lsqlite3.
+   over LMDB where it is compiled with -DLMDB and -llmdb, with -DBY_MAP by a map that it writes through, and else over
+   SQLite with -lsqlite3.
 
    peers run FILE
 
@@ -51,6 +52,12 @@ static void add_row(const unsigned char *key, const char *value, size_t length)
 #ifdef LMDB
 #include <lmdb.h>
 
+#ifdef BY_MAP
+enum { OPTIONS = MDB_WRITEMAP };
+#else
+enum { OPTIONS = 0 };
+#endif
+
 static MDB_env *environment;
 static MDB_txn *writing, *reading;
 static MDB_dbi table;
@@ -65,7 +72,7 @@ static void begin_store(const char *name)
 {
     must(mdb_env_create(&environment));
     must(mdb_env_set_mapsize(environment, (size_t)1 << 32));
-    must(mdb_env_open(environment, name, MDB_NOSUBDIR, 0666));
+    must(mdb_env_open(environment, name, MDB_NOSUBDIR | OPTIONS, 0666));
     must(mdb_txn_begin(environment, NULL, 0, &writing));
     must(mdb_dbi_open(writing, NULL, 0, &table));
     must(mdb_txn_commit(writing));
