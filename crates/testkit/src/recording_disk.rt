@@ -195,6 +195,10 @@ impl Disk for RecordingDisk {
         self.inner.write(n, from)
     }
 
+    fn write_run(&mut self, n: BlockNumber, blocks: &[Block]) -> Result<(), DeviceFault> {
+        self.write_each(n, blocks)
+    }
+
     /// Writing the same bytes once more is one way to forget them.
     fn forget(&mut self, n: BlockNumber) {
         let at = n as usize;

@@ -1,9 +1,12 @@
 -- What a `CachedDisk` shows, and which blocks it keeps.
-use Rattle.std.specs.Prelude.{◌≡◌, ℕ, ◌+◌, ◌<◌, false, nat_eq, if◌then◌else◌, List, [], length, Some, Result, IsOk}
+use Rattle.std.specs.Prelude.{◌≡◌, ℕ, ◌+◌, ◌<◌, true, false, nat_eq, if◌then◌else◌, List, [], length, Some, Result, IsOk, OnOk, OnErr}
 use Rattle.std.specs.Map.{lookup, remove_entry}
 use Rattle.vm_disk.specs.declared.cached.CachedDisk.{CachedDisk}
 use Rattle.vm_disk.specs.declared.disk.DeviceFault.{DeviceFault}
-use Rattle.vm_disk.specs.Disk.{DiskState}
+use Rattle.vm_disk.specs.declared.disk.Need.{Need}
+use Rattle.vm_disk.specs.declared.disk.Need.TheVariants.{Again, Once}
+use Rattle.vm_disk.specs.Calls.{DiskCall, Read, Load, Write, WriteRun, Forget, Sync, Extend}
+use Rattle.vm_disk.specs.Disk.{Counts, DiskState, Extends}
 use Rattle.vm_disk.specs.Kept.{Entries, UsesBlock, UsesBlocks, entries_of, keeps, limit_of, refusals_in, first_or, without_run}
 use Rattle.vm_disk.specs.Past.{noted}
 
@@ -78,3 +81,52 @@ module _ {D : Type 0} {members : _} where
   pub record LosesRun (first count : ℕ) (old new : CachedDisk D members) : Type 0 where
     pub rest : KeepsJust (without_run first count (kept_of old)) old new
     pub gone : (i : ℕ) → i < count → keeps (first + i) (kept_of new) ≡ false
+
+  -- what loading block n does, whose bytes these are; reading it is loading it for `Again`
+  pub record LoadsBlock {T : Type 0} (state : D → DiskState) (n : ℕ) (need : Need) (bytes : List ℕ) (result : Result T DeviceFault) (old new : CachedDisk D members) : Type 0 where
+    -- A kept block is loaded at once, without asking the disk below.
+    pub hit : keeps n (kept_of old) ≡ true → Recalls n bytes result old new
+    -- For any other block, the disk below is asked once.
+    pub miss : keeps n (kept_of old) ≡ false → Below state (Counts 1 result) old new
+    pub kept : need ≡ Again → OnOk result (Uses n bytes old new)
+    -- A block that is loaded with `Once` stays kept if it was, and otherwise evicts nothing.
+    pub stays : keeps n (kept_of old) ≡ true → Uses n bytes old new
+    pub once : need ≡ Once → keeps n (kept_of old) ≡ false → KeepsJust (kept_of old) old new
+    -- If the disk below fails it, the same blocks stay kept.
+    pub failed : OnErr result (KeepsJust (kept_of old) old new)
+
+  -- what writing these bytes to block n does
+  pub record WritesThrough {T : Type 0} (state : D → DiskState) (n : ℕ) (bytes : List ℕ) (result : Result T DeviceFault) (old new : CachedDisk D members) : Type 0 where
+    pub passed : Below state (Counts 0 result) old new
+    pub kept : OnOk result (Uses n bytes old new)
+    -- A block whose write failed is not kept.
+    pub failed : OnErr result (Loses n old new)
+    pub gone : OnErr result (keeps n (kept_of new) ≡ false)
+
+  -- what writing these blocks in a row does, from the first one on
+  pub record WritesRunThrough {T : Type 0} (state : D → DiskState) (first : ℕ) (blocks : List (List ℕ)) (result : Result T DeviceFault) (old new : CachedDisk D members) : Type 0 where
+    -- This counts no read of the disk below.
+    pub passed : Below state (Counts 0 result) old new
+    pub kept : OnOk result (UsesRun first blocks old new)
+    -- If that failed, none of them is kept.
+    pub lost : OnErr result (LosesRun first (length blocks) old new)
+
+  -- what forgetting block n does: it is not kept
+  pub record DropsBlock (n : ℕ) (old new : CachedDisk D members) : Type 0 where
+    pub kept : Loses n old new
+    pub gone : keeps n (kept_of new) ≡ false
+
+  -- what a sync or an extension does: it goes to the disk below, and the same blocks stay kept
+  pub record PassesOn (state : D → DiskState) (R : DiskState → DiskState → Type 0) (old new : CachedDisk D members) : Type 0 where
+    pub passed : Below state R old new
+    pub kept : KeepsJust (kept_of old) old new
+
+  -- what is promised of each call beside the trait's clauses
+  abbrev pub cached_does : (D → DiskState) → DiskCall → CachedDisk D members → CachedDisk D members → Type 0
+  cached_does state (Read n bytes result) old new = LoadsBlock state n Again bytes result old new
+  cached_does state (Load n need result) old new = LoadsBlock state n need (cached_hand new) result old new
+  cached_does state (Write n bytes result) old new = WritesThrough state n bytes result old new
+  cached_does state (WriteRun n blocks result) old new = WritesRunThrough state n blocks result old new
+  cached_does state (Forget n) old new = DropsBlock n old new
+  cached_does state (Sync result) old new = PassesOn state (Counts 0 result) old new
+  cached_does state (Extend blocks result) old new = PassesOn state (Extends blocks result) old new

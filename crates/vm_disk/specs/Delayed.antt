@@ -1,8 +1,9 @@
 -- What a `DelayedDisk` shows.
-use Rattle.std.specs.Prelude.{◌≡◌, ◌++◌, ℕ, true, List, length, map, is_some, Option, None, Result, IsOk}
+use Rattle.std.specs.Prelude.{◌≡◌, ◌++◌, ℕ, true, List, length, map, is_some, Option, None, Result, IsOk, ⊤}
 use Rattle.std.proofs.Common.{◌∙◌}
 use Rattle.vm_disk.specs.declared.delayed.DelayedDisk.{DelayedDisk}
 use Rattle.vm_disk.specs.declared.disk.DeviceFault.{DeviceFault}
+use Rattle.vm_disk.specs.Calls.{DiskCall, Read, Load, Write, WriteRun, Forget, Sync, Extend}
 use Rattle.vm_disk.specs.Disk.{DiskState}
 use Rattle.vm_disk.specs.Following.{Follows}
 use Rattle.vm_disk.specs.Laid.{laid_length, Rest, TouchesDirty, rests_before}
@@ -67,3 +68,24 @@ module _ {D : Type 0} {members : _} where
   -- if the disk below is honest after it: until its last call, it was touched exactly where blocks are dirty here
   abbrev pub TouchesBelow : (D → DiskState) → DelayedDisk D members → DelayedDisk D members → Type 0
   TouchesBelow state old new = (state (inner_of new)).honest ≡ true → TouchesDirty (medium_of state old.layers) (state (inner_of old)) (state (inner_of new))
+
+  -- what each of its calls does
+  pub record Delays (state : D → DiskState) (old new : DelayedDisk D members) : Type 0 where
+    pub limit : KeepsLimit old new
+    pub apart : TouchesBelow state old new
+
+  -- what reading or loading block n does
+  pub record DelaysRead {T : Type 0} (state : D → DiskState) (n : ℕ) (result : Result T DeviceFault) (old new : DelayedDisk D members) : Type 0 where
+    pub as_each : Delays state old new
+    -- If the block waits, the disk below is not asked.
+    pub hit : AnswersHere n result old new
+
+  -- what is promised of each call beside the trait's clauses; of blocks in a row, which are written one by one, no more
+  abbrev pub delayed_does : (D → DiskState) → DiskCall → DelayedDisk D members → DelayedDisk D members → Type 0
+  delayed_does state (Read n bytes result) old new = DelaysRead state n result old new
+  delayed_does state (Load n need result) old new = DelaysRead state n result old new
+  delayed_does state (Write n bytes result) old new = Delays state old new
+  delayed_does state (WriteRun n blocks result) old new = ⊤
+  delayed_does state (Forget n) old new = Delays state old new
+  delayed_does state (Sync result) old new = Delays state old new
+  delayed_does state (Extend blocks result) old new = Delays state old new

@@ -8,6 +8,7 @@ use Rattle.std.proofs.lemmas.List.FromFn.{length-map-range_with_len}
 use Rattle.vm_types.specs.declared.sizes.TheConstants.{BLOCK_SIZE}
 use Rattle.vm_disk.specs.declared.file.Earlier.{Earlier}
 use Rattle.vm_disk.specs.declared.file.FileDisk.{FileDisk}
+use Rattle.vm_disk.specs.Calls.{DiskCall, Read, Load, Write, WriteRun, Forget, Sync, Extend}
 use Rattle.vm_disk.specs.Disk.{Contents, Medium, DiskState}
 use Rattle.vm_disk.specs.Past.{noted}
 use Rattle.vm_disk.specs.Positional.{FileState}
@@ -203,3 +204,30 @@ module _ {F : Type 0} where
   abbrev pub StaysHonest : (F → FileState) → FileDisk F → FileDisk F → Type 0
   StaysHonest state old new =
       (file_state state old).honest ≡ true → (state (file_of new)).honest ≡ true → (file_state state new).honest ≡ true
+
+  -- what writing to its blocks does, of which there are this many
+  pub record WritesWithin (state : F → FileState) (count : ℕ) (old new : FileDisk F) : Type 0 where
+    pub stays : StaysHonest state old new
+    -- The bytes of the file behind the disk do not change.
+    pub behind : LeavesBehind state count old new
+
+  -- what forgetting a block does
+  pub record ForgetsAlone (state : F → FileState) (old new : FileDisk F) : Type 0 where
+    pub file : file_of new ≡ file_of old
+    pub stays : StaysHonest state old new
+
+  -- what growing to this many blocks does
+  pub record GrowsWithin (state : F → FileState) (count : ℕ) (old new : FileDisk F) : Type 0 where
+    -- The new blocks of the file are zeros, and nothing after them changes.
+    pub zero : GetsZeros state old new
+    pub within : WritesWithin state count old new
+
+  -- what is promised of each call beside the trait's clauses
+  abbrev pub file_does : (F → FileState) → DiskCall → FileDisk F → FileDisk F → Type 0
+  file_does state (Read n bytes result) old new = StaysHonest state old new
+  file_does state (Load n need result) old new = StaysHonest state old new
+  file_does state (Write n bytes result) old new = WritesWithin state old.blocks old new
+  file_does state (WriteRun n blocks result) old new = WritesWithin state old.blocks old new
+  file_does state (Forget n) old new = ForgetsAlone state old new
+  file_does state (Sync result) old new = StaysHonest state old new
+  file_does state (Extend blocks result) old new = GrowsWithin state blocks old new

@@ -1,7 +1,9 @@
 -- What a `FuseDisk` shows, and which calls it fails.
-use Rattle.std.specs.Prelude.{◌≡◌, ℕ, ◌+◌, ◌-◌, ◌^◌, ◌==◌, ◌||◌, min, nat_le, Bool, true, false, if◌then◌else◌, List, length}
+use Rattle.std.specs.Prelude.{◌≡◌, ℕ, ◌+◌, ◌-◌, ◌^◌, ◌==◌, ◌||◌, min, nat_le, Bool, true, false, if◌then◌else◌, List, length, Result, IsErr, ⊤}
 use Rattle.vm_disk.specs.declared.fuse.FuseDisk.{FuseDisk}
-use Rattle.vm_disk.specs.Disk.{DiskState, block}
+use Rattle.vm_disk.specs.declared.disk.DeviceFault.{DeviceFault}
+use Rattle.vm_disk.specs.Calls.{DiskCall, Read, Load, Write, WriteRun, Forget, Sync, Extend}
+use Rattle.vm_disk.specs.Disk.{Counts, DiskState, Extends, block}
 use Rattle.vm_disk.specs.Past.{noted}
 
 module _ {D : Type 0} where
@@ -88,3 +90,30 @@ module _ {D : Type 0} where
       fails_next old ≡ true → (state (inner_of new)).honest ≡ true
       → (state (inner_of new)).failures ≡ (state (inner_of old)).failures
       → block (state (inner_of new)).now.contents n ≡ torn_of old
+
+  -- what a call does that it may fail
+  pub record MayFail {T : Type 0} (state : D → DiskState) (R : DiskState → DiskState → Type 0) (result : Result T DeviceFault) (old new : FuseDisk D) : Type 0 where
+    pub burns : Burns old new
+    pub passed : Passes state R old new
+    pub failed : fails_next old ≡ true → IsErr result
+
+  -- what each of these does but a write: if it fails the call, that does not reach the disk below
+  pub record MayFailAlone {T : Type 0} (state : D → DiskState) (R : DiskState → DiskState → Type 0) (result : Result T DeviceFault) (old new : FuseDisk D) : Type 0 where
+    pub as_each : MayFail state R result old new
+    pub kept : fails_next old ≡ true → inner_of new ≡ inner_of old
+
+  -- what writing block n does
+  pub record MayTear {T : Type 0} (state : D → DiskState) (n : ℕ) (result : Result T DeviceFault) (old new : FuseDisk D) : Type 0 where
+    pub as_each : MayFail state (Counts 0 result) result old new
+    -- If the write of those bytes fails below, too, the block holds any bytes.
+    pub torn : Tears state n old new
+
+  -- what is promised of each call beside the trait's clauses; of blocks in a row, which are written one by one, no more
+  abbrev pub fuse_does : (D → DiskState) → DiskCall → FuseDisk D → FuseDisk D → Type 0
+  fuse_does state (Read n bytes result) old new = MayFailAlone state (Counts 1 result) result old new
+  fuse_does state (Load n need result) old new = MayFailAlone state (Counts 1 result) result old new
+  fuse_does state (Write n bytes result) old new = MayTear state n result old new
+  fuse_does state (WriteRun n blocks result) old new = ⊤
+  fuse_does state (Forget n) old new = Stays old new
+  fuse_does state (Sync result) old new = MayFailAlone state (Counts 0 result) result old new
+  fuse_does state (Extend blocks result) old new = MayFailAlone state (Extends blocks result) result old new

@@ -1,8 +1,12 @@
 -- What a `MemDisk` shows.
-use Rattle.std.specs.Prelude.{◌≡◌, ℕ, ◌+◌, ◌<◌, ◌==◌, ◌&&◌, true, false, if◌then◌else◌, List, [], ◌∷◌, length, map, replicate, slice_index_or}
+use Rattle.std.specs.Prelude.{◌≡◌, ℕ, ◌+◌, ◌<◌, ◌≤◌, ◌==◌, ◌&&◌, true, false, if◌then◌else◌, List, [], ◌∷◌, length, map, replicate, slice_index_or, Result, IsOk, IsErr, OnOk, OnErr, ⊤}
 use Rattle.vm_types.specs.declared.sizes.TheConstants.{BLOCK_SIZE}
+use Rattle.vm_disk.specs.declared.disk.DeviceFault.{DeviceFault}
+use Rattle.vm_disk.specs.declared.memory.TheConstants.{FORGOTTEN}
 use Rattle.vm_disk.specs.declared.memory.Platter.{Platter}
 use Rattle.vm_disk.specs.declared.memory.MemDisk.{MemDisk}
+use Rattle.vm_disk.specs.Between.{Between}
+use Rattle.vm_disk.specs.Calls.{DiskCall, Read, Load, Write, WriteRun, Forget, Sync, Extend}
 use Rattle.vm_disk.specs.Disk.{Medium, DiskState, IsClean, block}
 use Rattle.vm_disk.specs.Fill.{filled_up}
 use Rattle.vm_disk.specs.Past.{noted}
@@ -76,3 +80,38 @@ GetsZeros count old new = new.now.contents ≡ filled_up count (replicate BLOCK_
 -- all is as it was, except that one more call failed
 abbrev pub JustFails : DiskState → DiskState → Type 0
 JustFails old new = new ≡ record old { failures = old.failures + 1 }
+
+-- as many blocks have room as before
+abbrev pub KeepsRoom : MemDisk → MemDisk → Type 0
+KeepsRoom old new = room_of new ≡ room_of old
+
+-- what a read, a load, a write or a sync does
+pub record NeverFails {T : Type 0} (result : Result T DeviceFault) (old new : MemDisk) : Type 0 where
+  pub served : IsOk result
+  pub room : KeepsRoom old new
+
+-- what forgetting block n does
+pub record Spoils (n : ℕ) (old new : MemDisk) : Type 0 where
+  pub room : KeepsRoom old new
+  -- The block then has other bytes, so that a test finds whoever reads them.
+  pub other : block (memory_state new).now.contents n ≡ replicate BLOCK_SIZE FORGOTTEN
+
+-- what growing to this many blocks does
+pub record GrowsInRoom {T : Type 0} (blocks : ℕ) (result : Result T DeviceFault) (old new : MemDisk) : Type 0 where
+  pub room : KeepsRoom old new
+  -- Within its room it never fails, and the new blocks hold zeros.
+  pub within : blocks ≤ room_of old → IsOk result
+  pub zero : OnOk result (Between memory_state (GetsZeros blocks) old new)
+  -- Beyond it, it fails, and changes nothing except the count of failures.
+  pub beyond : room_of old < blocks → IsErr result
+  pub refused : OnErr result (Between memory_state JustFails old new)
+
+-- what is promised of each call beside the trait's clauses; of blocks in a row, which are written one by one, no more
+abbrev pub memory_does : DiskCall → MemDisk → MemDisk → Type 0
+memory_does (Read n bytes result) old new = NeverFails result old new
+memory_does (Load n need result) old new = NeverFails result old new
+memory_does (Write n bytes result) old new = NeverFails result old new
+memory_does (WriteRun n blocks result) old new = ⊤
+memory_does (Forget n) old new = Spoils n old new
+memory_does (Sync result) old new = NeverFails result old new
+memory_does (Extend blocks result) old new = GrowsInRoom blocks result old new

@@ -7,6 +7,7 @@ use Rattle.vm_disk.specs.declared.disk.DeviceFault.{DeviceFault}
 use Rattle.vm_disk.specs.declared.system.Call.{Call}
 use Rattle.vm_disk.specs.declared.system.Call.TheVariants.{Created, Measured, Read, Rewritten, Written, Blocks, Zeroed, Torn, Withheld, Synced, Failed}
 use Rattle.vm_disk.specs.declared.system.SystemFile.{SystemFile}
+use Rattle.vm_disk.specs.Calls.{FileCall, Measure, ReadAt, WriteAt, SyncFile}
 use Rattle.vm_disk.specs.Past.{noted}
 use Rattle.vm_disk.specs.Positional.{FileState, IfHonestFile, overwritten, joined}
 use Rattle.vm_disk.specs.Syncs.{counts_as_synced}
@@ -171,3 +172,20 @@ module _ {W : Type 0} (held : ℕ → List ℕ → Option (List ℕ)) (torn : �
   -- if the file was opened for reading only, the write was not made
   abbrev pub Withholds : {T : Type 0} → Result T DeviceFault → SystemFile W → SystemFile W → Type 0
   Withholds result old new = is_read_alone old ≡ true → IsWithheld result (system_state held torn old) (system_state held torn new)
+
+  -- what a call does that leaves its mode, and leaves it honest in this sense
+  pub record KeepsMode (IsHonestStill : SystemFile W → SystemFile W → Type 0) (old new : SystemFile W) : Type 0 where
+    pub mode : is_read_alone new ≡ is_read_alone old
+    pub stays : IsHonestStill old new
+
+  -- what a write does
+  pub record MayWithhold {T : Type 0} (result : Result T DeviceFault) (old new : SystemFile W) : Type 0 where
+    pub as_each : KeepsMode StaysHonestIn old new
+    pub withheld : Withholds result old new
+
+  -- what is promised of each call beside the trait's clauses
+  abbrev pub system_does : FileCall → SystemFile W → SystemFile W → Type 0
+  system_does (Measure result) old new = KeepsMode (StaysHonestWhere (IsCountOf result)) old new
+  system_does (ReadAt offset bytes result) old new = KeepsMode (StaysHonestWhere (IsReadOf offset bytes result)) old new
+  system_does (WriteAt offset bytes result) old new = MayWithhold result old new
+  system_does (SyncFile result) old new = KeepsMode StaysHonestIn old new

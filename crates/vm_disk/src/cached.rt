@@ -1,9 +1,5 @@
 //! A disk that caches the most recently used blocks of another.
-ghost use Rattle.std.specs.Prelude.{◌≡◌, ◌+◌, ◌<◌, ◌≤◌, true, false, Some, length, nat_eq, IfOk, IfErr, OnOk, OnErr, IsOk};
-ghost use Rattle.std.specs.Map.{lookup, remove_entry};
-ghost use Rattle.vm_disk.specs.Between.{Between, IfHonest};
-ghost use Rattle.vm_disk.specs.Disk.{Counts, Reads, Writes, Idles, Forgets, Syncs, Extends, Enlarges};
-ghost use Rattle.vm_disk.specs.Moments.{WritesRun};
+ghost use Rattle.std.specs.Prelude.{◌≡◌, ◌<◌, true, IfOk, IfErr};
 ghost use Rattle.vm_disk.specs.Kept.{AreOf, entries_of};
 
 use crate::disk::{DeviceFault, Disk, Need};
@@ -75,12 +71,13 @@ impl<D: Disk> CachedDisk<D> {
 }
 
 impl<D: Disk> Disk for CachedDisk<D> {
-    ghost use Rattle.vm_disk.specs.Kept.{keeps};
-    ghost use Rattle.vm_disk.specs.Cached.{Below, Loses, Recalls, inner_of, kept_of, cached_state, cached_hand, KeepsJust, LosesRun, Uses, UsesRun};
+    ghost use Rattle.vm_disk.specs.Cached.{cached_state, cached_hand, cached_does};
 
     ghost state = { cached_state D.state };
 
     ghost hand = { cached_hand };
+
+    ghost does = { cached_does D.state };
 
     ghost whole = { λ disk honest. D.whole disk.inner honest };
 
@@ -90,47 +87,13 @@ impl<D: Disk> Disk for CachedDisk<D> {
         self.inner.blocks()
     }
 
-    fn read(&mut self, n: BlockNumber, into: &mut Block) -> Result<(), DeviceFault>
-        requires { n < (cached_state D.state self.old).blocks }
-        ensures any { Between (cached_state D.state) (Counts 1 result) self.old self.new }
-        ensures honest { IfHonest (cached_state D.state) (Reads n into.new result) self.old self.new }
-
-        // A kept block is copied out, without asking the disk below.
-        ensures hit { keeps n (kept_of self.old) ≡ true
-            → Recalls n into.new result self.old self.new }
-
-        // For any other block, the disk below is asked once.
-        ensures miss { keeps n (kept_of self.old) ≡ false
-            → Below D.state (Counts 1 result) self.old self.new }
-        ensures kept { OnOk result (Uses n into.new self.old self.new) }
-        ensures failed { OnErr result (KeepsJust (kept_of self.old) self.old self.new) }
-    {
+    fn read(&mut self, n: BlockNumber, into: &mut Block) -> Result<(), DeviceFault> {
         self.load(n, Need::Again)?;
         *into = *self.at_hand();
         Ok(())
     }
 
-    fn load(&mut self, n: BlockNumber, need: Need) -> Result<(), DeviceFault>
-        requires { n < (cached_state D.state self.old).blocks }
-        ensures any { Between (cached_state D.state) (Counts 1 result) self.old self.new }
-        ensures honest { IfHonest (cached_state D.state) (Reads n (cached_hand self.new) result)
-            self.old self.new }
-
-        // A kept block is loaded at once, without asking the disk below.
-        ensures hit { keeps n (kept_of self.old) ≡ true
-            → Recalls n (cached_hand self.new) result self.old self.new }
-
-        // For any other block, the disk below is asked once.
-        ensures miss { keeps n (kept_of self.old) ≡ false
-            → Below D.state (Counts 1 result) self.old self.new }
-        ensures kept { need ≡ Need.Again → OnOk result (Uses n (cached_hand self.new) self.old self.new) }
-
-        // A block that is loaded with `Once` stays kept if it was, and otherwise evicts nothing.
-        ensures stays { keeps n (kept_of self.old) ≡ true → Uses n (cached_hand self.new) self.old self.new }
-        ensures once { need ≡ Need.Once → keeps n (kept_of self.old) ≡ false
-            → KeepsJust (kept_of self.old) self.old self.new }
-        ensures failed { OnErr result (KeepsJust (kept_of self.old) self.old self.new) }
-    {
+    fn load(&mut self, n: BlockNumber, need: Need) -> Result<(), DeviceFault> {
         self.reads.note(&());
         if self.kept.promote(n) {
             self.on_desk = false;
@@ -159,18 +122,7 @@ impl<D: Disk> Disk for CachedDisk<D> {
         }
     }
 
-    fn write(&mut self, n: BlockNumber, from: &Block) -> Result<(), DeviceFault>
-        requires { n < (cached_state D.state self.old).blocks }
-        ensures any { Between (cached_state D.state) (Counts 0 result) self.old self.new }
-        ensures honest { IfHonest (cached_state D.state) (Writes n from.now result) self.old self.new }
-
-        ensures passed { Below D.state (Counts 0 result) self.old self.new }
-        ensures kept { OnOk result (Uses n from.now self.old self.new) }
-
-        // A block whose write failed is not kept.
-        ensures failed { OnErr result (Loses n self.old self.new) }
-        ensures gone { OnErr result (keeps n (kept_of self.new) ≡ false) }
-    {
+    fn write(&mut self, n: BlockNumber, from: &Block) -> Result<(), DeviceFault> {
         match self.inner.write(n, from) {
             Ok(()) => {
                 self.kept.set(n, from);
@@ -183,18 +135,7 @@ impl<D: Disk> Disk for CachedDisk<D> {
         }
     }
 
-    fn write_run(&mut self, n: BlockNumber, blocks: &[Block]) -> Result<(), DeviceFault>
-        requires { n + length blocks.now ≤ (cached_state D.state self.old).blocks }
-        ensures any { Between (cached_state D.state) (Counts 0 result) self.old self.new }
-        ensures honest { IfHonest (cached_state D.state) (WritesRun n blocks.now result) self.old self.new }
-
-        // This counts no read of the disk below.
-        ensures passed { Below D.state (Counts 0 result) self.old self.new }
-        ensures kept { OnOk result (UsesRun n blocks.now self.old self.new) }
-
-        // If that failed, none of them is kept.
-        ensures lost { OnErr result (LosesRun n (length blocks.now) self.old self.new) }
-    {
+    fn write_run(&mut self, n: BlockNumber, blocks: &[Block]) -> Result<(), DeviceFault> {
         match self.inner.write_run(n, blocks) {
             Ok(()) => {
                 self.kept.set_run(n, blocks);
@@ -207,36 +148,16 @@ impl<D: Disk> Disk for CachedDisk<D> {
         }
     }
 
-    fn forget(&mut self, n: BlockNumber)
-        requires { n < (cached_state D.state self.old).blocks }
-        ensures any { Between (cached_state D.state) Idles self.old self.new }
-        ensures honest { IfHonest (cached_state D.state) (Forgets n) self.old self.new }
-
-        ensures kept { Loses n self.old self.new }
-        ensures gone { keeps n (kept_of self.new) ≡ false }
-    {
+    fn forget(&mut self, n: BlockNumber) {
         self.inner.forget(n);
         self.kept.forget(n)
     }
 
-    fn sync(&mut self) -> Result<(), DeviceFault>
-        ensures any { Between (cached_state D.state) (Counts 0 result) self.old self.new }
-        ensures honest { IfHonest (cached_state D.state) (Syncs result) self.old self.new }
-
-        ensures passed { Below D.state (Counts 0 result) self.old self.new }
-        ensures kept { KeepsJust (kept_of self.old) self.old self.new }
-    {
+    fn sync(&mut self) -> Result<(), DeviceFault> {
         self.inner.sync()
     }
 
-    fn extend(&mut self, blocks: u32) -> Result<(), DeviceFault>
-        requires { (cached_state D.state self.old).blocks ≤ blocks }
-        ensures any { Between (cached_state D.state) (Extends blocks result) self.old self.new }
-        ensures honest { IfHonest (cached_state D.state) Enlarges self.old self.new }
-
-        ensures passed { Below D.state (Extends blocks result) self.old self.new }
-        ensures kept { KeepsJust (kept_of self.old) self.old self.new }
-    {
+    fn extend(&mut self, blocks: u32) -> Result<(), DeviceFault> {
         self.inner.extend(blocks)
     }
 }

@@ -1,8 +1,6 @@
 //! A disk that delays its writes.
-ghost use Rattle.std.specs.Prelude.{◌≡◌, ◌<◌, ◌≤◌, ◌++◌, true, IfOk, IfErr, map};
+ghost use Rattle.std.specs.Prelude.{◌≡◌, ◌<◌, ◌++◌, true, IfOk, IfErr, map};
 ghost use Rattle.vm_disk.specs.Past.{noted};
-ghost use Rattle.vm_disk.specs.Between.{Between, IfHonest};
-ghost use Rattle.vm_disk.specs.Disk.{Counts, Reads, Writes, Idles, Forgets, Syncs, Extends, Enlarges};
 ghost use Rattle.vm_disk.specs.Laid.{IsCovered, rests_before};
 ghost use Rattle.vm_disk.specs.Layers.{lower_of, rest_of};
 
@@ -79,11 +77,13 @@ impl<D: Disk> DelayedDisk<D> {
 }
 
 impl<D: Disk> Disk for DelayedDisk<D> {
-    ghost use Rattle.vm_disk.specs.Delayed.{inner_of, delayed_state, delayed_hand, delayed_whole, AnswersHere, KeepsLimit, TouchesBelow};
+    ghost use Rattle.vm_disk.specs.Delayed.{inner_of, delayed_state, delayed_hand, delayed_does, delayed_whole};
 
     ghost state = { delayed_state D.state };
 
     ghost hand = { delayed_hand D.hand };
+
+    ghost does = { delayed_does D.state };
 
     ghost whole = { λ disk honest. delayed_whole D.state disk (D.whole (inner_of disk) honest) };
 
@@ -93,32 +93,13 @@ impl<D: Disk> Disk for DelayedDisk<D> {
         self.layers.inner.blocks()
     }
 
-    fn read(&mut self, n: BlockNumber, into: &mut Block) -> Result<(), DeviceFault>
-        requires { n < (delayed_state D.state self.old).blocks }
-        ensures any { Between (delayed_state D.state) (Counts 1 result) self.old self.new }
-        ensures honest { IfHonest (delayed_state D.state) (Reads n into.new result)
-            self.old self.new }
-
-        // If the block waits, the disk below is not asked.
-        ensures hit { AnswersHere n result self.old self.new }
-        ensures limit { KeepsLimit self.old self.new }
-        ensures apart { TouchesBelow D.state self.old self.new }
-    {
+    fn read(&mut self, n: BlockNumber, into: &mut Block) -> Result<(), DeviceFault> {
         self.reads.note(&());
         self.past.note(&self.layers);
         self.layers.read(n, into)
     }
 
-    fn load(&mut self, n: BlockNumber, need: Need) -> Result<(), DeviceFault>
-        requires { n < (delayed_state D.state self.old).blocks }
-        ensures any { Between (delayed_state D.state) (Counts 1 result) self.old self.new }
-        ensures honest { IfHonest (delayed_state D.state) (Reads n (delayed_hand D.hand self.new) result)
-            self.old self.new }
-
-        ensures hit { AnswersHere n result self.old self.new }
-        ensures limit { KeepsLimit self.old self.new }
-        ensures apart { TouchesBelow D.state self.old self.new }
-    {
+    fn load(&mut self, n: BlockNumber, need: Need) -> Result<(), DeviceFault> {
         self.reads.note(&());
         self.past.note(&self.layers);
         self.layers.load(n, need)
@@ -128,50 +109,26 @@ impl<D: Disk> Disk for DelayedDisk<D> {
         self.layers.at_hand()
     }
 
-    fn write(&mut self, n: BlockNumber, from: &Block) -> Result<(), DeviceFault>
-        requires { n < (delayed_state D.state self.old).blocks }
-        ensures any { Between (delayed_state D.state) (Counts 0 result) self.old self.new }
-        ensures honest { IfHonest (delayed_state D.state) (Writes n from.now result)
-            self.old self.new }
-
-        ensures limit { KeepsLimit self.old self.new }
-        ensures apart { TouchesBelow D.state self.old self.new }
-    {
+    fn write(&mut self, n: BlockNumber, from: &Block) -> Result<(), DeviceFault> {
         self.past.note(&self.layers);
         self.layers.write(n, from)
     }
 
-    fn forget(&mut self, n: BlockNumber)
-        requires { n < (delayed_state D.state self.old).blocks }
-        ensures any { Between (delayed_state D.state) Idles self.old self.new }
-        ensures honest { IfHonest (delayed_state D.state) (Forgets n) self.old self.new }
+    fn write_run(&mut self, n: BlockNumber, blocks: &[Block]) -> Result<(), DeviceFault> {
+        self.write_each(n, blocks)
+    }
 
-        ensures limit { KeepsLimit self.old self.new }
-        ensures apart { TouchesBelow D.state self.old self.new }
-    {
+    fn forget(&mut self, n: BlockNumber) {
         self.past.note(&self.layers);
         self.layers.forget(n);
     }
 
-    fn sync(&mut self) -> Result<(), DeviceFault>
-        ensures any { Between (delayed_state D.state) (Counts 0 result) self.old self.new }
-        ensures honest { IfHonest (delayed_state D.state) (Syncs result) self.old self.new }
-
-        ensures limit { KeepsLimit self.old self.new }
-        ensures apart { TouchesBelow D.state self.old self.new }
-    {
+    fn sync(&mut self) -> Result<(), DeviceFault> {
         self.past.note(&self.layers);
         self.layers.sync()
     }
 
-    fn extend(&mut self, blocks: u32) -> Result<(), DeviceFault>
-        requires { (delayed_state D.state self.old).blocks ≤ blocks }
-        ensures any { Between (delayed_state D.state) (Extends blocks result) self.old self.new }
-        ensures honest { IfHonest (delayed_state D.state) Enlarges self.old self.new }
-
-        ensures limit { KeepsLimit self.old self.new }
-        ensures apart { TouchesBelow D.state self.old self.new }
-    {
+    fn extend(&mut self, blocks: u32) -> Result<(), DeviceFault> {
         self.past.note(&self.layers);
         self.layers.extend(blocks)
     }

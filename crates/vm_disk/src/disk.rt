@@ -1,5 +1,6 @@
 //! The trait of a disk.
-ghost use Rattle.std.specs.Prelude.{◌≡◌, ◌+◌, ◌<◌, ◌≤◌, ◌^◌, ℕ, true, List, length};
+ghost use Rattle.std.specs.Prelude.{◌≡◌, ◌+◌, ◌<◌, ◌≤◌, ◌^◌, ℕ, true, List, length, ⊤};
+ghost use Rattle.vm_disk.specs.Calls.{DiskCall};
 ghost use Rattle.vm_disk.specs.Moments.{WritesRun};
 ghost use Rattle.vm_disk.specs.Disk.{DiskState, Counts, Reads, Writes, Idles, Forgets, Syncs, Extends, Enlarges};
 
@@ -21,13 +22,19 @@ pub enum Need {
 
 /// A disk of blocks of 4,096 bytes, numbered from 0.
 ///
-/// If a disk is not honest, only the clauses `any` say anything about it: its contents are unknown.
+/// The laws of a disk stand here, and no impl repeats them: its calls have no clauses of their own.
+/// What one kind of disk promises beside them is its `does`.
+///
+/// If a disk is not honest, its contents are unknown: of the laws, only the clauses `any` hold.
 pub trait Disk {
     /// What is known of it, for contracts alone.
     ghost state: { Self → DiskState };
 
     /// The bytes of the loaded block.
     ghost hand: { Self → List ℕ };
+
+    /// What each call does beside its other clauses, on this kind of disk: by default no more.
+    ghost does: { DiskCall → Self → Self → Type 0 } = { λ _ _ _. ⊤ };
 
     /// How many blocks it has.
     fn blocks(&self) -> u32
@@ -38,7 +45,8 @@ pub trait Disk {
         requires { n < (state self.old).blocks }
         ensures any { Counts 1 result (state self.old) (state self.new) }
         ensures honest { (state self.new).honest ≡ true
-            → Reads n into.new result (state self.old) (state self.new) };
+            → Reads n into.new result (state self.old) (state self.new) }
+        ensures does { does (DiskCall.Read n into.new result) self.old self.new };
 
     /// Loads block n. It stays loaded until the next call that may change the disk. On failure, the
     /// loaded block may have any bytes. `need` changes none of this.
@@ -46,7 +54,8 @@ pub trait Disk {
         requires { n < (state self.old).blocks }
         ensures any { Counts 1 result (state self.old) (state self.new) }
         ensures honest { (state self.new).honest ≡ true
-            → Reads n (hand self.new) result (state self.old) (state self.new) };
+            → Reads n (hand self.new) result (state self.old) (state self.new) }
+        ensures does { does (DiskCall.Load n need result) self.old self.new };
 
     /// The loaded block, by reference.
     fn at_hand(&self) -> &Block
@@ -57,10 +66,20 @@ pub trait Disk {
         requires { n < (state self.old).blocks }
         ensures any { Counts 0 result (state self.old) (state self.new) }
         ensures honest { (state self.new).honest ≡ true
-            → Writes n from.now result (state self.old) (state self.new) };
+            → Writes n from.now result (state self.old) (state self.new) }
+        ensures does { does (DiskCall.Write n from.now result) self.old self.new };
 
     /// Writes blocks in a row, from block n on, as single writes do.
     fn write_run(&mut self, n: BlockNumber, blocks: &[Block]) -> Result<(), DeviceFault>
+        requires { n + length blocks.now ≤ (state self.old).blocks }
+        ensures any { Counts 0 result (state self.old) (state self.new) }
+        ensures honest { (state self.new).honest ≡ true
+            → WritesRun n blocks.now result (state self.old) (state self.new) }
+        ensures does { does (DiskCall.WriteRun n blocks.now result) self.old self.new };
+
+    /// Writes blocks in a row, from block n on, one by one: for a disk that has no other way to
+    /// write a run.
+    fn write_each(&mut self, n: BlockNumber, blocks: &[Block]) -> Result<(), DeviceFault>
         requires { n + length blocks.now ≤ (state self.old).blocks }
         ensures any { Counts 0 result (state self.old) (state self.new) }
         ensures honest { (state self.new).honest ≡ true
@@ -80,13 +99,15 @@ pub trait Disk {
         requires { n < (state self.old).blocks }
         ensures any { Idles (state self.old) (state self.new) }
         ensures honest { (state self.new).honest ≡ true
-            → Forgets n (state self.old) (state self.new) };
+            → Forgets n (state self.old) (state self.new) }
+        ensures does { does (DiskCall.Forget n) self.old self.new };
 
     /// Makes all writes so far durable.
     fn sync(&mut self) -> Result<(), DeviceFault>
         ensures any { Counts 0 result (state self.old) (state self.new) }
         ensures honest { (state self.new).honest ≡ true
-            → Syncs result (state self.old) (state self.new) };
+            → Syncs result (state self.old) (state self.new) }
+        ensures does { does (DiskCall.Sync result) self.old self.new };
 
     /// Lengthens the disk to `blocks` blocks in all. A new block holds any bytes, and is dirty.
     /// Until the next successful sync, a crash may leave any number of the new blocks. On failure,
@@ -95,7 +116,8 @@ pub trait Disk {
         requires { (state self.old).blocks ≤ blocks }
         ensures any { Extends blocks result (state self.old) (state self.new) }
         ensures honest { (state self.new).honest ≡ true
-            → Enlarges (state self.old) (state self.new) };
+            → Enlarges (state self.old) (state self.new) }
+        ensures does { does (DiskCall.Extend blocks result) self.old self.new };
 
     /// An honest disk holds all of its blocks.
     ghost whole: { (disk : Self)

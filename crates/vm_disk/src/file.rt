@@ -1,8 +1,5 @@
 //! A file as a disk.
 ghost use Rattle.std.specs.Prelude.{◌≡◌, ◌+◌, ◌<◌, ◌≤◌, ◌^◌, ◌/◌, ◌*◌, true, [], length, IfOk, OnOk};
-ghost use Rattle.vm_disk.specs.Between.{Between, IfHonest};
-ghost use Rattle.vm_disk.specs.Disk.{Counts, Reads, Writes, Idles, Forgets, Syncs, Extends, Enlarges};
-ghost use Rattle.vm_disk.specs.Moments.{WritesRun};
 ghost use Rattle.vm_disk.specs.Positional.{IfHonestFile, CountsFailures, ReadsAt};
 
 use crate::disk::{DeviceFault, Disk, Need};
@@ -168,11 +165,13 @@ impl<F: Positional> FileDisk<F> {
 
 impl<F: Positional> Disk for FileDisk<F> {
     ghost use Rattle.std.proofs.lemmas.List.FromFn.{length-map-range_with_len};
-    ghost use Rattle.vm_disk.specs.File.{GetsZeros, file_state, file_hand, file_of, AddsZeros, LeavesBehind, StaysHonest};
+    ghost use Rattle.vm_disk.specs.File.{file_state, file_hand, file_does};
 
     ghost state = { file_state F.state };
 
     ghost hand = { file_hand };
+
+    ghost does = { file_does F.state };
 
     ghost whole = { λ disk honest. length-map-range_with_len _ 0 disk.blocks };
 
@@ -182,27 +181,14 @@ impl<F: Positional> Disk for FileDisk<F> {
         self.blocks
     }
 
-    fn read(&mut self, n: BlockNumber, into: &mut Block) -> Result<(), DeviceFault>
-        requires { n < (file_state F.state self.old).blocks }
-        ensures any { Between (file_state F.state) (Counts 1 result) self.old self.new }
-        ensures honest { IfHonest (file_state F.state) (Reads n into.new result) self.old self.new }
-
-        ensures stays { StaysHonest F.state self.old self.new }
-    {
+    fn read(&mut self, n: BlockNumber, into: &mut Block) -> Result<(), DeviceFault> {
         self.reads.note(&());
         let was = self.earlier();
         self.past.note(&was);
         self.file.read_at(into, offset_of(n))
     }
 
-    fn load(&mut self, n: BlockNumber, _: Need) -> Result<(), DeviceFault>
-        requires { n < (file_state F.state self.old).blocks }
-        ensures any { Between (file_state F.state) (Counts 1 result) self.old self.new }
-        ensures honest { IfHonest (file_state F.state) (Reads n (file_hand self.new) result)
-            self.old self.new }
-
-        ensures stays { StaysHonest F.state self.old self.new }
-    {
+    fn load(&mut self, n: BlockNumber, _: Need) -> Result<(), DeviceFault> {
         self.reads.note(&());
         let was = self.earlier();
         self.past.note(&was);
@@ -213,53 +199,25 @@ impl<F: Positional> Disk for FileDisk<F> {
         &self.room
     }
 
-    fn write(&mut self, n: BlockNumber, from: &Block) -> Result<(), DeviceFault>
-        requires { n < (file_state F.state self.old).blocks }
-        ensures any { Between (file_state F.state) (Counts 0 result) self.old self.new }
-        ensures honest { IfHonest (file_state F.state) (Writes n from.now result) self.old self.new }
-
-        // The bytes of the file behind the disk do not change.
-        ensures behind { LeavesBehind F.state (file_state F.state self.old).blocks self.old self.new }
-        ensures stays { StaysHonest F.state self.old self.new }
-    {
+    fn write(&mut self, n: BlockNumber, from: &Block) -> Result<(), DeviceFault> {
         let was = self.earlier();
         self.past.note(&was);
         self.file.write_at(from, offset_of(n))
     }
 
-    fn write_run(&mut self, n: BlockNumber, blocks: &[Block]) -> Result<(), DeviceFault>
-        requires { n + length blocks.now ≤ (file_state F.state self.old).blocks }
-        ensures any { Between (file_state F.state) (Counts 0 result) self.old self.new }
-        ensures honest { IfHonest (file_state F.state) (WritesRun n blocks.now result) self.old self.new }
-
-        // The bytes of the file behind the disk do not change.
-        ensures behind { LeavesBehind F.state (file_state F.state self.old).blocks self.old self.new }
-        ensures stays { StaysHonest F.state self.old self.new }
-    {
+    fn write_run(&mut self, n: BlockNumber, blocks: &[Block]) -> Result<(), DeviceFault> {
         let was = self.earlier();
         self.past.note(&was);
         self.file.write_blocks_at(blocks, offset_of(n))
     }
 
-    fn forget(&mut self, n: BlockNumber)
-        requires { n < (file_state F.state self.old).blocks }
-        ensures any { Between (file_state F.state) Idles self.old self.new }
-        ensures honest { IfHonest (file_state F.state) (Forgets n) self.old self.new }
-
-        ensures file { file_of self.new ≡ file_of self.old }
-        ensures stays { StaysHonest F.state self.old self.new }
-    {
+    fn forget(&mut self, n: BlockNumber) {
         let was = self.earlier();
         self.past.note(&was);
         self.forgotten.note(&n);
     }
 
-    fn sync(&mut self) -> Result<(), DeviceFault>
-        ensures any { Between (file_state F.state) (Counts 0 result) self.old self.new }
-        ensures honest { IfHonest (file_state F.state) (Syncs result) self.old self.new }
-
-        ensures stays { StaysHonest F.state self.old self.new }
-    {
+    fn sync(&mut self) -> Result<(), DeviceFault> {
         let was = self.earlier();
         self.past.note(&was);
         self.file.sync()?;
@@ -268,16 +226,7 @@ impl<F: Positional> Disk for FileDisk<F> {
         Ok(())
     }
 
-    fn extend(&mut self, blocks: u32) -> Result<(), DeviceFault>
-        requires { (file_state F.state self.old).blocks ≤ blocks }
-        ensures any { Between (file_state F.state) (Extends blocks result) self.old self.new }
-        ensures honest { IfHonest (file_state F.state) Enlarges self.old self.new }
-
-        // The new blocks of the file are zeros, and nothing after them changes.
-        ensures zero { GetsZeros F.state self.old self.new }
-        ensures behind { LeavesBehind F.state blocks self.old self.new }
-        ensures stays { StaysHonest F.state self.old self.new }
-    {
+    fn extend(&mut self, blocks: u32) -> Result<(), DeviceFault> {
         let was = self.earlier();
         self.past.note(&was);
         FileDisk::write_zeros(&mut self.file, &mut self.blocks, blocks)

@@ -1,7 +1,5 @@
 //! A disk that fails at a call chosen by a test.
 ghost use Rattle.std.specs.Prelude.{◌≡◌, ◌+◌, ◌-◌, ◌<◌, ◌≤◌, ◌^◌, ◌||◌, true, false, min, if◌then◌else◌, length, IsErr};
-ghost use Rattle.vm_disk.specs.Between.{Between, IfHonest};
-ghost use Rattle.vm_disk.specs.Disk.{block, Counts, Reads, Writes, Idles, Forgets, Syncs, Extends, Enlarges};
 
 use crate::disk::{DeviceFault, Disk, Need};
 use crate::history::History;
@@ -116,11 +114,13 @@ impl<D: Disk> FuseDisk<D> {
 }
 
 impl<D: Disk> Disk for FuseDisk<D> {
-    ghost use Rattle.vm_disk.specs.Fuse.{Passes, Tears, inner_of, torn_of, fails_next, Burns, Stays, fuse_state, fuse_hand};
+    ghost use Rattle.vm_disk.specs.Fuse.{fuse_state, fuse_hand, fuse_does};
 
     ghost state = { fuse_state D.state };
 
     ghost hand = { fuse_hand D.hand };
+
+    ghost does = { fuse_does D.state };
 
     ghost whole = { λ disk honest. D.whole disk.inner honest };
 
@@ -130,16 +130,7 @@ impl<D: Disk> Disk for FuseDisk<D> {
         self.inner.blocks()
     }
 
-    fn read(&mut self, n: BlockNumber, into: &mut Block) -> Result<(), DeviceFault>
-        requires { n < (fuse_state D.state self.old).blocks }
-        ensures any { Between (fuse_state D.state) (Counts 1 result) self.old self.new }
-        ensures honest { IfHonest (fuse_state D.state) (Reads n into.new result) self.old self.new }
-
-        ensures burns { Burns self.old self.new }
-        ensures passed { Passes D.state (Counts 1 result) self.old self.new }
-        ensures failed { fails_next self.old ≡ true → IsErr result }
-        ensures kept { fails_next self.old ≡ true → inner_of self.new ≡ inner_of self.old }
-    {
+    fn read(&mut self, n: BlockNumber, into: &mut Block) -> Result<(), DeviceFault> {
         if self.fails() {
             self.missed.note(&());
             return Err(DeviceFault);
@@ -147,17 +138,7 @@ impl<D: Disk> Disk for FuseDisk<D> {
         self.inner.read(n, into)
     }
 
-    fn load(&mut self, n: BlockNumber, need: Need) -> Result<(), DeviceFault>
-        requires { n < (fuse_state D.state self.old).blocks }
-        ensures any { Between (fuse_state D.state) (Counts 1 result) self.old self.new }
-        ensures honest { IfHonest (fuse_state D.state) (Reads n (fuse_hand D.hand self.new) result)
-            self.old self.new }
-
-        ensures burns { Burns self.old self.new }
-        ensures passed { Passes D.state (Counts 1 result) self.old self.new }
-        ensures failed { fails_next self.old ≡ true → IsErr result }
-        ensures kept { fails_next self.old ≡ true → inner_of self.new ≡ inner_of self.old }
-    {
+    fn load(&mut self, n: BlockNumber, need: Need) -> Result<(), DeviceFault> {
         if self.fails() {
             self.missed.note(&());
             return Err(DeviceFault);
@@ -169,18 +150,7 @@ impl<D: Disk> Disk for FuseDisk<D> {
         self.inner.at_hand()
     }
 
-    fn write(&mut self, n: BlockNumber, from: &Block) -> Result<(), DeviceFault>
-        requires { n < (fuse_state D.state self.old).blocks }
-        ensures any { Between (fuse_state D.state) (Counts 0 result) self.old self.new }
-        ensures honest { IfHonest (fuse_state D.state) (Writes n from.now result) self.old self.new }
-
-        ensures burns { Burns self.old self.new }
-        ensures passed { Passes D.state (Counts 0 result) self.old self.new }
-        ensures failed { fails_next self.old ≡ true → IsErr result }
-
-        // If the write of those bytes fails below, too, the block holds any bytes.
-        ensures torn { Tears D.state n self.old self.new }
-    {
+    fn write(&mut self, n: BlockNumber, from: &Block) -> Result<(), DeviceFault> {
         if self.fails() {
             let _ = self.inner.write(n, &self.torn);
             return Err(DeviceFault);
@@ -188,41 +158,22 @@ impl<D: Disk> Disk for FuseDisk<D> {
         self.inner.write(n, from)
     }
 
-    fn forget(&mut self, n: BlockNumber)
-        requires { n < (fuse_state D.state self.old).blocks }
-        ensures any { Between (fuse_state D.state) Idles self.old self.new }
-        ensures honest { IfHonest (fuse_state D.state) (Forgets n) self.old self.new }
+    fn write_run(&mut self, n: BlockNumber, blocks: &[Block]) -> Result<(), DeviceFault> {
+        self.write_each(n, blocks)
+    }
 
-        ensures stays { Stays self.old self.new }
-    {
+    fn forget(&mut self, n: BlockNumber) {
         self.inner.forget(n);
     }
 
-    fn sync(&mut self) -> Result<(), DeviceFault>
-        ensures any { Between (fuse_state D.state) (Counts 0 result) self.old self.new }
-        ensures honest { IfHonest (fuse_state D.state) (Syncs result) self.old self.new }
-
-        ensures burns { Burns self.old self.new }
-        ensures passed { Passes D.state (Counts 0 result) self.old self.new }
-        ensures failed { fails_next self.old ≡ true → IsErr result }
-        ensures kept { fails_next self.old ≡ true → inner_of self.new ≡ inner_of self.old }
-    {
+    fn sync(&mut self) -> Result<(), DeviceFault> {
         if self.fails() {
             return Err(DeviceFault);
         }
         self.inner.sync()
     }
 
-    fn extend(&mut self, blocks: u32) -> Result<(), DeviceFault>
-        requires { (fuse_state D.state self.old).blocks ≤ blocks }
-        ensures any { Between (fuse_state D.state) (Extends blocks result) self.old self.new }
-        ensures honest { IfHonest (fuse_state D.state) Enlarges self.old self.new }
-
-        ensures burns { Burns self.old self.new }
-        ensures passed { Passes D.state (Extends blocks result) self.old self.new }
-        ensures failed { fails_next self.old ≡ true → IsErr result }
-        ensures kept { fails_next self.old ≡ true → inner_of self.new ≡ inner_of self.old }
-    {
+    fn extend(&mut self, blocks: u32) -> Result<(), DeviceFault> {
         if !self.fails() {
             return self.inner.extend(blocks);
         }

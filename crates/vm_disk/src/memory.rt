@@ -1,8 +1,7 @@
 //! A disk in memory, for tests.
 ghost use Rattle.std.specs.Prelude.{◌≡◌, ◌<◌, ◌≤◌, ◌&&◌, ◌==◌, ◌^◌, ◌+◌, ◌-◌, ℕ, true, false, if◌then◌else◌, [], ◌++◌, length, take, replicate, slice_index_or, vec_capacity, IfOk, OnOk, OnErr, IsOk, IsErr};
 ghost use Rattle.vm_disk.specs.Fill.{filled_up};
-ghost use Rattle.vm_disk.specs.Between.{Between, IfHonest};
-ghost use Rattle.vm_disk.specs.Disk.{block, IsClean, MayLeave, Counts, Reads, Writes, Idles, Forgets, Syncs, Extends, Enlarges};
+ghost use Rattle.vm_disk.specs.Disk.{IsClean, MayLeave};
 
 use crate::disk::{DeviceFault, Disk, Need};
 use crate::history::History;
@@ -239,11 +238,13 @@ impl MemDisk {
 
 impl Disk for MemDisk {
     ghost use Rattle.std.specs.Prelude.{refl};
-    ghost use Rattle.vm_disk.specs.Memory.{memory_state, memory_hand, room_of, GetsZeros, JustFails};
+    ghost use Rattle.vm_disk.specs.Memory.{memory_state, memory_hand, memory_does};
 
     ghost state = { memory_state };
 
     ghost hand = { memory_hand };
+
+    ghost does = { memory_does };
 
     ghost whole = { λ disk honest. refl };
 
@@ -253,28 +254,14 @@ impl Disk for MemDisk {
         self.platter.blocks.len() as u32
     }
 
-    fn read(&mut self, n: BlockNumber, into: &mut Block) -> Result<(), DeviceFault>
-        requires { n < (memory_state self.old).blocks }
-        ensures any { Between memory_state (Counts 1 result) self.old self.new }
-        ensures honest { IfHonest memory_state (Reads n into.new result) self.old self.new }
-
-        ensures served { IsOk result }
-        ensures room { room_of self.new ≡ room_of self.old }
-    {
+    fn read(&mut self, n: BlockNumber, into: &mut Block) -> Result<(), DeviceFault> {
         self.reads.note(&());
         self.past.note(&self.platter);
         *into = self.platter.blocks[n as usize];
         Ok(())
     }
 
-    fn load(&mut self, n: BlockNumber, _: Need) -> Result<(), DeviceFault>
-        requires { n < (memory_state self.old).blocks }
-        ensures any { Between memory_state (Counts 1 result) self.old self.new }
-        ensures honest { IfHonest memory_state (Reads n (memory_hand self.new) result) self.old self.new }
-
-        ensures served { IsOk result }
-        ensures room { room_of self.new ≡ room_of self.old }
-    {
+    fn load(&mut self, n: BlockNumber, _: Need) -> Result<(), DeviceFault> {
         self.reads.note(&());
         self.past.note(&self.platter);
         self.at = n;
@@ -288,61 +275,31 @@ impl Disk for MemDisk {
         }
     }
 
-    fn write(&mut self, n: BlockNumber, from: &Block) -> Result<(), DeviceFault>
-        requires { n < (memory_state self.old).blocks }
-        ensures any { Between memory_state (Counts 0 result) self.old self.new }
-        ensures honest { IfHonest memory_state (Writes n from.now result) self.old self.new }
-
-        ensures served { IsOk result }
-        ensures room { room_of self.new ≡ room_of self.old }
-    {
+    fn write(&mut self, n: BlockNumber, from: &Block) -> Result<(), DeviceFault> {
         self.past.note(&self.platter);
         self.platter.blocks[n as usize] = *from;
         self.platter.dirty[n as usize] = true;
         Ok(())
     }
 
-    fn forget(&mut self, n: BlockNumber)
-        requires { n < (memory_state self.old).blocks }
-        ensures any { Between memory_state Idles self.old self.new }
-        ensures honest { IfHonest memory_state (Forgets n) self.old self.new }
+    fn write_run(&mut self, n: BlockNumber, blocks: &[Block]) -> Result<(), DeviceFault> {
+        self.write_each(n, blocks)
+    }
 
-        // The block then has other bytes, so that a test finds whoever reads them.
-        ensures other { block (memory_state self.new).now.contents n ≡ replicate BLOCK_SIZE FORGOTTEN }
-        ensures room { room_of self.new ≡ room_of self.old }
-    {
+    fn forget(&mut self, n: BlockNumber) {
         self.past.note(&self.platter);
         let at = n as usize;
         self.platter.blocks[at] = [FORGOTTEN; 4096];
         self.platter.dirty[at] = true;
     }
 
-    fn sync(&mut self) -> Result<(), DeviceFault>
-        ensures any { Between memory_state (Counts 0 result) self.old self.new }
-        ensures honest { IfHonest memory_state (Syncs result) self.old self.new }
-
-        ensures served { IsOk result }
-        ensures room { room_of self.new ≡ room_of self.old }
-    {
+    fn sync(&mut self) -> Result<(), DeviceFault> {
         self.past.note(&self.platter);
         self.platter.settle();
         Ok(())
     }
 
-    fn extend(&mut self, blocks: u32) -> Result<(), DeviceFault>
-        requires { (memory_state self.old).blocks ≤ blocks }
-        ensures any { Between memory_state (Extends blocks result) self.old self.new }
-        ensures honest { IfHonest memory_state Enlarges self.old self.new }
-
-        // Within its room it never fails, and the new blocks hold zeros.
-        ensures within { blocks ≤ room_of self.old → IsOk result }
-        ensures zero { OnOk result (Between memory_state (GetsZeros blocks) self.old self.new) }
-
-        // Beyond it, it fails, and changes nothing except the count of failures.
-        ensures beyond { room_of self.old < blocks → IsErr result }
-        ensures refused { OnErr result (Between memory_state JustFails self.old self.new) }
-        ensures room { room_of self.new ≡ room_of self.old }
-    {
+    fn extend(&mut self, blocks: u32) -> Result<(), DeviceFault> {
         if self.platter.room < blocks {
             self.failed.note(&());
             return Err(DeviceFault);

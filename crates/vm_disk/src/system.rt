@@ -3,7 +3,7 @@ ghost use Rattle.std.specs.Prelude.{◌≡◌, ℕ, ◌*◌, ◌<ℤ◌, pos, �
 ghost use Rattle.std.specs.Fd.{file_raw_fd};
 ghost use Rattle.std.specs.Fs.{asks_append, asks_create, asks_create_new, asks_truncate, asks_write};
 ghost use Rattle.vm_disk.specs.Past.{noted};
-ghost use Rattle.vm_disk.specs.Positional.{joined, zeros, CountsFailures, ReadsAt, WritesIn, SyncsFile, Measures};
+ghost use Rattle.vm_disk.specs.Positional.{CountsFailures};
 ghost use Rattle.vm_disk.specs.Between.{Between};
 ghost use Rattle.vm_disk.specs.Opening.{KeepsFile};
 ghost use Rattle.vm_disk.specs.Syncs.{counts_as_synced};
@@ -302,17 +302,13 @@ impl<W: World> SystemFile<W> {
 }
 
 impl<W: World> Positional for SystemFile<W> {
-    ghost use Rattle.vm_disk.specs.System.{IfHonestIn, StaysHonestIn, StaysHonestWhere, IsCountOf, IsReadOf, Withholds, system_state, is_read_alone};
+    ghost use Rattle.vm_disk.specs.System.{system_state, system_does};
 
     ghost state = { system_state W.held W.torn };
 
-    fn len(&mut self) -> Result<u64, DeviceFault>
-        ensures any { Between (system_state W.held W.torn) (CountsFailures result) self.old self.new }
-        ensures honest { IfHonestIn W.held W.torn (Measures result) self.old self.new }
+    ghost does = { system_does W.held W.torn };
 
-        ensures mode { is_read_alone self.new ≡ is_read_alone self.old }
-        ensures stays { StaysHonestWhere W.held W.torn (IsCountOf result) self.old self.new }
-    {
+    fn len(&mut self) -> Result<u64, DeviceFault> {
         let Ok(count) = length_of(&self.file) else {
             self.calls.note(&Call::Failed);
             return Err(DeviceFault);
@@ -321,14 +317,7 @@ impl<W: World> Positional for SystemFile<W> {
         Ok(count)
     }
 
-    fn read_at(&mut self, into: &mut Block, offset: u64) -> Result<(), DeviceFault>
-        ensures any { Between (system_state W.held W.torn) (CountsFailures result) self.old self.new }
-        ensures honest { IfHonestIn W.held W.torn (ReadsAt offset into.new result) self.old self.new }
-
-        ensures mode { is_read_alone self.new ≡ is_read_alone self.old }
-        ensures stays { StaysHonestWhere W.held W.torn
-            (IsReadOf offset into.new result) self.old self.new }
-    {
+    fn read_at(&mut self, into: &mut Block, offset: u64) -> Result<(), DeviceFault> {
         if self.file.read_exact_at(into, offset).is_err() {
             self.calls.note(&Call::Failed);
             return Err(DeviceFault);
@@ -337,14 +326,7 @@ impl<W: World> Positional for SystemFile<W> {
         Ok(())
     }
 
-    fn write_at(&mut self, from: &Block, offset: u64) -> Result<(), DeviceFault>
-        ensures any { Between (system_state W.held W.torn) (CountsFailures result) self.old self.new }
-        ensures honest { IfHonestIn W.held W.torn (WritesIn offset from.now result) self.old self.new }
-
-        ensures mode { is_read_alone self.new ≡ is_read_alone self.old }
-        ensures stays { StaysHonestIn W.held W.torn self.old self.new }
-        ensures withheld { Withholds W.held W.torn result self.old self.new }
-    {
+    fn write_at(&mut self, from: &Block, offset: u64) -> Result<(), DeviceFault> {
         if self.reads_alone {
             self.calls.note(&Call::Withheld(offset, BLOCK_SIZE));
             return Err(DeviceFault);
@@ -357,15 +339,7 @@ impl<W: World> Positional for SystemFile<W> {
         Ok(())
     }
 
-    fn write_blocks_at(&mut self, from: &[Block], offset: u64) -> Result<(), DeviceFault>
-        ensures any { Between (system_state W.held W.torn) (CountsFailures result) self.old self.new }
-        ensures honest { IfHonestIn W.held W.torn
-            (WritesIn offset (joined from.now) result) self.old self.new }
-
-        ensures mode { is_read_alone self.new ≡ is_read_alone self.old }
-        ensures stays { StaysHonestIn W.held W.torn self.old self.new }
-        ensures withheld { Withholds W.held W.torn result self.old self.new }
-    {
+    fn write_blocks_at(&mut self, from: &[Block], offset: u64) -> Result<(), DeviceFault> {
         let bytes = from.as_flattened();
         if self.reads_alone {
             self.calls.note(&Call::Withheld(offset, bytes.len()));
@@ -379,15 +353,7 @@ impl<W: World> Positional for SystemFile<W> {
         Ok(())
     }
 
-    fn write_zeros_at(&mut self, count: usize, offset: u64) -> Result<(), DeviceFault>
-        requires { count ≤ MAX_ZEROS }
-        ensures any { Between (system_state W.held W.torn) (CountsFailures result) self.old self.new }
-        ensures honest { IfHonestIn W.held W.torn (WritesIn offset (zeros count) result) self.old self.new }
-
-        ensures mode { is_read_alone self.new ≡ is_read_alone self.old }
-        ensures stays { StaysHonestIn W.held W.torn self.old self.new }
-        ensures withheld { Withholds W.held W.torn result self.old self.new }
-    {
+    fn write_zeros_at(&mut self, count: usize, offset: u64) -> Result<(), DeviceFault> {
         if self.reads_alone {
             self.calls.note(&Call::Withheld(offset, count));
             return Err(DeviceFault);
@@ -400,13 +366,7 @@ impl<W: World> Positional for SystemFile<W> {
         Ok(())
     }
 
-    fn sync(&mut self) -> Result<(), DeviceFault>
-        ensures any { Between (system_state W.held W.torn) (CountsFailures result) self.old self.new }
-        ensures honest { IfHonestIn W.held W.torn (SyncsFile result) self.old self.new }
-
-        ensures mode { is_read_alone self.new ≡ is_read_alone self.old }
-        ensures stays { StaysHonestIn W.held W.torn self.old self.new }
-    {
+    fn sync(&mut self) -> Result<(), DeviceFault> {
         let answer = self.file.sync_all();
         self.calls.note(&Call::Synced(Snapshot::of(&answer)));
         if is_synced(self.reads_alone, &answer) {

@@ -1,7 +1,5 @@
 //! A disk whose blocks carry sums.
-ghost use Rattle.std.specs.Prelude.{◌≡◌, ◌<◌, ◌≤◌, ◌+◌, length};
-ghost use Rattle.vm_disk.specs.Between.{Between, IfHonest};
-ghost use Rattle.vm_disk.specs.Disk.{Counts, Reads, Writes, Idles, Forgets, Syncs, Extends, Enlarges};
+ghost use Rattle.std.specs.Prelude.{◌≡◌};
 
 use crate::sum::exchange_sum;
 use vm_disk::{DeviceFault, Disk, Need};
@@ -62,21 +60,13 @@ impl<D: Disk> Disk for SummedDisk<D> {
         self.inner.blocks()
     }
 
-    fn read(&mut self, n: BlockNumber, into: &mut Block) -> Result<(), DeviceFault>
-        requires { n < (summed_state D.state self.old).blocks }
-        ensures any { Between (summed_state D.state) (Counts 1 result) self.old self.new }
-        ensures honest { IfHonest (summed_state D.state) (Reads n into.new result) self.old self.new }
-    {
+    fn read(&mut self, n: BlockNumber, into: &mut Block) -> Result<(), DeviceFault> {
         self.inner.read(n, into)?;
         exchange_sum(n, into);
         Ok(())
     }
 
-    fn load(&mut self, n: BlockNumber, _need: Need) -> Result<(), DeviceFault>
-        requires { n < (summed_state D.state self.old).blocks }
-        ensures any { Between (summed_state D.state) (Counts 1 result) self.old self.new }
-        ensures honest { IfHonest (summed_state D.state) (Reads n (summed_hand self.new) result) self.old self.new }
-    {
+    fn load(&mut self, n: BlockNumber, _need: Need) -> Result<(), DeviceFault> {
         self.inner.read(n, &mut self.hand)?;
         exchange_sum(n, &mut self.hand);
         Ok(())
@@ -86,36 +76,25 @@ impl<D: Disk> Disk for SummedDisk<D> {
         &self.hand
     }
 
-    fn write(&mut self, n: BlockNumber, from: &Block) -> Result<(), DeviceFault>
-        requires { n < (summed_state D.state self.old).blocks }
-        ensures any { Between (summed_state D.state) (Counts 0 result) self.old self.new }
-        ensures honest { IfHonest (summed_state D.state) (Writes n from.now result) self.old self.new }
-    {
+    fn write(&mut self, n: BlockNumber, from: &Block) -> Result<(), DeviceFault> {
         let mut block = *from;
         exchange_sum(n, &mut block);
         self.inner.write(n, &block)
     }
 
-    fn forget(&mut self, n: BlockNumber)
-        requires { n < (summed_state D.state self.old).blocks }
-        ensures any { Between (summed_state D.state) Idles self.old self.new }
-        ensures honest { IfHonest (summed_state D.state) (Forgets n) self.old self.new }
-    {
+    fn write_run(&mut self, n: BlockNumber, blocks: &[Block]) -> Result<(), DeviceFault> {
+        self.write_each(n, blocks)
+    }
+
+    fn forget(&mut self, n: BlockNumber) {
         self.inner.forget(n)
     }
 
-    fn sync(&mut self) -> Result<(), DeviceFault>
-        ensures any { Between (summed_state D.state) (Counts 0 result) self.old self.new }
-        ensures honest { IfHonest (summed_state D.state) (Syncs result) self.old self.new }
-    {
+    fn sync(&mut self) -> Result<(), DeviceFault> {
         self.inner.sync()
     }
 
-    fn extend(&mut self, blocks: u32) -> Result<(), DeviceFault>
-        requires { (summed_state D.state self.old).blocks ≤ blocks }
-        ensures any { Between (summed_state D.state) (Extends blocks result) self.old self.new }
-        ensures honest { IfHonest (summed_state D.state) Enlarges self.old self.new }
-    {
+    fn extend(&mut self, blocks: u32) -> Result<(), DeviceFault> {
         self.inner.extend(blocks)
     }
 }

@@ -72,6 +72,10 @@ impl Disk for KeepingDisk {
         self.inner.write(n, from)
     }
 
+    fn write_run(&mut self, n: u32, blocks: &[Block]) -> Result<(), DeviceFault> {
+        self.write_each(n, blocks)
+    }
+
     /// Writing the same bytes once more is one way to forget them.
     fn forget(&mut self, n: u32) {
         let at = n as usize;

@@ -1,6 +1,6 @@
 use Rattle.std.proofs.Common.{◌∙◌, ap, inl, inr, refl, sym, Some}
-use Rattle.vm_disk.specs.Cached.{cached_hand, cached_state}
-use Rattle.vm_disk.specs.Delayed.{delayed_hand, delayed_state}
+use Rattle.vm_disk.specs.Cached.{cached_does, cached_hand, cached_state}
+use Rattle.vm_disk.specs.Delayed.{delayed_does, delayed_hand, delayed_state}
 use Rattle.vm_disk.specs.declared.cached.CachedDisk.{CachedDisk}
 use Rattle.vm_disk.specs.declared.delayed.DelayedDisk.{DelayedDisk}
 use Rattle.vm_disk.specs.declared.disk.Disk.{Ghosts}
@@ -30,9 +30,9 @@ returns-clause-files g c honest =
             kept = kept_told g.P.D.Disk _ _ _ (λ disk. refl) (λ disk. refl) (λ disk. refl) c.args.in_memory _ _ _ _ _ _ _ served back.honest found.fresh held.1;
           })
       | inr refused ↦
-          let cached : Ghosts (CachedDisk g.row.P-D.Denot g.P.D.Disk) = record { state = λ x. cached_state g.P.D.Disk.state x; hand = λ x. cached_hand x } in
-          let late : Ghosts (DelayedDisk g.row.P-D.Denot g.P.D.Disk) = record { state = λ x. delayed_state g.P.D.Disk.state x; hand = λ x. delayed_hand g.P.D.Disk.hand x } in
-          let late_cached : Ghosts (DelayedDisk (CachedDisk g.row.P-D.Denot g.P.D.Disk) cached) = record { state = λ x. delayed_state cached.state x; hand = λ x. delayed_hand cached.hand x } in
+          let cached : Ghosts (CachedDisk g.row.P-D.Denot g.P.D.Disk) = record { state = λ x. cached_state g.P.D.Disk.state x; hand = λ x. cached_hand x; does = λ call old new. cached_does g.P.D.Disk.state call old new } in
+          let late : Ghosts (DelayedDisk g.row.P-D.Denot g.P.D.Disk) = record { state = λ x. delayed_state g.P.D.Disk.state x; hand = λ x. delayed_hand g.P.D.Disk.hand x; does = λ call old new. delayed_does g.P.D.Disk.state call old new } in
+          let late_cached : Ghosts (DelayedDisk (CachedDisk g.row.P-D.Denot g.P.D.Disk) cached) = record { state = λ x. delayed_state cached.state x; hand = λ x. delayed_hand cached.hand x; does = λ call old new. delayed_does cached.state call old new } in
           let itself = refused_told g.P.D.Disk cached late late_cached (λ disk. refl) (λ disk. refl) (λ disk. refl) c.args.in_memory _ _ refused.0 found.fresh (λ there. (found.held there).1) refused.1 in
           let held = found.held (itself.goes.earlier back.honest) in
           let same = back.holds ∙ ap Some (synced_alone _ _ (itself.moments back.honest)) ∙ sym held.0 in

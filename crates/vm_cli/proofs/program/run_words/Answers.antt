@@ -24,6 +24,10 @@ returns-in_default g c =
       served = (exit, c.do_job.new.errors, status, (λ going. refl), (λ is. absurd (goes_on is)), c.do_job.ensures.served);
     }
 
+pub returns-in-Stopped-clause-files : goal.returns-in-Stopped-clause-files
+returns-in-Stopped-clause-files g c honest =
+    (c.do_job.result, c.do_job.new.errors, rw c.in-Stopped.is c.stop.ensures.status, (λ going. absurd (going c.in-Stopped.is)), (λ is. c.stop.ensures.said), c.do_job.ensures.files honest)
+
 pub returns-in-Stopped-clause-served : goal.returns-in-Stopped-clause-served
 returns-in-Stopped-clause-served g c =
     (c.do_job.result, c.do_job.new.errors, rw c.in-Stopped.is c.stop.ensures.status, (λ going. absurd (going c.in-Stopped.is)), (λ is. c.stop.ensures.said), c.do_job.ensures.served)

@@ -1,7 +1,7 @@
-use Rattle.std.proofs.Common.{◌≡◌, ◌↔◌, ◌-◌, ℕ, length, drop, nat_eq, true, sym, ap, ◌∙◌, eq-eqb, eqb-true, arith}
+use Rattle.std.proofs.Common.{◌≡◌, ◌↔◌, ◌-◌, ℕ, drop, nat_eq, true, sym, ap, ◌∙◌, eq-eqb, eqb-true, arith}
 use Rattle.std.proofs.lemmas.List.{length-drop, take_all}
 use Rattle.byteorder.specs.Endian.{little_number}
-use Rattle.vm_sums.specs.Sums.{number_at, sum_place, summed}
+use Rattle.vm_sums.specs.Sums.{number_at, sum_place}
 use Rattle.vm_sums.proofs.sum.is_without_sum.Goals as goal
 
 -- a number that was read is zero exactly where the one that is there is

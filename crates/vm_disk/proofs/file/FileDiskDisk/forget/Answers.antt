@@ -8,9 +8,12 @@ returns-clause-honest g c honest =
     disk_forgets g.F.Positional.state c.args.n was (record { room = was.room; file = _; blocks = _; sure = _; forgotten = c.note-2.new.self; past = _; reads = was.reads; small = was.small; known = was.known })
     (record { is = forgot g.F.Positional.state was c.args.n c.note-2.new.self c.note-2.ensures; earlier = _; told = c.earlier-was.ensures; past = c.note.ensures })
 
-pub returns-clause-stays : goal.returns-clause-stays
-returns-clause-stays g c =
-    let was = c.args.self.now in
-    same_stays g.F.Positional.state was (record { room = was.room; file = _; blocks = _; sure = _; forgotten = c.note-2.new.self; past = _; reads = was.reads; small = was.small; known = was.known }) (forgot_part g.F.Positional.state was c.args.n)
-    (record { is = forgot g.F.Positional.state was c.args.n c.note-2.new.self c.note-2.ensures; earlier = _; told = c.earlier-was.ensures; past = c.note.ensures })
-    refl (λ good. refl)
+pub returns-clause-does : goal.returns-clause-does
+returns-clause-does g c =
+    let was = c.args.self.now in record {
+      file = refl;
+      stays =
+          same_stays g.F.Positional.state was (record { room = was.room; file = _; blocks = _; sure = _; forgotten = c.note-2.new.self; past = _; reads = was.reads; small = was.small; known = was.known }) (forgot_part g.F.Positional.state was c.args.n)
+          (record { is = forgot g.F.Positional.state was c.args.n c.note-2.new.self c.note-2.ensures; earlier = _; told = c.earlier-was.ensures; past = c.note.ensures })
+          refl (λ good. refl);
+    }

@@ -9,8 +9,8 @@ returns-clause-honest g c =
     (record { is = refl; earlier = _; told = c.earlier-was.ensures; past = c.note-2.ensures })
     c.requires c.offset_of.ensures (search rules) c.read_at.ensures.honest
 
-pub returns-clause-stays : goal.returns-clause-stays
-returns-clause-stays g c =
+pub returns-clause-does : goal.returns-clause-does
+returns-clause-does g c =
     let was = c.args.self.now in
     same_stays g.F.Positional.state was (record { room = was.room; file = _; blocks = _; sure = _; forgotten = was.forgotten; past = _; reads = c.note.new.self; small = was.small; known = was.known }) (same_part g.F.Positional.state was c.read_at.new.self)
     (record { is = refl; earlier = _; told = c.earlier-was.ensures; past = c.note-2.ensures })

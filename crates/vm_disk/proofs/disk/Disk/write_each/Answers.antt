@@ -1,6 +1,6 @@
 use Rattle.std.proofs.Common.{refl, ◌∙◌, arith}
 use Rattle.vm_disk.proofs.RunLemmas.{run_on, run_failed}
-use Rattle.vm_disk.proofs.disk.Disk.write_run.Goals as goal
+use Rattle.vm_disk.proofs.disk.Disk.write_each.Goals as goal
 
 pub returns-in_err-write-clause-honest : goal.returns-in_err-write-clause-honest
 returns-in_err-write-clause-honest g c honest =

@@ -1,6 +1,6 @@
 use Rattle.std.proofs.Common.{◌≡◌, ◌+◌, true}
 use Rattle.vm_disk.proofs.RunLemmas.{IsBegun}
-use Rattle.vm_disk.proofs.disk.Disk.write_run.Given as goal
+use Rattle.vm_disk.proofs.disk.Disk.write_each.Given as goal
 
 abbrev pub invariant-loop-block : goal.invariant-loop-block
 invariant-loop-block g l =
