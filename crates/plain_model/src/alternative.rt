@@ -13,7 +13,7 @@ use crate::map::{self, Map};
 use crate::map_changes;
 use std::alloc::{AllocError, Global};
 use std::marker::Model;
-use vm_types::{Change, Conflict, Key, Name, Side, Value};
+use vm_types::{Change, Conflict, Key, Name, Side, Value, ValueRef};
 
 /// A checkpoint: an earlier state of an alternative, under a name.
 #[derive(Drop)]
@@ -197,7 +197,12 @@ impl Alternative {
     }
 
     /// Sets the value of a record.
-    pub(super) fn put(&mut self, alloc: Global, key: Key, value: &Value) -> Result<(), AllocError>
+    pub(super) fn put(
+        &mut self,
+        alloc: Global,
+        key: Key,
+        value: &ValueRef<'_>,
+    ) -> Result<(), AllocError>
         ensures ok { OnOk result (self.new ≡ record self.old { current = with_value self.old.current key value.now }) }
         ensures err { OnErr result (self.new ≡ self.old) }
     {

@@ -95,7 +95,7 @@ impl Plain {
     }
 
     /// Carries out one command. If there is no memory for it, it changes nothing.
-    pub fn apply(&mut self, command: &Command) -> Reply
+    pub fn apply(&mut self, command: &Command<'_>) -> Reply
         ensures answer { IsAnswer self.old command.now result }
         ensures state { self.new ≡ next self.old command.now result }
     {

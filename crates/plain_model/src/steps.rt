@@ -10,7 +10,7 @@ ghost use Rattle.plain_model.specs.Plain.{IsUnder, parent_refusal};
 use crate::alternative::Alternative;
 use crate::settlements;
 use std::alloc::{AllocError, Global};
-use vm_types::{Answer, Key, MAX_VERSIONS, Name, Refusal, Side, Value};
+use vm_types::{Answer, Key, MAX_VERSIONS, Name, Refusal, Side, ValueRef};
 
 /// The answer to a command.
 pub type Reply = Result<Answer, Refusal>;
@@ -142,7 +142,7 @@ pub(super) fn put(
     tree: &mut [Alternative],
     alt: &Name,
     key: Key,
-    value: &Value,
+    value: &ValueRef<'_>,
 ) -> Result<Reply, AllocError>
     ensures ok { IfOk result (IsOutcome (step tree.old (Command.Put alt.now key value.now)) tree.old tree.new) }
     ensures err { OnErr result (tree.new ≡ tree.old) }

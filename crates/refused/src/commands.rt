@@ -2,7 +2,7 @@
 use crate::memory_faults::Wrong;
 use crate::stores::GROWN;
 use std::alloc::Global;
-use vm_types::{Answer, Command, Key, Name, Refusal, Settled, Value};
+use vm_types::{Answer, Command, Key, Name, Refusal, Settled, ValueRef};
 
 /// The answer to a command.
 pub type Reply = Result<Answer, Refusal>;
@@ -55,16 +55,16 @@ fn key(number: u64) -> Key {
     Key { table: 1, number }
 }
 
-fn put(alt: Name, number: u64, bytes: &[u8]) -> Command {
+fn put(alt: Name, number: u64, bytes: &[u8]) -> Command<'_> {
     Command::Put {
         alt,
         key: key(number),
-        value: Value::new(bytes).unwrap_or_default(),
+        value: ValueRef::new(bytes).unwrap_or_default(),
     }
 }
 
 /// The command of this number, from 0. Takes no memory.
-pub(crate) fn command(alloc: Global, n: usize) -> Command {
+pub(crate) fn command(alloc: Global, n: usize) -> Command<'static> {
     let (x, c) = (name(b"x"), name(b"c"));
     match n {
         0 => put(top(), 1, b"a"),
@@ -92,7 +92,10 @@ pub(crate) fn command(alloc: Global, n: usize) -> Command {
 }
 
 /// All of them, or all but one.
-pub(crate) fn commands(alloc: Global, without: Option<usize>) -> Result<Vec<Command>, Wrong> {
+pub(crate) fn commands(
+    alloc: Global,
+    without: Option<usize>,
+) -> Result<Vec<Command<'static>>, Wrong> {
     let mut commands = Vec::new(alloc);
     for n in 0..COMMANDS {
         if without != Some(n) {

@@ -13,7 +13,7 @@ use vm_types::{Command, Refusal};
 fn run(
     alloc: Global,
     store: &mut Store<MemDisk>,
-    list: &[Command],
+    list: &[Command<'_>],
     wanting: &mut Wanting,
 ) -> Result<Vec<Reply>, Wrong> {
     let before = look(alloc, store, wanting)?;
@@ -41,7 +41,7 @@ fn run(
 /// after a new opening.
 fn run_whole(
     alloc: Global,
-    list: &[Command],
+    list: &[Command<'_>],
     wanting: &mut Wanting,
 ) -> Result<(Vec<Reply>, String), Wrong> {
     let mut store = new_store(alloc, wanting)?;

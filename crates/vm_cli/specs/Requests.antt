@@ -7,8 +7,6 @@ use Rattle.vm_types.specs.declared.command.Side.{Side}
 use Rattle.vm_types.specs.declared.command.Command.TheVariants.{New, NewAt, Drop, Put, Remove, Checkpoint, Uncheck, Back, Merge, Post, Commit, Rollback, Reclaim, Grow}
 use Rattle.vm_types.specs.declared.key.Key.{Key}
 use Rattle.vm_cli.specs.Asking.{Request}
-use Rattle.vm_cli.specs.declared.lines.mistake.Mistake.TheVariants.{Wrong}
-use Rattle.vm_cli.specs.declared.lines.mistake.WordKind.TheVariants.{Value}
 use Rattle.vm_cli.specs.declared.talk.OnCommand.{OnCommand}
 use Rattle.vm_cli.specs.declared.talk.OnCommand.TheVariants.{GrowIfFull, Refuse}
 use Rattle.vm_cli.specs.Escapes.{value_of}
@@ -80,15 +78,10 @@ new_of (name ∷ parent ∷ checkpoint ∷ []) =
     option_and_then (λ n. option_and_then (λ p. option_map (λ c. NewAt n p c) (name_of checkpoint)) (name_of parent)) (name_of name)
 new_of _ = None
 
--- what a put asks for, if its last word, the fifth, spells this value, or none
-abbrev pub put_asked : List ℕ → Key → Option (List ℕ) → Request
-put_asked alt key None = Request.Bad (Wrong 5 Value)
-put_asked alt key (Some value) = Request.Command (Put alt key value)
-
 -- `put ALT TABLE NUMBER VALUE`
-abbrev pub put_of : List (List ℕ) → Option Request
+abbrev pub put_of : List (List ℕ) → Option Command
 put_of (alt ∷ table ∷ number ∷ value ∷ []) =
-    option_and_then (λ a. option_map (λ k. put_asked a k (value_of value)) (key_of table number)) (name_of alt)
+    option_and_then (λ a. option_and_then (λ k. option_map (λ v. Put a k v) (value_of value)) (key_of table number)) (name_of alt)
 put_of _ = None
 
 -- `grow BLOCKS`: a number that 32 bits hold
@@ -121,10 +114,11 @@ abbrev pub alone : {X : Type 0} → X → List (List ℕ) → Option X
 alone x [] = Some x
 alone x _ = None
 
--- the command that the words after the first complete, except for a put and a merge
+-- the command that the words after the first complete, except for a merge
 abbrev pub command_of : List ℕ → List (List ℕ) → Option Command
 command_of verb words =
-    if bytes_eq verb (codes "remove") then option_map (λ r. Remove r.0 r.1) (record_of words)
+    if bytes_eq verb (codes "put") then put_of words
+    else (if bytes_eq verb (codes "remove") then option_map (λ r. Remove r.0 r.1) (record_of words)
     else (if bytes_eq verb (codes "commit") then alone Commit words
     else (if bytes_eq verb (codes "rollback") then alone Rollback words
     else (if bytes_eq verb (codes "reclaim") then alone Reclaim words
@@ -134,7 +128,7 @@ command_of verb words =
     else (if bytes_eq verb (codes "new") then new_of words
     else (if bytes_eq verb (codes "checkpoint") then option_map (λ names. Checkpoint names.0 names.1) (names_of words)
     else (if bytes_eq verb (codes "uncheck") then option_map (λ names. Uncheck names.0 names.1) (names_of words)
-    else (if bytes_eq verb (codes "back") then option_map (λ names. Back names.0 names.1) (names_of words) else None))))))))))
+    else (if bytes_eq verb (codes "back") then option_map (λ names. Back names.0 names.1) (names_of words) else None)))))))))))
 
 -- the query for a list that the words after the first complete
 abbrev pub list_of : List ℕ → List (List ℕ) → Option Request
@@ -163,9 +157,7 @@ command_or None query = query
 -- what the words after the first ask for
 abbrev pub asked_by : List ℕ → List (List ℕ) → Option Request
 asked_by verb words =
-    if bytes_eq verb (codes "put") then put_of words
-    else (if bytes_eq verb (codes "merge") then merge_of words
-    else command_or (command_of verb words) (query_of verb words))
+    command_or (command_of verb words) (if bytes_eq verb (codes "merge") then merge_of words else query_of verb words)
 
 -- a merge with further words after its alternative: to read a line takes memory only if it is one
 abbrev pub IsLongMerge : List (List ℕ) → Type 0

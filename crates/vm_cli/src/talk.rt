@@ -2,7 +2,6 @@
 
 pub mod commands;
 pub mod growth;
-pub mod puts;
 pub mod queries;
 
 ghost use Rattle.std.specs.Prelude.{◌≡◌, ◌+◌, ◌≤◌, ◌++◌, ◌∷◌, [], length, true, false, None, IfErr, OnErr, OnOk};
@@ -11,7 +10,6 @@ ghost use Rattle.vm_cli.specs.Carried.{Begins, Gains};
 ghost use Rattle.vm_cli.specs.Feeds.{ServesEach};
 ghost use Rattle.vm_cli.specs.Lines.{IsPart};
 ghost use Rattle.vm_cli.specs.Replies.{reply_text};
-ghost use Rattle.vm_cli.specs.Requested.{asks_for};
 ghost use Rattle.vm_cli.specs.Requests.{asked_in, request_of};
 ghost use Rattle.vm_cli.specs.Spaces.{words_of};
 ghost use Rattle.vm_cli.specs.Talk.{Passes, StoreFails};
@@ -22,11 +20,10 @@ use crate::answers::reply::Reply;
 use crate::answers::text::Text;
 use crate::lines::line::{Line, LineKind};
 use crate::lines::request::{Request, parse_request};
-use commands::{reply_to_merge, reply_to_small};
+use commands::{reply_to_command, reply_to_merge_all};
 use memchr::memchr;
-use puts::reply_to_put;
 use queries::{blocks, free, get, reply_to_list, tally};
-use std::alloc::{AllocError, Global};
+use std::alloc::Global;
 use std::io::{Read, Write};
 use thiserror::Error;
 use vm_disk::Disk;
@@ -134,8 +131,8 @@ struct Session<'a, W, D: Disk> {
     manner: Manner,
     // Answers are composed in it. Nothing is kept in it from line to line.
     text: Text,
-    // Values are read into this buffer, and nothing is kept in it. All lines share it, so that none
-    // has to fill it with zeros.
+    // Values are read into this buffer, of a record or of a word, and nothing is kept in it. All
+    // lines share it, so that none has to fill it with zeros.
     room: [u8; 4096],
     writer: &'a mut W,
     store: &'a mut Store<D>,
@@ -243,31 +240,20 @@ impl<'a, W: Write, D: Disk> Session<'a, W, D> {
         ensures { Asks W.contents (asked_in self.old.manner.on_command (request_of (words_of line.now)))
             result self.old self.new }
     {
-        match parse_request(self.alloc, line) {
-            Ok(request) => self.reply_to_request(request),
-            Err(AllocError) => Ok(Reply::Refused(Refusal::Memory)),
-        }
-    }
-
-    /// Does what a line asks for. What has room for a value has a stack frame of its own, so that
-    /// the session's stays small.
-    fn reply_to_request(&mut self, request: Request<'_>) -> Result<Reply, WriteFault>
-        requires { self.old.text ≡ [] }
-        ensures { Asks W.contents (asked_in self.old.manner.on_command (asks_for request.entry))
-            result self.old self.new }
-    {
         let alloc = self.alloc;
         let on = self.manner.on_command;
         let text = &mut self.text;
         let store = &mut *self.store;
+        let Ok(request) = parse_request(alloc, line, &mut self.room) else {
+            return Ok(Reply::Refused(Refusal::Memory));
+        };
         match request {
             Request::Nothing => Ok(Reply::Nothing),
             Request::Bad(mistake) => Ok(Reply::BadLine(mistake)),
-            Request::Put { alt, key, word } => Ok(reply_to_put(&alt, key, word, on, store)),
-            Request::Merge { alt, side, settled } => {
-                Ok(reply_to_merge(alloc, alt, side, settled, on, store))
+            Request::Command(command) => Ok(reply_to_command(&command, on, store)),
+            Request::MergeAll { alt, side, settled } => {
+                Ok(reply_to_merge_all(alloc, &alt, side, settled, on, store))
             }
-            Request::Small(command) => Ok(reply_to_small(command, on, store)),
             Request::Get(at, key) => Ok(get(&at, key, text, &mut self.room, store)),
             Request::Tally(alt) => Ok(tally(alloc, &alt, store)),
             Request::Free => Ok(free(store)),

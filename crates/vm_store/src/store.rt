@@ -1,7 +1,5 @@
 //! A store, and its commands and queries.
-ghost use Rattle.std.specs.Prelude.{◌≡◌, ◌↔◌, ◌≤◌, true, false, length, IsTrue};
-ghost use Rattle.vm_types.specs.Bytes.{longest};
-ghost use Rattle.vm_types.specs.declared.command.Command.TheVariants.{Put};
+ghost use Rattle.std.specs.Prelude.{◌≡◌, ◌↔◌, ◌≤◌, true, false, IsTrue};
 ghost use Rattle.vm_disk.specs.Moments.{Leaves};
 ghost use Rattle.vm_store.specs.Shown.{Shows};
 
@@ -21,7 +19,7 @@ use parts::Parts;
 pub use recovery::{open, open_whole};
 use std::alloc::Global;
 use vm_disk::Disk;
-use vm_types::{Answer, Command, Key, Name, Refusal};
+use vm_types::{Answer, Command, Refusal};
 
 /// Whether the device failed in a command.
 fn is_device(answer: &Result<Answer, Refusal>) -> bool
@@ -45,7 +43,7 @@ impl<D: Disk> Store<D> {
 
     /// Carries out one command. After an answer `Device`, the store answers `Failed` to every call
     /// except `close`: close it, and open the disk again.
-    pub fn apply(&mut self, command: &Command) -> Result<Answer, Refusal>
+    pub fn apply(&mut self, command: &Command<'_>) -> Result<Answer, Refusal>
         ensures refused { has_failed self.old ≡ true
             → (result ≡ Err Refusal.Failed) × (self.new ≡ self.old) }
         ensures done { has_failed self.old ≡ false
@@ -55,24 +53,6 @@ impl<D: Disk> Store<D> {
             return Err(Refusal::Failed);
         }
         let answer = self.dispatch(command);
-        self.failed = is_device(&answer);
-        answer
-    }
-
-    /// Sets the value of a record of the alternative, as `apply` does with a Put. The value is not
-    /// copied.
-    pub fn put(&mut self, alt: &Name, key: Key, value: &[u8]) -> Result<Answer, Refusal>
-        requires short { length value.now ≤ longest }
-
-        ensures refused { has_failed self.old ≡ true
-            → (result ≡ Err Refusal.Failed) × (self.new ≡ self.old) }
-        ensures done { has_failed self.old ≡ false
-            → CarriesOut self.old self.new (Put alt.now key value.now) result }
-    {
-        if self.failed {
-            return Err(Refusal::Failed);
-        }
-        let answer = self.put_value(alt, key, value);
         self.failed = is_device(&answer);
         answer
     }

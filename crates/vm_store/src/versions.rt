@@ -273,7 +273,7 @@ impl Versions {
     }
 
     /// Carries out a command that makes, drops or goes back to an alternative or a checkpoint.
-    pub fn change_by(&mut self, command: &Command) -> Result<Answer, Refusal>
+    pub fn change_by(&mut self, command: &Command<'_>) -> Result<Answer, Refusal>
         requires { ChangesEntriesAlone command.now }
         ensures { Turns self.old self.new command.now result }
     {

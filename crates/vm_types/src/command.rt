@@ -1,5 +1,5 @@
 //! What an editor asks for.
-use crate::{Key, Name, Value};
+use crate::{Key, Name, ValueRef};
 use std::marker::Model;
 
 /// How a conflict is settled: with the alternative's own value, or with the parent's.
@@ -64,9 +64,10 @@ impl Settled {
     }
 }
 
-/// A command to the store.
+/// A command to the store. The value of a Put is lent, so a command is small and takes no memory to
+/// make.
 #[derive(Debug, Drop)]
-pub enum Command {
+pub enum Command<'a> {
     /// Creates an alternative under the parent. It shows the parent's current records.
     New {
         name: Name,
@@ -86,7 +87,7 @@ pub enum Command {
     Put {
         alt: Name,
         key: Key,
-        value: Value,
+        value: ValueRef<'a>,
     },
     /// Removes a record from the alternative.
     Remove {

@@ -36,4 +36,4 @@ pub use records::{Records, RecordsIter};
 pub use refusal::Refusal;
 pub use settlements::settled_refusal;
 pub use sizes::{BLOCK_SIZE, Block, BlockNumber, FIRST_DATA, MAX_BLOCKS, MAX_VERSIONS, MIN_BLOCKS};
-pub use value::Value;
+pub use value::{Value, ValueRef};

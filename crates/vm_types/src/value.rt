@@ -94,3 +94,59 @@ impl Eq for Value {
 
     ghost laws = { nat_list_eq_equiv };
 }
+
+/// A value that something else holds: 0 to 4,000 bytes, lent. Takes no memory and copies nothing.
+#[derive(Debug, Drop)]
+pub struct ValueRef<'a> {
+    bytes: &'a [u8],
+}
+
+impl<'a> Model for ValueRef<'a> {
+    ghost use Rattle.std.specs.Prelude.{ℕ, List, ◌≤◌, length};
+    ghost use Rattle.vm_types.specs.Bytes.{longest};
+
+    ghost Value = { List ℕ };
+
+    ghost view = { λ v. v.bytes.now };
+
+    ghost invariant = { λ v. length v.bytes.now ≤ longest };
+}
+
+impl<'a> ValueRef<'a> {
+    /// These bytes as a value, if there are at most 4,000.
+    pub fn new(bytes: &'a [u8]) -> Option<Self>
+        ensures short { IsSome result ↔ (length bytes.now ≤ longest) }
+        ensures value { IfSome result (λ v. v ≡ bytes.now) }
+    {
+        if bytes.len() > Value::MAX_LEN {
+            return None;
+        }
+        Some(ValueRef { bytes })
+    }
+
+    pub fn as_bytes(&self) -> &'a [u8]
+        ensures bytes { result.now ≡ self.now }
+        ensures short { length self.now ≤ longest }
+    {
+        self.bytes
+    }
+}
+
+/// The empty value.
+impl Default for ValueRef<'_> {
+    fn default() -> Self
+        ensures { result ≡ [] }
+    {
+        ValueRef { bytes: &[] }
+    }
+}
+
+impl<'a> From<&'a Value> for ValueRef<'a> {
+    fn from(value: &'a Value) -> Self
+        ensures { result ≡ value.now }
+    {
+        ValueRef {
+            bytes: value.as_bytes(),
+        }
+    }
+}

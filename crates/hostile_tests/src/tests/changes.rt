@@ -10,7 +10,7 @@ use std::test::Fail;
 use testkit::{RecordingDisk, Wrong, top};
 use vm_disk::{Disk, MemDisk};
 use vm_store::{Store, format, open, open_whole};
-use vm_types::{Answer, Block, Command, Key, Refusal, Value};
+use vm_types::{Answer, Block, Command, Key, Refusal, ValueRef};
 
 /// The byte of a block at which the result was not the expected one, and the byte or number that
 /// was set there.
@@ -144,7 +144,7 @@ impl Bench {
 }
 
 /// A disk on which these commands are committed.
-fn disk_of(alloc: Global, commands: &[Command]) -> Result<MemDisk, Wrong> {
+fn disk_of(alloc: Global, commands: &[Command<'_>]) -> Result<MemDisk, Wrong> {
     let mut store = open(alloc, format(MemDisk::new(alloc, BLOCKS)?, BLOCKS)?)?;
     let mut last = Ok(Answer::Done);
     for command in commands {
@@ -163,7 +163,7 @@ fn one_record(alloc: Global, value: &[u8]) -> Result<MemDisk, Wrong> {
             table: 7,
             number: 1,
         },
-        value: Value::new(value).unwrap_or_default(),
+        value: ValueRef::new(value).unwrap_or_default(),
     };
     disk_of(alloc, &[one, Command::Commit])
 }

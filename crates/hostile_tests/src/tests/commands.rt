@@ -2,7 +2,7 @@
 use super::{GROWN_BLOCKS, name};
 use std::alloc::Global;
 use testkit::{Reply, top};
-use vm_types::{Answer, Command, Key, Settled, Value};
+use vm_types::{Answer, Command, Key, Settled, ValueRef};
 
 /// Which commands a run carries out. The last one is a Commit.
 #[derive(Clone, Copy, Debug, PartialEq, Eq)]
@@ -34,16 +34,16 @@ pub(super) fn key(number: u64) -> Key {
 }
 
 /// Puts a value into an alternative.
-pub(super) fn put(alt: &[u8], number: u64, bytes: &[u8]) -> Command {
+pub(super) fn put<'a>(alt: &[u8], number: u64, bytes: &'a [u8]) -> Command<'a> {
     Command::Put {
         alt: name(alt),
         key: key(number),
-        value: Value::new(bytes).unwrap_or_default(),
+        value: ValueRef::new(bytes).unwrap_or_default(),
     }
 }
 
 /// Merges into `x` what its parent changed.
-pub(super) fn merge(alloc: Global) -> Command {
+pub(super) fn merge(alloc: Global) -> Command<'static> {
     Command::Merge {
         alt: name(b"x"),
         settled: Settled::from_vec(Vec::new(alloc)),
@@ -51,7 +51,7 @@ pub(super) fn merge(alloc: Global) -> Command {
 }
 
 /// The command of this number, from 0, without those that make `y` and let the store grow.
-fn posted(alloc: Global, n: u32) -> Command {
+fn posted(alloc: Global, n: u32) -> Command<'static> {
     let (x, c) = (name(b"x"), name(b"c"));
     match n {
         0 => put(b"top", 1, b"a"),
@@ -75,7 +75,7 @@ fn posted(alloc: Global, n: u32) -> Command {
 }
 
 /// The command of this number, from 0, with those.
-fn grown(alloc: Global, n: u32) -> Command {
+fn grown(alloc: Global, n: u32) -> Command<'static> {
     let k = name(b"k");
     match n {
         0..=8 => posted(alloc, n),
@@ -126,7 +126,7 @@ impl Script {
     }
 
     /// The command of this number, from 0.
-    pub(super) fn command(self, alloc: Global, n: u32) -> Command {
+    pub(super) fn command(self, alloc: Global, n: u32) -> Command<'static> {
         match self {
             Script::Posted => posted(alloc, n),
             Script::Grown => grown(alloc, n),

@@ -7,7 +7,7 @@ use rand_core::{Rng, SeedableRng};
 use rand_xoshiro::Xoshiro256PlusPlus;
 use std::alloc::{AllocError, Global};
 use testkit::top;
-use vm_types::{Block, Command, Conflict, Key, Name, Settled, Side, Value};
+use vm_types::{Block, Command, Conflict, Key, Name, Settled, Side, Value, ValueRef};
 
 /// How many draws make a command other than a Drop, Uncheck or Remove.
 const ADDITIONS: u32 = 34;
@@ -172,7 +172,7 @@ impl Dice {
     }
 
     /// A Merge, mostly with settlements that fit.
-    fn merge(&mut self, alloc: Global, plain: &Plain) -> Result<Command, AllocError> {
+    fn merge(&mut self, alloc: Global, plain: &Plain) -> Result<Command<'static>, AllocError> {
         let alt = self.child();
         self.merged = Some(alt);
         let settled = match plain.conflicts(&alt) {
@@ -183,7 +183,7 @@ impl Dice {
     }
 
     /// A Drop, Uncheck or Remove. From 11 on, one key of `top` after another is removed.
-    fn removal(&mut self, n: u32) -> Command {
+    fn removal(&mut self, n: u32) -> Command<'static> {
         match n {
             0..=2 => Command::Drop { alt: self.child() },
             3..=5 => Command::Uncheck {
@@ -203,7 +203,7 @@ impl Dice {
 
     /// A few more blocks than there are, or now and then many, as far as the disk has room, or else
     /// a bad size.
-    fn grow(&mut self, blocks: u32) -> Command {
+    fn grow(&mut self, blocks: u32) -> Command<'static> {
         let more = 1
             + if self.once_in(4) {
                 self.below(32)
@@ -220,8 +220,9 @@ impl Dice {
         }
     }
 
-    /// Any other command except a Merge, for a store of this many blocks. From 18 on it is a Put.
-    fn addition(&mut self, n: u32, blocks: u32) -> Command {
+    /// Any other command except a Merge, for a store of this many blocks. From 18 on it is a Put of
+    /// a value that is drawn into `value`.
+    fn addition<'a>(&mut self, n: u32, blocks: u32, value: &'a mut Value) -> Command<'a> {
         match n {
             0..=2 => Command::Commit,
             3 => Command::Reclaim,
@@ -245,17 +246,26 @@ impl Dice {
             },
             16 => self.grow(blocks),
             17 => Command::Rollback,
-            _ => Command::Put {
-                alt: self.alt(),
-                key: self.key(),
-                value: self.value(),
-            },
+            _ => {
+                let (alt, key) = (self.alt(), self.key());
+                *value = self.value();
+                Command::Put {
+                    alt,
+                    key,
+                    value: ValueRef::from(&*value),
+                }
+            }
         }
     }
 
     /// A command for a store that shows what the plain model does. Every second Merge is followed
-    /// by a Post at once.
-    pub(super) fn command(&mut self, alloc: Global, plain: &Plain) -> Result<Command, AllocError> {
+    /// by a Post at once. The value of a Put is drawn into `value`.
+    pub(super) fn command<'a>(
+        &mut self,
+        alloc: Global,
+        plain: &Plain,
+        value: &'a mut Value,
+    ) -> Result<Command<'a>, AllocError> {
         let merged = self.merged;
         self.merged = None;
         if let Some(alt) = merged
@@ -273,7 +283,7 @@ impl Dice {
         }
         let n = self.below(ADDITIONS + removals);
         if n < ADDITIONS {
-            Ok(self.addition(n, plain.blocks()))
+            Ok(self.addition(n, plain.blocks(), value))
         } else {
             Ok(self.removal(n - ADDITIONS))
         }

@@ -5,7 +5,9 @@ use plain_model::Plain;
 use std::alloc::Global;
 use std::test::Fail;
 use testkit::{Reply, Wrong, top};
-use vm_types::{Answer, Change, Command, Conflict, Key, Name, Refusal, Settled, Side, Value};
+use vm_types::{
+    Answer, Change, Command, Conflict, Key, Name, Refusal, Settled, Side, Value, ValueRef,
+};
 
 fn value(bytes: &[u8]) -> Value {
     Value::new(bytes).unwrap_or_default()
@@ -19,7 +21,7 @@ fn put(plain: &mut Plain, alt: Name, n: u32, bytes: &[u8]) -> Reply {
     plain.apply(&Command::Put {
         alt,
         key: key(n),
-        value: value(bytes),
+        value: ValueRef::new(bytes).unwrap_or_default(),
     })
 }
 

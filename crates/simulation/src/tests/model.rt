@@ -98,7 +98,7 @@ impl Model {
     }
 
     /// The answer that a store must give if the device serves it.
-    pub(super) fn apply(&mut self, command: &Command) -> Result<Reply, Wrong> {
+    pub(super) fn apply(&mut self, command: &Command<'_>) -> Result<Reply, Wrong> {
         match command {
             Command::Merge { alt, .. } => self.merge(alt, command),
             Command::Grow { .. } => Ok(self.grow(command)),
@@ -179,7 +179,7 @@ impl Model {
     }
 
     /// Whether this is a Put or a Remove that the plain model accepts.
-    fn changes_a_record(&self, command: &Command) -> bool {
+    fn changes_a_record(&self, command: &Command<'_>) -> bool {
         match command {
             Command::Put { alt, key, .. } => self.plain.get(alt, *key).is_ok(),
             Command::Remove { alt, key } => matches!(self.plain.get(alt, *key), Ok(Some(_))),
@@ -208,7 +208,7 @@ impl Model {
 
     /// The answer to a Merge. Its changes are made one after another, by rising keys, if there is
     /// room for all.
-    fn merge(&mut self, alt: &Name, command: &Command) -> Result<Reply, Wrong> {
+    fn merge(&mut self, alt: &Name, command: &Command<'_>) -> Result<Reply, Wrong> {
         self.merged_in = None;
         let mut merged = self.plain.copy()?;
         let reply = merged.apply(command);
@@ -225,7 +225,7 @@ impl Model {
     }
 
     /// The answer to a Grow. The new blocks are free.
-    fn grow(&mut self, command: &Command) -> Reply {
+    fn grow(&mut self, command: &Command<'_>) -> Reply {
         let before = self.plain.blocks();
         let reply = self.plain.apply(command);
         let more = self.plain.blocks().saturating_sub(before);
@@ -234,7 +234,7 @@ impl Model {
     }
 
     /// What an accepted command other than a Merge or a Grow does to the blocks that maps are in.
-    fn follow(&mut self, command: &Command) -> Result<(), Wrong> {
+    fn follow(&mut self, command: &Command<'_>) -> Result<(), Wrong> {
         match command {
             Command::New { name, parent } => self.follow_new(name, parent, None)?,
             Command::NewAt {
@@ -243,7 +243,7 @@ impl Model {
                 checkpoint,
             } => self.follow_new(name, parent, Some(*checkpoint))?,
             Command::Drop { alt } => self.working.retain(|roots| roots.alt != *alt),
-            Command::Put { alt, key, value } => self.follow_put(alt, *key, value)?,
+            Command::Put { alt, key, value } => self.follow_put(alt, *key, value.as_bytes())?,
             Command::Remove { alt, key } => self.follow_remove(alt, *key)?,
             Command::Checkpoint { alt, name } => self.follow_checkpoint(alt, name)?,
             Command::Uncheck { alt, name } => {
@@ -293,11 +293,10 @@ impl Model {
         Ok(())
     }
 
-    fn follow_put(&mut self, alt: &Name, key: Key, value: &Value) -> Result<(), Wrong> {
+    fn follow_put(&mut self, alt: &Name, key: Key, value: &[u8]) -> Result<(), Wrong> {
         if let Some(i) = position(&self.working, alt, None) {
             let blocks = self.trees.blocks();
-            let len = value.as_bytes().len();
-            self.working[i].current = self.trees.put(self.working[i].current, key, len)?;
+            self.working[i].current = self.trees.put(self.working[i].current, key, value.len())?;
             self.take_new(blocks)?;
         }
         Ok(())
@@ -342,7 +341,7 @@ impl Model {
         for change in &plan.changes {
             self.merged_in = Some(plan.side);
             match &change.after {
-                Some(value) => self.follow_put(alt, change.key, value)?,
+                Some(value) => self.follow_put(alt, change.key, value.as_bytes())?,
                 None => self.follow_remove(alt, change.key)?,
             }
         }

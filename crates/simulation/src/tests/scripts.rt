@@ -2,7 +2,7 @@
 use super::cast::{alternative, checkpoint, key};
 use std::alloc::Global;
 use testkit::{Reply, top};
-use vm_types::{Answer, Command, Name, Settled, Value};
+use vm_types::{Answer, Command, Name, Settled, ValueRef};
 
 /// A list of commands. The last one is a Commit.
 #[derive(Clone, Copy, Debug, PartialEq, Eq)]
@@ -13,15 +13,15 @@ pub enum Script {
     Posting,
 }
 
-fn put(alt: Name, n: u32, bytes: &[u8]) -> Command {
+fn put(alt: Name, n: u32, bytes: &[u8]) -> Command<'_> {
     Command::Put {
         alt,
         key: key(n),
-        value: Value::new(bytes).unwrap_or_default(),
+        value: ValueRef::new(bytes).unwrap_or_default(),
     }
 }
 
-fn versions(n: u32) -> Command {
+fn versions(n: u32) -> Command<'static> {
     let (ring, spur, dawn) = (alternative(1), alternative(2), checkpoint(0));
     match n {
         0 => put(top(), 0, b"duct"),
@@ -66,7 +66,7 @@ fn versions(n: u32) -> Command {
     }
 }
 
-fn posting(alloc: Global, n: u32) -> Command {
+fn posting(alloc: Global, n: u32) -> Command<'static> {
     let (ring, dawn) = (alternative(1), checkpoint(0));
     match n {
         0 => put(top(), 1, b"a"),
@@ -117,7 +117,7 @@ impl Script {
     }
 
     /// The command of this number, from 0.
-    pub(super) fn command(self, alloc: Global, n: u32) -> Command {
+    pub(super) fn command(self, alloc: Global, n: u32) -> Command<'static> {
         match self {
             Script::Versions => versions(n),
             Script::Posting => posting(alloc, n),

@@ -10,7 +10,7 @@ use std::process::Abort;
 use testkit::{Fill, RecordingDisk, Wrong, top};
 use vm_disk::{DelayedDisk, Disk, FuseDisk, MemDisk};
 use vm_store::{Store, format, open};
-use vm_types::{Command, Key, Name, Refusal};
+use vm_types::{Command, Key, Name, Refusal, Value};
 
 /// More device calls than a life makes.
 const NEVER: u32 = 1_000_000;
@@ -27,7 +27,7 @@ enum End {
 }
 
 /// What a command may change apart from records.
-fn sight(model: &Model, command: &Command) -> Sight {
+fn sight(model: &Model, command: &Command<'_>) -> Sight {
     let level = match command {
         Command::Put { alt, .. } | Command::Remove { alt, .. } | Command::Merge { alt, .. } => {
             model.level(alt)
@@ -42,7 +42,7 @@ fn sight(model: &Model, command: &Command) -> Sight {
 }
 
 /// The alternatives that a command names, or that it changes.
-fn near(alloc: Global, model: &Model, command: &Command) -> Result<Vec<Name>, Wrong> {
+fn near(alloc: Global, model: &Model, command: &Command<'_>) -> Result<Vec<Name>, Wrong> {
     let mut names = Vec::new(alloc);
     match command {
         Command::New { name, parent } | Command::NewAt { name, parent, .. } => {
@@ -84,7 +84,7 @@ fn play<D: Disk>(
     store: &mut Store<D>,
     model: &mut Model,
     tally: &mut Tally,
-    command: &Command,
+    command: &Command<'_>,
 ) -> Result<Option<End>, Wrong> {
     let answer = store.apply(command);
     if answer == Err(Refusal::Device) {
@@ -131,7 +131,8 @@ fn step<D: Disk>(
     tally: &mut Tally,
     looks: bool,
 ) -> Result<Option<End>, Wrong> {
-    let command = dice.command(alloc, &model.plain)?;
+    let mut value = Value::default();
+    let command = dice.command(alloc, &model.plain, &mut value)?;
     if let Some(end) = play(store, model, tally, &command)? {
         return Ok(Some(end));
     }

@@ -70,7 +70,7 @@ fn add_one(counts: &mut [u32], at: usize) {
     }
 }
 
-fn kind(command: &Command) -> usize {
+fn kind(command: &Command<'_>) -> usize {
     match command {
         Command::New { .. } => 0,
         Command::Drop { .. } => 1,
@@ -104,7 +104,13 @@ impl Tally {
     }
 
     /// Counts a command with its answer, and with what was seen before and after it.
-    pub(super) fn count(&mut self, command: &Command, answer: &Reply, before: Sight, after: Sight) {
+    pub(super) fn count(
+        &mut self,
+        command: &Command<'_>,
+        answer: &Reply,
+        before: Sight,
+        after: Sight,
+    ) {
         match answer {
             Ok(_) => add_one(&mut self.accepted, kind(command)),
             Err(refusal) => add_one(&mut self.refused, refusal.code() as usize),

@@ -4,7 +4,7 @@ use std::alloc::Global;
 use std::fmt;
 use vm_disk::Disk;
 use vm_store::{Stop, Store};
-use vm_types::{Answer, Changes, Command, Key, Records, Refusal, Value};
+use vm_types::{Answer, Changes, Command, Key, Records, Refusal, Value, ValueRef};
 
 /// A value, or none, as a script shows it: `~` for none, `''` for the empty one, `61*300` for this
 /// many bytes of one kind.
@@ -210,12 +210,13 @@ fn put_all<D: Disk>(
     count: u32,
     given: &str,
 ) -> Result<Result<Answer, Refusal>, Wrong> {
-    let (alt, value) = (name(alt)?, value(given)?);
+    let (alt, given) = (name(alt)?, value(given)?);
     for n in 0..u64::from(count) {
         let key = Key {
             table: from.table,
             number: from.number.saturating_add(n),
         };
+        let value = ValueRef::from(&given);
         let reply = store.apply(&Command::Put { alt, key, value });
         if reply != Ok(Answer::Done) {
             return Ok(reply);
@@ -237,7 +238,7 @@ fn check_all<D: Disk>(
     for n in 0..count {
         let mut reply = Ok(Answer::Done);
         if let Some((key, value)) = &before {
-            let (key, value) = (*key, *value);
+            let (key, value) = (*key, ValueRef::from(value));
             reply = store.apply(&Command::Put { alt, key, value });
         }
         let saved = format!(in alloc; "k{:03}", n + 1)?;
@@ -253,10 +254,12 @@ fn check_all<D: Disk>(
 /// Carries out a list of commands, with `;` between two. After the answers comes how the list
 /// ended.
 fn run<D: Disk>(alloc: Global, store: &mut Store<D>, words: &[&str]) -> Result<String, Wrong> {
+    let mut lent = Vec::from_elem(alloc, Value::default(), words.len()).map_err(|_| Wrong::Memory)?;
     let mut commands = Vec::new(alloc);
-    for part in words.split(|word| *word == ";") {
+    let parts = words.split(|word| *word == ";");
+    for (part, lent) in parts.zip(&mut lent) {
         if !part.is_empty() {
-            let command = command(alloc, part)?.ok_or(Wrong::Unreadable)?;
+            let command = command(alloc, part, lent)?.ok_or(Wrong::Unreadable)?;
             commands.push(command).map_err(|_| Wrong::Memory)?;
         }
     }
@@ -297,7 +300,8 @@ pub(super) fn answer<D: Disk>(
         ["run", list @ ..] => return run(alloc, store, list),
         _ => {}
     }
-    if let Some(command) = command(alloc, words)? {
+    let mut lent = Value::default();
+    if let Some(command) = command(alloc, words, &mut lent)? {
         return reply_text(alloc, store.apply(&command));
     }
     match query(alloc, store, words)? {

@@ -3,7 +3,7 @@ use std::alloc::Global;
 use std::test::Fail;
 use vm_disk::{CachedDisk, FuseDisk, MemDisk};
 use vm_store::{format, open};
-use vm_types::{Command, Key, Name, Refusal, Value};
+use vm_types::{Answer, Command, Key, Name, Refusal, Value, ValueRef};
 
 type Cached = CachedDisk<FuseDisk<MemDisk>>;
 
@@ -20,16 +20,13 @@ fn seventeen(alloc: Global, top: &Name) -> Result<MemDisk, Refusal> {
     let disk = MemDisk::new(alloc, 64).map_err(|_| Refusal::Memory)?;
     let disk = format(disk, 64).map_err(|refused| refused.1)?;
     let mut store = open(alloc, disk).map_err(|refused| refused.1)?;
-    let mut done = store.put(
-        top,
-        Key {
-            table: 1,
-            number: 1,
-        },
-        &VALUE,
-    );
-    for number in 2..18 {
-        done = done.and(store.put(top, Key { table: 1, number }, &VALUE));
+    let mut done = Ok(Answer::Done);
+    for number in 1..18 {
+        done = done.and(store.apply(&Command::Put {
+            alt: *top,
+            key: Key { table: 1, number },
+            value: ValueRef::new(&VALUE).unwrap_or_default(),
+        }));
     }
     done = done.and(store.apply(&Command::Commit));
     let disk = store.close();

@@ -4,7 +4,7 @@ use std::alloc::Global;
 use std::test::Fail;
 use vm_disk::{Disk, MemDisk};
 use vm_store::{Store, copy, format, open};
-use vm_types::{Command, Key, Name};
+use vm_types::{Command, Key, Name, ValueRef};
 
 const ON_BOTH: &[Row] = &[
     // Of 96 blocks 34 are the store's own. Both alternatives stand on two leaves and a node above them.
@@ -172,7 +172,11 @@ fn fill(store: &mut Store<MemDisk>, count: u64) -> Result<(), Fail> {
     for number in 0..count {
         let len = if number % 2 == 0 { 600 } else { 9 };
         let number = count - number;
-        store.put(&top, Key { table: 1, number }, &[7; 600][..len])?;
+        store.apply(&Command::Put {
+            alt: top,
+            key: Key { table: 1, number },
+            value: ValueRef::new(&[7; 600][..len]).ok_or("no value")?,
+        })?;
     }
     store.apply(&Command::Commit)?;
     Ok(())

@@ -3,10 +3,10 @@ use std::alloc::Global;
 use std::test::Fail;
 use vm_disk::MemDisk;
 use vm_store::{format, open};
-use vm_types::{Command, Key, Name, Refusal, Value};
+use vm_types::{Command, Key, Name, Refusal, Value, ValueRef};
 
 fn first_record(alloc: Global) -> Result<Option<Value>, Refusal> {
-    let (Some(alt), Some(value)) = (Name::new(b"top"), Value::new(b"duct")) else {
+    let (Some(alt), Some(value)) = (Name::new(b"top"), ValueRef::new(b"duct")) else {
         return Ok(None);
     };
     let (table, number) = (7, 1);

@@ -6,7 +6,7 @@ use vm_block::{Entry, Kind, SlotName};
 use vm_catalog::write_slot;
 use vm_disk::{Disk, MemDisk};
 use vm_store::{format, open};
-use vm_types::{Command, Key, Name, Value};
+use vm_types::{Command, Key, Name, ValueRef};
 
 const ON_BOTH: &[Row] = &[
     // Block 34 is a node of level one, and its child is itself.
@@ -109,7 +109,7 @@ fn duct_disk(alloc: Global) -> Result<MemDisk, Fail> {
     let put = Command::Put {
         alt: Name::new(b"top").ok_or("no name")?,
         key: Key { table, number },
-        value: Value::new(b"duct").ok_or("no value")?,
+        value: ValueRef::new(b"duct").ok_or("no value")?,
     };
     let disk = format(MemDisk::new(alloc, 64)?, 64).map_err(|refused| refused.1)?;
     let mut store = open(alloc, disk).map_err(|refused| refused.1)?;

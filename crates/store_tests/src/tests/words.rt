@@ -2,7 +2,7 @@
 use std::alloc::{AllocError, Global};
 use std::fmt;
 use vm_disk::DeviceFault;
-use vm_types::{At, Command, Key, Name, Of, Settled, Side, Value};
+use vm_types::{At, Command, Key, Name, Of, Settled, Side, Value, ValueRef};
 
 /// Why a step has no answer.
 #[derive(Clone, Copy, Debug, PartialEq, Eq)]
@@ -103,7 +103,7 @@ fn settlement(word: &str) -> Result<(Key, Side), Wrong> {
     Ok((key(at)?, side))
 }
 
-fn merge(alloc: Global, alt: &str, settlements: &[&str]) -> Result<Command, Wrong> {
+fn merge(alloc: Global, alt: &str, settlements: &[&str]) -> Result<Command<'static>, Wrong> {
     let mut sides = Vec::new(alloc);
     for word in settlements {
         let side = settlement(word)?;
@@ -115,8 +115,12 @@ fn merge(alloc: Global, alt: &str, settlements: &[&str]) -> Result<Command, Wron
     })
 }
 
-/// The command of these words, if they are one.
-pub(super) fn command(alloc: Global, words: &[&str]) -> Result<Option<Command>, Wrong> {
+/// The command of these words, if they are one. The value of a Put is lent from `lent`.
+pub(super) fn command<'a>(
+    alloc: Global,
+    words: &[&str],
+    lent: &'a mut Value,
+) -> Result<Option<Command<'a>>, Wrong> {
     let command = match words {
         ["new", alt, parent] => Command::New {
             name: name(alt)?,
@@ -128,11 +132,12 @@ pub(super) fn command(alloc: Global, words: &[&str]) -> Result<Option<Command>, 
             checkpoint: name(saved)?,
         },
         ["drop", alt] => Command::Drop { alt: name(alt)? },
-        ["put", alt, at, given] => Command::Put {
-            alt: name(alt)?,
-            key: key(at)?,
-            value: value(given)?,
-        },
+        ["put", alt, at, given] => {
+            let (alt, key) = (name(alt)?, key(at)?);
+            *lent = value(given)?;
+            let value = ValueRef::from(&*lent);
+            Command::Put { alt, key, value }
+        }
         ["remove", alt, at] => Command::Remove {
             alt: name(alt)?,
             key: key(at)?,

@@ -5,20 +5,20 @@ ghost use Rattle.vm_cli.specs.Escapes.{ArePlain, SpellsFirst, byte_text, hex_dig
 
 use crate::answers::text::Text;
 use memchr::memchr;
-use vm_types::Value;
+use vm_types::{Block, Value, ValueRef};
 
 /// The value that a word spells: `-` is the empty value, `%` and two hexadecimal digits are one
-/// byte, and any other byte is itself.
-pub(crate) fn value(word: &[u8]) -> Option<Value>
+/// byte, and any other byte is itself. It is lent from the word, or from this buffer if the word
+/// spells other bytes than its own.
+pub(crate) fn value<'a>(word: &'a [u8], room: &'a mut Block) -> Option<ValueRef<'a>>
     ensures { result ≡ value_of word.now }
 {
     if word == b"-".as_slice() {
-        return Value::new(&[]);
+        return ValueRef::new(&[]);
     }
     if memchr(b'%', word).is_none() {
-        return Value::new(word);
+        return ValueRef::new(word);
     }
-    let mut bytes = [0; Value::MAX_LEN];
     let mut len = 0;
     let mut rest = word;
     while !rest.is_empty() {
@@ -26,26 +26,11 @@ pub(crate) fn value(word: &[u8]) -> Option<Value>
         if len == Value::MAX_LEN {
             return None;
         }
-        bytes[len] = byte;
+        room[len] = byte;
         len += 1;
         rest = after;
     }
-    Value::new(&bytes[..len])
-}
-
-/// The bytes of a word, if they are the value that it spells. None if the value has other bytes, or
-/// the word spells none.
-pub(crate) fn plain(word: &[u8]) -> Option<&[u8]>
-    ensures { IfSome result (λ bytes. (length bytes.now ≤ longest)
-        × (value_of word.now ≡ Some bytes.now)) }
-{
-    if word == b"-".as_slice() {
-        return None;
-    }
-    if memchr(b'%', word).is_some() || word.len() > Value::MAX_LEN {
-        return None;
-    }
-    Some(word)
+    ValueRef::new(&room[..len])
 }
 
 /// The first byte that a word spells, and what follows it.

@@ -131,12 +131,12 @@ fn is_one(kind: WordKind, word: &[u8]) -> bool
     }
 }
 
-/// Whether a word spells a value, in a stack frame that has room for one.
+/// Whether a word spells a value, in a stack frame that has a buffer for one.
 #[inline(never)]
 fn is_value(word: &[u8]) -> bool
     ensures { result ≡ is_of WordKind.Value word.now }
 {
-    value(word).is_some()
+    value(word, &mut [0; 4096]).is_some()
 }
 
 /// The kinds of the words that a form takes.

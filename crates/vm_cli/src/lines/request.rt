@@ -1,19 +1,18 @@
 //! What a line asks for.
 ghost use Rattle.std.specs.Prelude.{◌≡◌, ◌∷◌, codes, IfOk, OnErr, option_map};
 ghost use Rattle.vm_cli.specs.Requested.{asks_for};
-ghost use Rattle.vm_cli.specs.Requests.{IsLongMerge, merge_of, put_of, query_of, request_of};
+ghost use Rattle.vm_cli.specs.Requests.{IsLongMerge, merge_of, query_of, request_of};
 ghost use Rattle.vm_cli.specs.Spaces.{words_of};
 
 use crate::lines::arguments::{ends, name, one_name};
+use crate::lines::command::command;
 use crate::lines::list_query::{ListQuery, list_query};
 use crate::lines::mistake::{Mistake, mistake_in};
-use crate::lines::number::key;
 use crate::lines::pieces::first_word;
 use crate::lines::settlement::{first_side, settled};
-use crate::lines::small_command::{SmallCommand, small_command};
 use crate::lines::versions::record_at;
 use std::alloc::{AllocError, Global};
-use vm_types::{At, Key, Name, Settled, Side};
+use vm_types::{At, Block, Command, Key, Name, Settled, Side};
 
 /// What a line asks for.
 #[derive(Drop)]
@@ -22,20 +21,13 @@ pub(crate) enum Request<'a> {
     Nothing,
     /// The line is none of the known ones, and this is wrong with it.
     Bad(Mistake),
-    /// A put of the value that the word spells. If it spells none, the line is bad.
-    Put {
+    Command(Command<'a>),
+    /// A merge with these settlements, and with this side for each other conflict.
+    MergeAll {
         alt: Name,
-        key: Key,
-        word: &'a [u8],
-    },
-    /// A merge with these settlements, and with this side, if there is one, for each other conflict.
-    Merge {
-        alt: Name,
-        side: Option<Side>,
+        side: Side,
         settled: Settled,
     },
-    /// Any other command.
-    Small(SmallCommand),
     /// The value of a record of a version.
     Get(At, Key),
     /// How far an alternative has gone from its base and from its parent.
@@ -48,8 +40,13 @@ pub(crate) enum Request<'a> {
     List(ListQuery),
 }
 
-/// What a line asks for. Only the settlements of a merge take memory.
-pub(crate) fn parse_request(alloc: Global, line: &[u8]) -> Result<Request<'_>, AllocError>
+/// What a line asks for. Only the settlements of a merge take memory. The value of a put is lent
+/// from the line, or from this buffer.
+pub(crate) fn parse_request<'a>(
+    alloc: Global,
+    line: &'a [u8],
+    room: &'a mut Block,
+) -> Result<Request<'a>, AllocError>
     ensures asked { IfOk result (λ request. asks_for request ≡ request_of (words_of line.now)) }
     ensures memory { OnErr result (IsLongMerge (words_of line.now)) }
 {
@@ -59,12 +56,11 @@ pub(crate) fn parse_request(alloc: Global, line: &[u8]) -> Result<Request<'_>, A
     if verb.first() == Some(&b'#') {
         return Ok(Request::Nothing);
     }
-    let asked = if verb == b"put".as_slice() {
-        put(rest)
-    } else if verb == b"merge".as_slice() {
+    if let Some(command) = command(verb, rest, room) {
+        return Ok(Request::Command(command));
+    }
+    let asked = if verb == b"merge".as_slice() {
         merge(alloc, rest)?
-    } else if let Some(command) = small_command(verb, rest) {
-        Some(Request::Small(command))
     } else {
         query(verb, rest)
     };
@@ -74,22 +70,8 @@ pub(crate) fn parse_request(alloc: Global, line: &[u8]) -> Result<Request<'_>, A
     }
 }
 
-/// `ALT TABLE NUMBER VALUE`
-fn put(rest: &[u8]) -> Option<Request<'_>>
-    ensures { option_map asks_for result ≡ put_of (words_of rest.now) }
-{
-    let (alt, rest) = first_word(rest)?;
-    let (table, rest) = first_word(rest)?;
-    let (number, rest) = first_word(rest)?;
-    let (word, rest) = first_word(rest)?;
-    ends(rest)?;
-    let alt = name(alt)?;
-    let key = key(table, number)?;
-    Some(Request::Put { alt, key, word })
-}
-
 /// `ALT` and settlements, which take memory, the first of which may be for all conflicts.
-fn merge(alloc: Global, rest: &[u8]) -> Result<Option<Request<'_>>, AllocError>
+fn merge(alloc: Global, rest: &[u8]) -> Result<Option<Request<'static>>, AllocError>
     ensures asked { IfOk result (λ merge. option_map asks_for merge ≡ merge_of (words_of rest.now)) }
     ensures memory { OnErr result (IsLongMerge (codes "merge" ∷ words_of rest.now)) }
 {
@@ -103,14 +85,17 @@ fn merge(alloc: Global, rest: &[u8]) -> Result<Option<Request<'_>>, AllocError>
         Some((side, rest)) => (Some(side), rest),
         None => (None, rest),
     };
-    match settled(alloc, rest)? {
-        Some(settled) => Ok(Some(Request::Merge { alt, side, settled })),
-        None => Ok(None),
+    let Some(settled) = settled(alloc, rest)? else {
+        return Ok(None);
+    };
+    match side {
+        Some(side) => Ok(Some(Request::MergeAll { alt, side, settled })),
+        None => Ok(Some(Request::Command(Command::Merge { alt, settled }))),
     }
 }
 
 /// The query that the words after the first complete.
-fn query<'a>(verb: &[u8], rest: &'a [u8]) -> Option<Request<'a>>
+fn query(verb: &[u8], rest: &[u8]) -> Option<Request<'static>>
     ensures { option_map asks_for result ≡ query_of verb.now (words_of rest.now) }
 {
     match verb {

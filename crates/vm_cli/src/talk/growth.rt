@@ -18,14 +18,18 @@ pub const GROWTHS: u32 = 20;
 /// but to at most `most`, and the command is carried out again. If the store cannot grow, the
 /// answer is why not.
 #[inline(never)]
-pub(crate) fn reply_growing<D: Disk>(command: &Command, most: u32, store: &mut Store<D>) -> Reply
+pub(crate) fn reply_growing<D: Disk>(
+    command: &Command<'_>,
+    most: u32,
+    store: &mut Store<D>,
+) -> Reply
     ensures { AsksBy (Request.Growing most command.now) result store.old store.new }
 {
     carry_out(command, most, GROWTHS, store)
 }
 
 /// Carries out a command. The store may grow `growths` times for it.
-fn carry_out<D: Disk>(command: &Command, most: u32, growths: u32, store: &mut Store<D>) -> Reply
+fn carry_out<D: Disk>(command: &Command<'_>, most: u32, growths: u32, store: &mut Store<D>) -> Reply
     ensures { TriesBy growths most command.now result store.old store.new }
 {
     let answer = store.apply(command);

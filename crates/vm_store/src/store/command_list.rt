@@ -26,7 +26,7 @@ impl<D: Disk> Store<D> {
     pub fn run(
         &mut self,
         alloc: Global,
-        commands: &[Command],
+        commands: &[Command<'_>],
     ) -> (Vec<Result<Answer, Refusal>>, Option<Stop>)
         // On any disk.
         ensures any { GrowsOn (result.1 ≡ Some Stop.Device) self.old self.new }

@@ -22,11 +22,11 @@ impl<D: Disk> Store<D> {
 
     /// Carries out one command. Noting that the device failed is left to `apply`.
     #[tactic(auto, using(crate::proofs::PerformLemmas::performs_same))]
-    pub(super) fn dispatch(&mut self, command: &Command) -> Result<Answer, Refusal>
+    pub(super) fn dispatch(&mut self, command: &Command<'_>) -> Result<Answer, Refusal>
         ensures { Performs self.old self.new command.now result }
     {
         match command {
-            Command::Put { alt, key, value } => self.put_value(alt, *key, value.as_bytes()),
+            Command::Put { alt, key, value } => self.put_value(alt, *key, value),
             Command::Remove { alt, key } => self.remove(alt, *key),
             Command::Merge { alt, settled } => self.merge(alt, settled.as_slice()),
             Command::Post { alt } => self.post(alt),

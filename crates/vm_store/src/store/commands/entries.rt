@@ -11,7 +11,7 @@ impl<D: Disk> Store<D> {
 
     /// Carries out one of them. It makes no device call.
     #[inline(never)]
-    pub(super) fn change_entries(&mut self, command: &Command) -> Result<Answer, Refusal>
+    pub(super) fn change_entries(&mut self, command: &Command<'_>) -> Result<Answer, Refusal>
         requires { ChangesEntriesAlone command.now }
         ensures { Performs self.old self.new command.now result }
     {

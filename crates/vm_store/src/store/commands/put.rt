@@ -1,24 +1,20 @@
 //! The command that sets the value of a record.
-ghost use Rattle.std.specs.Prelude.{◌≤◌, length};
-ghost use Rattle.vm_types.specs.Bytes.{longest};
-
 use crate::series::{before_series, go_on, put_forgetting};
 use crate::store::Store;
 use vm_disk::Disk;
-use vm_types::{Answer, Command, Key, Name, Refusal};
+use vm_types::{Answer, Command, Key, Name, Refusal, ValueRef};
 
 impl<D: Disk> Store<D> {
     ghost use Rattle.vm_store.specs.Commands.{Performs};
 
     /// Sets the value of a record of the alternative. The blocks that the series took for the old
     /// path are forgotten.
-    pub(crate) fn put_value(
+    pub(super) fn put_value(
         &mut self,
         alt: &Name,
         key: Key,
-        value: &[u8],
+        value: &ValueRef<'_>,
     ) -> Result<Answer, Refusal>
-        requires short { length value.now ≤ longest }
         ensures { Performs self.old self.new (Command.Put alt.now key value.now) result }
     {
         let Some(version) = self.parts.working.alternative(alt) else {
@@ -41,7 +37,7 @@ impl<D: Disk> Store<D> {
             before_series(&self.parts.series, &self.parts.before),
             version.current,
             key,
-            value,
+            value.as_bytes(),
         )?;
         self.parts.working.set_current(alt, root);
         Ok(Answer::Done)

@@ -6,9 +6,9 @@ use Rattle.vm_cli.proofs.lines.escape.value.Given as goal
 -- the bytes so far, and those that the rest spells
 abbrev pub invariant-loop-rest : goal.invariant-loop-rest
 invariant-loop-rest l = record {
-  spelled : unescaped l.fn.word ≡ option_map (λ more. take l.len l.bytes ++ more) (unescaped l.rest);
-  room : l.len ≤ longest;
-  held : length l.bytes ≡ longest;
+  spelled : unescaped l.fn.word ≡ option_map (λ more. take l.len l.room ++ more) (unescaped l.rest);
+  few : l.len ≤ longest;
+  held : length l.room ≡ 4096;
 }
 
 abbrev pub decreases-loop-rest : goal.decreases-loop-rest

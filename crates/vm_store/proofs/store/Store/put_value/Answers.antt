@@ -56,7 +56,8 @@ returns g c =
     let done = c.in_ok-root.ensures in
     let mid = c.has_spare.new.self in
     let small : c.in_ok-root.root.block < 2 ^ 32 = omega (arith, done.block, done.still.same_length, mid.parts.bits, mid.parts.most) in
-    performs_put _ _ _ _ _ _
+    rw (← c.as_bytes.ensures.bytes)
+    (performs_put _ _ _ _ _ _
     (λ honest s holds.
     let rests = holds.rests in
     let marked = done.any.earlier honest in
@@ -72,18 +73,18 @@ returns g c =
     let on = went_on _ _ _ _ _ _ _ s c.args.alt.now mid.parts.before mid.parts.series _ c.go_on.ensures.series c.go_on.ensures.before (holds_unmarked holds') in
     let stays = ap (λ o. before_of o mid.parts.held) c.before_series.ensures in
     let series = in_series _ _ _ _ _ _ _ s c.args.alt.now _ _ c.go_on.ensures.series stays on in
-    changed _ _ s holds (Put c.args.alt.now c.args.key c.args.value.now) _ (answers_done _ _ _ _ _ _ s rests c.args.alt.now c.args.key c.args.value.now _ (sym c.in-Some.ensures) _ _ (room_for _ _ _ (ok.spare marked s holds) c.if-not-branch.false)
-    (λ deep. put.1 (lacks_over _ e.current _ (deep_here _ _ _ _ _ _ s rests' c.args.alt.now c.args.key c.args.value.now e is (g.D.Disk.state mid.disk).now.contents
-    (subst (λ (m : Medium). LacksRoom m.contents (root_of mid c.args.alt.now) (c.args.key, c.args.value.now)) (sym read)
-    (subst (λ f. LacksRoom (g.D.Disk.state c.args.self.now.disk).now.contents (f c.args.alt.now) (c.args.key, c.args.value.now)) (sym spare.roots) deep))))))
+    changed _ _ s holds (Put c.args.alt.now c.args.key c.as_bytes.result.now) _ (answers_done _ _ _ _ _ _ s rests c.args.alt.now c.args.key c.as_bytes.result.now _ (sym c.in-Some.ensures) _ _ (room_for _ _ _ (ok.spare marked s holds) c.if-not-branch.false)
+    (λ deep. put.1 (lacks_over _ e.current _ (deep_here _ _ _ _ _ _ s rests' c.args.alt.now c.args.key c.as_bytes.result.now e is (g.D.Disk.state mid.disk).now.contents
+    (subst (λ (m : Medium). LacksRoom m.contents (root_of mid c.args.alt.now) (c.args.key, c.as_bytes.result.now)) (sym read)
+    (subst (λ f. LacksRoom (g.D.Disk.state c.args.self.now.disk).now.contents (f c.args.alt.now) (c.args.key, c.as_bytes.result.now)) (sym spare.roots) deep))))))
     _ (spare.reads marked) series (done.moments honest series.wider) (done.unsynced honest) done.still
     (λ _. holds_as refl c.set_current.ensures
     (holds_then c.args.alt.now _ _ c.go_on.ensures.series stays
     (put_holds _ _ _ _ _ _ _ s rests' c.args.alt.now e is series _ c.put_forgetting.new.held c.in_ok-root.root small
-    (at_end _ _ _ (done.moments honest series.wider)) done.still c.args.key holds'.keeps c.args.value.now grown))))
+    (at_end _ _ _ (done.moments honest series.wider)) done.still c.args.key holds'.keeps c.as_bytes.result.now grown))))
     (λ honest. tt)
     (λ enough. omega (arith, ap free_of (spare.enough enough), done.taken), λ honest few late s holds. omega (arith, ok.exact (done.any.earlier honest) few s holds, done.taken))
-    (search rules) (search rules) (search rules) (search rules) (search rules) tt tt
+    (search rules) (search rules) (search rules) (search rules) (search rules) tt tt)
 
 pub returns-in_err-root : goal.returns-in_err-root
 returns-in_err-root g c =
@@ -92,7 +93,7 @@ returns-in_err-root g c =
     let failed = c.in_err-root.ensures in
     let mid = c.has_spare.new.self in
     let taken = put_takes 16 _ _ failed.taken c.in_err-root.field-0.0 (λ b is. (failed.looks b).kept (ap Err is)) (λ is. failed.deep.kept (ap Err is)) in
-    rw (passed_on _ c.from_residual-in_err-root.ensures.1)
+    rw (passed_on _ c.from_residual-in_err-root.ensures.1, ← c.as_bytes.ensures.bytes)
     (performs_put _ _ _ _ _ _
     (λ honest s holds.
     let rests = holds.rests in
@@ -108,10 +109,10 @@ returns-in_err-root g c =
     let on = went_on _ _ _ _ _ _ _ s c.args.alt.now mid.parts.before mid.parts.series _ c.go_on.ensures.series c.go_on.ensures.before (holds_unmarked holds') in
     let stays = ap (λ o. before_of o mid.parts.held) c.before_series.ensures in
     let series = in_series _ _ _ _ _ _ _ s c.args.alt.now _ _ c.go_on.ensures.series stays on in
-    changed _ _ s holds (Put c.args.alt.now c.args.key c.args.value.now) _ (answers_fault _ _ _ _ _ _ s rests c.args.alt.now c.args.key c.args.value.now _ (sym c.in-Some.ensures) _ _ _ c.in_err-root.field-0.0 _ (room_for _ _ _ (ok.spare marked s holds) c.if-not-branch.false)
-    (λ here. subst (λ f. LacksRoom (g.D.Disk.state c.args.self.now.disk).now.contents (f c.args.alt.now) (c.args.key, c.args.value.now)) spare.roots
-    (subst (λ (m : Medium). LacksRoom m.contents (root_of mid c.args.alt.now) (c.args.key, c.args.value.now)) read
-    (here_deep _ _ _ _ _ _ s rests' c.args.alt.now c.args.key c.args.value.now e is (g.D.Disk.state mid.disk).now.contents (lacks_under _ e.current _ here))))
+    changed _ _ s holds (Put c.args.alt.now c.args.key c.as_bytes.result.now) _ (answers_fault _ _ _ _ _ _ s rests c.args.alt.now c.args.key c.as_bytes.result.now _ (sym c.in-Some.ensures) _ _ _ c.in_err-root.field-0.0 _ (room_for _ _ _ (ok.spare marked s holds) c.if-not-branch.false)
+    (λ here. subst (λ f. LacksRoom (g.D.Disk.state c.args.self.now.disk).now.contents (f c.args.alt.now) (c.args.key, c.as_bytes.result.now)) spare.roots
+    (subst (λ (m : Medium). LacksRoom m.contents (root_of mid c.args.alt.now) (c.args.key, c.as_bytes.result.now)) read
+    (here_deep _ _ _ _ _ _ s rests' c.args.alt.now c.args.key c.as_bytes.result.now e is (g.D.Disk.state mid.disk).now.contents (lacks_under _ e.current _ here))))
     put)
     _ (spare.reads marked) series (failed.moments honest series.wider) (failed.unsynced honest) failed.still
     (λ _. holds_more _ _ _ _ _ _ _ s _ _ _ (at_end _ _ _ (failed.failed honest)) failed.still on))
