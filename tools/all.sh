@@ -95,6 +95,7 @@ else
     try 900 ../desk/test_altcarry.py
     try 1800 release/test_package.py
     try 300 faults/kill_service.py "$tools/../altctl" 20
+    try 600 faults/full_disk.py
     try 900 faults/travels.py "$tools/../altctl" 40
     try 300 faults/replicated.sh
     # The first time takes the longest by far: later it tries only what has changed.

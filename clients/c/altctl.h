@@ -82,6 +82,7 @@ enum {
     ALT_TOO_MANY_ENTRIES = 102,
     ALT_CHANGED = 103,
     ALT_NO_ARCHIVE = 104,
+    ALT_NO_ROOM = 105,
 
     /* There are no more rows. */
     ALT_DONE = -1,

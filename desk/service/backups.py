@@ -12,6 +12,7 @@ from typing import Callable, Iterable, List, Tuple
 
 from service import pacing
 from service.batch import Batch
+from service.disk_room import BLOCK, LEFT, MARGIN
 from service.journal import sync_folder
 from service.limits import SMALL_LINES, refusal
 from service.program import Ended
@@ -25,8 +26,6 @@ PART = re.compile(r"\.[A-Za-z0-9_][A-Za-z0-9_.-]{0,31}\.[0-9]+\.part(\.part)?")
 READ_BYTES = 64 << 10
 # The status of a program whose device failed.
 STOPPED = 3
-# Blocks that have to be free for a record that is to change.
-MARGIN = 17
 # How a program is started that signals to the service do not reach. What it says is little.
 QUIETLY = {"stdin": subprocess.DEVNULL, "stdout": subprocess.DEVNULL, "stderr": subprocess.PIPE}
 QUIETLY["start_new_session"] = True
@@ -50,7 +49,9 @@ class Backups:
         try:
             for name in os.listdir(folder):
                 if PART.fullmatch(name) and stat.S_ISREG(os.stat(name, dir_fd=folder, follow_symlinks=False).st_mode):
+                    file = pacing.held(name, folder)
                     os.unlink(name, dir_fd=folder)
+                    pacing.let_go(file)
         finally:
             os.close(folder)
 
@@ -93,6 +94,8 @@ class Copy:
         if not self.store.is_in_place():
             raise OSError(errno.ESTALE, "another file has the name of the store")
         self.free, self.commits, self.is_spoiled, self.starts = marked(self.store), 0, False, self.store.starts
+        if self.tries == 0:  # Later the disk may not have back yet what an earlier try took.
+            look_for_room(self.part, os.fstat(self.store.lock).st_size // BLOCK - self.free)
         self.is_last, self.spare = self.tries >= TRIES, self.free
         # How much the second program had read when it had opened the store, and whether it has read the slot.
         self.before, self.is_open = None, False
@@ -255,6 +258,13 @@ def marked(store: Store) -> int:
         return free_blocks(store)
     except Ended as ended:
         raise OSError(errno.EIO, str(ended)) from None
+
+
+def look_for_room(part: str, blocks: int) -> None:
+    """Raises OSError if a disk has no room for a copy of so many blocks: it would take what others need meanwhile."""
+    found = os.statvfs(os.path.dirname(part))
+    if found.f_bavail * found.f_frsize < blocks * BLOCK + LEFT:
+        raise OSError(errno.ENOSPC, "the disk has no room for the blocks in use")
 
 
 def free_blocks(store: Store) -> int:

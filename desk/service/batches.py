@@ -9,6 +9,7 @@ from typing import Callable, Iterable, Iterator, List, NamedTuple, Optional, Seq
 
 from service.batch import Batch, refused_place
 from service.archives import archived, refused, remove_parts
+from service.disk_room import AHEAD, LARGE, MARGIN, MOSTLY, ROOM, TAKING, DiskRoom, Uses
 from service.entries import Effect, Entries, remembered
 from service.journal import Broken, Journal
 from service.journal_log import Log
@@ -64,6 +65,10 @@ class Batches:
         self.sent: List[Batch] = []
         self.asked: Optional[Commit] = None
         self.commits, self.room, self.teller = Commits(), Room(), Teller(say)
+        # The room on the disk, which blocks the next commit writes, and how many a change is expected to take. A
+        # marking may be of use when there is no room, unless somebody needs the free blocks to stay as they are.
+        self.disk_room, self.uses, self.each = DiskRoom(store.lock), Uses(), MOSTLY
+        self.may_mark: Callable[[], bool] = lambda: True
         self.is_archiving = False
 
     # --- who made which alternative ---------------------------------------------------------------
@@ -121,6 +126,7 @@ class Batches:
 
     def end(self) -> int:
         status = self.store.end()
+        self.disk_room.close()
         self.save()
         self.journal.close()
         self.log.close()
@@ -160,6 +166,7 @@ class Batches:
             for it in batches:
                 self._look_at_rights(it)
                 self.look_at_changes(it)
+            self._look_at_disk(open_ones(batches))
             doubtful = [it for it in open_ones(batches) if it.is_doubtful]
             for it in doubtful if len(batches) > 1 else ():
                 # One that is refused would have all others carried out again.
@@ -193,6 +200,63 @@ class Batches:
         if refused is not None:
             batch.refuse_if_open(refused)
 
+    # --- room on the disk -------------------------------------------------------------------------
+
+    def _look_at_disk(self, batches: List[Batch]) -> None:
+        """Refuses batches for which the disk is likely to have no room, before they are carried out."""
+        wanted = {it: sum(line.split(b" ", 1)[0] in TAKING for line in it.lines) for it in batches}
+        if not any(wanted.values()) or self._lacking(sum(wanted.values())) is None:
+            return
+        for batch, changes in wanted.items():
+            fault = self._lacking(changes) if changes else None
+            if fault is not None and self._mark():
+                fault = self._lacking(changes)
+            if fault is not None:
+                self._refuse_for_room(batch, fault)
+
+    def _lacking(self, changes: int) -> Optional[str]:
+        """Why there is likely to be no room for so many changes, as an error of the system; None if there is."""
+        uses = self.uses
+        if not uses.is_known:
+            self._look_at_uses()
+        expected = self.each * changes
+        return self.disk_room.lacking(uses.used + expected, uses.count + expected, uses.needed)
+
+    def take_room(self) -> None:
+        """Has the file hold room ahead of need, so that commits seldom have to."""
+        uses = self.uses
+        if not uses.is_known:
+            self._look_at_uses()
+        self.disk_room.lacking(uses.used + AHEAD // 2, 0, uses.needed)
+        if self.disk_room.file is not None and uses.used > self.disk_room.end + LARGE and self._mark():
+            self.disk_room.lacking(uses.used + AHEAD // 2, 0, uses.needed)
+
+    def _mark(self) -> bool:
+        """Has the program mark, if that may be of use: what is not needed any more, and has room, is used again then.
+        Returns whether it has."""
+        may = self.uses.may_mark() and self.may_mark()
+        if may:
+            self._look_at_uses([b"reclaim"])
+            self.uses.needed = self.uses.used
+        return may
+
+    def _look_at_uses(self, lines: Sequence[bytes] = ()) -> None:
+        """Asks how many blocks there are, after these lines."""
+        try:
+            answers = self.store.program.ask([*lines, *ROOM])
+        except Ended as ended:
+            self._reopen(ended.answers)
+        else:
+            self.uses.note(lines, answers[: len(lines)], answers[len(lines) :])
+
+    def _refuse_for_room(self, batch: Batch, fault: str) -> None:
+        why, who = os.strerror(getattr(errno, fault)), batch.person.name
+        self.teller.tell("no room", f"{self.store.file}: no room on the disk for a change of {who}: {why}")
+        self.commits.refused += 1
+        batch.refuse(batch.count, refusal(105, fault))
+
+    # --- attempts ---------------------------------------------------------------------------------
+
     def _try(self, work: Callable[[List[Batch]], None], batches: List[Batch]) -> None:
         """Has batches carried out. If the program ends, those that have no effect and no refusal stay open."""
         if not batches:
@@ -213,11 +277,15 @@ class Batches:
         """Starts the program again, and journals which batches are in the store. A refusal may have been its last
         answer."""
         last = answers[-1].decode() if answers and answers[-1].startswith(b"error ") else "without a refusal"
-        self.store.reopen()
+        self._start_again()
         self.teller.tell("altctl ended", f"{last}; it was started again, after batch {self.store.kept}")
+
+    def _start_again(self) -> None:
+        self.store.reopen()
+        self.uses.forget()
         try:
             self.journal.opened(self.store.kept)
-        except (OSError, Broken) as fault:
+        except Broken as fault:
             raise Fatal(f"{self.path}: {fault}") from None
 
     def _probe(self, batches: List[Batch]) -> None:
@@ -233,12 +301,16 @@ class Batches:
             last = self.journal.next + len(batches) - 1
             lines = [line for batch in batches for line in batch.lines]
             self.sent = batches
-            answers = self.store.program.ask(lines + stamp_of(last))
+            answers = self.store.program.ask(lines + stamp_of(last), ROOM, self.uses.note)
             fault = next((it for it in answers[len(lines) :] if it != b"ok"), None)
             entries = self.store.entries.copy()
             done = self._judged(batches, answers, entries) if fault is None else None
             if done:
-                self._commit(Commit(last, done, entries))
+                lacking = self.disk_room.lacking(self.uses.front, self.uses.count, self.uses.needed)
+                if lacking is None:
+                    self._commit(Commit(last, done, entries))
+                else:
+                    self._give_up(done, lacking)
                 return
             # What was refused may have had an effect, and the number of the next batch is not to be seen.
             self.store.undo()
@@ -249,6 +321,14 @@ class Batches:
             # Those that are tried by themselves come later, and with them all of the same planner.
             alone = {it.source for it in batches if it.is_alone}
             batches = [it for it in open_ones(batches) if it.source not in alone]
+
+    def _give_up(self, done: List[Done], fault: str) -> None:
+        """Takes batches back for which the disk has no room. One alone is refused; others are tried one by one. The
+        program is started again, since it would write their blocks with the next commit."""
+        if len(done) == 1:
+            self._refuse_for_room(done[0].batch, fault)
+        self.each = MARGIN
+        self._start_again()
 
     def _judged(self, batches: List[Batch], answers: List[bytes], entries: Entries) -> Optional[List[Done]]:
         """The batches that were carried out; None if one was refused that may have had an effect, so that others have
@@ -311,7 +391,8 @@ class Batches:
             refuse_all(commit.done, answer)
             self._reopen()  # The journal has batches now that the store does not have.
             return
-        self.store.kept = commit.last
+        self.store.kept, self.each = commit.last, MOSTLY
+        self.uses.committed()
         self._take(commit)
         now, sync_seconds = time.monotonic(), self.journal.sync_seconds
         seconds = sync_seconds + now - asked_at

@@ -9,6 +9,7 @@ import time
 from json.encoder import encode_basestring_ascii as quoted
 from typing import Callable, Iterable, Iterator, Optional, Tuple
 
+from service import pacing
 from service.batch import Batch
 from service.lines import printable
 from service.locking import lock_on_volume
@@ -57,8 +58,10 @@ class Journal:
         self._cut(whole_end(self.file, self.end))
         # The number of the next batch.
         self.next = 1 + last_number(self.file, self.end)
-        # The number of the last commit, if no line could be written that tells it.
+        # The number of the last commit, and what is to be told of the last start, if no line could be written that
+        # tells it.
         self.untold: Optional[int] = None
+        self.unopened = b""
         # How long the last sync took.
         self.sync_seconds = 0.0
 
@@ -79,10 +82,14 @@ class Journal:
         self.end = whole
 
     def opened(self, kept: int) -> None:
-        """Notes that of the batches so far the store holds those up to this number."""
-        self.next = max(self.next, kept + 1)
-        self._append([b'{"opened":"%s","last":%d,"next":%d}\n' % (now().encode(), kept, self.next)])
-        self.untold = None
+        """Notes that of the batches so far the store holds those up to this number. If there is no space for the line,
+        it comes before the next one."""
+        self.next, self.untold = max(self.next, kept + 1), None
+        self.unopened = b'{"opened":"%s","last":%d,"next":%d}\n' % (now().encode(), kept, self.next)
+        try:
+            self._append([])
+        except OSError as fault:
+            self.say(f"{self.path}: {fault}: until there is space, it does not tell that altctl was started")
         self._sync()
 
     def write(self, batches: Iterable[Tuple[int, Batch, Iterable[str], int]], last: int) -> None:
@@ -105,7 +112,7 @@ class Journal:
 
     def _append(self, parts: Iterable[bytes]) -> None:
         """Writes a text, or nothing of it."""
-        begun, text = self.end, bytearray()
+        begun, text = self.end, bytearray(self.unopened)
         if self.untold is not None:
             text += b'{"done":%d}\n' % self.untold
         try:
@@ -118,7 +125,7 @@ class Journal:
             self.end = begun
             os.ftruncate(self.file, begun)
             raise
-        self.untold = None
+        self.untold, self.unopened = None, b""
 
     def _write(self, text: bytearray) -> None:
         while text:
@@ -144,7 +151,7 @@ class Journal:
     def go_on_in(self, file: int) -> None:
         """Goes on in another file, which has taken the journal's name."""
         lock_on_volume(file)
-        os.close(self.file)
+        pacing.let_go(self.file)
         self.file, self.end = file, os.fstat(file).st_size
 
     def close(self) -> None:

@@ -49,6 +49,7 @@ REFUSALS = {
     102: "TooManyEntries",
     103: "Changed",
     104: "NoArchive",
+    105: "NoRoom",
 }
 
 

@@ -27,15 +27,20 @@ def locked(file):
     return lock
 
 
+def file_system_of(file):
+    """The kind of the file system of an open file, or "" if that is not to be seen."""
+    device = os.fstat(file).st_dev
+    name = f"{os.major(device)}:{os.minor(device)}"
+    with contextlib.suppress(OSError, IndexError), open("/proc/self/mountinfo", encoding="utf-8") as mounts:
+        return next((it.split(" - ")[1].split()[0] for it in mounts if it.split()[2] == name), "")
+    return ""
+
+
 def is_of_volume(file):
     """Whether an open file may be one of a replicated volume, as GlusterFS has them. Such a volume may drop the lock of
     a machine that it does not hear of, as of one that is halted. It refuses then what is written with the open file
     that had the lock, and takes what is written with another one."""
-    device = os.fstat(file).st_dev
-    name = f"{os.major(device)}:{os.minor(device)}"
-    with contextlib.suppress(OSError, IndexError), open("/proc/self/mountinfo", encoding="utf-8") as mounts:
-        return any(it.split()[2] == name and it.split(" - ")[1].startswith("fuse") for it in mounts)
-    return False
+    return file_system_of(file).startswith("fuse")
 
 
 def lock_on_volume(file):

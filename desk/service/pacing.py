@@ -25,14 +25,17 @@ SLICE = 2
 PIECE = 1 << 20
 # Linux' numbers for sync_file_range: write what is not written, and wait for it.
 WRITE, WAIT_AFTER = 2, 4
-# How much of a file is removed at once.
-STEP = 4 << 20
+# How much of a file is removed at once, and how many seconds pass at least until more is: a file system may tell the
+# device which blocks are free only later, with its next commit.
+STEP, STEP_SECONDS = 4 << 20, 0.01
+# How often it is looked whether another one still has a file open, and how many seconds lie between.
+CHECKS, CHECK_SECONDS = 10, 0.1
 
 
 def pace(program: int, paths: List[str], count: Callable[[], Optional[int]]) -> None:
     """Lets the program of a descriptor (pidfd) run until it has ended. What it writes into the first of these files
     that is there goes to the device bit by bit, and it stands still meanwhile. `count` tells how many bytes it has
-    written."""
+    written. If the program removes the file at its end, the blocks become free bit by bit, too."""
     file, before = None, 0
     ends = select.poll()
     ends.register(program, select.POLLIN)
@@ -50,14 +53,13 @@ def pace(program: int, paths: List[str], count: Callable[[], Optional[int]]) -> 
     except ProcessLookupError:
         pass  # It has ended.
     finally:
-        if file is not None:
-            os.close(file)
+        let_go(file)
 
 
 def pieces(size: int, first: Optional[int], last: Optional[int]) -> Iterator[Tuple[int, int]]:
     """Where in a file of this size the bytes lie that `altctl copy` has written, from its FIRST byte to its LAST: it
-    goes through the file once, from behind its first blocks, which are less than a piece. If they are not known, that is
-    the whole file, of which 0 is the length."""
+    goes through the file once, from behind its first blocks, which are less than a piece. If they are not known, that
+    is the whole file, of which 0 is the length."""
     if first is None or last is None:
         yield 0, 0
     elif first < last:
@@ -85,10 +87,8 @@ def counts_of(process: int) -> Tuple[Optional[int], Optional[int]]:
 
 
 def opened(paths: List[str]) -> Optional[int]:
-    for path in paths:
-        with contextlib.suppress(OSError):
-            return os.open(path, os.O_RDONLY)
-    return None
+    """A descriptor of the first of these files that is there."""
+    return next((file for file in map(held, paths) if file is not None), None)
 
 
 def write_out(file: int, begin: int, length: int) -> None:
@@ -108,10 +108,10 @@ def rested(work: Callable, *words: object) -> None:
     time.sleep(time.monotonic() - begun)
 
 
-def held(path: str) -> Optional[int]:
+def held(path: str, folder: Optional[int] = None) -> Optional[int]:
     """A descriptor of a plain file, which keeps its blocks when it loses its name. None if there is no such file."""
     try:
-        file = os.open(path, os.O_RDWR | os.O_NOFOLLOW | os.O_NONBLOCK)
+        file = os.open(path, os.O_RDWR | os.O_NOFOLLOW | os.O_NONBLOCK, dir_fd=folder)
     except OSError:
         return None
     if stat.S_ISREG(os.fstat(file).st_mode):
@@ -121,21 +121,34 @@ def held(path: str) -> Optional[int]:
 
 
 def let_go(file: Optional[int]) -> None:
-    """Closes a file that was held, beside all other work. If nobody else has it, by a name or open, its blocks become
-    free bit by bit."""
-    if file is not None:
+    """Closes a file that was held. If it has no name any more, and nobody else has it open, its blocks become free bit
+    by bit, beside all other work."""
+    if file is None:
+        return
+    if os.fstat(file).st_nlink:
+        os.close(file)
+    else:
         threading.Thread(target=_let_go, args=(file,), daemon=True).start()
 
 
 def _let_go(file: int) -> None:
     try:
-        found = os.fstat(file)
-        size = found.st_size if found.st_nlink == 0 and has_alone(file) else 0
+        size = os.fstat(file).st_size if is_left_alone(file) else 0
         while size > 0:
             size = max(0, size - STEP)
             rested(os.ftruncate, file, size)
+            time.sleep(STEP_SECONDS)
     finally:
         os.close(file)
+
+
+def is_left_alone(file: int) -> bool:
+    """Whether no other process has a file open any more, now or in a moment."""
+    for _ in range(CHECKS):
+        if has_alone(file):
+            return True
+        time.sleep(CHECK_SECONDS)
+    return False
 
 
 def has_alone(file: int) -> bool:

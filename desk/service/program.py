@@ -38,8 +38,9 @@ class Program:
         self.process.stdout.close()
         return self.process.wait()
 
-    def ask(self, lines):
-        """The answers to lines that are answered with one line each."""
+    def ask(self, lines, also=(), note=None):
+        """The answers to lines that are answered with one line each. With `also`, these lines are asked now and then in
+        between and at the end, and `note` is called with the lines so far, their answers, and those to `also`."""
         answers, at = [], 0
         while at < len(lines):
             end, size = at, 0
@@ -47,9 +48,12 @@ class Program:
                 size += len(lines[end]) + 1
                 end += 1
             try:
-                answers += self._ask(lines[at:end])
+                came = self._ask([*lines[at:end], *also])
             except Ended as ended:
-                raise Ended(answers + ended.answers) from None
+                raise Ended(answers + ended.answers[: end - at]) from None
+            answers += came[: end - at]
+            if also:
+                note(lines[at:end], came[: end - at], came[end - at :])
             at = end
         return answers
 

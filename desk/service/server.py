@@ -51,6 +51,7 @@ class Server:
         # The backup that is under way, and those that are wanted, this one first.
         self.copy: Optional[Copy] = None
         self.wanted = deque()
+        batches.may_mark = lambda: self.copy is None
         # Until this time the next group may wait for this many planners.
         self.expected, self.gathers_until = 0, 0.0
         self.is_listening, self.begun = False, time.monotonic()
@@ -154,6 +155,7 @@ class Server:
         self._listen()
         self.batches.save()
         self.batches.look_at_room()
+        self.batches.take_room()
         self.disk.note(now)
 
     def _round(self) -> None:

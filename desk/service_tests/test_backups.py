@@ -368,7 +368,7 @@ class PacingTests(unittest.TestCase):
                 pacing.pace(program, [str(part)], lambda: stopped(process.pid) and pacing.written_by(process.pid))
             os.close(program)
         self.assertEqual((0, []), (process.returncode, outside))
-        self.assertGreater(len({*seen}), 4)
+        self.assertGreater(len({*seen}), 2)
 
     def test_blocks_of_a_file_that_goes(self):
         with open(self.path, "wb") as file:
@@ -390,13 +390,54 @@ class PacingTests(unittest.TestCase):
             link.unlink()
             if not is_linked:
                 self.path.unlink()
-            pacing._let_go(kept)
+            (pacing.let_go if is_linked else pacing._let_go)(kept)
             if reader is not None:
                 self.assertEqual(b"a" * 100, reader.read())
                 reader.close()
                 self.path.write_bytes(b"a" * 100)
             else:
                 self.assertEqual(b"a" * 100, self.path.read_bytes())
+
+    def test_a_file_that_its_program_removes(self):
+        """Its blocks become free bit by bit, since the file is held until the program has ended."""
+        self.path.write_bytes(bytes(3 * pacing.STEP))
+        text = f"import os, time; time.sleep(0.2); os.unlink({str(self.path)!r})"
+        sizes, ended, real = [], threading.Event(), os.ftruncate
+
+        def ftruncate(file, size):
+            real(file, size)
+            sizes.append(size)
+            if not size:
+                ended.set()
+
+        with subprocess.Popen([sys.executable, "-c", text]) as process:
+            program = os.pidfd_open(process.pid)
+            with mock.patch.object(os, "ftruncate", ftruncate):
+                with mock.patch.object(pacing, "has_alone", return_value=True):
+                    pacing.pace(program, [str(self.path)], lambda: None)
+                    self.assertTrue(ended.wait(60))
+            os.close(program)
+        self.assertEqual(([2 * pacing.STEP, pacing.STEP, 0], False), (sizes, self.path.exists()))
+
+    def test_a_file_that_others_have_for_a_moment(self):
+        if os.major(self.path.parent.stat().st_dev) == 0:
+            self.skipTest("it cannot be seen here who has a file open")
+        for looks, due in ((1, 0), (20, 100)):
+            self.path.write_bytes(b"a" * 100)
+            kept, reader = pacing.held(str(self.path)), open(self.path, "rb")
+            seen, count = os.dup(kept), []
+            self.path.unlink()
+
+            def sleep(_):
+                count.append(1)
+                if len(count) == looks:
+                    reader.close()
+
+            with mock.patch.object(pacing.time, "sleep", sleep):
+                pacing._let_go(kept)
+            self.assertEqual(due, os.fstat(seen).st_size, looks)
+            os.close(seen)
+            reader.close()
 
     def test_who_has_a_file_alone(self):
         self.path.touch()

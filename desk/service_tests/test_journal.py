@@ -7,6 +7,7 @@ import subprocess
 import unittest
 from pathlib import Path
 
+from service.disk_room import DiskRoom
 from service_tests.support import LONG, ServiceTest, entries
 
 
@@ -141,89 +142,142 @@ class JournalTests(ServiceTest):
         self.stop()
         self.assertEqual([*made, f"{len(made) + 1} put top 2 1 a"], self.log())
 
-
-    def ended(self):
-        """What a service said that has ended by itself."""
-        service, self.service = self.service, None
-        self.assertNotEqual(0, service.wait(60))
-        return self.said.read_text()
-
-    def on_a_small_disk(self, blocks, *options):
-        """A service over a store on a disk of 4 MiB, which is the folder that is returned."""
+    def on_a_small_disk(self, blocks, *options, **how):
+        """A service over a store on a disk of 16 MiB, which is the folder that is returned."""
         small = os.path.join(self.folder, "small")
         os.mkdir(small)
         if subprocess.run(
-            ["mount", "-t", "tmpfs", "-o", "size=4m", "tmpfs", small], stderr=subprocess.DEVNULL
+            ["mount", "-t", "tmpfs", "-o", "size=16m", "tmpfs", small], stderr=subprocess.DEVNULL
         ).returncode:
             self.skipTest("a mount is not allowed here")
         self.addCleanup(subprocess.run, ["umount", "--lazy", small], check=True)
         self.file = os.path.join(small, "map.alt")
         self.socket, self.journal = f"{self.file}.sock", f"{self.file}.journal"
         self.create(blocks)
-        self.start(*options)
+        self.start(*options, **how)
         return small
+
+    def filled(self, small, left=0):
+        """Fills the disk but for so many bytes, and returns the file that fills it."""
+        path = Path(small, "filler")
+        with open(path, "wb", buffering=0) as filler:
+            with contextlib.suppress(OSError):
+                while filler.write(bytes(4096)):
+                    pass
+            filler.truncate(max(0, filler.tell() - left))
+        return path
+
+    def put_until_refused(self, one, table, value):
+        """Puts records until one is refused. Returns how many were put, and the refusal."""
+        for number in range(2000):
+            [answer] = one.ask(f"put top {table} {number} {value}")
+            if answer != "ok":
+                return number, answer
+        return None
 
     @unittest.skipUnless(os.geteuid() == 0, "only root can mount a small file system")
     def test_a_growth_on_a_full_disk_and_the_way_back(self):
         small = self.on_a_small_disk(64, "--grow")
         value = "x" * 4000
-        Path(small, "backup").write_bytes(bytes(2 << 20))
+        Path(small, "other").write_bytes(bytes(6 << 20))
         with self.planner() as one:
-            made = []
-            for number in range(1000):
-                [answer] = one.ask(f"put top 1 {number} {value}")
-                if answer != "ok":
-                    break
-                made.append(f"{number + 1} put top 1 {number} {value}")
-            self.assertIn(answer, ("error 101 Unsure", "error 97 NotJournaled ENOSPC"))
-        if answer == "error 101 Unsure":  # A commit found no room.
-            self.ended()
-            self.start("--grow")
-        with self.planner() as one:
-            self.assertEqual([f"value {value}"], one.ask("get top 1 0"))
+            count, answer = self.put_until_refused(one, 1, value)
+            self.assertEqual("error 105 NoRoom ENOSPC", answer)
+            made = [f"{number + 1} put top 1 {number} {value}" for number in range(count)]
+            self.assertLess(200, count)
+            before = int(one.ask("blocks")[0].split()[1])
+            self.assertLess(64, before)
+            # Queries go on, and so does what takes no block.
+            self.assertEqual([f"value {value}", "ok", "ok"], one.ask("get top 1 0", "new a top", "drop a"))
+            self.assertEqual(["error 105 NoRoom ENOSPC"], one.ask(f"put top 1 {count} {value}"))
+            lines = ["begin", "put top 2 1 a", f"put top 2 2 {value}", "commit"]
+            refused = ["ok", *["error 91 NotDone 3"] * 2, "error 105 NoRoom ENOSPC"]
+            self.assertEqual(refused, one.ask(*lines))
             # Room is made on the disk, and the journal's entries go to another one.
-            os.unlink(os.path.join(small, "backup"))
+            os.unlink(os.path.join(small, "other"))
             self.assertEqual(["ok"], one.ask("put top 2 1 a"))
             os.symlink(self.folder, f"{self.file}.archives")
-            self.assertEqual("ok", one.ask(f"archive old {len(made)}")[0].split()[0])
-            self.assertEqual(["ok"] * 40, one.ask(*(f"put top 3 {number} {value}" for number in range(40))))
-            self.assertLess(64, int(one.ask("blocks")[0].split()[1]))
+            self.assertEqual("ok", one.ask(f"archive old {count}")[0].split()[0])
+            self.assertEqual(["ok"] * 400, one.ask(*(f"put top 3 {number} {value}" for number in range(400))))
+            self.assertLessEqual(before, int(one.ask("blocks")[0].split()[1]))
         self.assertEqual(0, self.stop())
-        self.assertEqual(made, self.log("--archive", f"{self.folder}/old")[: len(made)])
+        self.assertEqual(made, self.log("--archive", f"{self.folder}/old")[:count])
         # What a growth has added in vain can be cut off.
         blocks = int(self.altctl("blocks")[0].split()[1])
         os.truncate(self.file, blocks * 4096)
         rows = self.altctl("list top")
-        self.assertEqual(f"end {len(made) + 41}", rows[-1])
+        self.assertEqual(f"end {count + 401}", rows[-1])
 
     @unittest.skipUnless(os.geteuid() == 0, "only root can mount a small file system")
     def test_a_full_disk(self):
         small = self.on_a_small_disk(256)
         with self.planner() as one:
             self.assertEqual(["ok"], one.ask("put top 1 0 a"))
-            with open(os.path.join(small, "filler"), "wb", buffering=0) as filler, contextlib.suppress(OSError):
-                while filler.write(bytes(4096)):
-                    pass
-            made = ["1 put top 1 0 a"]
-            for number in range(1, 40):
-                [answer] = one.ask(f"put top 1 {number} {LONG}")
-                if answer != "ok":
-                    break
-                made.append(f"{len(made) + 1} put top 1 {number} {LONG}")
-            self.assertEqual("error 97 NotJournaled ENOSPC", answer)
-            self.assertEqual(["error 98 NoBackup EIO", "value a"], one.ask("backup a", "get top 1 0"))
-            # A commit for which there is no room ends the service. Started again, it shows what the device has.
-            self.assertEqual(["error 101 Unsure"], one.ask("grow 4096"))
-        said = self.ended()
-        self.assertIn(f"not journaled: {self.journal}: No space left on device\n", said)
-        self.assertIn("a device failed, or there is no space\n", said)
+            # The store's blocks have room by now, so what is wanting first is room for the journal.
+            filler = self.filled(small, 64 << 10)
+            count, answer = self.put_until_refused(one, 2, LONG)
+            self.assertEqual(("error 97 NotJournaled ENOSPC", True), (answer, count > 0))
+            self.assertEqual(["error 98 NoBackup ENOSPC", "value a"], one.ask("backup a", "get top 1 0"))
+            # A growth takes no room, but the new blocks have none.
+            self.assertEqual(["ok", "value a"], one.ask("grow 4096", "get top 1 0"))
+            self.assertEqual("error 97 NotJournaled ENOSPC", one.ask(f"put top 2 {count} {LONG}")[0])
+        # A service that is started on the full disk finds the room that the store's blocks have.
+        self.assertEqual(0, self.stop())
         self.start()
         with self.planner() as one:
             self.assertEqual(["value a"], one.ask("get top 1 0"))
-            os.unlink(os.path.join(small, "filler"))
-            self.assertEqual(["ok"], one.ask("put top 2 1 b"))
-            self.assertEqual(f"end {len(made) + 1}", one.rows("list top")[-1])
+            self.assertEqual("error 97 NotJournaled ENOSPC", one.ask(f"put top 2 {count} {LONG}")[0])
+            filler.unlink()
+            self.assertEqual(["ok"], one.ask("put top 3 1 b"))
+            self.assertEqual(f"end {count + 2}", one.rows("list top")[-1])
         self.assertEqual(0, self.stop())
-        log = self.log()
-        self.assertEqual(made, log[:-1])
-        self.assertEqual("put top 2 1 b", log[-1].split(" ", 1)[1])
+        long = [f"put top 2 {number} {LONG}" for number in range(count)]
+        lines = ["put top 1 0 a", *long, "grow 4096", "put top 3 1 b"]
+        self.assertEqual(lines, [it.split(" ", 1)[1] for it in self.log()])
+        said = self.said.read_text()
+        self.assertIn(f"not journaled: {self.journal}: No space left on device\n", said)
+        self.assertNotIn("altctl ended", said)
+
+    @unittest.skipUnless(os.geteuid() == 0, "only root can mount a small file system")
+    def test_a_full_disk_where_no_room_can_be_held(self):
+        change = "from service import disk_room\ndisk_room._fallocate, disk_room.FIRM = None, {}"
+        small = self.on_a_small_disk(64, "--grow", change=change)
+        value = "x" * 4000
+        with self.planner() as one:
+            filler = self.filled(small, 5 << 20)
+            count, answer = self.put_until_refused(one, 1, value)
+            self.assertEqual(("error 105 NoRoom ENOSPC", True), (answer, count > 50))
+            self.assertEqual([f"value {value}", "ok"], one.ask("get top 1 0", "new a top"))
+            filler.unlink()
+            self.assertEqual(["ok"], one.ask(f"put top 1 {count} {value}"))
+            self.assertEqual(f"end {count + 1}", one.rows("list top")[-1])
+        self.assertEqual(0, self.stop())
+
+    @unittest.skipUnless(os.geteuid() == 0, "only root can mount a small file system")
+    def test_a_disk_that_has_less_room_than_the_store(self):
+        """What was used and is not needed any more is used again once there is no more room."""
+        self.on_a_small_disk(65536)
+        with self.planner() as one:
+            for number in range(120):
+                lines = [f"put top 1 {number} a", *["put top 1 1 a"] * 59]
+                self.assertEqual(["ok"] * 62, one.ask("begin", *lines, "commit"), number)
+            self.assertEqual("end 120", one.rows("list top")[-1])
+        self.assertEqual(0, self.stop())
+        self.assertNotIn("no room", self.said.read_text())
+
+    def test_a_large_batch_takes_little_room(self):
+        """It takes some 40,000 blocks, of which few are written. They are given back after it."""
+        os.unlink(self.file)
+        self.create(100_000)
+        with open(self.file, "rb") as file:
+            room = DiskRoom(file.fileno())
+            if room.file is None:
+                self.skipTest("no room can be held in this file system")
+            room.close()
+        self.start()
+        with self.planner() as one:
+            lines = [f"put top 1 {number * 7919 % 20011} a" for number in range(20_000)]
+            self.assertEqual(["ok"] * 20_002, one.ask("begin", *lines, "commit"))
+            self.until(lambda: int(one.ask("free")[0].split()[1]) > 99_000)
+            self.assertLess(os.stat(self.file).st_blocks * 512, 64 << 20)
+            self.assertEqual(["value a"], one.ask("get top 1 7919"))

@@ -217,9 +217,7 @@ class LogTests(ServiceTest):
         with self.planner() as one:
             one.ask(*(f"put top 1 {n} a" for n in range(500)))
             program = self.program()
-            for _ in range(50):
-                one.send("log")
-            one.send("get top 1 1")
+            one.send(*["log"] * 50, "get top 1 1")
             self.until(lambda: self.program() == program and one.is_read())
             for _ in range(50):
                 self.assertEqual("end 500", one.read(501)[-1])

@@ -48,6 +48,10 @@ class StartTests(unittest.TestCase):
                 3, f"{self.store}: altctl cannot be started", f"{self.none}: {missing}",
             ),
             ("status", self.store): (1, "no service is to be reached", f"{self.store}.sock: {missing}"),
+            ("status", f"{self.none}.sock"): (1, "no service is to be reached", f"{self.none}.sock: {missing}"),
+            ("status", "/var/lib/altserve/none.alt"): (
+                1, "no service is to be reached", f"/run/altserve/none.sock: {missing}",
+            ),
             ("log", self.store): (1, "there is no journal to read", f"{self.store}.journal: {missing}"),
             ("restore", self.store, self.none, "new"): (1, "new was not made", f"{self.none}: {missing}"),
             ("archive", "--until", "1", self.store, "a"): (

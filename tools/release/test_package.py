@@ -176,7 +176,8 @@ class PackageTests(unittest.TestCase):
 
     def test_files_have_fixed_owners_and_modes(self):
         for it in self.entries:
-            is_run = it.isdir() or it.name.endswith(("/bin/altctl", *(f"/desk/{it}" for it in PROGRAMS)))
+            programs = ("/bin/altctl", "/tools/upgrade.py", *(f"/desk/{it}" for it in PROGRAMS))
+            is_run = it.isdir() or it.name.endswith(programs)
             due = 0o777 if it.issym() else 0o755 if is_run else 0o644
             self.assertEqual((0, 0, oct(due)), (it.uid, it.gid, oct(it.mode)), it.name)
         names = [it.name for it in self.entries]
@@ -231,7 +232,9 @@ class PackageTests(unittest.TestCase):
         self.assertEqual("blocks 64\n", run(sys.executable, "-c", IN_MEMORY_IN_PYTHON, env=found))
 
     def test_the_programs_of_the_desk_start(self):
-        needs = {"altgis": "from osgeo import gdal", "altdesk": "import aiohttp; from osgeo import gdal"}
+        leaflet = "/usr/share/javascript/leaflet/leaflet.min.js"
+        needs = {"altgis": "from osgeo import gdal"}
+        needs["altdesk"] = f"import aiohttp, os; from osgeo import gdal; os.stat({leaflet!r})"
         for name in PROGRAMS:
             test = ["/usr/bin/python3" if name in needs else sys.executable, "-c", needs.get(name, "")]
             if not subprocess.run(test, stderr=subprocess.DEVNULL).returncode:
@@ -430,9 +433,9 @@ class RootTests(unittest.TestCase):
         """A service whose store somebody else has says so, though its unit shows it no list of locks."""
         file = "/var/lib/altserve/held.alt"
         self.said("runuser", "-u", "altserve", "--", "altctl", "create", file, "64")
-        wait = f"flock {file} sleep 300 & systemctl start altserve@held.service; kept=$!; count=0; "
+        wait = f"flock --no-fork {file} sleep 300 & systemctl start altserve@held.service; kept=$!; count=0; "
         wait += "until journalctl -u altserve@held.service | grep 'in use by' || [ $count = 90 ]; do "
-        wait += "sleep 1; count=$((count + 1)); done; pkill -P $kept; systemctl stop altserve@held.service"
+        wait += "sleep 1; count=$((count + 1)); done; kill $kept; systemctl stop altserve@held.service"
         said = self.said("sh", "-c", f"{wait} altserve@held.socket; journalctl --no-pager -u altserve@held.service")
         self.assertIn(f"{file}: another process has it", said)
         self.assertIn("it is in use by a process that is not seen from here", said)
