@@ -556,10 +556,19 @@ def is_node(text, level, count):
 
 class Walk:
     """A walk through the trees under roots, each block once. Of each block that was met it keeps the level, and the
-    lowest and the highest key under it."""
+    lowest and the highest key under it, as far as they are known. It goes on behind a damaged block."""
 
     def __init__(self, disk, blocks):
         self.disk, self.blocks, self.met = disk, blocks, {}
+        self.first, self.damaged = None, set()
+
+    def is_data(self, block):
+        return FIRST <= block < self.blocks
+
+    def note(self, number, *blocks):
+        """Notes what is to be named, if it is the first, and the blocks that are damaged."""
+        self.first = number if self.first is None else self.first
+        self.damaged |= {*blocks}
 
     def items(self, block):
         """The level and the items of a block: records or children."""
@@ -576,24 +585,35 @@ class Walk:
         return level, items
 
     def visit(self, block, expected):
-        """The lowest and the highest key under a block."""
-        if not FIRST <= block < self.blocks:
-            raise Damaged(block)
+        """The lowest and the highest key under a block, or None if it is damaged."""
         if block not in self.met:
-            level, items = self.items(block)
+            self.met[block] = None, None
+            try:
+                level, items = self.items(block)
+            except Damaged:
+                return self.note(block, block)
             if expected not in (None, level):
-                raise Damaged(block)
+                return self.note(block, block)
             self.met[block] = level, None
-            low, high = items[0][0], items[-1][0]
-            for at, (key, child) in enumerate(items if level else []):
-                least, high = self.visit(child, level - 1)
-                if least != key or at + 1 < len(items) and high >= items[at + 1][0]:
-                    raise Damaged(child)
-            self.met[block] = level, (low, high)
+            ends, high = [key for key, _ in items[1:]] + [None], items[-1][0]
+            for (key, child), end in zip(items if level else [], ends):
+                high = self.visit_child(block, child, level - 1, key, end)
+            self.met[block] = level, (items[0][0], high)
         level, keys = self.met[block]
-        if expected not in (None, level):
-            raise Damaged(block)
-        return keys
+        if block not in self.damaged and expected not in (None, level):
+            self.note(block, block)
+        return None if block in self.damaged else keys
+
+    def visit_child(self, parent, child, level, low, end):
+        """The highest key under a child that is listed with this lowest key, before one with this key. If it is
+        damaged, the one that is listed is the highest known."""
+        if not self.is_data(child):
+            self.note(child, parent)
+            return low
+        keys = self.visit(child, level)
+        if keys and (keys[0] != low or end and keys[1] >= end):
+            keys = self.note(child, child)
+        return keys[1] if keys else low
 
 
 class Opening(Walk):
@@ -604,14 +624,14 @@ class Opening(Walk):
         super().__init__(disk, blocks)
         self.levels, self.found = {}, set()
         for root in filter(None, roots):
-            if not FIRST <= root < blocks:
+            if not self.is_data(root):
                 raise Damaged(root)
             self.levels[root] = self.items(root)[0]
         for root in filter(None, roots):
             self.find(root, self.levels[root])
 
     def find(self, block, level):
-        if not FIRST <= block < self.blocks:
+        if not self.is_data(block):
             raise Damaged(block)
         if block in self.found and level:
             return
@@ -642,8 +662,8 @@ def lacks_sum(disk, block):
 
 
 def refusal(disk, is_whole):
-    """What opening a file of these blocks is answered, if it is refused: a whole opening, which reads every block, or
-    one for lines."""
+    """What opening a file of these blocks is answered, if it is refused: a check, which reads every block and names
+    each damaged one, or an opening for lines."""
     script = "tools/upgrade.py OLD NEW carries it over"
     if len(disk) < LEAST or disk[0] != header(3):
         is_earlier = disk[0] in (header(1), header(2))
@@ -657,12 +677,14 @@ def refusal(disk, is_whole):
             return None
         walk = Walk(disk, blocks)
         for root in filter(None, roots_of(entries)):
-            walk.visit(root, None)
+            walk.visit(root, None) if walk.is_data(root) else walk.note(root)
+        first, others = walk.first, sorted(walk.damaged - {walk.first})
     except Damaged as damaged:
-        block = damaged.args[0]
-        told = f"\naltctl: the file has no checksums: {script}" * lacks_sum(disk, block)
-        return f"18 Damaged {block}{told}"
-    return None
+        first, others = damaged.args[0], []
+    if first is None:
+        return None
+    told = f"\naltctl: the file has no checksums: {script}" * lacks_sum(disk, first)
+    return f"18 Damaged {first}{told}" + "".join(f"\naltctl: 18 Damaged {it}" for it in others)
 
 
 def first_answers(disk):

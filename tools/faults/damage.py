@@ -1,5 +1,5 @@
 #!/usr/bin/env python3
-"""Damages files of stores, one block or two at a time, and looks whether the program notices it:
+"""Damages files of stores, in one place or several, and looks whether the program notices it:
 `tools/faults/damage.py [PROGRAM] [--files N] [--seed S] [--plain]`. Where it does not, it says so, leaves the file as
 damaged.alt, and ends with status 1.
 
@@ -113,13 +113,14 @@ class Trees:
     def is_node(self, block):
         return block >= FIRST and bytes_of(self.text, block)[:4] == b"NODE"
 
-    def visit(self, block, met):
-        """Adds a block and all that lies under it to those that were met."""
+    def visit(self, block, met, damaged=()):
+        """Adds a block to those that were met, and what lies under it, unless it is damaged."""
         if block and block not in met:
             met[block] = None
+            lists = self.is_node(block) and block not in damaged
             count, = struct.unpack_from("<I", self.text, block * BLOCK + 8)
-            for at in range(block * BLOCK + 16, block * BLOCK + 16 + 14 * count, 14) if self.is_node(block) else ():
-                self.visit(*struct.unpack_from("<I", self.text, at + 10), met)
+            for at in range(block * BLOCK + 16, block * BLOCK + 16 + 14 * count, 14) if lists else ():
+                self.visit(*struct.unpack_from("<I", self.text, at + 10), met, damaged)
         return met
 
     def under(self, *roots):
@@ -130,10 +131,15 @@ class Trees:
         return self.slot if block in self.slot_blocks else block
 
     def refusal(self, text, damaged):
-        """What a check says of a file of these bytes on the standard error, or None if it accepts it: it names the
-        first one of the damaged blocks that it meets. Here is the one place to change once it names all of them."""
-        found = [self.named(it) for it in self.met if it in damaged]
-        return refused_by(text, found[0]) if found else None
+        """What a check says of a file of these bytes on the standard error, or None if it accepts it: the slot alone if
+        it is damaged, else the first damaged block of the walk, and the others in rising order."""
+        if damaged & {*self.slot_blocks}:
+            return refused_by(text, self.slot)
+        met = {}
+        for root in self.roots:
+            self.visit(root, met, damaged)
+        first, *others = [it for it in met if it in damaged] or [None]
+        return first and "".join(refused_by(text, it) for it in [first, *sorted(others)])
 
 
 def refused_by(text, block):
@@ -274,15 +280,16 @@ def chosen(chance, made):
     return chance.randrange(2, FIRST if draw < 0.8 else len(made.text) // BLOCK)
 
 
-def damaged(chance, made, way):
-    """A damaged copy of the file, and the blocks that are damaged: those with other bytes than in the file, and than
-    before the last commit, since a whole older block is not noticed."""
+def damaged(chance, made, ways):
+    """A copy of the file that is damaged in these ways, and the blocks that are: those with other bytes than in the
+    file, and than before the last commit, since a whole older block is not noticed."""
     while True:
-        text = bytearray(made.text)
-        blocks = WAYS[way](chance, made, text, chosen(chance, made))
-        sides = [{bytes_of(it, block) for it in (made.text, made.older)} for block in blocks]
-        if not any(bytes_of(text, block) in side for block, side in zip(blocks, sides)):
-            return text, {*blocks}
+        text, blocks = bytearray(made.text), set()
+        for way in ways:
+            blocks |= {*WAYS[way](chance, made, text, chosen(chance, made))}
+        sides = made.text, made.older
+        if not any(bytes_of(text, block) == bytes_of(side, block) for block in blocks for side in sides):
+            return text, blocks
 
 
 def give_sums(text, blocks):
@@ -334,9 +341,9 @@ def try_session(program, file, made, text, blocks, count):
             expect(it.line[:100], right, answer)
 
 
-def try_file(program, file, made, way, is_broken, count):
+def try_file(program, file, made, ways, is_broken, count):
     """Damages a copy of the file, checks it, and asks all questions over it."""
-    text, blocks = damaged(made.chance, made, way)
+    text, blocks = damaged(made.chance, made, ways)
     if is_broken:
         give_sums(text, blocks)
     with open(file, "wb") as it:
@@ -349,9 +356,11 @@ def try_file(program, file, made, way, is_broken, count):
     except (Failure, subprocess.TimeoutExpired) as failure:
         with open("damaged.alt", "wb") as it:
             it.write(text)
-        raise Failure(f"{way}, blocks {sorted(blocks)}, left as damaged.alt: {failure}") from None
-    count[f"files with {way}"] += 1
+        raise Failure(f"{ways}, blocks {sorted(blocks)}, left as damaged.alt: {failure}") from None
+    for way in {*ways}:
+        count[f"files with {way}"] += 1
     count["files whose damage is in use"] += bool(refusal)
+    count["files of which a check names several blocks"] += bool(refusal) and refusal.count("18 Damaged") > 1
 
 
 def try_store(task):
@@ -363,7 +372,8 @@ def try_store(task):
         try:
             made = Made(program, chance, file, is_plain)
             for _ in range(files):
-                try_file(program, file, made, chance.choice([*WAYS]), is_broken, count)
+                several = chance.choice([1, 1, chance.randrange(2, 12)])
+                try_file(program, file, made, chance.choices([*WAYS], k=several), is_broken, count)
         except Failure as failure:
             return f"seed {seed}: {failure}"
     return count

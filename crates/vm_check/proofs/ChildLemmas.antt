@@ -19,7 +19,8 @@ use Rattle.vm_tree.proofs.TreeLemmas.{subtree_one}
 use Rattle.vm_tree.proofs.Rising.{rises_front, rises_back}
 use Rattle.vm_tree.proofs.Splitting.{split_at, children_join, child_alone}
 use Rattle.vm_tree.specs.BlockReads.{IsLeafAt, IsNodeAt}
-use Rattle.vm_check.specs.Visits.{IsHighest, Adds, Visited, VisitedAll}
+use Rattle.vm_check.specs.Keys.{IsHighest}
+use Rattle.vm_check.specs.Visits.{Adds, Visited, VisitedAll}
 use Rattle.vm_check.specs.declared.verification.Span.{Span}
 use Rattle.vm_check.specs.declared.verification.Met.{Met}
 use Rattle.vm_check.proofs.SpanLemmas.{begins_one, highest_join, lowest_highest, rises_join, highest_below}

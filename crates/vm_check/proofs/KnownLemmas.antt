@@ -15,7 +15,8 @@ use Rattle.vm_block.proofs.EachLemmas.{each_so}
 use Rattle.vm_block.proofs.FormLemmas.{leaf_or_node}
 use Rattle.vm_block.proofs.NodeLemmas.{node_one}
 use Rattle.vm_tree.proofs.TreeLemmas.{leaf_closes, node_closes}
-use Rattle.vm_check.specs.Visits.{IsHighest, HasLevel, span_of, met_of, no_met, span_at, Whole, Known, Adds, Visited, VisitedAll}
+use Rattle.vm_check.specs.Keys.{HasLevel, IsHighest}
+use Rattle.vm_check.specs.Visits.{span_of, met_of, no_met, span_at, Whole, Known, Adds, Visited, VisitedAll}
 use Rattle.vm_check.specs.declared.verification.Span.{Span}
 use Rattle.vm_check.specs.declared.verification.Met.{Met}
 use Rattle.vm_check.proofs.MarkLemmas.{is_first, is_other}
@@ -44,10 +45,10 @@ leaf_level bytes (suc l) rs low leaf = absurd (omega arith)
 
 -- # The span of a block
 
-span_here : (spans : List Met) (b : ℕ) (span : Span) → b < length spans → span_at (slice_set spans b (met_of span)) b ≡ span
+pub span_here : (spans : List Met) (b : ℕ) (span : Span) → b < length spans → span_at (slice_set spans b (met_of span)) b ≡ span
 span_here spans b span inside = ap (λ (m : Met). span_of m) (get_or-set_same spans b (met_of span) no_met inside)
 
-span_there : (spans : List Met) (b n : ℕ) (span : Span) → (n ≡ b → ⊥) → span_at (slice_set spans b (met_of span)) n ≡ span_at spans n
+pub span_there : (spans : List Met) (b n : ℕ) (span : Span) → (n ≡ b → ⊥) → span_at (slice_set spans b (met_of span)) n ≡ span_at spans n
 span_there spans b n span other = ap (λ (m : Met). span_of m) (get_or-set_other spans b n (met_of span) no_met other)
 
 -- children begin with the lowest key of the first one

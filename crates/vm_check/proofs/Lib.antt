@@ -2,6 +2,7 @@ pub mod ChildLemmas
 pub mod CopyLemmas
 pub mod CopySoFar
 pub mod CopySteps
+pub mod DamageLemmas
 pub mod FoundLemmas
 pub mod InnerLemmas
 pub mod JoinLemmas
@@ -12,5 +13,6 @@ pub mod ReachedLemmas
 pub mod RenumberLemmas
 pub mod RootLemmas
 pub mod SpanLemmas
+pub mod SurveyLemmas
 pub mod TopLemmas
 pub mod WalkLemmas

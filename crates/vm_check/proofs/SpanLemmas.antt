@@ -8,7 +8,7 @@ use Rattle.vm_types.specs.Places.{RisesFrom, place, places}
 use Rattle.vm_block.specs.Leaf.{Record, BeginsWith}
 use Rattle.vm_block.proofs.EachLemmas.{each_join, each_back}
 use Rattle.vm_tree.proofs.Rising.{rises_before}
-use Rattle.vm_check.specs.Visits.{IsHighest}
+use Rattle.vm_check.specs.Keys.{IsHighest}
 
 -- # Two keys, and the test whether they differ
 

@@ -22,7 +22,7 @@ use Rattle.vm_check.specs.Form.{IsFilled, IsForm}
 use Rattle.vm_check.specs.Marks.{AreUnder, IsClosed, MarksMore, unmarked_inner}
 use Rattle.vm_check.specs.Trees.{AreFound, AreTopped, IsFound, IsTop, IsTopped, level_of}
 use Rattle.vm_check.specs.Verification.{AreRoots, Found, HaveTrees}
-use Rattle.vm_check.specs.Visits.{HasLevel}
+use Rattle.vm_check.specs.Keys.{HasLevel}
 use Rattle.vm_check.specs.declared.form.Form.{Form}
 use Rattle.vm_check.specs.declared.form.Form.TheVariants.{Leaf, Node}
 use Rattle.vm_check.proofs.FoundLemmas.{each_at}

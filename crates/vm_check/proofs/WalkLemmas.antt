@@ -12,7 +12,8 @@ use Rattle.vm_block.specs.Node.{IsNode, lows}
 use Rattle.vm_block.specs.Way.{Lowest}
 use Rattle.vm_block.specs.declared.node.Child.{Child}
 use Rattle.vm_tree.specs.Tree.{Sizes, IsData, Children, Subtree}
-use Rattle.vm_check.specs.Visits.{Known, Visited, VisitedAll, met_of}
+use Rattle.vm_tree.proofs.Descent.{subtree_top}
+use Rattle.vm_check.specs.Visits.{ChildVisited, Known, Visited, VisitedAll, met_of}
 use Rattle.vm_check.specs.declared.verification.Span.{Span}
 use Rattle.vm_check.specs.declared.verification.Met.{Met}
 use Rattle.vm_check.proofs.KnownLemmas.{LeafFound, leaf_visited, known_first, node_visited}
@@ -98,12 +99,6 @@ module _ (sizes : Sizes) (limit : ℕ) where
 
   -- # Children
 
-  child_visited : (old mid : Medium) (level : ℕ) (c : Child) (span : Span) (b later : List Bool) (t now : List Met) → mid ≡ old
-      → (Known sizes mid.contents limit level b t → Visited sizes mid.contents limit level level c.block span b t later now)
-      → Known sizes old.contents limit level b t → Visited sizes old.contents limit level level c.block span b t later now
-  child_visited old mid level c span b later t now same visit =
-      subst (λ (m : Medium). Known sizes m.contents limit level b t → Visited sizes m.contents limit level level c.block span b t later now) same visit
-
   -- nothing was visited yet
   pub children_none : (x : Contents) (level : ℕ) (high : Key) (a : List Bool) (s : List Met) → Known sizes x limit level a s → VisitedAll sizes x limit level [] high a s a s
   children_none x level high a s known = record {
@@ -121,34 +116,46 @@ module _ (sizes : Sizes) (limit : ℕ) where
   pub children_done : (x : Contents) (level i : ℕ) (cs : List Child) (high : Key) (a b : List Bool) (s t : List Met) → length cs ≤ i → VisitedAll sizes x limit level (take i cs) high a s b t → VisitedAll sizes x limit level cs high a s b t
   children_done x level i cs high a b s t all visited = subst (λ (ds : List Child). VisitedAll sizes x limit level ds high a s b t) (take_all i cs all) visited
 
-  -- `c` is the child at i
-  pub child_step : (old mid : Medium) (level i : ℕ) (cs : List Child) (c : Child) (high : Key) (span : Span) (a b later : List Bool) (s t now : List Met) → mid ≡ old → i < length cs → get_or cs i c ≡ c
-      → span.low ≡ c.low → (0 < i → i < length cs → place high < slice_index_or (lows cs) i 0) → VisitedAll sizes old.contents limit level (take i cs) high a s b t
-      → (Known sizes mid.contents limit level b t → Visited sizes mid.contents limit level level c.block span b t later now)
-      → VisitedAll sizes old.contents limit level (take (i + 1) cs) span.high a s later now
-  child_step old mid level i cs c high span a b later s t now same lt is low below all visit =
-      child_more sizes old.contents limit level i cs c high span a b later s t now lt (low ∙ ap (λ (d : Child). d.low) (sym is)) below all
-      (subst (λ (d : Child). Visited sizes old.contents limit level level d.block span b t later now) (sym is) (child_visited old mid level c span b later t now same visit all.known))
-
-  -- a fault under a child of a tree
-  pub child_fault : (old mid : Medium) (level i : ℕ) (cs : List Child) (c : Child) (rs : List Record) (bs : List ℕ) (high : Key) (a b : List Bool) (s t : List Met) (F : Type 0) → mid ≡ old → i < length cs → get_or cs i c ≡ c
-      → VisitedAll sizes old.contents limit level (take i cs) high a s b t → Children (Subtree sizes old.contents limit level) cs rs bs → RisesFrom 0 (places rs)
-      → ((qs : List Record) (ds : List ℕ) → Known sizes mid.contents limit level b t → Subtree sizes mid.contents limit level c.block qs ds → RisesFrom 0 (places qs) → F) → F
-  child_fault old mid level i cs c rs bs high a b s t F same lt is all under rises step =
-      let at = child_of sizes old.contents limit level cs i c rs bs lt under rises in
-      step at.records at.blocks (subst (λ (m : Medium). Known sizes m.contents limit level b t) (sym same) all.known)
-      (subst (λ (m : Medium). Subtree sizes m.contents limit level c.block at.records at.blocks) (sym same) (subst (λ (d : Child). Subtree sizes old.contents limit level d.block at.records at.blocks) is at.subtree)) at.rising
+  -- what follows from the children of a tree, on the same disk
+  pub children_fault : (old mid : Medium) (level : ℕ) (cs : List Child) (rs : List Record) (bs : List ℕ) (F : Type 0) {b : List Bool} {t : List Met} → mid ≡ old → Known sizes old.contents limit level b t
+      → Children (Subtree sizes old.contents limit level) cs rs bs → (Known sizes mid.contents limit level b t → Children (Subtree sizes mid.contents limit level) cs rs bs → F) → F
+  children_fault old mid level cs rs bs F {b} {t} same known under step =
+      step (subst (λ (m : Medium). Known sizes m.contents limit level b t) (sym same) known) (subst (λ (m : Medium). Children (Subtree sizes m.contents limit level) cs rs bs) (sym same) under)
 
   -- what is found under a child of a tree is as the block above says
   pub record Fits (cs : List Child) (i : ℕ) (c : Child) (span : Span) : Type 0 where
     pub low : span.low ≡ c.low
     pub below : i + 1 < length cs → place span.high < slice_index_or (lows cs) (i + 1) 0
 
-  pub child_fits : (old mid : Medium) (level i : ℕ) (cs : List Child) (c : Child) (rs : List Record) (bs : List ℕ) (high : Key) (span : Span) (a b later : List Bool) (s t now : List Met) → mid ≡ old → i < length cs → get_or cs i c ≡ c
-      → VisitedAll sizes old.contents limit level (take i cs) high a s b t → Children (Subtree sizes old.contents limit level) cs rs bs → RisesFrom 0 (places rs)
-      → (Known sizes mid.contents limit level b t → Visited sizes mid.contents limit level level c.block span b t later now)
-      → Fits cs i c span
-  child_fits old mid level i cs c rs bs high span a b later s t now same lt is all under rises visit =
-      let agrees = child_agrees sizes old.contents limit level cs i c span b later t now (child_of sizes old.contents limit level cs i c rs bs lt under rises)
-      (subst (λ (d : Child). Visited sizes old.contents limit level level d.block span b t later now) (sym is) (child_visited old mid level c span b later t now same visit all.known)) in
+  -- a child of a tree is a data block
+  pub child_is_data : (x : Contents) (level i : ℕ) (cs : List Child) (c : Child) (rs : List Record) (bs : List ℕ) → i < length cs → get_or cs i c ≡ c → Children (Subtree sizes x limit level) cs rs bs → RisesFrom 0 (places rs) → IsData limit c.block
+  child_is_data x level i cs c rs bs lt is under rises =
+      let at = child_of sizes x limit level cs i c rs bs lt under rises in
+      subst (λ (d : Child). IsData limit d.block) is (subtree_top sizes x limit level (get_or cs i c).block at.records at.blocks at.subtree)
+
+  -- what follows from the subtree under a child
+  pub child_sub : (x : Contents) (level i : ℕ) (cs : List Child) (c : Child) (rs : List Record) (bs : List ℕ) (F : Type 0) → i < length cs → get_or cs i c ≡ c → Children (Subtree sizes x limit level) cs rs bs → RisesFrom 0 (places rs)
+      → ((qs : List Record) (ds : List ℕ) → Subtree sizes x limit level c.block qs ds → RisesFrom 0 (places qs) → F) → F
+  child_sub x level i cs c rs bs F lt is under rises step =
+      let at = child_of sizes x limit level cs i c rs bs lt under rises in
+      step at.records at.blocks (subst (λ (d : Child). Subtree sizes x limit level d.block at.records at.blocks) is at.subtree) at.rising
+
+  pub child_agrees_at : (x : Contents) (level i : ℕ) (cs : List Child) (c : Child) (rs : List Record) (bs : List ℕ) (span : Span) (b later : List Bool) (t now : List Met) → i < length cs → get_or cs i c ≡ c
+      → Children (Subtree sizes x limit level) cs rs bs → RisesFrom 0 (places rs) → Visited sizes x limit level level c.block span b t later now → Fits cs i c span
+  child_agrees_at x level i cs c rs bs span b later t now lt is under rises v =
+      let agrees = child_agrees sizes x limit level cs i c span b later t now (child_of sizes x limit level cs i c rs bs lt under rises)
+      (subst (λ (d : Child). Visited sizes x limit level level d.block span b t later now) (sym is) v) in
       record { low = agrees.low ∙ ap (λ (d : Child). d.low) is; below = agrees.below }
+
+  -- the child at i was visited, on the same disk
+  pub child_more_on : (old mid : Medium) (level i : ℕ) (cs : List Child) (high next : Key) (a b later : List Bool) (s t now : List Met) → mid ≡ old → i < length cs
+      → (0 < i → i < length cs → place high < slice_index_or (lows cs) i 0) → VisitedAll sizes old.contents limit level (take i cs) high a s b t
+      → (Known sizes mid.contents limit level b t → ChildVisited sizes mid.contents limit level i cs next b t later now)
+      → VisitedAll sizes old.contents limit level (take (i + 1) cs) next a s later now × (0 < i + 1 → i + 1 < length cs → place next < slice_index_or (lows cs) (i + 1) 0)
+  child_more_on old mid level i cs high next a b later s t now same lt below all visit =
+      let v = subst (λ (m : Medium). Known sizes m.contents limit level b t → ChildVisited sizes m.contents limit level i cs next b t later now) same visit all.known in (
+        subst (λ (k : Key). VisitedAll sizes old.contents limit level (take (i + 1) cs) k a s later now) v.high_is
+            (child_more sizes old.contents limit level i cs v.child high v.span a b later s t now lt (v.low ∙ ap (λ (d : Child). d.low) (sym v.listed)) below all
+            (subst (λ (d : Child). Visited sizes old.contents limit level level d.block v.span b t later now) (sym v.listed) v.visited)),
+        λ some more. v.below more,
+      )

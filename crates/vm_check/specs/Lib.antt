@@ -1,7 +1,11 @@
+pub mod Damage
 pub mod TreeCopy
 pub mod Form
+pub mod Keys
 pub mod Marks
+pub mod Notes
 pub mod Renumbering
+pub mod Surveys
 pub mod Trees
 pub mod Verification
 pub mod Visits

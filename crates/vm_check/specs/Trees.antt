@@ -12,7 +12,7 @@ use Rattle.vm_tree.specs.declared.faults.ListFault.{ListFault}
 use Rattle.vm_tree.specs.declared.faults.TreeFault.{TreeFault}
 use Rattle.vm_check.specs.Form.{OkUnlessDevice}
 use Rattle.vm_check.specs.Verification.{HaveTrees}
-use Rattle.vm_check.specs.Visits.{HasLevel}
+use Rattle.vm_check.specs.Keys.{HasLevel}
 use Rattle.vm_check.specs.declared.form.Form.{Form}
 use Rattle.vm_check.specs.declared.form.Form.TheVariants.{Leaf, Node}
 

@@ -1,5 +1,5 @@
 -- What `verify` finds under numbers.
-use Rattle.std.specs.Prelude.{◌≡◌, ℕ, ◌+◌, Bool, true, List, [], ◌∷◌, ◌++◌, length, Contains, Result}
+use Rattle.std.specs.Prelude.{◌≡◌, ℕ, ◌+◌, Bool, true, List, [], ◌∷◌, ◌++◌, length, Contains, Option, Result, Err, IsSomeAnd}
 use Rattle.std.specs.List.{AllByRecursion}
 use Rattle.vm_types.specs.declared.sizes.TheConstants.{FIRST_DATA}
 use Rattle.vm_types.specs.Map.{Map}
@@ -10,6 +10,9 @@ use Rattle.vm_tree.specs.Answers.{Lists}
 use Rattle.vm_tree.specs.Root.{IsRooted}
 use Rattle.vm_tree.specs.declared.root.Root.{Root}
 use Rattle.vm_tree.specs.declared.faults.ListFault.{ListFault}
+use Rattle.vm_tree.specs.declared.faults.ListFault.TheVariants as list
+use Rattle.vm_tree.specs.declared.faults.TreeFault.TheVariants.{Damaged}
+use Rattle.vm_check.specs.Damage.{AreDamaged}
 use Rattle.vm_check.specs.Marks.{unmarked}
 
 -- under the numbers lie maps, with these roots, in these blocks all together
@@ -39,3 +42,9 @@ AcceptsTrees result sizes old new limit ns = new.honest ≡ true → HaveTrees s
 -- exactly as many blocks were read as are marked, in a store of this many
 abbrev pub PaidFor : DiskState → DiskState → ℕ → List Bool → Type 0
 PaidFor old new limit marks = new.reads + unmarked marks + FIRST_DATA ≡ old.reads + limit
+
+-- with Damaged, and the disk honest after the call, marks on the damaged blocks are left; with any other answer nothing is
+abbrev pub TellsDamaged : {T : Type 0} → Result T ListFault → Sizes → DiskState → DiskState → ℕ → List ℕ → Option (List Bool) → Option (List Bool) → Type 0
+TellsDamaged (Err (list.Tree (Damaged first))) sizes old new limit ns damaged damaged' =
+    IsSomeAnd damaged' (λ marks. new.honest ≡ true → AreDamaged sizes old.now.contents limit ns first marks)
+TellsDamaged result sizes old new limit ns damaged damaged' = damaged' ≡ damaged

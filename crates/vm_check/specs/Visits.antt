@@ -1,5 +1,5 @@
 -- What a walk knows of the blocks that it met, and what its visits find.
-use Rattle.std.specs.Prelude.{◌≡◌, ◌↔◌, ◌⊎◌, ℕ, zero, suc, ◌+◌, ◌-◌, ◌<◌, ◌≤◌, Bool, true, List, length, slice_index_or, Contains, Result, IfOk}
+use Rattle.std.specs.Prelude.{◌≡◌, ◌↔◌, ◌⊎◌, ℕ, zero, suc, ◌+◌, ◌-◌, ◌<◌, ◌≤◌, Bool, true, List, length, slice_index_or, Contains, Option, None, Result, IfOk, IsSomeAnd}
 use Rattle.std.specs.List.{AllByRecursion}
 use Rattle.vm_types.specs.declared.key.Key.{Key}
 use Rattle.vm_types.specs.Map.{Map}
@@ -13,20 +13,11 @@ use Rattle.vm_block.specs.declared.node.Child.{Child}
 use Rattle.vm_tree.specs.Tree.{Sizes, Children, IsTree, Subtree}
 use Rattle.vm_tree.specs.Root.{IsRooted, sizes_of}
 use Rattle.vm_tree.specs.declared.root.Root.{Root}
-use Rattle.vm_tree.specs.declared.faults.TreeFault.{TreeFault}
-use Rattle.vm_check.specs.Form.{OkUnlessDevice}
+use Rattle.vm_disk.specs.declared.disk.DeviceFault.{DeviceFault}
+use Rattle.vm_check.specs.Keys.{HasLevel, IsHighest}
+use Rattle.vm_check.specs.declared.notes.Notes.{Notes}
 use Rattle.vm_check.specs.declared.verification.Span.{Span}
 use Rattle.vm_check.specs.declared.verification.Met.{Met}
-
--- the records have this highest key: they stand below a place exactly if it does
-pub record IsHighest (high : Key) (rs : List Record) : Type 0 where
-  pub above : (p : ℕ) → place high < p → AllByRecursion (λ r. place r.0 < p) rs
-  pub least : (p : ℕ) → AllByRecursion (λ r. place r.0 < p) rs → place high < p
-
--- the bytes are a leaf, or an inner block of this level
-abbrev pub HasLevel : List ℕ → ℕ → Type 0
-HasLevel bytes zero = (rs : List Record) × HasRecords bytes rs
-HasLevel bytes (suc l) = (cs : List Child) × IsNode bytes (suc l) cs
 
 -- the span that is kept so, and how a span is kept
 abbrev pub span_of : Met → Span
@@ -109,39 +100,57 @@ EndsBelowNext high bytes count i answer =
     (above : ℕ) (cs : List Child) → IsNode bytes above cs → length cs ≡ count
     → answer ↔ (i + 1 < length cs → place high < slice_index_or (lows cs) (i + 1) 0)
 
--- # What a visit finds and takes for sound, if the disk is honest after it, by what was known before
+-- visits found this highest key under the child at i, of these of this level
+pub record ChildVisited (sizes : Sizes) (x : Contents) (limit level i : ℕ) (cs : List Child) (high : Key) (marks : List Bool) (spans : List Met) (later : List Bool) (now : List Met) : Type 0 where
+  pub child : Child
+  pub listed : slice_index_or cs i child ≡ child
+  pub span : Span
+  pub high_is : span.high ≡ high
+  pub low : span.low ≡ child.low
+  pub visited : Visited sizes x limit level level child.block span marks spans later now
+  pub below : i + 1 < length cs → place high < slice_index_or (lows cs) (i + 1) 0
+
+-- # What a visit finds if no damaged block was noted by its end, and that it notes none in trees, if the disk is honest after it, by what was
+-- known before
 
 -- at a block whose level lies in a range
-abbrev pub Visits : Result Span TreeFault → ℕ → DiskState → DiskState → ℕ → ℕ → ℕ → ℕ → List Bool → List Met → List Bool → List Met → Type 0
-Visits result fan old new limit least most b marks spans later now =
+abbrev pub Visits : Result (Option Span) DeviceFault → ℕ → DiskState → DiskState → ℕ → ℕ → ℕ → ℕ → List Bool → List Met → List Bool → List Met → Notes → Type 0
+Visits result fan old new limit least most b marks spans later now noted =
     new.honest ≡ true → (levels : ℕ) → Known (sizes_of fan levels) old.now.contents limit most marks spans
-    → IfOk result (λ span. Visited (sizes_of fan levels) old.now.contents limit least most b span marks spans later now)
+    → IfOk result (λ found. noted.first ≡ None → IsSomeAnd found (λ span. Visited (sizes_of fan levels) old.now.contents limit least most b span marks spans later now))
 
-abbrev pub AcceptsSubtree : Result Span TreeFault → ℕ → DiskState → DiskState → ℕ → ℕ → ℕ → ℕ → List Bool → List Met → Type 0
-AcceptsSubtree result fan old new limit least most b marks spans =
+abbrev pub AcceptsSubtree : ℕ → DiskState → DiskState → ℕ → ℕ → ℕ → ℕ → List Bool → List Met → Notes → Notes → Type 0
+AcceptsSubtree fan old new limit least most b marks spans notes noted =
     new.honest ≡ true → (levels l : ℕ) (rs : List Record) (bs : List ℕ) → Known (sizes_of fan levels) old.now.contents limit most marks spans
-    → least ≤ l → l ≤ most → Subtree (sizes_of fan levels) old.now.contents limit l b rs bs → RisesFrom 0 (places rs) → OkUnlessDevice result
+    → least ≤ l → l ≤ most → Subtree (sizes_of fan levels) old.now.contents limit l b rs bs → RisesFrom 0 (places rs) → notes.first ≡ None → noted.first ≡ None
 
--- at this many children, of this level, of an inner block
-abbrev pub VisitsChildren : Result Key TreeFault → ℕ → DiskState → DiskState → ℕ → ℕ → List ℕ → ℕ → List Bool → List Met → List Bool → List Met → Type 0
-VisitsChildren result fan old new limit level bytes count marks spans later now =
+-- at the child at i of this many, of this level, of an inner block
+abbrev pub VisitsChild : Result Key DeviceFault → ℕ → DiskState → DiskState → ℕ → ℕ → List ℕ → ℕ → ℕ → List Bool → List Met → List Bool → List Met → Notes → Type 0
+VisitsChild result fan old new limit level bytes count i marks spans later now noted =
     new.honest ≡ true → (levels above : ℕ) (cs : List Child) → IsNode bytes above cs → length cs ≡ count
     → Known (sizes_of fan levels) old.now.contents limit level marks spans
-    → IfOk result (λ high. VisitedAll (sizes_of fan levels) old.now.contents limit level cs high marks spans later now)
+    → IfOk result (λ high. noted.first ≡ None → ChildVisited (sizes_of fan levels) old.now.contents limit level i cs high marks spans later now)
 
-abbrev pub AcceptsChildren : Result Key TreeFault → ℕ → DiskState → DiskState → ℕ → ℕ → List ℕ → ℕ → List Bool → List Met → Type 0
-AcceptsChildren result fan old new limit level bytes count marks spans =
+abbrev pub AcceptsChild : ℕ → DiskState → DiskState → ℕ → ℕ → List ℕ → ℕ → List Bool → List Met → Notes → Notes → Type 0
+AcceptsChild fan old new limit level bytes count marks spans notes noted =
     new.honest ≡ true → (levels above : ℕ) (cs : List Child) (rs : List Record) (bs : List ℕ) → IsNode bytes above cs → length cs ≡ count
     → Known (sizes_of fan levels) old.now.contents limit level marks spans
-    → Children (Subtree (sizes_of fan levels) old.now.contents limit level) cs rs bs → RisesFrom 0 (places rs) → OkUnlessDevice result
+    → Children (Subtree (sizes_of fan levels) old.now.contents limit level) cs rs bs → RisesFrom 0 (places rs) → notes.first ≡ None → noted.first ≡ None
+
+-- at this many children, of this level, of an inner block
+abbrev pub VisitsChildren : Result Key DeviceFault → ℕ → DiskState → DiskState → ℕ → ℕ → List ℕ → ℕ → List Bool → List Met → List Bool → List Met → Notes → Type 0
+VisitsChildren result fan old new limit level bytes count marks spans later now noted =
+    new.honest ≡ true → (levels above : ℕ) (cs : List Child) → IsNode bytes above cs → length cs ≡ count
+    → Known (sizes_of fan levels) old.now.contents limit level marks spans
+    → IfOk result (λ high. noted.first ≡ None → VisitedAll (sizes_of fan levels) old.now.contents limit level cs high marks spans later now)
 
 -- at the root of this number
-abbrev pub VisitsRoot : Result Root TreeFault → Sizes → DiskState → DiskState → ℕ → ℕ → List Bool → List Met → List Bool → List Met → Type 0
-VisitsRoot result sizes old new limit n marks spans later now =
+abbrev pub VisitsRoot : Result Root DeviceFault → Sizes → DiskState → DiskState → ℕ → ℕ → List Bool → List Met → List Bool → List Met → Notes → Type 0
+VisitsRoot result sizes old new limit n marks spans later now noted =
     new.honest ≡ true → Known sizes old.now.contents limit (sizes.levels - 1) marks spans
-    → IfOk result (λ root. RootVisited sizes old.now.contents limit n root marks spans later now)
+    → IfOk result (λ root. noted.first ≡ None → RootVisited sizes old.now.contents limit n root marks spans later now)
 
-abbrev pub AcceptsTree : Result Root TreeFault → Sizes → DiskState → DiskState → ℕ → ℕ → List Bool → List Met → Type 0
-AcceptsTree result sizes old new limit n marks spans =
+abbrev pub AcceptsTree : Sizes → DiskState → DiskState → ℕ → ℕ → List Bool → List Met → Notes → Notes → Type 0
+AcceptsTree sizes old new limit n marks spans notes noted =
     new.honest ≡ true → Known sizes old.now.contents limit (sizes.levels - 1) marks spans
-    → (m : Map) (bs : List ℕ) → IsTree sizes old.now.contents limit n m bs → OkUnlessDevice result
+    → (m : Map) (bs : List ℕ) → IsTree sizes old.now.contents limit n m bs → notes.first ≡ None → noted.first ≡ None

@@ -13,6 +13,8 @@
 
 mod form;
 mod marks;
+mod notes;
+mod noting;
 mod renumbering;
 mod tree_copy;
 mod trees;
@@ -22,4 +24,4 @@ pub use marks::mark;
 pub use renumbering::Renumbering;
 pub use tree_copy::{CopyFault, copy_tree};
 pub use trees::find_trees;
-pub use verification::verify;
+pub use verification::{survey, verify};

@@ -1,18 +1,23 @@
 -- How the program ends, from what its parts did.
-use Rattle.std.proofs.Common.{◌≡◌, ◌≤◌, ◌⊎◌, ◌++◌, arith, ℕ, List, Option, refl, inl, inr}
+use Rattle.std.proofs.Common.{◌≡◌, ◌≤◌, ◌⊎◌, ◌++◌, arith, ℕ, Bool, true, false, not, ◌&&◌, List, [], Option, Result, Ok, Err, OnOk, OnErr, refl, sym, subst, inl, inr}
+use Rattle.std.specs.Prelude.{if◌then◌else◌}
 use Rattle.std.specs.Io.KnownBytes.{Appends}
 use Rattle.clap.specs.Words.{IsAmong, Text, fault_of}
 use Rattle.clap.specs.declared.error.kind.ErrorKind.{ErrorKind}
 use Rattle.clap.specs.declared.error.kind.ErrorKind.TheVariants.{DisplayHelp, DisplayVersion}
+use Rattle.vm_alloc.specs.Marks.{is_marked}
+use Rattle.vm_types.specs.declared.refusal.Refusal.TheVariants.{Damaged}
 use Rattle.vm_cli.specs.Carried.{WritesStart}
+use Rattle.vm_cli.specs.declared.answers.output.WriteFault.{WriteFault}
 use Rattle.vm_cli.specs.Branches.{drawing}
-use Rattle.vm_cli.specs.Exits.{AskTalk, Ends, IsHelp, IsJob, JobEnds, MayEnd, Tells, TellsRefused, check_text, copied_text, created_text, named_text, status_of}
+use Rattle.vm_cli.specs.Exits.{AskTalk, Ends, IsHelp, IsJob, JobEnds, MayEnd, Tells, TellsRefused, check_text, copied_text, created_text, is_told, name_text, named_text, refused_text, status_of}
 use Rattle.vm_cli.specs.Words.{Wanted, altctl}
 use Rattle.vm_cli.specs.Words.Wanted.{check, copy, create, draw}
 use Rattle.vm_cli.specs.declared.program.Exit.{Exit}
 use Rattle.vm_cli.specs.declared.program.Exit.TheVariants.{Done, LineRefused, Refused, WrongWords, Stopped}
 use Rattle.vm_cli.specs.declared.talk.Manner.{Manner}
 use Rattle.vm_cli.proofs.CarriedLemmas.{begins-more, begins-then}
+use Rattle.vm_cli.proofs.Known.{Appends-nil, Appends-then}
 
 -- ---- a line with the name of a file
 
@@ -141,3 +146,41 @@ module _ {W F : Type 0} (in_output : W → Option (List ℕ)) (in_errors : F →
       → Ends in_output in_errors exit words output output' errors errors'
   mistaken kind exit wrong among (same, (text, inl (is, written))) = rw is (same, (kind, wrong, among), (text, written))
   mistaken kind exit wrong among (same, (text, inr (is, begun))) = rw is (inr (same, (text, inr (kind, wrong, among), begun)))
+
+-- ---- damaged blocks
+
+named_if : (m t : Bool) (line : List ℕ) → m ≡ true → t ≡ false → (if m && not t then line else []) ≡ line
+named_if m t line marked other = rw (marked, other) refl
+
+told_if : (m t : Bool) (line : List ℕ) → t ≡ true → (if m && not t then line else []) ≡ []
+told_if true t line told = rw told refl
+told_if false t line told = refl
+
+unmarked_if : (m t : Bool) (line : List ℕ) → m ≡ false → (if m && not t then line else []) ≡ []
+unmarked_if m t line unmarked = rw unmarked refl
+
+-- a block is not named
+pub told_unnamed : (told : Option ℕ) (marks : List Bool) (n : ℕ) (a : Option (List ℕ)) → is_told told n ≡ true → Appends a a (name_text told marks n)
+told_unnamed told marks n a is = subst (Appends a a) (sym (told_if (is_marked marks n) (is_told told n) (refused_text (Damaged n)) is)) (Appends-nil a)
+
+pub unmarked_unnamed : (told : Option ℕ) (marks : List Bool) (n : ℕ) (a : Option (List ℕ)) → is_marked marks n ≡ false → Appends a a (name_text told marks n)
+unmarked_unnamed told marks n a is = subst (Appends a a) (sym (unmarked_if (is_marked marks n) (is_told told n) (refused_text (Damaged n)) is)) (Appends-nil a)
+
+-- the line of one that is
+pub named_here : (told : Option ℕ) (marks : List Bool) (n : ℕ) → is_marked marks n ≡ true → is_told told n ≡ false → name_text told marks n ≡ refused_text (Damaged n)
+named_here told marks n marked other = named_if (is_marked marks n) (is_told told n) (refused_text (Damaged n)) marked other
+
+-- why a disk is refused was told, and more behind it
+pub tells_more : (a b c : Option (List ℕ)) (said : Result (Unit {0}) WriteFault) (exit : Exit) (text more : List ℕ) → Tells Refused Refused a b text → OnOk said (exit ≡ Refused) → OnErr said (exit ≡ Stopped) → OnOk said (Appends b c more) → OnErr said (WritesStart b c more)
+    → Tells Refused exit a c (text ++ more)
+tells_more a b c (Ok x) exit text more (inl told) ok err all begun = inl (ok, Appends-then a b c text more told.1 all)
+tells_more a b c (Err e) exit text more (inl told) ok err all begun = inr (err, file_then a b c text more told.1 begun)
+tells_more a b c said exit text more (inr stopped) ok err all begun = absurd (not_stopped stopped.0)
+  where
+    not_stopped : Refused ≡ Stopped → ⊥
+    not_stopped is = cc
+
+-- it was not told whole
+pub tells_less : (a b : Option (List ℕ)) (exit : Exit) (text more : List ℕ) → (exit ≡ Refused → ⊥) → Tells Refused exit a b text → Tells Refused exit a b (text ++ more)
+tells_less a b exit text more other (inl told) = absurd (other told.0)
+tells_less a b exit text more other (inr stopped) = inr (stopped.0, begins-more a b text more stopped.1)

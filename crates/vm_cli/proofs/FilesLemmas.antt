@@ -21,7 +21,7 @@ use Rattle.vm_cli.specs.CachedLines.{buffer_for, IsNotServed, IsServed, answers_
 use Rattle.vm_cli.specs.DelayedLines.{IsRefusedLate, IsServedLate, answers_late, commands_late}
 use Rattle.vm_cli.specs.Exits.{IsJob, Tells}
 use Rattle.vm_cli.specs.Keeps.{Keeps, answers_of, commands_of}
-use Rattle.vm_cli.specs.Files.{Answers, Counts, Draws, Declines, Does, Duplicates, KeepsAll, Makes}
+use Rattle.vm_cli.specs.Files.{Answers, Counts, Draws, Declines, Does, Duplicates, FindsFault, KeepsAll, Makes}
 use Rattle.vm_cli.specs.Places.{KeepsOthers, PlaceState}
 use Rattle.vm_cli.specs.Runs.{AsksToWrite, Disks, IsLook, LooksOnly, ServesIn, ServesWords}
 use Rattle.vm_cli.specs.Openings.{HasRefused}
@@ -281,7 +281,7 @@ module _ {D : Type 0} (members : Ghosts D) (cached : Ghosts (CachedDisk D member
 
   -- a store was to be checked
   pub did_check : (name : Text) → IsJob words (check name) → Reads
-      → Counts members name exit old new before after ⊎ Declines members (Denied name) name exit old new errors errors' → Did
+      → Counts members name exit old new before after ⊎ FindsFault members (Denied name) name exit old new errors errors' → Did
   did_check name job reads counts = record {
     creates = λ other size asked. let same : create other size ≡ check name = one_job words (check name) (create other size) job asked in absurd (cc);
     runs = λ other in_memory on asked. let same : run other in_memory on ≡ check name = one_job words (check name) (run other in_memory on) job asked in absurd (cc);
@@ -294,8 +294,8 @@ module _ {D : Type 0} (members : Ghosts D) (cached : Ghosts (CachedDisk D member
     none = λ no. absurd (no (check name) job);
   }
     where
-      told : Counts members name exit old new before after ⊎ Declines members (Denied name) name exit old new errors errors'
-          → Counts members name exit old new before after ⊎ (Declines members (Denied name) name exit old new errors errors' ⊎ ((exit ≡ Stopped) × Untouched))
+      told : Counts members name exit old new before after ⊎ FindsFault members (Denied name) name exit old new errors errors'
+          → Counts members name exit old new before after ⊎ (FindsFault members (Denied name) name exit old new errors errors' ⊎ ((exit ≡ Stopped) × Untouched))
       told (inl counts) = inl counts
       told (inr declines) = inr (inl declines)
 

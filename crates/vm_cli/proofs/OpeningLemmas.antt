@@ -1,11 +1,13 @@
 -- Why a disk is refused.
-use Rattle.std.proofs.Common.{◌≡◌, ℕ, inl, inr, [], ◌∷◌, length, sym, subst, ◌∙◌, arith}
+use Rattle.std.proofs.Common.{◌≡◌, ℕ, inl, inr, Bool, true, List, [], ◌∷◌, Option, None, Some, length, refl, sym, subst, ◌∙◌, arith}
+use Rattle.std.specs.Prelude.{IsSomeAnd}
 use Rattle.vm_types.specs.declared.refusal.Refusal.{Refusal}
 use Rattle.vm_types.specs.declared.refusal.Refusal.TheVariants.{Damaged, Device, Memory, NotAStore}
-use Rattle.vm_disk.specs.Disk.{Contents, Medium, block}
+use Rattle.vm_disk.specs.Disk.{Contents, DiskState, Medium, block}
 use Rattle.vm_block.specs.Header.{IsEarlierHeader, header_bytes_of}
+use Rattle.vm_store.specs.Recovery.{AllDamaged, TellsAll}
 use Rattle.vm_store.specs.Refused.{IsRefused, IsSynced}
-use Rattle.vm_cli.specs.Openings.{KeepsRefusal, LacksSum, TellsEarlier, refusal_of}
+use Rattle.vm_cli.specs.Openings.{KeepsRefusal, LacksSum, NamesAll, TellsEarlier, refusal_of}
 use Rattle.vm_cli.specs.declared.program.opening.NoStore.{NoStore}
 use Rattle.vm_cli.specs.declared.program.opening.NoStore.TheVariants.{Refused}
 
@@ -58,3 +60,22 @@ memory_untold x refusal memory = record { header = λ is. cc (is, memory); sums 
 
 pub device_untold : (x : Contents) (refusal : Refusal) → refusal ≡ Device → TellsEarlier x (Refused refusal)
 device_untold x refusal device = record { header = λ is. cc (is, device); sums = λ n is. cc (is, device) }
+
+-- what an opening tells of damaged blocks is what is told of them
+pub names_all : (old mid new : DiskState) {damaged damaged' : Option (List Bool)} (refusal : Refusal) (why : NoStore) → damaged ≡ None → (new.honest ≡ true → mid.honest ≡ true) → KeepsRefusal refusal why → TellsAll old mid damaged damaged' refusal → NamesAll old new why damaged'
+names_all old mid new {damaged} {damaged'} refusal why none earlier (inl same) tells = record {
+  all = λ n is. elim (tells.all n (sym same ∙ is)) [
+    | inl slot ↦ inl (slot.0 ∙ none, λ honest. slot.1 (earlier honest))
+    | inr marks ↦ inr (marks_then damaged' n marks)
+  ];
+  none = λ other device. tells.none (λ n is. other n (same ∙ is)) ∙ none;
+}
+  where
+    marks_then : (o : Option (List Bool)) (n : ℕ) → IsSomeAnd o (λ marks. mid.honest ≡ true → AllDamaged old.now.contents n marks) → IsSomeAnd o (λ marks. new.honest ≡ true → AllDamaged old.now.contents n marks)
+    marks_then None n none = none
+    marks_then (Some marks) n are = λ honest. are (earlier honest)
+names_all old mid new refusal why none earlier (inr failed) tells = record { all = λ n is. cc (is, failed.1); none = λ other device. absurd (device failed.1) }
+
+-- no block is named for want of memory
+pub memory_unnamed : (old new : DiskState) (refusal : Refusal) → (new.honest ≡ true → refusal ≡ Memory) → NamesAll old new (Refused refusal) None
+memory_unnamed old new refusal memory = record { all = λ n is. inl (refl, λ honest. cc (is, memory honest)); none = λ other device. refl }

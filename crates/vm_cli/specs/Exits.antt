@@ -1,6 +1,7 @@
 -- How the program ends, and what it has written then.
 use Rattle.std.specs.Fmt.{decimal}
-use Rattle.std.specs.Prelude.{◌≡◌, ◌≢◌, ◌⊎◌, ◌++◌, ℕ, List, [], ◌∷◌, Option, Some, codes}
+use Rattle.std.specs.Prelude.{◌≡◌, ◌≢◌, ◌⊎◌, ◌++◌, ◌&&◌, ℕ, nat_eq, Bool, false, not, List, [], ◌∷◌, length, Option, None, Some, codes, if◌then◌else◌}
+use Rattle.std.specs.List.{flat_map, range_with_len}
 use Rattle.std.specs.Io.KnownBytes.{Appends}
 use Rattle.clap.specs.Words.{IsAmong, Text, fault_of, kind_of, subcommand_of}
 use Rattle.clap.specs.declared.error.Error.{Error}
@@ -9,9 +10,11 @@ use Rattle.clap.specs.declared.error.kind.ErrorKind.TheVariants.{DisplayHelp, Di
 use Rattle.vm_types.specs.Texts.{refusal_text}
 use Rattle.vm_types.specs.declared.refusal.Refusal.{Refusal}
 use Rattle.vm_types.specs.declared.refusal.Refusal.TheVariants.{Damaged, NotAStore}
+use Rattle.vm_alloc.specs.Marks.{is_marked}
 use Rattle.vm_store.specs.NewStore.{IsOfFormat}
 use Rattle.vm_cli.specs.Carried.{WritesStart}
 use Rattle.vm_cli.specs.Branches.{Branch, drawing}
+use Rattle.vm_cli.specs.Openings.{told_of}
 use Rattle.vm_cli.specs.Words.{Wanted, altctl, asked_of}
 use Rattle.vm_cli.specs.Words.Wanted.{check, copy, create, do_lines, draw, run}
 use Rattle.vm_cli.specs.declared.program.Exit.{Exit}
@@ -89,6 +92,24 @@ no_store_text (NotOpened refusal) = refused_text refusal
 no_store_text Earlier = earlier_text
 no_store_text (WithoutSums n) = without_sums_text n
 
+-- whether this is the number that was told
+abbrev pub is_told : Option ℕ → ℕ → Bool
+is_told None n = false
+is_told (Some first) n = nat_eq first n
+
+-- the line that names block n, if it is marked, and is not the one that was told
+abbrev pub name_text : Option ℕ → List Bool → ℕ → List ℕ
+name_text told marks n = if is_marked marks n && not (is_told told n) then refused_text (Damaged n) else []
+
+-- the marked blocks but for the one that was told, a line for each, in rising order
+abbrev pub others_text : Option ℕ → List Bool → List ℕ
+others_text told marks = flat_map (λ n. name_text told marks n) (range_with_len 0 (length marks))
+
+-- why a disk is refused, and behind it the damaged blocks that are not told yet
+abbrev pub survey_text : NoStore → Option (List Bool) → List ℕ
+survey_text why None = no_store_text why
+survey_text why (Some marks) = no_store_text why ++ others_text (told_of why) marks
+
 -- the program stopped
 abbrev pub stopped_text : List ℕ
 stopped_text = codes "altctl: stopped" ++ 10 ∷ []
@@ -130,7 +151,7 @@ abbrev pub SaysRefused : Wanted → List ℕ → Type 0
 SaysRefused (create file blocks) text = (text ≡ file_text (codes "altctl: cannot create ") file) ⊎ ((refusal : Refusal) × IsOfFormat refusal × (text ≡ refused_text refusal))
 SaysRefused (run file in_memory on) text = (text ≡ file_text (codes "altctl: cannot open ") file) ⊎ ((why : NoStore) × (text ≡ no_store_text why))
 SaysRefused (do_lines file input in_memory on) text = (text ≡ file_text (codes "altctl: cannot open ") file) ⊎ ((why : NoStore) × (text ≡ no_store_text why))
-SaysRefused (check file) text = (text ≡ file_text (codes "altctl: cannot open ") file) ⊎ ((why : NoStore) × (text ≡ no_store_text why))
+SaysRefused (check file) text = (text ≡ file_text (codes "altctl: cannot open ") file) ⊎ ((why : NoStore) × (damaged : Option (List Bool)) × (text ≡ survey_text why damaged))
 SaysRefused (draw file) text = (text ≡ file_text (codes "altctl: cannot open ") file) ⊎ ((why : NoStore) × (text ≡ no_store_text why))
 SaysRefused (copy file to blocks) text = (text ≡ file_text (codes "altctl: cannot open ") file) ⊎ SaysNoCopy to text
 
@@ -180,6 +201,10 @@ RefusesOn contents exit writer writer' text = TellsOn contents Refused exit writ
 -- the errors are told why a disk was refused
 abbrev pub TellsWhy : {F : Type 0} → (F → Option (List ℕ)) → Exit → F → F → Type 0
 TellsWhy in_errors exit errors errors' = (why : NoStore) × TellsOn in_errors Refused exit errors errors' (no_store_text why)
+
+-- the same, and which blocks are damaged
+abbrev pub TellsWhole : {F : Type 0} → (F → Option (List ℕ)) → Exit → F → F → Type 0
+TellsWhole in_errors exit errors errors' = (why : NoStore) × (damaged : Option (List Bool)) × TellsOn in_errors Refused exit errors errors' (survey_text why damaged)
 
 -- the errors are told why nothing was copied, unless a device failed
 abbrev pub DropEnds : {F : Type 0} → (F → Option (List ℕ)) → Refusal → Exit → F → F → Type 0
@@ -292,12 +317,12 @@ module _ {W F : Type 0} (in_output : W → Option (List ℕ)) (in_errors : F →
       ((errors' ≡ errors) × TellsDone job exit output output') ⊎ ((output' ≡ output) × TellsRefused job exit errors errors')
 
   -- the output is told what a store holds, and nothing was said to the errors; or the output is as it was, and the errors are told why the
-  -- disk was refused
+  -- disk was refused, and which blocks are damaged
   abbrev pub Checks : Exit → W → W → F → F → Type 0
   Checks exit output output' errors errors' =
-      ((errors' ≡ errors) × TellsCounts exit output output') ⊎ ((output' ≡ output) × TellsWhy in_errors exit errors errors')
+      ((errors' ≡ errors) × TellsCounts exit output output') ⊎ ((output' ≡ output) × TellsWhole in_errors exit errors errors')
 
-  -- the same, if a drawing is told
+  -- the same of a drawing, but that no further block is named
   abbrev pub DrawEnds : Exit → W → W → F → F → Type 0
   DrawEnds exit output output' errors errors' =
       ((errors' ≡ errors) × TellsDrawing exit output output') ⊎ ((output' ≡ output) × TellsWhy in_errors exit errors errors')

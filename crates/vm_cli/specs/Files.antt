@@ -1,5 +1,5 @@
 -- What a run of the program does to the files of its place.
-use Rattle.std.specs.Prelude.{◌≡◌, ◌⊎◌, ℕ, List, Option, Some, None, codes}
+use Rattle.std.specs.Prelude.{◌≡◌, ◌⊎◌, ℕ, Bool, List, Option, Some, None, codes}
 use Rattle.clap.specs.Words.{Text}
 use Rattle.vm_types.specs.declared.refusal.Refusal.{Refusal}
 use Rattle.vm_types.specs.State.{Seen, opened}
@@ -13,10 +13,10 @@ use Rattle.vm_store.specs.Shown.{Shows}
 use Rattle.vm_cli.specs.CachedLines.{IsServed, answers_told, commands_told}
 use Rattle.vm_cli.specs.Branches.{tree_text}
 use Rattle.vm_cli.specs.Copies.{IsInUse, MakesCopy, copy_of}
-use Rattle.vm_cli.specs.Exits.{IsJob, Tells, check_text, created_text, file_text, no_store_text, refused_text}
+use Rattle.vm_cli.specs.Exits.{IsJob, Tells, check_text, created_text, file_text, no_store_text, refused_text, survey_text}
 use Rattle.vm_cli.specs.Keeps.{Keeps}
 use Rattle.vm_cli.specs.Places.{IsNew, KeepsCame, KeepsOthers, PlaceState, WasLent}
-use Rattle.vm_cli.specs.Openings.{HasRefused}
+use Rattle.vm_cli.specs.Openings.{HasRefused, NamesAll}
 use Rattle.vm_cli.specs.Sessions.{HasCounted, HasMade, HasMadeNone, HasShown}
 use Rattle.vm_cli.specs.Words.{Wanted}
 use Rattle.vm_cli.specs.Words.Wanted.{check, copy, create, do_lines, draw, run}
@@ -68,12 +68,31 @@ module _ {D : Type 0} (members : Ghosts D) where
     pub refused : HasRefused (members.state found) (members.state back) why
     pub told : Tells Refused exit errors errors' (no_store_text why)
 
-  -- the job was to serve, count or draw the store in the file of this name, and no file changed: it is told that the place gave no disk of it, and
+  -- the job was to serve or draw the store in the file of this name, and no file changed: it is told that the place gave no disk of it, and
   -- none came back, or why its disk was refused
   pub record Declines (Denied : Type 0) (name : List ℕ) (exit : Exit) (old new : PlaceState) (errors errors' : Option (List ℕ)) : Type 0 where
     pub same : KeepsAll old new
     pub told : (Denied × KeepsCame old new × Tells Refused exit errors errors' (file_text (codes "altctl: cannot open ") name))
         ⊎ Refuses name exit old new errors errors'
+
+  -- the same of a check, and each damaged block that was found is named
+  pub record Faults (name : List ℕ) (exit : Exit) (old new : PlaceState) (errors errors' : Option (List ℕ)) : Type 0 where
+    pub found : D
+    pub back : D
+    pub held : old.files name ≡ Some (members.state found).now.contents
+    pub lent : WasLent name (members.state found) (members.state back) new
+    pub why : NoStore
+    pub damaged : Option (List Bool)
+    pub refused : HasRefused (members.state found) (members.state back) why
+    pub names : NamesAll (members.state found) (members.state back) why damaged
+    pub told : Tells Refused exit errors errors' (survey_text why damaged)
+
+  -- the job was to check the file of this name, and no file changed: it is told that the place gave no disk of it, and none came back, or why its
+  -- disk was refused, and which blocks are damaged
+  pub record FindsFault (Denied : Type 0) (name : List ℕ) (exit : Exit) (old new : PlaceState) (errors errors' : Option (List ℕ)) : Type 0 where
+    pub same : KeepsAll old new
+    pub told : (Denied × KeepsCame old new × Tells Refused exit errors errors' (file_text (codes "altctl: cannot open ") name))
+        ⊎ Faults name exit old new errors errors'
 
   -- the store in the file of this name was counted, and no file changed: at each moment its disk was as it was found, at most synced,
   -- and the numbers are those of the tree that the file showed
@@ -144,9 +163,10 @@ module _ {D : Type 0} (members : Ghosts D) (cached : Ghosts (CachedDisk D member
     -- so have words that give lines, whose input they are
     pub does : (name : Text) (lines : List ℕ) (in_memory : InMemory) (on : Manner) → IsJob words (do_lines name lines in_memory on)
         → (OpensFor on.on_command × (Answers name in_memory on exit old new (Some lines) before after ⊎ Declines members (Denied name) name exit old new errors errors')) ⊎ ((exit ≡ Stopped) × Untouched)
-    -- words that ask for a check have the store in the file counted, or it is said why not; either way files are only read
+    -- words that ask for a check have the store in the file counted, or it is said why not, and which blocks are damaged; either way files are
+    -- only read
     pub checks : (name : Text) → IsJob words (check name)
-        → Reads × (Counts members name exit old new before after ⊎ (Declines members (Denied name) name exit old new errors errors' ⊎ ((exit ≡ Stopped) × Untouched)))
+        → Reads × (Counts members name exit old new before after ⊎ (FindsFault members (Denied name) name exit old new errors errors' ⊎ ((exit ≡ Stopped) × Untouched)))
     -- words that ask for a drawing have the tree that the file showed drawn, or it is said why not; files are only read, too
     pub draws : (name : Text) → IsJob words (draw name)
         → Reads × (Draws members name exit old new before after ⊎ (Declines members (Denied name) name exit old new errors errors' ⊎ ((exit ≡ Stopped) × Untouched)))

@@ -1,12 +1,13 @@
 -- What becomes of a disk that is opened, and why it is refused.
-use Rattle.std.specs.Prelude.{◌≡◌, ◌⊎◌, ◌↔◌, ◌<◌, ℕ, length, true, false}
+use Rattle.std.specs.Prelude.{◌≡◌, ◌≢◌, ◌⊎◌, ◌↔◌, ◌<◌, ℕ, Bool, List, length, Option, None, Some, IsSomeAnd, true, false}
 use Rattle.vm_types.specs.declared.refusal.Refusal.{Refusal}
 use Rattle.vm_types.specs.declared.refusal.Refusal.TheVariants.{Damaged, Device, NotAStore}
 use Rattle.vm_types.specs.declared.sizes.TheConstants.{FIRST_DATA}
 use Rattle.vm_disk.specs.Disk.{Contents, DiskState, Goes, block}
 use Rattle.vm_disk.specs.Moments.{Throughout}
 use Rattle.vm_block.specs.Header.{IsEarlierHeader}
-use Rattle.vm_store.specs.Refused.{IsAtMostSynced, IsRefused, IsSynced}
+use Rattle.vm_store.specs.Recovery.{AllDamaged}
+use Rattle.vm_store.specs.Refused.{HasNoSlot, IsAtMostSynced, IsRefused, IsSynced}
 use Rattle.vm_sums.specs.Sums.{IsWithoutSum}
 use Rattle.vm_store.specs.Store.{disk_of, has_failed}
 use Rattle.vm_store.specs.declared.store.Store.{Store}
@@ -18,6 +19,12 @@ abbrev pub refusal_of : NoStore → Refusal
 refusal_of (Refused refusal) = refusal
 refusal_of Earlier = NotAStore
 refusal_of (WithoutSums n) = Damaged n
+
+-- the number of the damaged block that a refusal tells
+abbrev pub told_of : NoStore → Option ℕ
+told_of (Refused (Damaged n)) = Some n
+told_of (WithoutSums n) = Some n
+told_of why = None
 
 -- block n, one of a slot, has no checksum
 abbrev pub LacksSum : Contents → ℕ → Type 0
@@ -54,3 +61,10 @@ module _ {D : Type 0} {members : _} where
     pub opens : (members.state (disk_of store)).honest ≡ true → Opens old.now.contents store
     pub synced : (members.state (disk_of store)).honest ≡ true → IsSynced old.now (members.state (disk_of store)).now
     pub moments : (members.state (disk_of store)).honest ≡ true → Throughout old (members.state (disk_of store)) (IsAtMostSynced old.now)
+
+-- with a refusal as damaged each damaged block of the trees is named, unless it tells of the slot; with another none is, except that those
+-- found by then may be if the device failed
+pub record NamesAll (old new : DiskState) (why : NoStore) (damaged : Option (List Bool)) : Type 0 where
+  pub all : (first : ℕ) → refusal_of why ≡ Damaged first
+      → ((damaged ≡ None) × (new.honest ≡ true → HasNoSlot old.now.contents)) ⊎ IsSomeAnd damaged (λ marks. new.honest ≡ true → AllDamaged old.now.contents first marks)
+  pub none : ((first : ℕ) → refusal_of why ≢ Damaged first) → refusal_of why ≢ Device → damaged ≡ None

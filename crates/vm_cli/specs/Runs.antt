@@ -7,7 +7,7 @@ use Rattle.vm_disk.specs.declared.disk.Disk.{Ghosts}
 use Rattle.vm_cli.specs.CachedLines.{IsNotServed, IsServed}
 use Rattle.vm_cli.specs.Carried.{WritesStart}
 use Rattle.vm_cli.specs.Exits.{IsJob, Tells, TellsOn, file_text, no_store_text, status_of, stopped_text}
-use Rattle.vm_cli.specs.Files.{Answers, Counts, Declines, Does, Draws, Duplicates, Makes}
+use Rattle.vm_cli.specs.Files.{Answers, Counts, Declines, Does, Draws, Duplicates, FindsFault, Makes}
 use Rattle.vm_cli.specs.Places.{PlaceState}
 use Rattle.vm_cli.specs.Words.{Wanted}
 use Rattle.vm_cli.specs.Words.Wanted.{check, copy, create, do_lines, draw, run}
@@ -59,7 +59,8 @@ module _ {P D : Type 0} (own : Ghosts D) (state : P → PlaceState) (denied : P 
   abbrev pub CountsIn : Text → Exit → Option (List ℕ) → Option (List ℕ) → Option (List ℕ) → Option (List ℕ) → Type 0
   CountsIn name exit before after errors errors' =
       (state place').honest ≡ true
-      → Counts own name exit (state place) (state place') before after ⊎ DeclinesIn name exit errors errors'
+      → Counts own name exit (state place) (state place') before after
+      ⊎ FindsFault own (denied place' ≡ name ∷ denied place) name exit (state place) (state place') errors errors'
 
   -- the job was to draw the tree that a file showed
   abbrev pub DrawsIn : Text → Exit → Option (List ℕ) → Option (List ℕ) → Option (List ℕ) → Option (List ℕ) → Type 0

@@ -1,5 +1,5 @@
 -- What is told of what became of a disk.
-use Rattle.std.specs.Prelude.{◌≡◌, ◌⊎◌, ℕ, List, Option}
+use Rattle.std.specs.Prelude.{◌≡◌, ◌⊎◌, ℕ, Bool, List, Option}
 use Rattle.vm_types.specs.State.{Seen}
 use Rattle.vm_types.specs.declared.refusal.Refusal.{Refusal}
 use Rattle.vm_disk.specs.Disk.{DiskState}
@@ -9,8 +9,8 @@ use Rattle.vm_disk.specs.declared.disk.Disk.{Ghosts}
 use Rattle.vm_store.specs.NewStore.{IsFormatting, IsOfFormat}
 use Rattle.vm_cli.specs.DelayedLines.{IsRefusedLate, IsServedLate}
 use Rattle.vm_cli.specs.Branches.{tree_text}
-use Rattle.vm_cli.specs.Exits.{TellsOn, check_text, created_text, no_store_text, refused_text}
-use Rattle.vm_cli.specs.Openings.{HasRefused}
+use Rattle.vm_cli.specs.Exits.{TellsOn, check_text, created_text, no_store_text, refused_text, survey_text}
+use Rattle.vm_cli.specs.Openings.{HasRefused, NamesAll}
 use Rattle.vm_cli.specs.Sessions.{HasCounted, HasMade, HasMadeNone, HasServed, HasShown}
 use Rattle.vm_cli.specs.declared.program.Exit.{Exit}
 use Rattle.vm_cli.specs.declared.program.opening.NoStore.{NoStore}
@@ -55,6 +55,12 @@ module _ {D W : Type 0} (members : Ghosts D) (contents : W → Option (List ℕ)
   abbrev pub TellsRefusal : W → W → Type 0
   TellsRefusal writer writer' =
       (why : NoStore) × HasRefused (members.state old) (members.state result.1) why × TellsOn contents Refused result.0 writer writer' (no_store_text why)
+
+  -- the same, and which blocks are damaged
+  abbrev pub TellsDamage : W → W → Type 0
+  TellsDamage writer writer' =
+      (why : NoStore) × (damaged : Option (List Bool)) × HasRefused (members.state old) (members.state result.1) why × NamesAll (members.state old) (members.state result.1) why damaged
+      × TellsOn contents Refused result.0 writer writer' (survey_text why damaged)
 
 -- lines were answered over a disk, which came back with this end: what of the reader and the writer
 module _ {D R W : Type 0} (members : Ghosts D) (input_of : R → Option (List ℕ)) (contents : W → Option (List ℕ)) (on : Manner) (old : D) (result : Exit × D) where

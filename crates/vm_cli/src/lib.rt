@@ -1,9 +1,10 @@
 //! The program `altctl`: its words, the lines that it answers, and its files.
 //!
-//! It stands on vm_store, on vm_types, on vm_disk for files as disks, on vm_block for the header of a
-//! store, on `clap` for its words, and on `thiserror`, `itoa` and `memchr`. Its one promise: the job
-//! is the one that the words ask for, each line is read and each value written by their rules, and
-//! whatever files, input and output do, the program ends with a status of 0 to 4.
+//! It stands on vm_store, on vm_types, on vm_disk for files as disks, on vm_alloc for marks on
+//! damaged blocks, on vm_block for the header of a store, on `clap` for its words, and on
+//! `thiserror`, `itoa` and `memchr`. Its one promise: the job is the one that the words ask for,
+//! each line is read and each value written by their rules, and whatever files, input and output
+//! do, the program ends with a status of 0 to 4.
 #![tactic(auto)]
 
 mod answers;

@@ -3,6 +3,7 @@
 pub mod branches;
 pub mod cached_lines;
 pub mod console;
+pub mod damage;
 pub mod delayed_lines;
 pub mod file_lock;
 pub mod given;
@@ -27,8 +28,9 @@ use crate::talk::{Manner, OnCommand, OnRefusal, ServeFault, serve};
 use cached_lines::answer_lines_in_memory;
 use clap::Error;
 use clap::error::ErrorKind;
+use damage::unopened_whole;
 use file_lock::NoLock;
-use opening::{open_store, open_whole_store, unopened};
+use opening::{open_store, open_surveyed_store, unopened};
 use place::Place;
 use std::alloc::Global;
 use std::io::{Read, Write};
@@ -78,7 +80,7 @@ ghost use Rattle.std.specs.String.{string_bytes};
 ghost use Rattle.vm_cli.specs.Carried.{Begins, Gains};
 ghost use Rattle.vm_types.specs.declared.refusal.Refusal.{Refusal as RefusalValue};
 ghost use Rattle.vm_disk.specs.Between.{IfHonest};
-ghost use Rattle.vm_cli.specs.Told.{AnswersOver, FormatsOnly, MakesStore, TellsCount, TellsRefusal};
+ghost use Rattle.vm_cli.specs.Told.{AnswersOver, FormatsOnly, MakesStore, TellsCount, TellsDamage, TellsRefusal};
 ghost use Rattle.vm_cli.specs.Places.{FindsIn, WasHonest};
 ghost use Rattle.vm_cli.specs.Runs.{AnswersIn, AsksToWrite, CountsIn, DoesIn, LooksOnly, MakesIn, RunsIn, ServesIn, ServesRun, ServesWords, disks};
 ghost use Rattle.vm_cli.specs.Sessions.{end_of as end_of_talk};
@@ -373,11 +375,13 @@ fn check_disk<D: Disk, W: Write, F: Write>(
 ) -> (Exit, D)
     ensures ends { Checks W.contents F.contents result.0 output.old output.new errors.old errors.new }
     // The numbers are those of the tree that the disk shows, or it is reported why the disk was
-    // refused. At each moment nothing has changed, or everything is synced.
+    // refused, and which blocks are damaged. At each moment nothing has changed, or everything is
+    // synced.
     ensures told { TellsCount D.Disk W.contents disk result output.old output.new
-        ⊎ TellsRefusal D.Disk F.contents disk result errors.old errors.new }
+        ⊎ TellsDamage D.Disk F.contents disk result errors.old errors.new }
 {
-    match open_whole_store(alloc, disk) {
+    let mut damaged = None;
+    match open_surveyed_store(alloc, disk, &mut damaged) {
         Ok(store) => {
             let counts = count(alloc, &store);
             let disk = store.close();
@@ -386,7 +390,7 @@ fn check_disk<D: Disk, W: Write, F: Write>(
                 Err(refusal) => (refused(&refusal, errors), disk),
             }
         }
-        Err((disk, why)) => (unopened(&why, errors), disk),
+        Err((disk, why)) => (unopened_whole(&why, &damaged, errors), disk),
     }
 }
 

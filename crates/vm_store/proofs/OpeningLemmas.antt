@@ -1,9 +1,10 @@
 -- An opening: a sync, and reads that find a store or why there is none.
-use Rattle.std.proofs.Common.{◌≡◌, ◌≢◌, inl, inr, ⊎_elim, ℕ, ◌<◌, ◌≤◌, Bool, List, [], ◌∷◌, ◌++◌, length, replicate, false, Result, Ok, Err, IfOk, refl, sym, ap, ◌∙◌, subst, arith}
+use Rattle.std.proofs.Common.{◌≡◌, ◌≢◌, inl, inr, ⊎_elim, ℕ, ◌<◌, ◌≤◌, Bool, List, [], ◌∷◌, ◌++◌, length, replicate, true, false, Option, None, Some, Result, Ok, Err, IfErr, IfOk, refl, sym, ap, ◌∙◌, subst, arith}
 use Rattle.vm_types.specs.State.{Seen, State, opened}
 use Rattle.vm_types.specs.declared.refusal.Refusal.{Refusal}
 use Rattle.vm_types.specs.declared.refusal.Refusal.TheVariants as refusal
-use Rattle.vm_disk.specs.Disk.{Contents, DiskState, IsClean, Medium, Syncs}
+use Rattle.std.specs.Prelude.{IsSomeAnd}
+use Rattle.vm_disk.specs.Disk.{Contents, block, DiskState, IsClean, Medium, Syncs}
 use Rattle.vm_disk.specs.declared.disk.DeviceFault.{DeviceFault}
 use Rattle.vm_disk.specs.Moments.{Throughout, OnlyReads}
 use Rattle.vm_disk.proofs.MomentLemmas.{clean_sure, started, goes_on, same_medium}
@@ -26,7 +27,7 @@ use Rattle.vm_tree.specs.Faults.{refusal_of_list}
 use Rattle.vm_tree.specs.declared.faults.ListFault.{ListFault}
 use Rattle.vm_tree.specs.declared.faults.ListFault.TheVariants as list
 use Rattle.vm_tree.specs.declared.faults.TreeFault.TheVariants as fault
-use Rattle.vm_check.specs.Verification.{AreRoots, Found, HaveTrees}
+use Rattle.vm_check.specs.Verification.{AreRoots, Found, HaveTrees, TellsDamaged}
 use Rattle.vm_catalog.specs.Place.{selected}
 use Rattle.vm_catalog.specs.Catalog.{SlotAt, Names}
 use Rattle.vm_catalog.proofs.PublishLemmas.{names_slot}
@@ -39,11 +40,14 @@ use Rattle.vm_store.proofs.WiderLemmas.{rooted_wider}
 use Rattle.vm_store.specs.Filed.{Anywhere, Filed, Standing, reach, tree_of}
 use Rattle.vm_store.specs.Shown.{Shows, ShowsNothing}
 use Rattle.vm_check.specs.Trees.{AreTopped}
-use Rattle.vm_store.specs.Recovery.{AreRead, AreTops, PartsHold, PartsShow, PartsStandAs}
+use Rattle.vm_block.specs.Selector.{named_slot}
+use Rattle.vm_catalog.specs.declared.reader.Slot.{Slot}
+use Rattle.vm_check.specs.Damage.{AreDamaged}
+use Rattle.vm_store.specs.Recovery.{AllDamaged, AreRead, AreTops, PartsHold, PartsShow, PartsStandAs, TellsAll, TellsMaps}
 use Rattle.vm_store.specs.Rest.{IsSafe, Rests, spare_of}
 use Rattle.vm_store.specs.declared.store.parts.Parts.{Parts}
 use Rattle.vm_store.proofs.ShownLemmas.{shown_one}
-use Rattle.vm_store.specs.Refused.{IsStore, LacksMap, IsRefused, IsSynced, IsAtMostSynced}
+use Rattle.vm_store.specs.Refused.{HasNoSlot, IsStore, LacksMap, IsRefused, IsSynced, IsAtMostSynced}
 use Rattle.vm_store.proofs.StandingLemmas.{standing_in, standing_data}
 
 -- a sync leaves all as it was, or synced
@@ -333,3 +337,55 @@ pub freed_on : (old mid : Medium) (limit : ℕ) (slot_name : SlotName) (after : 
     → (s : State) (rests : Rests mid limit slot_name after committed working s) → free_count after ≡ spare_of rests
 freed_on old mid limit slot_name after committed working same free =
     subst (λ (m : Medium). (s : State) (rests : Rests m limit slot_name after committed working s) → free_count after ≡ spare_of rests) (sym same) free
+
+-- # What is told of damaged blocks
+
+-- nothing is told with a refusal that is none of a damaged block
+pub untold_maps : (old new : DiskState) (slot : Slot) (damaged : Option (List Bool)) (why : Refusal) → ((n : ℕ) → why ≡ refusal.Damaged n → ⊥) → TellsMaps old new slot damaged damaged why
+untold_maps old new slot damaged why other = record { all = λ n is. absurd (other n is); none = λ is. refl }
+
+pub untold : (old new : DiskState) (damaged : Option (List Bool)) (why : Refusal) → ((n : ℕ) → why ≡ refusal.Damaged n → ⊥) → TellsAll old new damaged damaged why
+untold old new damaged why other = record { all = λ n is. absurd (other n is); none = λ is. refl }
+
+-- a fault of the walk of a slot's maps
+pub maps_told : (old new : DiskState) (slot : Slot) (first : List Entry) (numbers lent : List ℕ) {damaged damaged' : Option (List Bool)} (fault : ListFault) → lent ≡ numbers → numbers ≡ numbers_of first → first ≡ slot.entries.items
+    → TellsDamaged {T = Unit {0}} (Err fault) sizes old new slot.blocks lent damaged damaged' → TellsMaps old new slot damaged damaged' (refusal_of_list fault)
+maps_told old new slot first numbers lent (list.Tree fault.Device) same are is told = record { all = λ n other. cc; none = λ other. told }
+maps_told old new slot first numbers lent {damaged} {damaged'} (list.Tree (fault.Damaged n)) same are is told = record {
+  all = λ m this.
+      let one : n ≡ m = cc in
+      subst (λ k. IsSomeAnd damaged' (λ marks. new.honest ≡ true → AreDamaged sizes old.now.contents slot.blocks (numbers_of slot.entries.items) k marks)) one
+      (subst (λ (ns : List ℕ). IsSomeAnd damaged' (λ marks. new.honest ≡ true → AreDamaged sizes old.now.contents slot.blocks ns n marks)) (same ∙ are ∙ ap numbers_of is) told);
+  none = λ other. absurd (other n refl);
+}
+maps_told old new slot first numbers lent list.Memory same are is told = record { all = λ n other. cc; none = λ other. told }
+
+-- what holds of a refusal
+pub err_so : {T E : Type 0} (result : Result T E) (P Q : E → Type 0) → ((e : E) → P e → Q e) → IfErr result P → IfErr result Q
+err_so (Ok x) P Q so p = tt
+err_so (Err e) P Q so p = so e p
+
+some_so : {X : Type 0} (o : Option X) (P Q : X → Type 0) → ((x : X) → P x → Q x) → IsSomeAnd o P → IsSomeAnd o Q
+some_so None P Q so p = absurd p
+some_so (Some x) P Q so p = so x p
+
+-- a refusal of the maps of the slot that the selector names, after a sync and reads
+pub all_told : (old before mid new : DiskState) (slot_name : SlotName) (slot : Slot) {damaged damaged' : Option (List Bool)} (why : Refusal) → (new.honest ≡ true → before.now.contents ≡ old.now.contents) → (new.honest ≡ true → mid.now ≡ before.now)
+    → (new.honest ≡ true → slot_name ≡ named_slot (block old.now.contents 1)) → (new.honest ≡ true → SlotAt before.now.contents slot_name slot.blocks slot.entries.items)
+    → TellsMaps mid new slot damaged damaged' why → TellsAll old new damaged damaged' why
+all_told old before mid new slot_name slot {damaged} {damaged'} why synced read in_use at told = record {
+  all = λ n is. inr (some_so damaged' (λ marks. new.honest ≡ true → AreDamaged sizes mid.now.contents slot.blocks (numbers_of slot.entries.items) n marks) (λ marks. new.honest ≡ true → AllDamaged old.now.contents n marks)
+      (λ marks are honest.
+      let same : mid.now.contents ≡ old.now.contents = ap (λ (m : Medium). m.contents) (read honest) ∙ synced honest in record {
+        limit = slot.blocks;
+        entries = slot.entries.items;
+        slot = subst (λ k. SlotAt old.now.contents k slot.blocks slot.entries.items) (in_use honest) (subst (λ (x : Contents). SlotAt x slot_name slot.blocks slot.entries.items) (synced honest) (at honest));
+        are = subst (λ (x : Contents). AreDamaged sizes x slot.blocks (numbers_of slot.entries.items) n marks) same (are honest);
+      })
+      (told.all n is));
+  none = told.none;
+}
+
+-- a refusal of the slot
+pub slot_told : (old new : DiskState) (damaged : Option (List Bool)) (why : Refusal) → (new.honest ≡ true → (n : ℕ) → why ≡ refusal.Damaged n → HasNoSlot old.now.contents) → TellsAll old new damaged damaged why
+slot_told old new damaged why no_slot = record { all = λ n is. inl (refl, λ honest. no_slot honest n is); none = λ is. refl }

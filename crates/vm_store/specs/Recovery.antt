@@ -1,7 +1,7 @@
 -- What an opening gives.
-use Rattle.std.specs.Prelude.{◌≡◌, ◌≢◌, ℕ, ◌≤◌, true, false, List, length, Result, Ok, Err, IfErr, IfOk, IsErrAnd}
+use Rattle.std.specs.Prelude.{◌≡◌, ◌≢◌, ◌⊎◌, ℕ, ◌≤◌, Bool, true, false, List, length, Option, Result, Ok, Err, IfErr, IfOk, IsErrAnd, IsSomeAnd}
 use Rattle.vm_types.specs.declared.refusal.Refusal.{Refusal}
-use Rattle.vm_types.specs.declared.refusal.Refusal.TheVariants.{Device, Memory}
+use Rattle.vm_types.specs.declared.refusal.Refusal.TheVariants.{Damaged, Device, Memory}
 use Rattle.vm_types.specs.State.{Seen, State, opened}
 use Rattle.vm_disk.specs.Disk.{Contents, DiskState, Goes, IsClean, Medium, block}
 use Rattle.vm_block.specs.Selector.{named_slot}
@@ -14,10 +14,11 @@ use Rattle.vm_tree.specs.Answers.{Lists}
 use Rattle.vm_tree.specs.declared.faults.ListFault.{ListFault}
 use Rattle.vm_tree.specs.declared.root.Root.{Root}
 use Rattle.vm_check.specs.Trees.{AreTopped}
+use Rattle.vm_check.specs.Damage.{AreDamaged}
 use Rattle.vm_check.specs.Verification.{HaveTrees}
 use Rattle.vm_store.specs.Sizes.{sizes}
 use Rattle.vm_store.specs.Versions.{numbers_of, versions_of}
-use Rattle.vm_store.specs.Refused.{IsRefused, IsStore, SyncsAtMost, SyncsUnless}
+use Rattle.vm_store.specs.Refused.{HasNoSlot, IsRefused, IsStore, SyncsAtMost, SyncsUnless}
 use Rattle.vm_store.specs.Shown.{Shows, ShowsNothing}
 use Rattle.vm_alloc.specs.Held.{free_count}
 use Rattle.vm_store.specs.Rest.{PartsStandFor, spare_of}
@@ -65,6 +66,26 @@ pub record AreRead (x : Contents) (parts : Parts) : Type 0 where
 abbrev pub IsTwice : {X : Type 0} → X → X × X → Type 0
 IsTwice x pair = (pair.0 ≡ x) × (pair.1 ≡ x)
 
+-- these blocks are damaged of the trees of the slot that the selector names, and no other that is reached by whole blocks; the first number
+-- that is told is this one
+pub record AllDamaged (x : Contents) (first : ℕ) (damaged : List Bool) : Type 0 where
+  pub limit : ℕ
+  pub entries : List Entry
+  pub slot : SlotAt x (selected x) limit entries
+  pub are : AreDamaged sizes x limit (numbers_of entries) first damaged
+
+-- a refusal as damaged tells of a slot, and nothing is left; or of trees, and marks on all damaged blocks are left. With another nothing is
+pub record TellsAll (old new : DiskState) (damaged damaged' : Option (List Bool)) (refusal : Refusal) : Type 0 where
+  pub all : (first : ℕ) → refusal ≡ Damaged first
+      → ((damaged' ≡ damaged) × (new.honest ≡ true → HasNoSlot old.now.contents)) ⊎ IsSomeAnd damaged' (λ marks. new.honest ≡ true → AllDamaged old.now.contents first marks)
+  pub none : ((first : ℕ) → refusal ≢ Damaged first) → damaged' ≡ damaged
+
+-- the same, of the maps of a slot
+pub record TellsMaps (old new : DiskState) (slot : Slot) (damaged damaged' : Option (List Bool)) (refusal : Refusal) : Type 0 where
+  pub all : (first : ℕ) → refusal ≡ Damaged first
+      → IsSomeAnd damaged' (λ marks. new.honest ≡ true → AreDamaged sizes old.now.contents slot.blocks (numbers_of slot.entries.items) first marks)
+  pub none : ((first : ℕ) → refusal ≢ Damaged first) → damaged' ≡ damaged
+
 -- what an opening finds on a disk that is honest after it
 module _ (old new : DiskState) where
   -- there is a store, and this is the slot that its selector names
@@ -76,6 +97,11 @@ module _ (old new : DiskState) where
   abbrev pub RefusesSlot : {T : Type 0} → Result T Refusal → SlotName → Type 0
   RefusesSlot result slot_name =
       new.honest ≡ true → IsStore old.now.contents → slot_name ≡ named_slot (block old.now.contents 1) → IfErr result (IsRefused old.now.contents)
+
+  -- a refusal as damaged says that it is no slot
+  abbrev pub LacksSlot : {T : Type 0} → Result T Refusal → SlotName → Type 0
+  LacksSlot result slot_name =
+      new.honest ≡ true → slot_name ≡ named_slot (block old.now.contents 1) → (n : ℕ) → result ≡ Err (Damaged n) → HasNoSlot old.now.contents
 
   -- so has a refusal of the maps of this slot
   abbrev pub RefusesMaps : {T : Type 0} → Result T Refusal → SlotName → Slot → Type 0

@@ -18,7 +18,7 @@ mod version;
 mod versions;
 
 pub use laws::one_tree_shown;
-pub use store::{Stop, Store, copy, format, open, open_whole};
+pub use store::{Stop, Store, copy, format, open, open_surveyed, open_whole};
 pub use tally::Tally;
 
 /// The maximum number of children of an inner block.

@@ -16,7 +16,7 @@ pub use command_list::Stop;
 pub use copies::copy;
 pub use new_store::format;
 use parts::Parts;
-pub use recovery::{open, open_whole};
+pub use recovery::{open, open_surveyed, open_whole};
 use std::alloc::Global;
 use vm_disk::Disk;
 use vm_types::{Answer, Command, Refusal};

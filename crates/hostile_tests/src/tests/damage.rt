@@ -1,16 +1,18 @@
 //! Disks that are changed by hand, and what opening them answers.
 mod pieces;
 mod rows;
+mod several;
 
 use super::BLOCKS;
 use super::image::Image;
 use pieces::{Piece, disk_of, set_block};
 use rows::{LEAF_ROWS, ROWS};
+use several::SEVERAL;
 use std::alloc::Global;
 use std::test::Fail;
 use testkit::Wrong;
 use vm_disk::MemDisk;
-use vm_store::{Store, format, open, open_whole};
+use vm_store::{Store, format, open, open_surveyed, open_whole};
 use vm_types::Refusal;
 
 /// A disk, opened.
@@ -66,6 +68,38 @@ fn openings(
     let whole = free_in(open_whole(alloc, disk_of(alloc, pieces)?));
     let inner = free_in(open(alloc, disk_of(alloc, pieces)?));
     Ok((whole, inner))
+}
+
+/// The numbers that are named of a disk with these pieces: the first, and then the others.
+fn named(alloc: Global, pieces: &[Piece]) -> Result<Vec<u32>, Wrong> {
+    let mut damaged = None;
+    let mut found = Vec::new(alloc);
+    let first = match open_surveyed(alloc, disk_of(alloc, pieces)?, &mut damaged) {
+        Ok(store) => {
+            let _disk = store.close();
+            return Ok(found);
+        }
+        Err((_, Refusal::Damaged(first))) => first,
+        Err(_) => return Err(Wrong::Device),
+    };
+    found.push(first)?;
+    if let Some(marks) = damaged {
+        for n in 0..marks.blocks() {
+            if n != first && marks.is_set(n) {
+                found.push(n)?;
+            }
+        }
+    }
+    Ok(found)
+}
+
+#[test]
+fn each_of_several_damages_is_named(rt: HostRuntime) -> Result<(), Fail> {
+    for (row, (pieces, due)) in SEVERAL.iter().enumerate() {
+        let found = named(rt.alloc(), pieces)?;
+        assert!(rt; found.as_slice() == *due, "row {row}: {found:?}");
+    }
+    Ok(())
 }
 
 #[test]

@@ -102,10 +102,12 @@ written. When to use it:
   - before a copy, so that a good copy is not replaced by one of a damaged store
   - after a restore
 
-A refusal is printed as by altctl run: 18 Damaged BLOCK names the block at which
-something wrong was found, 19 NotAStore says that the file is no store. If it is
-one of an earlier format, a second line says so. The free blocks are those that
-a run has free at its beginning.
+A refusal is printed as by altctl run: 18 Damaged BLOCK names the first block at
+which something wrong was found, 19 NotAStore says that the file is no store. If
+it is one of an earlier format, a second line says so. Each further block that
+is damaged is named by a line of its own, in rising order, except that what only
+damaged blocks lead to is not known. The free blocks are those that a run has
+free at its beginning.
 
 A session:
 

@@ -1,19 +1,20 @@
 //! Opening the store on a disk, and why that is refused.
-ghost use Rattle.std.specs.Prelude.{◌≡◌, true, IfErr, IfOk};
+ghost use Rattle.std.specs.Prelude.{◌≡◌, true, None, IfErr, IfOk};
 ghost use Rattle.vm_disk.specs.Disk.{Goes};
 ghost use Rattle.vm_disk.specs.Moments.{OnlyReads};
 ghost use Rattle.vm_store.specs.Recovery.{OpensAs, OpensWhole};
 ghost use Rattle.vm_cli.specs.Exits.{RefusesOn, earlier_text, no_store_text, without_sums_text};
-ghost use Rattle.vm_cli.specs.Openings.{HasOpened, HasRefused, IsLookedAt, KeepsRefusal, TellsEarlier, refusal_of};
+ghost use Rattle.vm_cli.specs.Openings.{HasOpened, HasRefused, IsLookedAt, KeepsRefusal, NamesAll, TellsEarlier, refusal_of};
 
 use crate::answers::reply::push_refusal;
 use crate::answers::text::Text;
 use crate::program::{Exit, refused, say, unless_fault};
 use std::alloc::Global;
 use std::io::Write;
+use vm_alloc::Marks;
 use vm_block::is_earlier_header;
 use vm_disk::Disk;
-use vm_store::{Store, open, open_whole};
+use vm_store::{Store, open, open_surveyed, open_whole};
 use vm_sums::is_without_sum;
 use vm_types::{BlockNumber, FIRST_DATA, Refusal};
 
@@ -51,6 +52,27 @@ pub(crate) fn open_whole_store<D: Disk>(alloc: Global, disk: D) -> Result<Store<
     ensures refused { IfErr result (λ e. HasRefused (D.state disk) (D.state e.0) e.1) }
 {
     match open_whole(alloc, disk) {
+        Ok(store) => Ok(store),
+        Err((mut disk, refusal)) => {
+            let why = why_refused(&mut disk, refusal);
+            Err((disk, why))
+        }
+    }
+}
+
+/// Opens the store on a disk as `open_whole_store` does, and goes on behind a damaged block: marks on
+/// the damaged blocks of the trees are left.
+pub(crate) fn open_surveyed_store<D: Disk>(
+    alloc: Global,
+    disk: D,
+    damaged: &mut Option<Marks>,
+) -> Result<Store<D>, (D, NoStore)>
+    requires { damaged.old ≡ None }
+    ensures opened { IfOk result (HasOpened OpensWhole (D.state disk)) }
+    ensures refused { IfErr result (λ e. HasRefused (D.state disk) (D.state e.0) e.1) }
+    ensures names { IfErr result (λ e. NamesAll (D.state disk) (D.state e.0) e.1 damaged.new) }
+{
+    match open_surveyed(alloc, disk, damaged) {
         Ok(store) => Ok(store),
         Err((mut disk, refusal)) => {
             let why = why_refused(&mut disk, refusal);

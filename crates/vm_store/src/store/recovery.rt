@@ -1,5 +1,5 @@
 //! Opening a store.
-ghost use Rattle.std.specs.Prelude.{◌≡◌, ◌*◌, ◌≤◌, length, true, vec_capacity, IfOk, IfErr, OnOk, IfSome};
+ghost use Rattle.std.specs.Prelude.{◌≡◌, ◌≢◌, ◌*◌, ◌≤◌, ℕ, length, true, vec_capacity, IfOk, IfErr, OnOk, IfSome};
 ghost use Rattle.vm_disk.specs.Disk.{Goes};
 ghost use Rattle.vm_disk.specs.Moments.{OnlyReads};
 ghost use Rattle.vm_block.specs.Slot.{SlotFits};
@@ -8,11 +8,11 @@ ghost use Rattle.vm_store.specs.Refused.{SyncsAtMost, SyncsUnless, IsRefused};
 ghost use Rattle.vm_tree.specs.BlockReads.{Finds};
 ghost use Rattle.vm_tree.specs.Calls.{OnlyLists};
 ghost use Rattle.vm_check.specs.Trees.{AreTopped};
-ghost use Rattle.vm_check.specs.Verification.{Found, HaveTrees};
-ghost use Rattle.vm_store.specs.Recovery.{AreRead, FindsSlot, IsOpening, IsTwice, OpensAs, OpensWhole, PartsShow, ReadsMaps, ReadsWhole, RefusesMaps, RefusesSlot, ShowsSome, TopsRead, WhereTrees, disk_in};
+ghost use Rattle.vm_check.specs.Verification.{Found, HaveTrees, TellsDamaged};
+ghost use Rattle.vm_store.specs.Recovery.{AreRead, FindsSlot, IsOpening, IsTwice, LacksSlot, OpensAs, OpensWhole, PartsShow, ReadsMaps, ReadsWhole, RefusesMaps, RefusesSlot, ShowsSome, TellsAll, TellsMaps, TopsRead, WhereTrees, disk_in};
 ghost use Rattle.vm_store.specs.Sizes.{sizes};
 ghost use Rattle.vm_types.specs.declared.sizes.TheConstants.{MAX_BLOCKS};
-ghost use Rattle.vm_store.specs.declared.store.recovery.Walk.TheVariants.{Inner, Whole};
+ghost use Rattle.vm_store.specs.declared.store.recovery.Walk.TheVariants.{Inner, Survey};
 ghost use Rattle.vm_store.specs.Versions.{numbers_of, versions_of};
 
 use super::Store;
@@ -23,7 +23,7 @@ use std::alloc::Global;
 use vm_alloc::{Baseline, Held, Marks};
 use vm_block::{Entry, SlotName};
 use vm_catalog::{LoadFault, Slot, first_block, load, slot_in_use};
-use vm_check::{find_trees, verify};
+use vm_check::{find_trees, survey, verify};
 use vm_disk::Disk;
 use vm_tree::{ListFault, Root};
 use vm_types::{MAX_VERSIONS, MIN_BLOCKS, Refusal};
@@ -35,6 +35,8 @@ enum Walk {
     Inner,
     /// Every block.
     Whole,
+    /// Every block that is reached by whole ones, so that each damaged one is found.
+    Survey,
 }
 
 /// Syncs, and tells whether there is a store, and which slot its selector names.
@@ -44,6 +46,7 @@ fn find_slot<D: Disk>(disk: &mut D) -> Result<SlotName, Refusal>
     ensures moments { SyncsAtMost (D.state disk.old) (D.state disk.new) }
     ensures synced { SyncsUnless (result ≡ Err Refusal.Device) (D.state disk.old) (D.state disk.new) }
     ensures found { FindsSlot (D.state disk.old) (D.state disk.new) result }
+    ensures kind { (n : ℕ) → result ≢ Err (Refusal.Damaged n) }
     ensures refused { (D.state disk.new).honest ≡ true
         → IfErr result (IsRefused (D.state disk.old).now.contents) }
 {
@@ -71,6 +74,7 @@ fn load_slot<D: Disk>(alloc: Global, disk: &mut D, slot_name: SlotName) -> Resul
     ensures inside { IfOk result (λ slot. slot.blocks ≤ (D.state disk.old).blocks) }
     ensures found { LoadsHeld result (D.state disk.old) (D.state disk.new) slot_name }
     ensures refused { RefusesSlot (D.state disk.old) (D.state disk.new) result slot_name }
+    ensures none { LacksSlot (D.state disk.old) (D.state disk.new) result slot_name }
 {
     match load(alloc, disk, slot_name) {
         Ok(slot) => {
@@ -121,6 +125,7 @@ fn walk_trees<D: Disk>(
     blocks: u32,
     numbers: &[u32],
     walk: Walk,
+    damaged: &mut Option<Marks>,
 ) -> Result<(Vec<Root>, Marks), ListFault>
     requires enough { MIN_BLOCKS ≤ blocks }
     requires few { blocks ≤ MAX_BLOCKS }
@@ -132,12 +137,15 @@ fn walk_trees<D: Disk>(
         (λ x found. Found sizes x blocks numbers.now found.0.items found.1) }
     ensures topped { walk ≡ Inner → Finds result (D.state disk.old) (D.state disk.new)
         (λ x found. AreTopped x blocks found.0.items) }
-    ensures whole { walk ≡ Whole → Finds result (D.state disk.old) (D.state disk.new)
+    ensures whole { walk ≢ Inner → Finds result (D.state disk.old) (D.state disk.new)
         (λ x found. HaveTrees sizes x blocks numbers.now) }
+    ensures damaged { walk ≡ Survey → TellsDamaged result sizes
+        (D.state disk.old) (D.state disk.new) blocks numbers.now damaged.old damaged.new }
 {
     match walk {
         Walk::Inner => find_trees(alloc, disk, blocks, numbers),
         Walk::Whole => verify::<D, FAN, LEVELS>(alloc, disk, blocks, numbers),
+        Walk::Survey => survey::<D, FAN, LEVELS>(alloc, disk, blocks, numbers, damaged),
     }
 }
 
@@ -148,6 +156,7 @@ fn read_maps<D: Disk>(
     slot_name: SlotName,
     slot: Slot,
     walk: Walk,
+    damaged: &mut Option<Marks>,
 ) -> Result<Parts, Refusal>
     requires inside { slot.blocks ≤ (D.state disk.old).blocks }
     requires fits { SlotFits slot.blocks slot.entries.items }
@@ -158,8 +167,10 @@ fn read_maps<D: Disk>(
     ensures inside { IfOk result (λ parts. parts.blocks ≤ (D.state disk.old).blocks) }
     ensures holds { ReadsMaps (D.state disk.old) (D.state disk.new) result slot_name slot }
     ensures topped { walk ≡ Inner → TopsRead (D.state disk.old) (D.state disk.new) result slot }
-    ensures whole { walk ≡ Whole → ReadsWhole (D.state disk.old) (D.state disk.new) result slot }
+    ensures whole { walk ≢ Inner → ReadsWhole (D.state disk.old) (D.state disk.new) result slot }
     ensures refused { RefusesMaps (D.state disk.old) (D.state disk.new) result slot_name slot }
+    ensures damaged { walk ≡ Survey
+        → IfErr result (TellsMaps (D.state disk.old) (D.state disk.new) slot damaged.old damaged.new) }
 {
     let Slot { blocks, entries } = slot;
     let (Some(numbers), Ok(mut held), Ok(before)) = (
@@ -169,7 +180,7 @@ fn read_maps<D: Disk>(
     ) else {
         return Err(Refusal::Memory);
     };
-    let (roots, marks) = walk_trees(alloc, disk, blocks, &numbers, walk)?;
+    let (roots, marks) = walk_trees(alloc, disk, blocks, &numbers, walk, damaged)?;
     held.replace(&marks);
     let Some((committed, working)) = versions_twice(alloc, &entries, &roots) else {
         return Err(Refusal::Memory);
@@ -191,7 +202,12 @@ fn read_maps<D: Disk>(
 }
 
 /// Everything that is known of the store on a disk.
-fn find_store<D: Disk>(alloc: Global, disk: &mut D, walk: Walk) -> Result<Parts, Refusal>
+fn find_store<D: Disk>(
+    alloc: Global,
+    disk: &mut D,
+    walk: Walk,
+    damaged: &mut Option<Marks>,
+) -> Result<Parts, Refusal>
     ensures any { Goes (result ≡ Err Refusal.Device) (D.state disk.old) (D.state disk.new) }
     ensures inside { IfOk result (λ parts. parts.blocks ≤ (D.state disk.old).blocks) }
     ensures moments { SyncsAtMost (D.state disk.old) (D.state disk.new) }
@@ -200,25 +216,34 @@ fn find_store<D: Disk>(alloc: Global, disk: &mut D, walk: Walk) -> Result<Parts,
         → IfOk result (PartsShow (D.state disk.new).now) }
     ensures read { walk ≡ Inner → (D.state disk.new).honest ≡ true
         → IfOk result (AreRead (D.state disk.new).now.contents) }
-    ensures whole { walk ≡ Whole → (D.state disk.new).honest ≡ true
+    ensures whole { walk ≢ Inner → (D.state disk.new).honest ≡ true
         → IfOk result (λ _. ShowsSome (D.state disk.new).now.contents) }
     ensures refused { (D.state disk.new).honest ≡ true
         → IfErr result (IsRefused (D.state disk.old).now.contents) }
+    ensures damaged { walk ≡ Survey
+        → IfErr result (TellsAll (D.state disk.old) (D.state disk.new) damaged.old damaged.new) }
 {
     let slot_name = find_slot(disk)?;
     let slot = load_slot(alloc, disk, slot_name)?;
-    read_maps(alloc, disk, slot_name, slot, walk)
+    read_maps(alloc, disk, slot_name, slot, walk, damaged)
 }
 
 /// The store on a disk, or the disk with the reason why there is none.
-fn open_by<D: Disk>(alloc: Global, mut disk: D, walk: Walk) -> Result<Store<D>, (D, Refusal)>
+fn open_by<D: Disk>(
+    alloc: Global,
+    mut disk: D,
+    walk: Walk,
+    damaged: &mut Option<Marks>,
+) -> Result<Store<D>, (D, Refusal)>
     ensures opening { IsOpening (D.state disk) result }
     ensures opened { walk ≡ Inner → (D.state (disk_in result)).honest ≡ true
         → IfOk result (OpensAs (D.state disk).now.contents) }
-    ensures whole { walk ≡ Whole → (D.state (disk_in result)).honest ≡ true
+    ensures whole { walk ≢ Inner → (D.state (disk_in result)).honest ≡ true
         → IfOk result (OpensWhole (D.state disk).now.contents) }
+    ensures damaged { walk ≡ Survey → IfErr result
+        (λ e. TellsAll (D.state disk) (D.state e.0) damaged.old damaged.new e.1) }
 {
-    match find_store(alloc, &mut disk, walk) {
+    match find_store(alloc, &mut disk, walk, damaged) {
         Ok(parts) => Ok(Store {
             disk,
             alloc,
@@ -242,12 +267,13 @@ pub fn open<D: Disk>(alloc: Global, disk: D) -> Result<Store<D>, (D, Refusal)>
     ensures opened { (D.state (disk_in result)).honest ≡ true
         → IfOk result (OpensAs (D.state disk).now.contents) }
 {
-    open_by(alloc, disk, Walk::Inner)
+    let mut damaged = None;
+    open_by(alloc, disk, Walk::Inner, &mut damaged)
 }
 
 /// Opens the store on a disk as `open` does, and reads every block of its trees: it refuses a disk on
-/// which any of them is wrong. It takes 24 bytes of memory for each block of the store, until it
-/// returns.
+/// which any of them is wrong. It takes 24 bytes and two bits of memory for each block of the store,
+/// until it returns.
 pub fn open_whole<D: Disk>(alloc: Global, disk: D) -> Result<Store<D>, (D, Refusal)>
     ensures opening { IsOpening (D.state disk) result }
 
@@ -255,5 +281,27 @@ pub fn open_whole<D: Disk>(alloc: Global, disk: D) -> Result<Store<D>, (D, Refus
     ensures opened { (D.state (disk_in result)).honest ≡ true
         → IfOk result (OpensWhole (D.state disk).now.contents) }
 {
-    open_by(alloc, disk, Walk::Whole)
+    let mut damaged = None;
+    open_by(alloc, disk, Walk::Whole, &mut damaged)
+}
+
+/// Opens the store on a disk as `open_whole` does, and goes on behind a damaged block. If it refuses
+/// the disk as Damaged, and the slot in use is none that is damaged, it leaves marks on the damaged
+/// blocks of its trees; otherwise it leaves `damaged` as it is.
+pub fn open_surveyed<D: Disk>(
+    alloc: Global,
+    disk: D,
+    damaged: &mut Option<Marks>,
+) -> Result<Store<D>, (D, Refusal)>
+    // It answers what `open_whole` does.
+    ensures opening { IsOpening (D.state disk) result }
+    ensures opened { (D.state (disk_in result)).honest ≡ true
+        → IfOk result (OpensWhole (D.state disk).now.contents) }
+
+    // Each marked block is damaged, and so is each other one that is reached from the roots of the
+    // slot in use by whole blocks.
+    ensures damaged { IfErr result
+        (λ e. TellsAll (D.state disk) (D.state e.0) damaged.old damaged.new e.1) }
+{
+    open_by(alloc, disk, Walk::Survey, damaged)
 }

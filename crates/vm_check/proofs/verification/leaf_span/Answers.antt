@@ -1,7 +1,7 @@
 use Rattle.std.proofs.Common.{◌≡◌, ◌-◌, [], length, get_or, ap, ◌∙◌, subst, arith}
 use Rattle.vm_types.specs.declared.key.Key.{Key}
 use Rattle.vm_block.specs.Leaf.{Record}
-use Rattle.vm_check.specs.Visits.{IsHighest}
+use Rattle.vm_check.specs.Keys.{IsHighest}
 use Rattle.vm_check.proofs.SpanLemmas.{highest_last}
 use Rattle.vm_check.proofs.verification.leaf_span.Goals as goal
 

@@ -1,4 +1,5 @@
-use Rattle.std.proofs.Common.{◌∙◌, ap, inl, inr, sym, Some}
+use Rattle.std.proofs.Common.{◌∙◌, ap, inl, inr, refl, sym, Some}
+use Rattle.vm_cli.specs.Exits.{survey_text}
 use Rattle.vm_cli.specs.Places.{KeepsOthers, WasLent}
 use Rattle.vm_cli.proofs.FilesLemmas.{keeps_all, synced_alone}
 use Rattle.vm_cli.proofs.program.check.Goals as goal
@@ -28,8 +29,8 @@ returns-clause-files g c honest =
             told = counted.4;
           })
       | inr refused ↦
-          let held = found.held (refused.1.goes.earlier back.honest) in
-          let same = back.holds ∙ ap Some (synced_alone _ _ (refused.1.moments back.honest)) ∙ sym held.0 in
+          let held = found.held (refused.2.goes.earlier back.honest) in
+          let same = back.holds ∙ ap Some (synced_alone _ _ (refused.2.moments back.honest)) ∙ sym held.0 in
           inr (record {
             same = keeps_all c.args.file.now before after others same;
             told = inr (record {
@@ -38,11 +39,19 @@ returns-clause-files g c honest =
               held = held.0;
               lent = lent;
               why = refused.0;
-              refused = refused.1;
-              told = refused.2;
+              damaged = refused.1;
+              refused = refused.2;
+              names = refused.3;
+              told = refused.4;
             });
           })
     ]
 
 pub returns-in_default-clause-files : goal.returns-in_default-clause-files
 returns-in_default-clause-files g c honest = inr (record { same = (c.look.ensures.honest honest).same; told = inl (c.look.ensures.none c.in_default.is, (c.look.ensures.honest honest).same_came, c.no_file.ensures) })
+
+pub returns-clause-says : goal.returns-clause-says
+returns-clause-says g c = elim c.check_disk-exit.ensures.ends [
+  | inl counted ↦ inl counted
+  | inr refused ↦ inr (refused.0, (survey_text refused.1.0 refused.1.1, inr (refused.1.0, refused.1.1, refl), refused.1.2))
+]

@@ -1,4 +1,4 @@
-use Rattle.std.proofs.Common.{◌≡◌, ◌≢◌, true, inl, inr, refl, sym, subst, ap, ◌∙◌, Err}
+use Rattle.std.proofs.Common.{◌≡◌, ◌≢◌, true, None, inl, inr, refl, sym, subst, ap, ◌∙◌, Err}
 use Rattle.vm_types.specs.declared.refusal.Refusal.TheVariants.{Device}
 use Rattle.vm_types.specs.State.{opened}
 use Rattle.vm_disk.specs.Disk.{Goes}
@@ -6,7 +6,7 @@ use Rattle.vm_disk.specs.Moments.{Throughout}
 use Rattle.vm_disk.proofs.GoesLemmas.{goes_at}
 use Rattle.vm_store.specs.Refused.{IsAtMostSynced, IsRefused}
 use Rattle.vm_cli.specs.declared.program.opening.NoStore.TheVariants.{Refused}
-use Rattle.vm_cli.proofs.OpeningLemmas.{memory_untold}
+use Rattle.vm_cli.proofs.OpeningLemmas.{memory_unnamed, memory_untold}
 use Rattle.vm_cli.proofs.CountingLemmas.{counted_shown, is_err, is_ok}
 use Rattle.vm_cli.proofs.program.check_disk.Goals as goal
 
@@ -32,14 +32,15 @@ returns-in-Ok-counts-clause-told g c =
       c.counted.ensures,
     )
 
-pub returns-in-Err-counts-clause-told : goal.returns-in-Err-counts-clause-told
-returns-in-Err-counts-clause-told g c =
+pub returns-in-Ok-clause-told : goal.returns-in-Ok-clause-told
+returns-in-Ok-clause-told g c =
     let old = g.D.Disk.state c.args.disk in
     let refusal = c.in-Err-counts.refusal in
     let there = λ (honest : (g.D.Disk.state c.close-disk.result).honest ≡ true). subst (λ d. (g.D.Disk.state d).honest ≡ true) c.close-disk.ensures.disk honest in
     let never : refusal ≢ Device = λ is. c.count-counts.ensures.never c.in-Ok.ensures.opened.well (c.in-Err-counts.is ∙ ap Err is) in
     inr (
       Refused refusal,
+      None,
       record {
         goes = subst (λ d. Goes (refusal ≡ Device) old (g.D.Disk.state d)) (sym c.close-disk.ensures.disk) (goes_at _ _ _ _ c.in-Ok.ensures.opened.goes (λ is. absurd (never is)));
         why = λ honest.
@@ -52,6 +53,9 @@ returns-in-Err-counts-clause-told g c =
             memory_untold old.now.contents refusal memory;
         moments = λ honest. subst (λ d. Throughout old (g.D.Disk.state d) (IsAtMostSynced old.now)) (sym c.close-disk.ensures.disk) (c.in-Ok.ensures.opened.moments (there honest));
       },
+      memory_unnamed old (g.D.Disk.state c.close-disk.result) refusal (λ honest.
+          let opens = c.in-Ok.ensures.opened.opens (there honest) in
+          is_err _ c.count-counts.result _ c.in-Err-counts.is (c.count-counts.ensures.refused c.in-Ok.ensures.opened.well (opened opens.seen) opens.stands.holds)),
       c.refused.ensures,
     )
 
@@ -60,5 +64,5 @@ returns-in-Ok-counts-clause-ends g c =
     let counts = c.in-Ok-counts.counts in
     inl (refl, (counts.alternatives, counts.checkpoints, counts.free, c.counted.ensures))
 
-pub returns-in-Err-counts-clause-ends : goal.returns-in-Err-counts-clause-ends
-returns-in-Err-counts-clause-ends g c = inr (refl, (Refused c.in-Err-counts.refusal, c.refused.ensures))
+pub returns-in-Ok-clause-ends : goal.returns-in-Ok-clause-ends
+returns-in-Ok-clause-ends g c = inr (refl, (Refused c.in-Err-counts.refusal, None, c.refused.ensures))

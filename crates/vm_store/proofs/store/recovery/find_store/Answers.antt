@@ -1,11 +1,11 @@
-use Rattle.std.proofs.Common.{IfErr, subst, sym, ap, ◌∙◌, arith}
+use Rattle.std.proofs.Common.{◌≡◌, true, Err, IfErr, subst, sym, ap, ◌∙◌, arith}
 use Rattle.vm_disk.specs.Disk.{Contents, block, Medium}
 use Rattle.vm_disk.proofs.MomentLemmas.{then_reads, same_medium}
 use Rattle.vm_block.specs.Selector.{named_slot}
 use Rattle.vm_catalog.specs.Catalog.{SlotAt}
 use Rattle.vm_tree.proofs.Looking.{passed_on}
-use Rattle.vm_store.specs.Refused.{IsStore, IsRefused}
-use Rattle.vm_store.proofs.OpeningLemmas.{all_read, ok_so, ok_with, parts_show, settled_then, trees_under}
+use Rattle.vm_store.specs.Refused.{HasNoSlot, IsStore, IsRefused}
+use Rattle.vm_store.proofs.OpeningLemmas.{all_read, all_told, err_so, ok_so, ok_with, parts_show, settled_then, slot_told, trees_under, untold}
 use Rattle.vm_store.proofs.store.recovery.find_store.Goals as goal
 
 pub returns-clause-moments : goal.returns-clause-moments
@@ -75,3 +75,25 @@ returns-in_err-slot-clause-refused g c honest =
     rw (passed_on _ c.from_residual-in_err-slot.ensures.1)
     (subst (λ (x : Contents). IsRefused x c.in_err-slot.field-0.0) synced.same
     (c.in_err-slot.ensures.refused honest (subst IsStore (sym synced.same) found.0) (found.1 ∙ ap (λ x. named_slot (block x 1)) (sym synced.same))))
+
+pub returns-clause-damaged : goal.returns-clause-damaged
+returns-clause-damaged g c survey =
+    let synced = λ (honest : (g.D.Disk.state c.read_maps.new.disk).honest ≡ true). (c.in_ok-slot_name.ensures.synced (c.load_slot.ensures.any.earlier (c.read_maps.ensures.any.earlier honest)) (λ e. cc)).same in
+    err_so c.read_maps.result _ _ (λ refusal told. all_told (g.D.Disk.state c.args.disk.now) (g.D.Disk.state c.find_slot.new.disk) (g.D.Disk.state c.load_slot.new.disk) (g.D.Disk.state c.read_maps.new.disk) _ _ refusal
+    synced
+    (λ honest. same_medium _ _ (c.load_slot.ensures.reads (c.read_maps.ensures.any.earlier honest)))
+    (λ honest. (c.in_ok-slot_name.ensures.found (c.load_slot.ensures.any.earlier (c.read_maps.ensures.any.earlier honest))).1)
+    (λ honest. c.in_ok-slot.ensures.found (c.read_maps.ensures.any.earlier honest)) told)
+    (c.read_maps.ensures.damaged survey)
+
+pub returns-in_err-slot-clause-damaged : goal.returns-in_err-slot-clause-damaged
+returns-in_err-slot-clause-damaged g c survey =
+    rw (passed_on _ c.from_residual-in_err-slot.ensures.1)
+    (slot_told _ _ _ c.in_err-slot.field-0.0 (λ honest n is.
+    let synced = c.in_ok-slot_name.ensures.synced (c.in_err-slot.ensures.any.earlier honest) (λ e. cc) in
+    let found = c.in_ok-slot_name.ensures.found (c.in_err-slot.ensures.any.earlier honest) in
+    subst (λ (x : Contents). HasNoSlot x) synced.same (c.in_err-slot.ensures.none honest (found.1 ∙ ap (λ x. named_slot (block x 1)) (sym synced.same)) n (ap Err is))))
+
+pub returns-in_err-slot_name-clause-damaged : goal.returns-in_err-slot_name-clause-damaged
+returns-in_err-slot_name-clause-damaged g c survey =
+    rw (passed_on _ c.from_residual.ensures.1) (untold _ _ _ _ (λ n is. c.in_err-slot_name.ensures.kind n (ap Err is)))

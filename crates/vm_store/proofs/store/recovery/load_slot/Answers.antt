@@ -13,3 +13,8 @@ returns-in-Err-Damaged-clause-refused g c honest store in_use =
         λ limit es slot. subst (λ e. Loads (Err e) limit es) c.in-Err-Damaged.field-0-is (c.in-Err-Damaged.ensures.only honest limit es (subst (λ b. SlotAt x b limit es) (sym in_use) slot)),
       ),
     )
+
+pub returns-in-Err-Damaged-clause-none : goal.returns-in-Err-Damaged-clause-none
+returns-in-Err-Damaged-clause-none g c honest in_use n is limit es slot =
+    let x = (g.D.Disk.state c.args.disk.now).now.contents in
+    subst (λ e. Loads (Err e) limit es) c.in-Err-Damaged.field-0-is (c.in-Err-Damaged.ensures.only honest limit es (subst (λ b. SlotAt x b limit es) (sym in_use) slot))

@@ -11,7 +11,7 @@ use Rattle.vm_store.specs.Rest.{Rests}
 use Rattle.vm_store.proofs.StandingLemmas.{standing_in}
 use Rattle.vm_store.specs.Shown.{Shows}
 use Rattle.vm_store.proofs.AddedLemmas.{roots_count}
-use Rattle.vm_store.proofs.OpeningLemmas.{freed, freed_on, found_as_named, found_here, found_alike, trees_back, trees_here, rests_named, shows_found, rests_found, fault_refused}
+use Rattle.vm_store.proofs.OpeningLemmas.{freed, freed_on, found_as_named, found_here, found_alike, trees_back, trees_here, rests_named, shows_found, rests_found, fault_refused, maps_told, untold_maps}
 use Rattle.vm_store.proofs.SeriesLemmas.{holds_alone}
 use Rattle.vm_store.proofs.store.recovery.read_maps.Goals as goal
 
@@ -83,3 +83,14 @@ returns-in_err-roots-clause-refused g c honest store in_use slot =
     rw (passed_on _ c.from_residual.ensures.1)
     (fault_refused m c.args.slot.blocks c.args.slot_name c.args.slot.entries.items store in_use slot inside c.in_err-roots.field-0.0
     (λ trees. fault_lists c.in_err-roots.field-0.0 _ _ (c.in_err-roots.ensures.found honest (trees_here _ _ _ _ _ _ c.deref-2.ensures.value c.in-Some-Ok-Ok.ensures c.deref.ensures.value trees))))
+
+pub returns-in_err-roots-clause-damaged : goal.returns-in_err-roots-clause-damaged
+returns-in_err-roots-clause-damaged g c survey =
+    rw (passed_on _ c.from_residual.ensures.1)
+    (maps_told _ _ _ _ _ _ c.in_err-roots.field-0.0 c.deref-2.ensures.value c.in-Some-Ok-Ok.ensures c.deref.ensures.value (c.in_err-roots.ensures.damaged survey))
+
+pub returns-in_default-clause-damaged : goal.returns-in_default-clause-damaged
+returns-in_default-clause-damaged g c survey = untold_maps _ _ _ _ _ (λ n is. cc)
+
+pub returns-in_default-versions_twice-clause-damaged : goal.returns-in_default-versions_twice-clause-damaged
+returns-in_default-versions_twice-clause-damaged g c survey = record { all = λ n is. cc; none = λ other. c.in_ok-roots.ensures.damaged survey }
