@@ -72,8 +72,9 @@ def typed(words):
 
 
 def model_of(form):
-    """The model after the lines of an old store. All of them are carried out."""
-    store = Store(BLOCKS)
+    """The model after the lines of an old store. All of them are carried out, by a program that changes no block in its
+    place."""
+    store = Store(BLOCKS, copies=True)
     store.open()
     for words in lines_of(form):
         assert store.apply(words).startswith("ok"), words

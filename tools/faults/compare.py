@@ -29,6 +29,8 @@ ENTRY, LEAF_ROOM, LONGEST = 12, 4080, 4000
 CHILD, FAN = 14, 256
 # So many blocks have to be spare for each record that is changed.
 MARGIN = 17
+# For so many blocks of the store one change has to come before the set of held blocks is copied again.
+COPIED = 16384
 LETTERS = {*b"ABCDEFGHIJKLMNOPQRSTUVWXYZabcdefghijklmnopqrstuvwxyz0123456789_-."}
 NAMES = "NoSuchAlternative AlternativeExists NoSuchCheckpoint CheckpointExists NoSuchRecord IsTop HasChildren"
 NAMES += " NotMerged Unsettled"
@@ -111,8 +113,9 @@ class Store:
     """A file: blocks are bytes with their sums, and trees are decoded from them anew for each use. The file may have
     more blocks than the store, which has as many as the last commit said, and in a session those of its growths."""
 
-    def __init__(self, blocks):
+    def __init__(self, blocks, copies=False):
         self.disk, self.kept, self.blocks = [bytes(BLOCK)] * blocks, blocks, blocks
+        self.copies = copies
         self.write_slot(2, [Alternative(b"A", "top", "", 0, 0)])
         self.disk[0] = header(3)
 
@@ -138,6 +141,8 @@ class Store:
             self.working.append(Alternative(text[at : at + 1], name, owner, *struct.unpack_from("<II", text, at + 67)))
         self.committed = [it.copy() for it in self.working]
         self.held = self.reached(self.committed)
+        # The alternative of the series that goes on, and the blocks that were held before it.
+        self.series, self.before, self.unpaid = None, set(), 0
 
     def commit(self):
         slot = 2 if self.disk[1][0] & 1 else 18
@@ -166,17 +171,22 @@ class Store:
         self.held.add(block)
         return block
 
-    def write(self, level, items):
-        """Writes items into the lowest block that isn't held, and gives their first key, and the block."""
-        block = self.take()
+    def own(self, block, base):
+        """The block, if it was taken since a series began; base has the blocks that were held before."""
+        return block if base is not None and block in self.held and block not in base else None
+
+    def write(self, level, items, place=None):
+        """Writes items into a place, or into the lowest block that isn't held, and gives their first key, and the
+        block."""
+        block = self.take() if place is None else place
         self.disk[block] = exchanged(block, node_of(level, items) if level else leaf_of(items))
         return items[0][0], block
 
-    def write_divided(self, level, children):
+    def write_divided(self, level, children, place):
         if len(children) <= FAN:
-            return [self.write(level, children)]
+            return [self.write(level, children, place)]
         half = (len(children) + 1) // 2
-        return [self.write(level, children[:half]), self.write(level, children[half:])]
+        return [self.write(level, children[:half], place), self.write(level, children[half:])]
 
     def blocks_under(self, root, found):
         if root and root not in found:
@@ -208,37 +218,40 @@ class Store:
     def chosen(items, key):
         return max((at for at, it in enumerate(items) if it[0] <= key), default=0)
 
-    def put_below(self, block, key, value):
+    def put_below(self, block, key, value, base):
         level, items = self.decoded(block)
+        place = self.own(block, base)
         if level == 0:
             records = {**dict(items), key: value}
-            return 0, [self.write(0, it) for it in leaves_of(sorted(records.items()), key, key not in dict(items))]
+            parts = leaves_of(sorted(records.items()), key, key not in dict(items))
+            return 0, [self.write(0, it, None if at else place) for at, it in enumerate(parts)]
         at = self.chosen(items, key)
-        _, now = self.put_below(items[at][1], key, value)
-        return level, self.write_divided(level, [*items[:at], *now, *items[at + 1 :]])
+        _, now = self.put_below(items[at][1], key, value, base)
+        return level, self.write_divided(level, [*items[:at], *now, *items[at + 1 :]], place)
 
-    def put(self, root, key, value):
+    def put(self, root, key, value, base=None):
         if not root:
             return self.write(0, [(key, value)])[1]
-        level, now = self.put_below(root, key, value)
+        level, now = self.put_below(root, key, value, base)
         return now[0][1] if len(now) == 1 else self.write(level + 1, now)[1]
 
-    def remove_below(self, block, key):
+    def remove_below(self, block, key, base):
         """What stands for the block in the one above it: nothing, or a block that was written."""
         level, items = self.decoded(block)
+        place = self.own(block, base)
         if level == 0:
             rest = [it for it in items if it[0] != key]
         else:
             at = self.chosen(items, key)
-            rest = [*items[:at], *self.remove_below(items[at][1], key), *items[at + 1 :]]
-        return [self.write(level, rest)] if rest else []
+            rest = [*items[:at], *self.remove_below(items[at][1], key, base), *items[at + 1 :]]
+        return [self.write(level, rest, place)] if rest else []
 
     def is_dropped(self, block, key):
         """Whether nothing is left of the block without the key."""
         level, items = self.decoded(block)
         return len(items) == 1 and (level == 0 or self.is_dropped(items[0][1], key))
 
-    def remove(self, root, key):
+    def remove(self, root, key, base=None):
         level, items = self.decoded(root)
         if level and len(items) == 2:
             at = self.chosen(items, key)
@@ -249,7 +262,7 @@ class Store:
                     if level == 0 or len(items) > 1:
                         return rest
                     rest = items[0][1]
-        now = self.remove_below(root, key)
+        now = self.remove_below(root, key, base)
         return now[0][1] if now else 0
 
     # --- copies
@@ -286,11 +299,30 @@ class Store:
         self.disk += [bytes(BLOCK)] * (blocks - len(self.disk))
         self.blocks = blocks
 
+    def mark(self):
+        self.held = self.reached(self.committed) | self.reached(self.working)
+        self.before &= self.held
+
     def demand(self, changes):
         if self.free() < MARGIN * changes:
-            self.held = self.reached(self.committed) | self.reached(self.working)
+            self.mark()
             if self.free() < MARGIN * changes:
                 raise Refused(13)
+
+    def copy_held(self, changes):
+        """The blocks that are held, unless too few changes came since they were copied before."""
+        self.unpaid += changes
+        if self.copies or self.unpaid < self.blocks // COPIED:
+            return None
+        self.unpaid, self.before = 0, {*self.held}
+        return self.before
+
+    def series_of(self, alt):
+        """The blocks that were held before the series of an alternative, which goes on or begins; None if none
+        does."""
+        if self.series != alt:
+            self.series = alt if self.copy_held(1) is not None else None
+        return self.before if self.series else None
 
     # --- commands
 
@@ -344,8 +376,10 @@ class Store:
         """Gives the alternative the map under a root with the merged values at these keys."""
         if keys:
             self.demand(len(keys))
+        self.series = None
+        base = self.copy_held(len(keys))
         for key in keys:
-            root = self.remove(root, key) if merged[key] is None else self.put(root, key, merged[key])
+            root = self.remove(root, key, base) if merged[key] is None else self.put(root, key, merged[key], base)
         it.current = root
 
     def apply(self, words):
@@ -371,13 +405,13 @@ class Store:
         elif verb == "put":
             it = self.find(rest[0])
             self.demand(1)
-            it.current = self.put(it.current, rest[1], rest[2])
+            it.current = self.put(it.current, rest[1], rest[2], self.series_of(rest[0]))
         elif verb == "remove":
             it = self.find(rest[0])
             if rest[1] not in self.records(it.current):
                 raise Refused(5)
             self.demand(1)
-            it.current = self.remove(it.current, rest[1])
+            it.current = self.remove(it.current, rest[1], self.series_of(rest[0]))
         elif verb == "checkpoint":
             it = self.find(rest[0])
             if self.checkpoint_of(*rest):
@@ -404,11 +438,13 @@ class Store:
         elif verb == "rollback":
             self.rollback()
         elif verb == "reclaim":
-            self.held = self.reached(self.committed) | self.reached(self.working)
+            self.mark()
         elif verb == "grow":
             self.grow(rest[0])
         else:
             return self.asked(verb, rest)
+        if verb not in ("put", "remove"):
+            self.series = None
         return "ok"
 
     def add(self, tag, name, owner, current, base):
@@ -762,13 +798,15 @@ def spoiled(rng, disk):
     return disk
 
 
-def opened(altctl, rng, file, disk):
-    """Opens spoiled files, and says what differs from the model."""
+def opened(altctl, rng, file, disk, is_plain):
+    """Opens spoiled files, and says what differs from the model. A plain program's check ends at the first damaged
+    block."""
     for _ in range(12):
         blocks = spoiled(rng, disk)
         with open(file, "wb") as it:
             it.write(b"".join(blocks))
         why = refusal(blocks, is_whole=True)
+        why = why.split("\n")[0] if why and is_plain else why
         came = started(altctl, "check", file)
         if (came[0], came[2]) != ((1, f"altctl: {why}\n") if why else (0, "")):
             return f"a spoiled file, left as spoiled.alt, is checked with {came}, and not {why}"
@@ -1150,7 +1188,7 @@ def compared(altctl, rng, folder, waits, is_plain):
     made = started(altctl, "create", file, str(blocks))
     if made[:2] != (0, f"created {blocks}\n"):
         return f"create said {made}"
-    store, editor = Store(blocks), Editor(rng, is_plain)
+    store, editor = Store(blocks, is_plain), Editor(rng, is_plain)
     count = 0
     for _ in range(rng.randrange(1, 5)):
         store.open()
@@ -1162,7 +1200,7 @@ def compared(altctl, rng, folder, waits, is_plain):
         if why:
             shown = "\n".join(it if len(it) <= 120 else f"{it[:110]}.. ({len(it)} bytes)" for it in lines.split("\n"))
             return f"{why}, after these lines:\n{shown}"
-    why = opened(altctl, rng, file, store.disk)
+    why = opened(altctl, rng, file, store.disk, is_plain)
     if why:
         os.replace(file, "spoiled.alt")
         return why

@@ -94,10 +94,10 @@ impl Plot {
         self.root = put::<MemDisk, 256, 8>(
             &mut self.disk,
             &mut self.held,
+            None,
             self.root,
             key,
             value.as_bytes(),
-            &mut [0; 8],
         )?;
         Ok(())
     }

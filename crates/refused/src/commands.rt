@@ -99,7 +99,9 @@ pub(crate) fn commands(
     let mut commands = Vec::new(alloc);
     for n in 0..COMMANDS {
         if without != Some(n) {
-            commands.push(command(alloc, n)).map_err(|_| Wrong::Again)?;
+            if commands.push(command(alloc, n)).is_err() {
+                return Err(Wrong::Again);
+            }
         }
     }
     Ok(commands)

@@ -26,7 +26,6 @@ mod script;
 mod series;
 mod settlements;
 mod space;
-mod stays;
 mod tallies;
 mod versions;
 mod words;

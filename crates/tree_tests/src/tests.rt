@@ -12,7 +12,7 @@ mod differences;
 mod lengths;
 mod marks;
 mod parts;
-mod paths;
+mod places;
 mod random;
 mod reads;
 mod records;

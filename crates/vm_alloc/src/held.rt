@@ -8,8 +8,7 @@ use std::alloc::{AllocError, Global};
 use std::marker::Model;
 use vm_types::{BlockNumber, FIRST_DATA, MAX_BLOCKS, MIN_BLOCKS};
 
-/// Which blocks of a store are held. A held block is never written until it is let go. The others
-/// are free.
+/// Which blocks of a store are held. The others are free.
 #[derive(Drop)]
 pub struct Held {
     flags: Flags,

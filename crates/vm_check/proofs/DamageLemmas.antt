@@ -18,10 +18,6 @@ module _ (x : Contents) (d e : List Bool) (more : HoldsMore d e) where
   last_key_more (suc l) b key (cs, i, c, node, last, is, inl (marked, low)) = (cs, i, c, node, last, is, inl (more.still c.block marked, low))
   last_key_more (suc l) b key (cs, i, c, node, last, is, inr under) = (cs, i, c, node, last, is, inr (last_key_more l c.block key under))
 
-  pub high_more : (l : ℕ) (c : Child) (high : Key) → IsHigh x d l c high → IsHigh x e l c high
-  high_more l c high (inl is) = inl (more.still c.block is.0, is.1)
-  high_more l c high (inr last) = inr (last_key_more l c.block high last)
-
   ends_more : (n l i : ℕ) (cs : List Child) → EndsWrong x d n l i cs → EndsWrong x e n l i cs
   ends_more n l i cs ends = record { high = ends.high; last = last_key_more l n ends.high ends.last; more = ends.more; reaches = ends.reaches }
 

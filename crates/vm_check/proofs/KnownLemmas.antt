@@ -152,16 +152,6 @@ module _ (sizes : Sizes) (x : Contents) (limit : ℕ) where
       ];
     }
 
-  -- a block that was met before
-  pub met_visited : (least most b : ℕ) (span : Span) (marks : List Bool) (spans : List Met) → IsMarked marks b → span ≡ span_at spans b → least ≤ span.level → span.level ≤ most → Known sizes x limit most marks spans → Visited sizes x limit least most b span marks spans marks spans
-  met_visited least most b span marks spans is here at_least at_most known = record {
-    at_least = at_least;
-    at_most = at_most;
-    whole = subst (Whole sizes x limit marks b) (sym here) (known.whole b is (subst (λ (s : Span). s.level ≤ most) here at_most));
-    adds = record { grows = holds_same marks; kept = λ n held. refl; fresh = λ n held. inl held };
-    known = known;
-  }
-
   -- # An inner block
 
   -- an inner block, when the blocks under it were visited: `first` is what was known of it then, and `span` what is known now

@@ -26,7 +26,7 @@ use Rattle.vm_check.specs.declared.notes.OnDamage.{OnDamage}
 use Rattle.vm_check.specs.declared.notes.OnDamage.TheVariants.{GoOn, Stop}
 use Rattle.vm_check.specs.declared.verification.Span.{Span}
 use Rattle.vm_check.specs.declared.verification.Met.{Met}
-use Rattle.vm_check.proofs.DamageLemmas.{damaged_more, first_is_more, high_more, met_more, span_more}
+use Rattle.vm_check.proofs.DamageLemmas.{damaged_more, first_is_more, met_more, span_more}
 use Rattle.vm_check.proofs.KnownLemmas.{node_level, span_here, span_there}
 use Rattle.vm_check.proofs.WalkLemmas.{LeafRead, NodeRead}
 
@@ -132,25 +132,6 @@ module _ (sizes : Sizes) (x : Contents) (limit : ℕ) (ns : List ℕ) where
         is = noted_here b b notes noted inside at;
       } in
       subst (λ (z : List Bool). BlockSurveyed sizes x limit ns least most b None marks spans z spans noted) (sym set) all
-
-  -- a block that was noted before
-  pub noted_before : (least most b : ℕ) (marks : List Bool) (spans : List Met) (notes : Notes) → IsMarked marks b → IsMarked notes.damaged b
-      → Surveyed sizes x limit ns most marks spans notes → BlockSurveyed sizes x limit ns least most b None marks spans marks spans notes
-  noted_before least most b marks spans notes met is s = record { surveyed = s; goes_on = stays_on most marks spans notes; met = met; is = is }
-
-  -- a block that was met before, and has a level in the range
-  pub met_before : (least most b : ℕ) (span : Span) (marks : List Bool) (spans : List Met) (notes : Notes) → IsMarked marks b → (IsMarked notes.damaged b → ⊥) → span ≡ span_at spans b → least ≤ span.level → span.level ≤ most
-      → Surveyed sizes x limit ns most marks spans notes → BlockSurveyed sizes x limit ns least most b (Some span) marks spans marks spans notes
-  met_before least most b span marks spans notes met fine same at_least at_most s = record {
-    surveyed = s;
-    goes_on = stays_on most marks spans notes;
-    met = met;
-    is = (at_least, at_most, subst (HasSpan sizes x limit marks notes.damaged b) (sym same) (known (s.whole b met (subst (λ (s : Span). s.level ≤ most) same at_most))));
-  }
-    where
-      known : IsMarked notes.damaged b ⊎ HasSpan sizes x limit marks notes.damaged b (span_at spans b) → HasSpan sizes x limit marks notes.damaged b (span_at spans b)
-      known (inl is) = absurd (fine is)
-      known (inr has) = has
 
   -- the level of a block that was met before, and is not noted
   pub level_met : (most b : ℕ) (marks : List Bool) (spans : List Met) (notes : Notes) → IsMarked marks b → (IsMarked notes.damaged b → ⊥) → Surveyed sizes x limit ns most marks spans notes → HasLevel (block x b) (span_at spans b).level

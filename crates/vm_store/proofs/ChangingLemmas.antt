@@ -1,6 +1,6 @@
 -- Changes made one after another: full paths in contents that agree on a tree, and what one change more answers.
 use Rattle.std.proofs.Common.{◌≡◌, inl, inr, ℕ, zero, suc, ◌+◌, ◌<◌, Bool, List, [], ◌∷◌, ◌++◌, length, get_or, take, drop, Option, Some, None, Result, Ok, Err, refl, sym, ap, ◌∙◌, subst, arith, append_assoc}
-use Rattle.std.specs.Prelude.{slice_index, OnErr}
+use Rattle.std.specs.Prelude.{slice_index}
 use Rattle.std.specs.List.{AllByRecursion}
 use Rattle.std.proofs.Math.Seq.{split_at}
 use Rattle.std.proofs.lemmas.List.{length-map, take_more}
@@ -80,11 +80,6 @@ full_path_in P x y limit r same root m bs (inr top) all some full =
 
 -- ---- one change
 
--- what follows where a call failed
-pub so_failed : {T E : Type 0} (result : Result T E) (A B : Type 0) → (A → B) → OnErr result A → OnErr result B
-so_failed (Ok x) A B so h = tt
-so_failed (Err e) A B so h = so h
-
 module _ (x y : Contents) (held now : List Bool) (limit : ℕ) (root : Root) (m : Map) (change : Change) where
   -- where a record finds no room, the blocks of the tree keep their bytes, and it meets a full path
   lacks_meets : (P : ℕ → Type 0) (value : List ℕ) → ((n : ℕ) → P n → block y n ≡ block x n) → IsRootedIn sizes P x limit root m → change.after ≡ Some value → LacksRoom sizes x root (change.key, value)
@@ -106,14 +101,14 @@ module _ (x y : Contents) (held now : List Bool) (limit : ℕ) (root : Root) (m 
       }
 
   -- a change to a value answers what a Put of it answers
-  pub put_makes : (value : List ℕ) (result : Result Root PutFault) → change.after ≡ Some value → OnErr result ((n : ℕ) → IsHeld held n → block y n ≡ block x n) → (grown : IsRootedIn sizes (IsHeld held) x limit root m)
+  pub put_makes : (value : List ℕ) (result : Result Root PutFault) → change.after ≡ Some value → (result ≡ Err Deep → (n : ℕ) → IsHeld held n → block y n ≡ block x n) → (grown : IsRootedIn sizes (IsHeld held) x limit root m)
       → Puts result (LacksRoom sizes x root (change.key, value)) (λ r. AllByRecursion (IsHeld held) grown.stands_in → IsRootedIn sizes (IsHeld now) y limit r (with_value m change.key value))
       → Makes result (MeetsFullPath y limit m (change ∷ [])) (λ r. IsRootedIn sizes (IsHeld now) y limit r (with_change m change))
   put_makes value (Ok r) is same grown put =
       subst (λ (after : Option (List ℕ)). IsRootedIn sizes (IsHeld now) y limit r (put_or_taken m change.key after)) (sym is) (put.0 grown.each)
   put_makes value (Err (Tree Device)) is same grown put = tt
   put_makes value (Err (Tree (Damaged b))) is same grown put = put
-  put_makes value (Err Deep) is same grown put = lacks_meets (IsHeld held) value same grown is put
+  put_makes value (Err Deep) is same grown put = lacks_meets (IsHeld held) value (same refl) grown is put
 
 -- the old root has the map where the record to be taken out is absent
 pub absent_makes : (old new : Medium) (held now : List Bool) (limit : ℕ) (root : Root) (m : Map) (change : Change) → change.after ≡ None → new ≡ old → now ≡ held → get m change.key ≡ None

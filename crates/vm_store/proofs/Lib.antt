@@ -4,9 +4,9 @@ pub mod CarryLemmas
 pub mod ChangingLemmas
 pub mod CopyingLemmas
 pub mod EntryTests
+pub mod FaultLemmas
 pub mod FiledLemmas
 pub mod FirstLemmas
-pub mod ForgetLemmas
 pub mod FormattingLemmas
 pub mod EarliestLemmas
 pub mod FoundLemmas

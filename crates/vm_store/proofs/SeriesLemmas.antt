@@ -11,15 +11,15 @@ use Rattle.vm_types.specs.declared.key.Key.{Key}
 use Rattle.vm_types.specs.State.{State, next, tree_after}
 use Rattle.vm_types.specs.Tree.{Tree, Alternative, named, changed}
 use Rattle.vm_disk.specs.Disk.{DiskState, Medium}
-use Rattle.vm_disk.specs.Moments.{OnlyReads, Throughout, TouchesOnly}
-use Rattle.vm_disk.proofs.MomentLemmas.{same_medium, touches_nothing, started}
+use Rattle.vm_disk.specs.Moments.{OnlyReads, TouchesOnly}
+use Rattle.vm_disk.proofs.MomentLemmas.{same_medium, touches_nothing}
 use Rattle.vm_block.specs.declared.selector.SlotName.{SlotName}
 use Rattle.vm_alloc.specs.Held.{HoldsMore, IsHeld, free_count, is_held}
 use Rattle.vm_alloc.proofs.HeldLemmas.{holds_more_then, holds_same}
 use Rattle.vm_tree.specs.Free.{is_free}
 use Rattle.vm_tree.specs.Root.{IsRootedIn}
 use Rattle.vm_tree.specs.declared.root.Root.{Root}
-use Rattle.vm_tree.proofs.Touching.{touches_more, touches_then}
+use Rattle.vm_tree.proofs.Touching.{touches_more}
 use Rattle.vm_store.specs.Rest.{HoldsWith, IsInSeries, IsSafe, KeepsSeries, Rests, before_of, before_series, no_root, set_aside, spare_of, state_aside}
 use Rattle.vm_store.specs.Sizes.{sizes}
 use Rattle.vm_store.specs.Versions.{is_alternative_of, with_current}
@@ -139,17 +139,6 @@ module _ (m : Medium) (limit : ℕ) (slot_name : SlotName) (bits before : List B
           (subst (λ (t : Tree). Rests now limit slot_name before committed (set_aside alt working) (record s { working = t })) (sym (changed_again s.working alt g (λ _. []) (λ _. []) (λ a is. refl)))
           (rests_more m limit slot_name before committed (set_aside alt working) (state_aside alt s) series.others now before spares (holds_same before)));
     }
-
--- at no moment a change of a series touches a block that was held before it
-pub wrote_in_series : (before bits : List Bool) (old new : DiskState) → HoldsMore before bits → Throughout old new (TouchesOnly (is_free bits) old.now) → Throughout old new (TouchesOnly (is_free before) old.now)
-wrote_in_series before bits old new wider moments =
-    touches_then before bits old old new wider (started old (TouchesOnly (is_free before) old.now) (touches_nothing (is_free before) old.now)) moments
-
--- nor when it forgets blocks afterwards
-pub forgot_in_series : (before bits : List Bool) (old mid new : DiskState) → HoldsMore before bits → Throughout old mid (TouchesOnly (is_free bits) old.now) → Throughout mid new (TouchesOnly (is_free before) mid.now)
-    → Throughout old new (TouchesOnly (is_free before) old.now)
-forgot_in_series before bits old mid new wider moments then =
-    touches_then before before old mid new (holds_same before) (wrote_in_series before bits old mid wider moments) then
 
 -- reads change nothing
 pub read_holds : {kept : ℕ} {marked : Bool} (old new : DiskState) (limit : ℕ) (slot_name : SlotName) (bits before : List Bool) (series : Option (List ℕ)) (committed working : List Version) (s : State) → OnlyReads old new

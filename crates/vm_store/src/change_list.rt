@@ -15,15 +15,15 @@ ghost use Rattle.vm_store.specs.ChangeList.{Makes, MeetsFullPath};
 ghost use Rattle.vm_store.specs.Rest.{before_of};
 ghost use Rattle.vm_store.specs.Sizes.{sizes};
 
-use crate::series::{put_forgetting, remove_forgetting};
+use crate::{FAN, LEVELS};
 use vm_alloc::{Baseline, Held};
 use vm_disk::Disk;
-use vm_tree::{PutFault, Root};
+use vm_tree::{PutFault, Root, put, remove};
 use vm_types::{Changes, Key};
 
 /// Gives the key the value that it has after the change, or removes its record if there is none, in
 /// the tree under a root, and returns the new root. If it is known which blocks were held before,
-/// those of the old path are forgotten, except these.
+/// the others are changed in their places.
 fn make_change<D: Disk>(
     disk: &mut D,
     held: &mut Held,
@@ -51,8 +51,8 @@ fn make_change<D: Disk>(
         (λ r. IsRootedIn sizes (IsHeld held.new) (D.state disk.new).now.contents (length held.old) r (with_change m change)) }
 {
     match after {
-        Some(value) => put_forgetting(disk, held, before, root, key, value),
-        None => match remove_forgetting(disk, held, before, root, key)? {
+        Some(value) => put::<D, FAN, LEVELS>(disk, held, before, root, key, value),
+        None => match remove::<D, FAN, LEVELS>(disk, held, before, root, key)? {
             Some(rest) => Ok(rest),
             None => Ok(root),
         },
@@ -61,7 +61,8 @@ fn make_change<D: Disk>(
 
 /// Makes changes of records in the tree under a root, in order. A change to no value removes the
 /// record, if it is there. Requires 17 free blocks per change, and that `before`, if it is given, is
-/// a copy of what is held: blocks that one change takes and a later one replaces are then forgotten.
+/// a copy of what is held: blocks that one change takes are then changed in their places by later
+/// ones.
 pub fn make_changes<D: Disk>(
     disk: &mut D,
     held: &mut Held,

@@ -2,6 +2,7 @@ pub mod ApartLemmas
 pub mod Beside
 pub mod ChildrenLeft
 pub mod Descent
+pub mod Framing
 pub mod FullPaths
 pub mod Growing
 pub mod HandLemmas

@@ -3,6 +3,7 @@ use Rattle.std.proofs.Common.{◌≡◌, ◌∙◌, true, Bool, List, Result, Ok
 use Rattle.vm_disk.specs.Disk.{DiskState}
 use Rattle.vm_disk.proofs.GoesLemmas.{goes_nowhere, goes_then, goes_at}
 use Rattle.vm_disk.proofs.MomentLemmas.{after_reads, reads_keep, reads_then, touches_nothing, started}
+use Rattle.vm_alloc.proofs.HeldLemmas.{holds_more_then, holds_same}
 use Rattle.vm_tree.specs.Calls.{Looks, LooksIf, Writes}
 use Rattle.vm_tree.proofs.Touching.{lowest_none, lowest_then, reads_unsynced, touches_then, unsynced_then}
 
@@ -14,35 +15,48 @@ looks_on so_far more cause = record {
 }
 
 -- a call that looks, and writes nothing
-pub looks_free : {fails both : Type 0} {held : List Bool} {old new : DiskState} → Looks fails old new → (both → fails) → Writes both held held old new
+pub looks_free : {fails both : Type 0} {may : List Bool → Type 0} {held : List Bool} {old new : DiskState} → Looks fails old new → (both → fails) → Writes both may held held old new
 looks_free looks cause = record {
   goes = goes_at _ _ _ _ looks.goes cause;
   still = record { same_length = refl; still = λ n is. is };
   lowest = lowest_none _;
-  moments = λ honest. reads_keep _ _ _ (looks.reads honest) (touches_nothing _ _);
+  moments = λ honest spared wider so. reads_keep _ _ _ (looks.reads honest) (touches_nothing _ _);
   unsynced = λ honest. reads_unsynced _ _ (looks.reads honest);
 }
 
 -- a call that writes, after one that looks
-pub looks_write : {first second both : Type 0} {held later : List Bool} {old mid new : DiskState}
-    → Looks first old mid → Writes second held later mid new → (both → second) → Writes both held later old new
-looks_write so_far more cause = record {
+pub looks_write : {first second both : Type 0} {may then : List Bool → Type 0} {held later : List Bool} {old mid new : DiskState}
+    → Looks first old mid → Writes second then held later mid new → (both → second) → ((spared : List Bool) → may spared → then spared) → Writes both may held later old new
+looks_write so_far more cause so = record {
   goes = goes_then _ _ _ _ _ _ so_far.goes more.goes cause;
   still = more.still;
   lowest = more.lowest;
-  moments = λ honest. after_reads _ _ _ _ (so_far.reads (more.goes.earlier honest)) (more.moments honest);
+  moments = λ honest spared wider may. after_reads _ _ _ _ (so_far.reads (more.goes.earlier honest)) (more.moments honest spared wider (so spared may));
   unsynced = λ honest. unsynced_then _ _ _ (reads_unsynced _ _ (so_far.reads (more.goes.earlier honest))) (more.unsynced honest);
 }
 
 -- a call that writes, after another one
-pub writes_on : {first second both : Type 0} {held between later : List Bool} {old mid new : DiskState}
-    → Writes first held between old mid → Writes second between later mid new → (both → second) → Writes both held later old new
-writes_on so_far more cause = record {
+pub writes_on : {first second both : Type 0} {one other may : List Bool → Type 0} {held between later : List Bool} {old mid new : DiskState}
+    → Writes first one held between old mid → Writes second other between later mid new → (both → second) → ((spared : List Bool) → may spared → one spared × other spared) → Writes both may held later old new
+writes_on so_far more cause so = record {
   goes = goes_then _ _ _ _ _ _ so_far.goes more.goes cause;
   still = record { same_length = more.still.same_length ∙ so_far.still.same_length; still = λ n is. more.still.still n (so_far.still.still n is) };
   lowest = lowest_then _ _ _ more.still so_far.lowest more.lowest;
-  moments = λ honest. touches_then _ _ _ _ _ so_far.still (so_far.moments (more.goes.earlier honest)) (more.moments honest);
+  moments = λ honest spared wider may.
+      let parts = so spared may in
+      touches_then spared spared _ _ _ (holds_same spared) (so_far.moments (more.goes.earlier honest) spared wider parts.0) (more.moments honest spared (holds_more_then _ _ _ wider so_far.still) parts.1);
   unsynced = λ honest. unsynced_then _ _ _ (so_far.unsynced (more.goes.earlier honest)) (more.unsynced honest);
+}
+
+-- the same call, under another answer, where it may spare no more
+pub writes_as : {fails both : Type 0} {one may : List Bool → Type 0} {held later : List Bool} {old new : DiskState} → Writes fails one held later old new → (both → fails) → ((spared : List Bool) → may spared → one spared)
+    → Writes both may held later old new
+writes_as writes cause so = record {
+  goes = goes_at _ _ _ _ writes.goes cause;
+  still = writes.still;
+  lowest = writes.lowest;
+  moments = λ honest spared wider may. writes.moments honest spared wider (so spared may);
+  unsynced = writes.unsynced;
 }
 
 -- what was only looked at, after a call that looks

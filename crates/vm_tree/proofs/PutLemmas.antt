@@ -1,18 +1,17 @@
 -- What a Put under a block answers, from what it answers under the chosen child.
 use Rattle.std.proofs.Common.{◌≡◌, ℕ, zero, suc, nat_lt, cond, Option, ◌+◌, ◌-◌, ◌<◌, ◌≤◌, Bool, List, [], ◌∷◌, ◌++◌, length, get_or, take, drop, Result, Ok, Err, refl, sym, ap, ◌∙◌, subst, arith, length-append, length-drop, length-take-le, take-append-drop}
-use Rattle.std.specs.List.{AllByRecursion}
-use Rattle.std.specs.Prelude.{IsSomeAnd}
+use Rattle.std.specs.Prelude.{◌^◌, IfSome, IsSomeAnd, slice_index_or}
 use Rattle.std.proofs.lemmas.Bool.{lt-ltb}
+use Rattle.std.proofs.lemmas.List.{drop_more}
 use Rattle.vm_types.specs.Places.{place, RisesFrom, places, value_at, with_record}
 use Rattle.vm_disk.specs.Disk.{Contents, block, Medium}
-use Rattle.vm_alloc.specs.Held.{HoldsMore, IsHeld}
+use Rattle.vm_alloc.specs.Held.{HoldsMore}
 use Rattle.vm_block.specs.Leaf.{Record, BeginsWith}
-use Rattle.vm_block.specs.Node.{ChildFits, lows}
-use Rattle.vm_block.specs.Way.{IsChosen}
+use Rattle.vm_block.specs.Node.{IsNode, lows}
+use Rattle.vm_block.specs.Way.{IsChosen, Lowest}
 use Rattle.vm_block.specs.declared.node.Child.{Child}
-use Rattle.vm_block.proofs.EachLemmas.{each_front, each_back, each_so}
 use Rattle.vm_block.proofs.NodeLemmas.{node_one}
-use Rattle.vm_tree.specs.Tree.{Sizes, Children, Subtree}
+use Rattle.vm_tree.specs.Tree.{Sizes, IsData, Subtree}
 use Rattle.vm_tree.specs.FullPath.{GrowsBy}
 use Rattle.vm_tree.specs.Insertion.{HasAsLong}
 use Rattle.vm_tree.specs.Splits.{Made, PutsBelow, children_of, extra}
@@ -23,16 +22,13 @@ use Rattle.vm_tree.specs.declared.faults.PutFault.{PutFault}
 use Rattle.vm_tree.specs.declared.faults.PutFault.TheVariants as put
 use Rattle.vm_tree.specs.declared.block_writes.Copied.{Copied}
 use Rattle.vm_tree.specs.declared.block_writes.Copied.TheVariants.{One, Two, Three}
-use Rattle.vm_tree.specs.Replacement.{IsPathIn, IsRenewed, Replaces}
-use Rattle.vm_tree.proofs.TreeLemmas.{subtree_in}
-use Rattle.vm_tree.proofs.Beside.{left_renewed, own_held, own_keeps, right_renewed}
-use Rattle.vm_tree.proofs.Descent.{Opened, opens}
+use Rattle.vm_tree.specs.Replacement.{IsRenewed, KeepsOwn, Replaces, without_own}
+use Rattle.vm_tree.proofs.Descent.{opens}
+use Rattle.vm_tree.proofs.Framing.{Frames, opened, renews}
 use Rattle.vm_tree.proofs.FullPaths.{grows_few, node_grows}
-use Rattle.vm_tree.proofs.Growing.{made_join, made_moved}
+use Rattle.vm_tree.proofs.Growing.{lowest_low, made_moved, node_made}
 use Rattle.vm_tree.proofs.Placing.{with_rises}
-use Rattle.vm_tree.proofs.Renewing.{renewed_more}
 use Rattle.vm_tree.proofs.Rising.{value_between, with_between}
-use Rattle.vm_tree.proofs.Splitting.{children_in}
 
 -- the device failed
 pub device_below : (e : TreeFault) (room : ℕ) (grows : ℕ → Type 0) (P : List Child → Type 0) → e ≡ Device → PutsBelow (Err (put.Tree e)) room grows P
@@ -61,24 +57,6 @@ stays_one (suc n) k A grows none = absurd (omega (arith, (grows (omega arith)).0
 pub only_one : (x : Contents) (limit level b most : ℕ) (cs : List Child) → IsNodeAt x limit level b cs → (ds : List Child) → IsNodeAt x limit level b ds → length ds ≤ most → cs ≡ ds
 only_one x limit level b most cs at ds other few = (node_one (block x b) level level cs ds at.node other.node).1
 
--- the chosen child replaced by what was made in its place
-pub replaced_made : (P Q : ℕ → Type 0) (sizes : Sizes) (x y : Contents) (limit level b p : ℕ) (rs : List Record) (bs : List ℕ) (cs : List Child) (i : ℕ) (d : Child) → ((n : ℕ) → P n → block y n ≡ block x n) → ((n : ℕ) → P n → Q n)
-    → (at : Opened sizes x limit level b p rs bs cs i d) → AllByRecursion P at.way.split.left → AllByRecursion P at.way.split.right → (now : List Child) (subs : List Record) → Made Q sizes y limit (level - 1) now subs
-    → Made Q sizes y limit (level - 1) (take i cs ++ (now ++ drop (i + 1) cs)) (at.way.split.before ++ (subs ++ at.way.split.after))
-replaced_made P Q sizes x y limit level b p rs bs cs i d same so at left right now subs made =
-    let s = at.way.split in
-    let below = Subtree sizes x limit (level - 1) in
-    let later = Subtree sizes y limit (level - 1) in
-    let moved = subtree_in P sizes x y limit same (level - 1) in
-    let one : suc i ≡ i + 1 = omega arith in
-    let next : drop (suc i) cs ≡ drop (i + 1) cs = ap (λ n. drop n cs) one in
-    let back = subst (λ (ds : List Child). Children below ds s.after s.right) next s.back in
-    let fit = λ (n : ℕ). subst (AllByRecursion ChildFits) (sym (take-append-drop n cs)) at.node.fit in
-    made_join Q sizes y limit (level - 1) (take i cs) (now ++ drop (i + 1) cs) s.before (subs ++ s.after)
-    (record { blocks = s.left; under = children_in P below later moved (take i cs) s.before s.left s.front left; each = each_so P Q so s.left left; fit = each_front ChildFits (take i cs) (drop i cs) (fit i) })
-    (made_join Q sizes y limit (level - 1) now (drop (i + 1) cs) subs s.after made
-    (record { blocks = s.right; under = children_in P below later moved (drop (i + 1) cs) s.after s.right back right; each = each_so P Q so s.right right; fit = each_back ChildFits (take (i + 1) cs) (drop (i + 1) cs) (fit (i + 1)) }))
-
 pub count_of : (copied : Copied) → length (children_of copied) ≡ 1 + extra copied
 count_of (One c) = refl
 count_of (Two c d) = refl
@@ -88,6 +66,20 @@ count_of (Three c d e) = refl
 pub replaced_length : (cs now : List Child) (i : ℕ) → i < length cs → length (take i cs ++ (now ++ drop (i + 1) cs)) + 1 ≡ length cs + length now
 replaced_length cs now i lt =
     omega (arith, length-append (take i cs) (now ++ drop (i + 1) cs), length-append now (drop (i + 1) cs), length-take-le i cs (omega arith), length-drop (i + 1) cs)
+
+-- the chosen child in its own place
+pub same_children : (cs : List Child) (i : ℕ) (d e : Child) → i < length cs → get_or cs i d ≡ e → take i cs ++ (e ∷ drop (i + 1) cs) ≡ cs
+same_children cs i d e lt is =
+    ap (λ (c : Child). take i cs ++ (c ∷ drop (i + 1) cs)) (sym is) ∙ ap (λ (ds : List Child). take i cs ++ ds) (sym (drop_more cs i d lt)) ∙ take-append-drop i cs
+
+-- an inner block that is as it was over what was made
+pub stands_made : (P Q : ℕ → Type 0) (sizes : Sizes) (y : Contents) (limit level b : ℕ) (cs : List Child) (top : Child) (rs : List Record) → ((n : ℕ) → P n → Q n) → IsNode (block y b) level cs → length cs ≤ sizes.fan → Lowest top.low cs → top.block ≡ b
+    → IsData limit b → b < 2 ^ 32 → Q b → RisesFrom 0 (places rs) → Made P sizes y limit (level - 1) cs rs → Made Q sizes y limit level (top ∷ []) rs
+stands_made P Q sizes y limit level b cs top rs so node few low here inside small is rises made =
+    let key = lowest_low cs top top.low low in
+    let same : record { low = (slice_index_or cs 0 top).low; block = b } ≡ top = (λ k. record { low = key k; block = sym here k }) in
+    subst (λ (c : Child). Made Q sizes y limit level (c ∷ []) rs) same
+    (node_made P Q sizes y y limit (λ n has. refl) so level b cs top rs node.above node.low node.some node.few few inside small is node.spelled rises made)
 
 module _ (sizes : Sizes) (old mid : Medium) (limit level b : ℕ) (r : Record) (rs : List Record) (bs : List ℕ) (cs : List Child) (i : ℕ) (d : Child) (still : mid ≡ old) (above : 0 < level)
     (tree : Subtree sizes old.contents limit level b rs bs) (rises : RisesFrom 0 (places rs)) (only : (ds : List Child) → IsNodeAt old.contents limit level b ds → length ds ≤ sizes.fan → cs ≡ ds) (chosen : IsChosen (lows cs) (place r.0) i) where
@@ -117,37 +109,29 @@ module _ (sizes : Sizes) (old mid : Medium) (limit level b : ℕ) (r : Record) (
       (subst (λ (found : Option (List ℕ)). IsSomeAnd found (λ v. length r.1 ≤ length v)) value there)
 
   -- an inner block, with the chosen child written anew
-  pub node_put : (before between later : List Bool) (path under : List ℕ) (x2 x3 : Contents) (other below_room room : ℕ) (copied : Copied) (lent : List Child) (done : Copied)
-      → other ≡ limit → path ≡ under ++ (b ∷ [])
-      → (e : Child) → get_or cs i d ≡ e
-      → ((sub : List Record) (own : List ℕ) → Subtree sizes mid.contents limit (level - 1) e.block sub own → BeginsWith e.low sub → RisesFrom 0 (places sub) → IsPathIn under own)
-      → Asked (Ok copied) below_room (λ ds qs own. Replaces before between under own (λ P. Made P sizes x2 limit (level - 1) ds qs))
-      → ((n : ℕ) → IsHeld before n → block x2 n ≡ block mid.contents n) → HoldsMore before between
+  pub node_put : (before between later : List Bool) (own : Option ℕ) (x2 x3 : Contents) (other below_room room : ℕ) (copied : Copied) (lent : List Child) (done : Copied)
+      → other ≡ limit → IfSome own (λ n. n ≡ b)
+      → (e : Child) → get_or cs i d ≡ e → Frames sizes old mid limit level b (place r.0) rs bs cs i d still above tree rises only chosen e before x2
+      → Asked (Ok copied) below_room (λ ds qs own. Replaces before between own (λ P. Made P sizes x2 limit (level - 1) ds qs))
+      → HoldsMore before between
       → lent ≡ take i cs ++ (children_of copied ++ drop (i + 1) cs)
       → extra done ≡ cond (nat_lt sizes.fan (length cs + extra copied)) 1 0
-      → ((keep : ℕ → Bool) (qs : List Record) → RisesFrom 0 (places qs) → Made (IsRenewed before between keep) sizes x2 other (level - 1) lent qs
+      → ((keep : ℕ → Bool) (qs : List Record) → KeepsOwn own before keep → RisesFrom 0 (places qs) → Made (IsRenewed before between (without_own own keep)) sizes x2 other (level - 1) lent qs
       → Made (IsRenewed before later keep) sizes x3 other level (children_of done) qs)
-      → PutsBelow (Ok done) room (GrowsBy sizes old.contents r level b) (λ ds. Replaces before later path bs (λ P. Made P sizes x3 limit level ds (with_record r rs)))
-  node_put before between later path under x2 x3 other below_room room copied lent done limits grown e taken inside below same more is grows made =
-      let p = place r.0 in
-      let at = opens sizes old.contents limit level b p rs bs cs i d above tree rises only chosen in
+      → PutsBelow (Ok done) room (GrowsBy sizes old.contents r level b) (λ ds. Replaces before later bs (λ P. Made P sizes x3 limit level ds (with_record r rs)))
+  node_put before between later own x2 x3 other below_room room copied lent done limits mine e taken frames below more is grows made =
+      let at = opened sizes old mid limit level b (place r.0) rs bs cs i d still above tree rises only chosen in
       let s = at.way.split in
       let child = subst (λ (m : Medium). Subtree sizes m.contents limit (level - 1) (get_or cs i d).block s.sub s.own) (sym still) s.child in
       let got = below s.sub s.own child s.begins at.way.rising in
       let here = subst (λ (m : Medium). GrowsBy sizes m.contents r (level - 1) (get_or cs i d).block (extra copied)) still got.1 in (
         λ keep all keeps.
-            let within = inside s.sub s.own (subst (λ (z : Child). Subtree sizes mid.contents limit (level - 1) z.block s.sub s.own) taken child) (subst (λ (z : Child). BeginsWith z.low s.sub) taken s.begins) at.way.rising in
-            let P1 = IsRenewed before between keep in
-            let now = replaced_made (IsRenewed before before keep) P1 sizes old.contents x2 limit level b p rs bs cs i d (λ n has. same n has.now ∙ ap (λ (m : Medium). block m.contents n) still) (renewed_more before before between keep more) at
-            (left_renewed sizes old.contents limit level b p rs bs cs i d above tree rises at path under grown within before keep all keeps)
-            (right_renewed sizes old.contents limit level b p rs bs cs i d above tree rises at path under grown within before keep all keeps)
-            (children_of copied) (with_record r s.sub)
-            (got.0 keep (own_held sizes old.contents limit level b p rs bs cs i d above tree rises at path under grown within before keep all keeps)
-            (own_keeps sizes old.contents limit level b p rs bs cs i d above tree rises at path under grown within before keep all keeps)) in
+            let now = renews sizes old mid limit level b (place r.0) rs bs cs i d still above tree rises only chosen before between own keep e x2 (children_of copied) (with_record r s.sub) mine taken frames more all keeps got.0 in
+            let P = IsRenewed before between (without_own own keep) in
             let records = ap (with_record r) s.records ∙ with_between r s.before s.sub s.after at.way.below at.way.above in
-            let whole = subst (λ (qs : List Record). Made P1 sizes x2 limit (level - 1) (take i cs ++ (children_of copied ++ drop (i + 1) cs)) qs) (sym records) now in
-            let asked = made_moved P1 P1 sizes x2 x2 limit other (level - 1) (λ n has. refl) (λ n has. has) limits (take i cs ++ (children_of copied ++ drop (i + 1) cs)) lent (with_record r rs) is whole in
-            subst (λ n. Made (IsRenewed before later keep) sizes x3 n level (children_of done) (with_record r rs)) limits (made keep (with_record r rs) (with_rises r 0 rs (omega arith) rises) asked),
+            let whole = subst (λ (qs : List Record). Made P sizes x2 limit (level - 1) (take i cs ++ (children_of copied ++ drop (i + 1) cs)) qs) (sym records) now.1 in
+            let asked = made_moved P P sizes x2 x2 limit other (level - 1) (λ n has. refl) (λ n has. has) limits (take i cs ++ (children_of copied ++ drop (i + 1) cs)) lent (with_record r rs) is whole in
+            subst (λ n. Made (IsRenewed before later keep) sizes x3 n level (children_of done) (with_record r rs)) limits (made keep (with_record r rs) now.0 (with_rises r 0 rs (omega arith) rises) asked),
         node_grows sizes old.contents limit level b r rs bs cs i d above at chosen (extra copied) (extra done) here grows,
       )
 

@@ -1,5 +1,6 @@
 -- What a Remove under a block answers, from what it answers under the chosen child; and what lies under a root with one child.
-use Rattle.std.proofs.Common.{◌≡◌, ◌≢◌, Bool, ℕ, zero, suc, ◌+◌, ◌-◌, ◌^◌, ◌<◌, ◌≤◌, List, [], ◌∷◌, ◌++◌, length, get_or, take, drop, None, Result, Ok, Err, refl, sym, ap, ◌∙◌, subst, arith, append-nil, length-drop, take-append-drop}
+use Rattle.std.proofs.Common.{◌≡◌, ◌≢◌, Bool, ℕ, zero, suc, ◌+◌, ◌-◌, ◌^◌, ◌<◌, ◌≤◌, List, [], ◌∷◌, ◌++◌, length, get_or, take, drop, Option, None, Result, Ok, Err, refl, sym, ap, ◌∙◌, subst, arith, append-nil, length-drop, take-append-drop}
+use Rattle.std.specs.Prelude.{true, IfSome, IsOkAnd}
 use Rattle.std.specs.List.{AllByRecursion}
 use Rattle.std.proofs.lemmas.List.{nil_from_length, length-map}
 use Rattle.vm_types.specs.Places.{place, RisesFrom, places, value_at}
@@ -16,18 +17,18 @@ use Rattle.vm_tree.specs.Answers.{OkOrDevice}
 use Rattle.vm_tree.specs.Splits.{Made}
 use Rattle.vm_tree.specs.BlockReads.{IsNodeAt}
 use Rattle.vm_block.specs.Changed.{without_place}
-use Rattle.vm_tree.specs.Removal.{Narrows, IsLeft, RemovesBelow, child_of}
-use Rattle.vm_tree.specs.Replacement.{IsPathIn, IsRenewed, KeepsBeside, Replaces}
+use Rattle.vm_tree.specs.Removal.{Narrows, IsLeft, LeavesOld, RemovesBelow, child_of}
+use Rattle.vm_tree.specs.Replacement.{IsRenewed, KeepsOwn, Replaces, without_own}
 use Rattle.vm_tree.specs.declared.root.Root.{Root}
 use Rattle.vm_tree.specs.declared.faults.TreeFault.{TreeFault}
 use Rattle.vm_tree.specs.declared.removal.Left.{Left}
 use Rattle.vm_tree.specs.declared.removal.Left.TheVariants.{Same, Nothing, Rest}
 use Rattle.vm_tree.proofs.TreeLemmas.{node_opens}
-use Rattle.vm_tree.proofs.Beside.{left_renewed, own_held, own_keeps, right_renewed}
-use Rattle.vm_tree.proofs.Descent.{Opened, opens, lowest_of, ok_map}
+use Rattle.vm_tree.proofs.Beside.{once_left, once_right, parts_of}
+use Rattle.vm_tree.proofs.Descent.{Opened, lowest_of, ok_map}
+use Rattle.vm_tree.proofs.Framing.{Frames, opened, renews}
 use Rattle.vm_tree.proofs.Growing.{made_moved}
-use Rattle.vm_tree.proofs.PutLemmas.{replaced_made}
-use Rattle.vm_tree.proofs.Renewing.{renewed_more}
+use Rattle.vm_tree.proofs.Renewing.{keeps_own, kept_without, renewed_old}
 use Rattle.vm_tree.proofs.RemovalLemmas.{without_between, without_rises}
 use Rattle.vm_tree.proofs.Rising.{value_between}
 use Rattle.vm_tree.proofs.Splitting.{children_join}
@@ -96,6 +97,17 @@ pub two_children : {bytes : List ℕ} {l n k : ℕ} {cs : List Child} → take 1
 two_children {bytes} {l} {n} {k} {cs} begins low two few node =
     omega (arith, two, (node_head_only bytes 1162104654 l n 0 k (length cs) (omega arith) low few (omega arith) (begins ∙ sym (node_words l n)) (node_headed bytes k cs node)).2)
 
+-- what follows from what is left
+pub ok_and_so : (result : Result Left TreeFault) (P Q : Left → Type 0) → IsOkAnd result P → ((left : Left) → P left → Q left) → IsOkAnd result Q
+ok_and_so (Ok left) P Q is so = so left is
+ok_and_so (Err e) P Q is so = absurd is
+
+-- a root that was there, and is one of these others, is one of those
+pub leaves_so : (P Q : ℕ → Type 0) (held later : List Bool) → ((n : ℕ) → P n → Q n) → (left : Left) → LeavesOld P held later left → LeavesOld Q held later left
+leaves_so P Q held later so Same is = is
+leaves_so P Q held later so Nothing is = is
+leaves_so P Q held later so (Rest root) is = (is.0, so root.block is.1)
+
 -- what was written is answered
 pub rests_removes : (result : Result Left TreeFault) (p : ℕ) (rs : List Record) (P Q : Root → Type 0) → ((root : Root) → P root → Q root) → value_at p rs ≢ None → IsLeft result (without_place p rs) P → RemovesBelow result p rs Q
 rests_removes (Ok Same) p rs P Q so some rest = absurd rest
@@ -105,8 +117,8 @@ rests_removes (Err e) p rs P Q so some rest = rest
 
 module _ (sizes : Sizes) (old mid : Medium) (limit level b p : ℕ) (rs : List Record) (bs : List ℕ) (cs : List Child) (i : ℕ) (d : Child) (still : mid ≡ old) (above : 0 < level)
     (tree : Subtree sizes old.contents limit level b rs bs) (rises : RisesFrom 0 (places rs)) (only : (ds : List Child) → IsNodeAt old.contents limit level b ds → length ds ≤ sizes.fan → cs ≡ ds) (chosen : IsChosen (lows cs) p i) where
-  at_child : Opened sizes old.contents limit level b p rs bs cs i d
-  at_child = opens sizes old.contents limit level b p rs bs cs i d above tree rises only chosen
+  abbrev at_child : Opened sizes old.contents limit level b p rs bs cs i d
+  at_child = opened sizes old mid limit level b p rs bs cs i d still above tree rises only chosen
 
   -- the value at the place is that under the chosen child
   value_is : value_at p rs ≡ value_at p at_child.way.split.sub
@@ -117,9 +129,9 @@ module _ (sizes : Sizes) (old mid : Medium) (limit level b p : ℕ) (rs : List R
   abbrev pub Asks : Child → (List Record → List ℕ → Type 0) → Type 0
   Asks c A = (sub : List Record) (own : List ℕ) → Subtree sizes mid.contents limit (level - 1) c.block sub own → BeginsWith c.low sub → RisesFrom 0 (places sub) → A sub own
 
-  -- of the records under it there is one at the place, and M holds of what is left without it, in blocks that replace those of its path
-  abbrev pub Kept : (before between : List Bool) (under : List ℕ) → ((ℕ → Type 0) → List Record → Type 0) → List Record → List ℕ → Type 0
-  Kept before between under M sub own = (value_at p sub ≢ None) × Replaces before between under own (λ P. M P (without_place p sub))
+  -- of the records under it there is one at the place, and M holds of what is left without it, in blocks that replace those under it
+  abbrev pub Kept : (before between : List Bool) → ((ℕ → Type 0) → List Record → Type 0) → List Record → List ℕ → Type 0
+  Kept before between M sub own = (value_at p sub ≢ None) × Replaces before between own (λ P. M P (without_place p sub))
 
   answered : (c : Child) → get_or cs i d ≡ c → (A : List Record → List ℕ → Type 0) → Asks c A → A at_child.way.split.sub at_child.way.split.own
   answered c is A below =
@@ -136,44 +148,37 @@ module _ (sizes : Sizes) (old mid : Medium) (limit level b p : ℕ) (rs : List R
   fault_there c is A below = answered c is (λ sub own. A) below
 
   -- what is left of the children without the chosen one, under which no record is left
-  pub record Others (before : List Bool) (path : List ℕ) (lent : List Child) : Type 0 where
+  pub record Others (before : List Bool) (mine : Option ℕ) (lent : List Child) : Type 0 where
     pub there : value_at p rs ≢ None
     pub rising : RisesFrom 0 (places (without_place p rs))
     pub kept : List ℕ
     pub under : Children (Subtree sizes old.contents limit (level - 1)) lent (without_place p rs) kept
     pub fit : AllByRecursion ChildFits lent
-    pub renewed : (keep : ℕ → Bool) → AllByRecursion (IsHeld before) bs → KeepsBeside path keep bs → AllByRecursion (IsRenewed before before keep) kept
+    pub renewed : (keep : ℕ → Bool) → AllByRecursion (IsHeld before) bs → AllByRecursion (λ n. keep n ≡ true) bs → KeepsOwn mine before keep × AllByRecursion (IsRenewed before before (without_own mine keep)) kept
 
-  module _ (c : Child) (at : get_or cs i d ≡ c) (path under : List ℕ) (grown : path ≡ under ++ (b ∷ [])) (inside : Asks c (λ sub own. IsPathIn under own)) where
-    within : IsPathIn under at_child.way.split.own
-    within = answered c at (λ sub own. IsPathIn under own) inside
-
+  module _ (c : Child) (at : get_or cs i d ≡ c) where
     -- what is left of the children, with these in the place of the chosen one
-    pub node_rest : (before between : List Bool) (x2 : Contents) (other : ℕ) (now lent : List Child) → ((n : ℕ) → IsHeld before n → block x2 n ≡ block mid.contents n) → HoldsMore before between → other ≡ limit
+    pub node_rest : (before between : List Bool) (mine : Option ℕ) (x2 : Contents) (other : ℕ) (now lent : List Child) → IfSome mine (λ n. n ≡ b) → Frames sizes old mid limit level b p rs bs cs i d still above tree rises only chosen c before x2
+        → HoldsMore before between → other ≡ limit
         → lent ≡ take i cs ++ (now ++ drop (i + 1) cs)
-        → Asks c (Kept before between under (λ P. Made P sizes x2 limit (level - 1) now))
+        → Asks c (Kept before between (λ P. Made P sizes x2 limit (level - 1) now))
         → (value_at p rs ≢ None)
-        × ((keep : ℕ → Bool) → AllByRecursion (IsHeld before) bs → KeepsBeside path keep bs → RisesFrom 0 (places (without_place p rs)) × Made (IsRenewed before between keep) sizes x2 other (level - 1) lent (without_place p rs))
-    node_rest before between x2 other now lent same more limits is below =
-        let got = answered c at (Kept before between under (λ P. Made P sizes x2 limit (level - 1) now)) below in
+        × ((keep : ℕ → Bool) → AllByRecursion (IsHeld before) bs → AllByRecursion (λ n. keep n ≡ true) bs
+        → RisesFrom 0 (places (without_place p rs)) × KeepsOwn mine before keep × Made (IsRenewed before between (without_own mine keep)) sizes x2 other (level - 1) lent (without_place p rs))
+    node_rest before between mine x2 other now lent here frames more limits is below =
+        let got = answered c at (Kept before between (λ P. Made P sizes x2 limit (level - 1) now)) below in
         let s = at_child.way.split in
-        let same_old = λ (n : ℕ) (has : IsHeld before n). same n has ∙ ap (λ (m : Medium). block m.contents n) still in
         let records = ap (without_place p) s.records ∙ without_between p s.before s.sub s.after at_child.way.below at_child.way.above in (
           λ none. got.0 (sym value_is ∙ none),
           λ keep all keeps.
-              let Q = IsRenewed before between keep in
-              let made = replaced_made (IsRenewed before before keep) Q sizes old.contents x2 limit level b p rs bs cs i d (λ n has. same_old n has.now) (renewed_more before before between keep more) at_child
-              (left_renewed sizes old.contents limit level b p rs bs cs i d above tree rises at_child path under grown within before keep all keeps)
-              (right_renewed sizes old.contents limit level b p rs bs cs i d above tree rises at_child path under grown within before keep all keeps)
-              now (without_place p s.sub)
-              (got.1 keep (own_held sizes old.contents limit level b p rs bs cs i d above tree rises at_child path under grown within before keep all keeps)
-              (own_keeps sizes old.contents limit level b p rs bs cs i d above tree rises at_child path under grown within before keep all keeps)) in
-              let whole = subst (λ (qs : List Record). Made Q sizes x2 limit (level - 1) (take i cs ++ (now ++ drop (i + 1) cs)) qs) (sym records) made in
-              (without_rises p 0 rs rises, made_moved Q Q sizes x2 x2 limit other (level - 1) (λ n has. refl) (λ n has. has) limits (take i cs ++ (now ++ drop (i + 1) cs)) lent (without_place p rs) is whole),
+              let Q = IsRenewed before between (without_own mine keep) in
+              let made = renews sizes old mid limit level b p rs bs cs i d still above tree rises only chosen before between mine keep c x2 now (without_place p s.sub) here at frames more all keeps got.1 in
+              let whole = subst (λ (qs : List Record). Made Q sizes x2 limit (level - 1) (take i cs ++ (now ++ drop (i + 1) cs)) qs) (sym records) made.1 in
+              (without_rises p 0 rs rises, made.0, made_moved Q Q sizes x2 x2 limit other (level - 1) (λ n has. refl) (λ n has. has) limits (take i cs ++ (now ++ drop (i + 1) cs)) lent (without_place p rs) is whole),
         )
 
-    pub others_left : (before : List Bool) (lent : List Child) → lent ≡ take i cs ++ drop (i + 1) cs → Asks c (λ sub own. (value_at p sub ≢ None) × (without_place p sub ≡ [])) → Others before path lent
-    others_left before lent is below =
+    pub others_left : (before : List Bool) (mine : Option ℕ) (lent : List Child) → IfSome mine (λ n. n ≡ b) → lent ≡ take i cs ++ drop (i + 1) cs → Asks c (λ sub own. (value_at p sub ≢ None) × (without_place p sub ≡ [])) → Others before mine lent
+    others_left before mine lent here is below =
         let got = answered c at (λ sub own. (value_at p sub ≢ None) × (without_place p sub ≡ [])) below in
         let s = at_child.way.split in
         let T = Subtree sizes old.contents limit (level - 1) in
@@ -190,16 +195,21 @@ module _ (sizes : Sizes) (old mid : Medium) (limit level b p : ℕ) (rs : List R
           under = subst (λ (ds : List Child). Children T ds (without_place p rs) (s.left ++ s.right)) (sym is) (subst (λ (qs : List Record). Children T (take i cs ++ drop (i + 1) cs) qs (s.left ++ s.right)) (sym records) joined);
           fit = subst (AllByRecursion ChildFits) (sym is) fits;
           renewed = λ keep all keeps.
-              each_join (IsRenewed before before keep) s.left s.right
-              (left_renewed sizes old.contents limit level b p rs bs cs i d above tree rises at_child path under grown within before keep all keeps)
-              (right_renewed sizes old.contents limit level b p rs bs cs i d above tree rises at_child path under grown within before keep all keeps);
+              let inner = without_own mine keep in
+              let held = parts_of sizes old.contents limit level b p rs bs cs i d above tree rises at_child (IsHeld before) all in
+              let kept = parts_of sizes old.contents limit level b p rs bs cs i d above tree rises at_child (λ n. keep n ≡ true) keeps in (
+                keeps_own mine before keep b here held.top kept.top,
+                each_join (IsRenewed before before inner) s.left s.right
+                    (renewed_old before inner s.left held.left (kept_without mine keep b s.left here kept.left (once_left sizes old.contents limit level b p rs bs cs i d above tree rises at_child)))
+                    (renewed_old before inner s.right held.right (kept_without mine keep b s.right here kept.right (once_right sizes old.contents limit level b p rs bs cs i d above tree rises at_child))),
+              );
         }
 
     -- where the child is the only one, all records lie under it
-    pub only_there : (before between : List Bool) (M : (ℕ → Type 0) → List Record → Type 0) → length cs ≡ 1 → Asks c (Kept before between under M)
-        → (value_at p rs ≢ None) × Replaces before between path bs (λ P. M P (without_place p rs))
+    pub only_there : (before between : List Bool) (M : (ℕ → Type 0) → List Record → Type 0) → length cs ≡ 1 → Asks c (Kept before between M)
+        → (value_at p rs ≢ None) × Replaces before between bs (λ P. M P (without_place p rs))
     only_there before between M one below =
-        let got = answered c at (Kept before between under M) below in
+        let got = answered c at (Kept before between M) below in
         let s = at_child.way.split in
         let index : i ≡ 0 = omega (arith, chosen.within, length-map cs (λ (c : Child). place c.low), one) in
         let before_none : s.before ≡ [] = none_before i s.before s.left index s.front in
@@ -208,8 +218,8 @@ module _ (sizes : Sizes) (old mid : Medium) (limit level b p : ℕ) (rs : List R
         let same : rs ≡ s.sub = s.records ∙ ap (λ (z : List Record). z ++ (s.sub ++ s.after)) before_none ∙ ap (λ (z : List Record). s.sub ++ z) after ∙ append-nil s.sub in (
           λ none. got.0 (sym value_is ∙ none),
           λ keep all keeps. subst (λ (qs : List Record). M (IsRenewed before between keep) (without_place p qs)) (sym same)
-              (got.1 keep (own_held sizes old.contents limit level b p rs bs cs i d above tree rises at_child path under grown within before keep all keeps)
-              (own_keeps sizes old.contents limit level b p rs bs cs i d above tree rises at_child path under grown within before keep all keeps)),
+              (got.1 keep (parts_of sizes old.contents limit level b p rs bs cs i d above tree rises at_child (IsHeld before) all).own
+              (parts_of sizes old.contents limit level b p rs bs cs i d above tree rises at_child (λ n. keep n ≡ true) keeps).own),
         )
       where
         none_before : (j : ℕ) (before : List Record) (left : List ℕ) → j ≡ 0 → Children (Subtree sizes old.contents limit (level - 1)) (take j cs) before left → before ≡ []

@@ -20,7 +20,7 @@ pub counted_free : (held : List Bool) (n : ℕ) → n < length held → is_held 
 counted_free held n inside is = ap (λ b. not b && nat_lt n (length held)) is ∙ lt-ltb n (length held) inside
 
 -- where more is held, none is free that was not
-not_freed : (a b : List Bool) (n : ℕ) → HoldsMore a b → is_free a n ≡ false → is_free b n ≡ false
+pub not_freed : (a b : List Bool) (n : ℕ) → HoldsMore a b → is_free a n ≡ false → is_free b n ≡ false
 not_freed a b n more out = by_mark (is_held a n) refl (is_held b n) refl
   where
     by_mark : (had : Bool) → is_held a n ≡ had → (has : Bool) → is_held b n ≡ has → is_free b n ≡ false
@@ -53,6 +53,17 @@ touches_then a b old mid new more first then =
 -- the blocks that are held have the same bytes at the end
 pub held_kept : (held : List Bool) (old new : DiskState) → Throughout old new (TouchesOnly (is_free held) old.now) → (n : ℕ) → IsHeld held n → block new.now.contents n ≡ block old.now.contents n
 held_kept held old new moments n is = held_same held old.now new.now n (at_end old new (TouchesOnly (is_free held) old.now) moments) is
+
+-- so do fewer of them
+pub spared_kept : (spared held : List Bool) (old new : DiskState) → HoldsMore spared held → Throughout old new (TouchesOnly (is_free held) old.now) → Throughout old new (TouchesOnly (is_free spared) old.now)
+spared_kept spared held old new wider moments =
+    touches_then spared held old old new wider (started old (TouchesOnly (is_free spared) old.now) (touches_nothing (is_free spared) old.now)) moments
+
+-- a write to a block spares those of which it is none
+pub own_written : {T : Type 0} (spared : List Bool) (n : ℕ) (bytes : List ℕ) (result : Result T DeviceFault) (old new : DiskState) → is_free spared n ≡ true → Writes n bytes result old new
+    → Throughout old new (TouchesOnly (is_free spared) old.now)
+own_written spared n bytes result old new free writes =
+    write_on n bytes result (is_free spared) old old new free (started old (TouchesOnly (is_free spared) old.now) (touches_nothing (is_free spared) old.now)) writes
 
 -- a write to a block that was free spares those that are held
 pub free_written : {T : Type 0} (held : List Bool) (n : ℕ) (bytes : List ℕ) (result : Result T DeviceFault) (old new : DiskState) → slice_get held n ≡ Some false → Writes n bytes result old new

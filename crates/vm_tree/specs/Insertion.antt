@@ -4,7 +4,7 @@ use Rattle.std.specs.List.{AllByRecursion}
 use Rattle.vm_types.specs.declared.key.Key.{Key}
 use Rattle.vm_types.specs.Map.{with_value}
 use Rattle.vm_types.specs.Places.{place, value_at, with_record}
-use Rattle.vm_disk.specs.Disk.{DiskState}
+use Rattle.vm_disk.specs.Disk.{DiskState, block}
 use Rattle.vm_alloc.specs.Held.{IsHeld}
 use Rattle.vm_block.specs.Leaf.{Record}
 use Rattle.vm_block.specs.declared.node.Child.{Child}
@@ -13,7 +13,7 @@ use Rattle.vm_tree.specs.Answers.{LacksRoom, Puts}
 use Rattle.vm_tree.specs.Free.{TakesAtMost}
 use Rattle.vm_tree.specs.FullPath.{GrowsBy}
 use Rattle.vm_tree.specs.Splits.{Made, PutsBelow, extra}
-use Rattle.vm_tree.specs.Replacement.{IsHeldBeside, IsRenewed, Replaces, path_from, path_under}
+use Rattle.vm_tree.specs.Replacement.{IsRenewed, Lacks, Replaces}
 use Rattle.vm_tree.specs.Root.{IsRootedIn, IfUnder, IfWhole, sizes_of}
 use Rattle.vm_tree.specs.declared.root.Root.{Root}
 use Rattle.vm_tree.specs.declared.faults.PutFault.{PutFault}
@@ -49,14 +49,14 @@ abbrev pub PutsUnderLeaf : Result Copied PutFault → ℕ → List Bool → List
 PutsUnderLeaf result room held later old new top r =
     (sizes : Sizes) → IfUnder old new sizes (length held) 0 top
     (λ rs bs. PutsBelow result room (GrowsBy sizes old.now.contents r 0 top.block)
-    (λ cs. Replaces held later (top.block ∷ []) bs (λ P. Made P sizes new.now.contents (length held) 0 cs (with_record r rs))))
+    (λ cs. Replaces held later bs (λ P. Made P sizes new.now.contents (length held) 0 cs (with_record r rs))))
 
--- the records under a child of this level have this one, in as many more blocks as it grows by, which replace those of the path
-abbrev pub PutsUnder : Result Copied PutFault → ℕ → ℕ → List Bool → List Bool → DiskState → DiskState → ℕ → Child → Record → List ℕ → Type 0
-PutsUnder result fan room held later old new level top r path =
+-- the records under a child of this level have this one, in as many more blocks as it grows by, which replace those under the child
+abbrev pub PutsUnder : Result Copied PutFault → ℕ → ℕ → List Bool → List Bool → DiskState → DiskState → ℕ → Child → Record → Type 0
+PutsUnder result fan room held later old new level top r =
     (levels : ℕ) → IfUnder old new (sizes_of fan levels) (length held) level top
     (λ rs bs. PutsBelow result room (GrowsBy (sizes_of fan levels) old.now.contents r level top.block)
-    (λ cs. Replaces held later (path_from level path) bs (λ P. Made P (sizes_of fan levels) new.now.contents (length held) level cs (with_record r rs))))
+    (λ cs. Replaces held later bs (λ P. Made P (sizes_of fan levels) new.now.contents (length held) level cs (with_record r rs))))
 
 -- the record alone lies under the root, in blocks that are held now, and to be kept if they were held before
 abbrev pub PutsFirst : Result Root TreeFault → List Bool → List Bool → DiskState → Record → Type 0
@@ -65,9 +65,15 @@ PutsFirst result held later new r =
     → IfOk result (λ root. IsRootedIn sizes (IsRenewed held later keep) new.now.contents (length held) root (r ∷ []))
 
 -- the answer is a root, or Deep exactly if there is no room, unless the device fails; and if the blocks of the tree are held, the root has
--- the map with the value, in blocks that are none of this path
-abbrev pub PutsFrom : Result Root PutFault → Sizes → List Bool → List Bool → DiskState → DiskState → Root → Key → List ℕ → List ℕ → Type 0
-PutsFrom result sizes held later old new root key value path =
+-- the map with the value, in blocks that are held
+abbrev pub PutsFrom : Result Root PutFault → Sizes → List Bool → List Bool → DiskState → DiskState → Root → Key → List ℕ → Type 0
+PutsFrom result sizes held later old new root key value =
     IfWhole old new sizes (length held) root (λ m bs. Puts result (LacksRoom sizes old.now.contents root (key, value))
     (λ r. AllByRecursion (IsHeld held) bs
-    → IsRootedIn sizes (IsHeldBeside later (path_under root path)) new.now.contents (length held) r (with_value m key value)))
+    → IsRootedIn sizes (IsHeld later) new.now.contents (length held) r (with_value m key value)))
+
+-- if a value was answered, each block that was held, and is none of those under the child, has the bytes that it had
+abbrev pub KeepsBeside : {T E : Type 0} → Result T E → ℕ → List Bool → DiskState → DiskState → ℕ → Child → Type 0
+KeepsBeside result fan held old new level top =
+    (levels : ℕ) → IfUnder old new (sizes_of fan levels) (length held) level top
+    (λ rs bs. IfOk result (λ _. (n : ℕ) → IsHeld held n → Lacks n bs → block new.now.contents n ≡ block old.now.contents n))

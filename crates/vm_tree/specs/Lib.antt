@@ -7,7 +7,6 @@ pub mod Faults
 pub mod Laws
 pub mod Splits
 pub mod Over
-pub mod Paths
 pub mod Insertion
 pub mod Removal
 pub mod Root

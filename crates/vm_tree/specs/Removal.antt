@@ -1,5 +1,5 @@
 -- A record taken out, and what is left then.
-use Rattle.std.specs.Prelude.{◌≡◌, ◌≢◌, ◌⊎◌, ℕ, zero, suc, ◌+◌, ◌-◌, true, Bool, List, [], ◌∷◌, ◌++◌, length, take, drop, Option, None, IsSomeAnd, IsOkAnd, Result, Ok, Err}
+use Rattle.std.specs.Prelude.{◌≡◌, ◌≢◌, ◌⊎◌, ℕ, zero, suc, ◌+◌, ◌-◌, true, false, Bool, List, [], ◌∷◌, ◌++◌, length, take, drop, Option, None, IfSome, IsSomeAnd, IsOkAnd, Result, Ok, Err}
 use Rattle.std.specs.List.{AllByRecursion}
 use Rattle.vm_types.specs.declared.key.Key.{Key}
 use Rattle.vm_types.specs.Map.{get, without}
@@ -16,9 +16,9 @@ use Rattle.vm_tree.specs.Tree.{Sizes, IsData, Children, Subtree}
 use Rattle.vm_block.specs.declared.way.Way.{Way}
 use Rattle.vm_tree.specs.Answers.{OkOrDevice, Removes}
 use Rattle.vm_tree.specs.Calls.{LooksIf}
-use Rattle.vm_tree.specs.Free.{TakesAtMost}
+use Rattle.vm_tree.specs.Free.{TakesAtMost, is_free}
 use Rattle.vm_tree.specs.Splits.{Made, IsWide}
-use Rattle.vm_tree.specs.Replacement.{IsHeldBeside, IsRenewed, Replaces, path_from, path_under}
+use Rattle.vm_tree.specs.Replacement.{IsRenewed, KeepsOwn, Replaces, without_own}
 use Rattle.vm_tree.specs.Root.{IsRootedIn, IfUnder, IfWhole, sizes_of}
 use Rattle.vm_tree.specs.declared.root.Root.{Root}
 use Rattle.vm_tree.specs.declared.faults.TreeFault.{TreeFault}
@@ -66,19 +66,23 @@ LooksIfSame result held later old new = LooksIf (result ≡ Ok Same) held later 
 abbrev pub LooksIfNothing : Result Left TreeFault → List Bool → List Bool → DiskState → DiskState → Type 0
 LooksIfNothing result held later old new = LooksIf (result ≡ Ok Nothing) held later old new
 
--- the block of this root is held as it was before: it was not taken now
-abbrev pub WasThere : List Bool → List Bool → Root → Type 0
-WasThere held later root = is_held later root.block ≡ is_held held root.block
+-- the block of this root is held as it was before: it was not taken now; and it is one of the `others`, which are not changed in place
+abbrev pub WasThere : (ℕ → Type 0) → List Bool → List Bool → Root → Type 0
+WasThere others held later root = (is_held later root.block ≡ is_held held root.block) × others root.block
 
 -- a root is left that was there
-abbrev pub LeavesOld : List Bool → List Bool → Left → Type 0
-LeavesOld held later Same = ⊥
-LeavesOld held later Nothing = ⊥
-LeavesOld held later (Rest root) = WasThere held later root
+abbrev pub LeavesOld : (ℕ → Type 0) → List Bool → List Bool → Left → Type 0
+LeavesOld others held later Same = ⊥
+LeavesOld others held later Nothing = ⊥
+LeavesOld others held later (Rest root) = WasThere others held later root
+
+-- this block was not free in the baseline, if there is one
+abbrev pub IsOutside : Option (List Bool) → ℕ → Type 0
+IsOutside base n = IfSome base (λ bits. is_free bits n ≡ false)
 
 -- and if a root is left that was there
-abbrev pub LooksIfOld : Result Left TreeFault → List Bool → List Bool → DiskState → DiskState → Type 0
-LooksIfOld result held later old new = LooksIf (IsOkAnd result (LeavesOld held later)) held later old new
+abbrev pub LooksIfOld : Result Left TreeFault → (ℕ → Type 0) → List Bool → List Bool → DiskState → DiskState → Type 0
+LooksIfOld result others held later old new = LooksIf (IsOkAnd result (LeavesOld others held later)) held later old new
 
 -- the root that is left, if one is, is a leaf or has two children at least
 abbrev pub LeavesWide : DiskState → Left → Type 0
@@ -105,8 +109,8 @@ abbrev pub Empties : Result (Option Root) TreeFault → Type 0
 Empties result = IsOkAnd result (λ rest. IsSomeAnd rest (λ root. root.block ≡ 0))
 
 -- the root that is answered was there
-abbrev pub KeepsRoot : Result (Option Root) TreeFault → List Bool → List Bool → Type 0
-KeepsRoot result held later = IsOkAnd result (λ rest. IsSomeAnd rest (WasThere held later))
+abbrev pub KeepsRoot : Result (Option Root) TreeFault → Option (List Bool) → List Bool → List Bool → Type 0
+KeepsRoot result base held later = IsOkAnd result (λ rest. IsSomeAnd rest (WasThere (IsOutside base) held later))
 
 -- from block b, this many levels above the leaves, down to a leaf of one record each block has one child
 unfoldable pub HasOne : Contents → ℕ → ℕ → Type 0
@@ -131,30 +135,31 @@ NarrowsTo result fan old new limit level top =
 
 -- what is left of an inner block of this level with these children lies under a root, in blocks that are held now, and to be kept if they
 -- were held before
-abbrev pub LeavesRest : Result Left TreeFault → ℕ → ℕ → List Child → List Bool → List Bool → DiskState → DiskState → Type 0
-LeavesRest result fan level cs held later old new =
+abbrev pub LeavesRest : Result Left TreeFault → Option ℕ → ℕ → ℕ → List Child → List Bool → List Bool → DiskState → DiskState → Type 0
+LeavesRest result own fan level cs held later old new =
     new.honest ≡ true → (levels : ℕ) (rs : List Record) (bs : List ℕ) → RisesFrom 0 (places rs) → AllByRecursion ChildFits cs
     → Children (Subtree (sizes_of fan levels) old.now.contents (length held) (level - 1)) cs rs bs
-    → IsLeft result rs (λ root. (before : List Bool) (keep : ℕ → Bool) → HoldsMore before held → AllByRecursion (IsRenewed before held keep) bs
+    → IsLeft result rs (λ root. (before : List Bool) (keep : ℕ → Bool) → HoldsMore before held → KeepsOwn own before keep
+    → AllByRecursion (IsRenewed before held (without_own own keep)) bs
     → Made (IsRenewed before later keep) (sizes_of fan levels) new.now.contents (length held) root.level (child_of root ∷ []) rs)
 
 -- the records of a leaf are left without the one at place p, under a root in a block that replaces the leaf's
 abbrev pub RemovesFromLeaf : Result Left TreeFault → List Bool → List Bool → DiskState → DiskState → Child → ℕ → Type 0
 RemovesFromLeaf result held later old new top p =
     (sizes : Sizes) → IfUnder old new sizes (length held) 0 top (λ rs bs. RemovesBelow result p rs
-    (λ root. Replaces held later (top.block ∷ []) bs
+    (λ root. Replaces held later bs
     (λ P. Made P sizes new.now.contents (length held) root.level (child_of root ∷ []) (without_place p rs))))
 
--- the records under a child are left without the one at place p, under a root in blocks that replace those of this path
-abbrev pub RemovesUnder : Result Left TreeFault → ℕ → List Bool → List Bool → DiskState → DiskState → ℕ → Child → ℕ → List ℕ → Type 0
-RemovesUnder result fan held later old new level top p path =
+-- the records under a child are left without the one at place p, under a root in blocks that replace those under the child
+abbrev pub RemovesUnder : Result Left TreeFault → ℕ → List Bool → List Bool → DiskState → DiskState → ℕ → Child → ℕ → Type 0
+RemovesUnder result fan held later old new level top p =
     (levels : ℕ) → IfUnder old new (sizes_of fan levels) (length held) level top (λ rs bs. RemovesBelow result p rs
-    (λ root. Replaces held later (path_from level path) bs
+    (λ root. Replaces held later bs
     (λ P. Made P (sizes_of fan levels) new.now.contents (length held) root.level (child_of root ∷ []) (without_place p rs))))
 
 -- the answer is None exactly if the key is absent, and else a root, unless the device fails; and if the blocks of the tree are held,
--- the root has the map without the key, in blocks that are none of this path
-abbrev pub RemovesFrom : Result (Option Root) TreeFault → Sizes → List Bool → List Bool → DiskState → DiskState → Root → Key → List ℕ → Type 0
-RemovesFrom result sizes held later old new root key path =
+-- the root has the map without the key, in blocks that are held
+abbrev pub RemovesFrom : Result (Option Root) TreeFault → Sizes → List Bool → List Bool → DiskState → DiskState → Root → Key → Type 0
+RemovesFrom result sizes held later old new root key =
     IfWhole old new sizes (length held) root (λ m bs. Removes result (get m key ≡ None) (λ r. AllByRecursion (IsHeld held) bs
-    → IsRootedIn sizes (IsHeldBeside later (path_under root path)) new.now.contents (length held) r (without m key)))
+    → IsRootedIn sizes (IsHeld later) new.now.contents (length held) r (without m key)))

@@ -1,5 +1,5 @@
 -- Blocks of a tree as they are rewritten.
-use Rattle.std.specs.Prelude.{◌≡◌, ℕ, ◌+◌, ◌-◌, ◌<◌, ◌≤◌, nat_lt, if◌then◌else◌, Bool, true, List, [], ◌∷◌, ◌++◌, length, take, drop, Result, Ok, Err, IfOk}
+use Rattle.std.specs.Prelude.{◌≡◌, ℕ, ◌+◌, ◌-◌, ◌<◌, ◌≤◌, nat_lt, if◌then◌else◌, Bool, true, List, [], ◌∷◌, ◌++◌, length, take, drop, Option, Result, Ok, Err, IfOk}
 use Rattle.std.specs.List.{AllByRecursion}
 use Rattle.vm_types.specs.Places.{RisesFrom, places, with_record}
 use Rattle.vm_disk.specs.Disk.{Contents, DiskState, block}
@@ -13,7 +13,7 @@ use Rattle.vm_tree.specs.FullPath.{NeedsMore}
 use Rattle.vm_tree.specs.Tree.{Sizes, Children, Subtree}
 use Rattle.vm_tree.specs.Answers.{OkOrDevice}
 use Rattle.vm_tree.specs.Free.{AreTaken}
-use Rattle.vm_tree.specs.Replacement.{IsRenewed}
+use Rattle.vm_tree.specs.Replacement.{IsRenewed, KeepsOwn, without_own}
 use Rattle.vm_tree.specs.declared.root.Root.{Root}
 use Rattle.vm_tree.specs.declared.faults.PutFault.{PutFault}
 use Rattle.vm_tree.specs.declared.faults.PutFault.TheVariants as put
@@ -75,67 +75,68 @@ IsWide new root =
     new.honest ≡ true → 0 < root.level → (level : ℕ) (cs : List Child) → IsNode (block new.now.contents root.block) level cs → 2 ≤ length cs
 
 -- # What is made of records, if the disk is honest after the call
--- Whatever was held before, the blocks are held now, and those to be kept that were held before.
+-- Whatever was held before, the blocks are held now, and those to be kept that were held before. The own block, if there is one, was held
+-- before, and is to be kept; what lies under a block that is written there is in others.
 
 -- the records of these bytes, if they are two leaves, the first of lower keys
-abbrev pub MakesTwo : Result Copied TreeFault → List Bool → List Bool → DiskState → List ℕ → List ℕ → Type 0
-MakesTwo result held later new left right =
-    new.honest ≡ true → (before : List Bool) (keep : ℕ → Bool) → HoldsMore before held → (sizes : Sizes) (front back : List Record)
+abbrev pub MakesTwo : Result Copied TreeFault → Option ℕ → List Bool → List Bool → DiskState → List ℕ → List ℕ → Type 0
+MakesTwo result own held later new left right =
+    new.honest ≡ true → (before : List Bool) (keep : ℕ → Bool) → HoldsMore before held → KeepsOwn own before keep → (sizes : Sizes) (front back : List Record)
     → HasRecords left front → HasRecords right back
     → IfOk result (λ copied. Made (IsRenewed before later keep) sizes new.now.contents (length held) 0 (children_of copied) (front ++ back))
 
 -- if they are three leaves
-abbrev pub MakesThree : Result Copied TreeFault → List Bool → List Bool → DiskState → List ℕ → List ℕ → List ℕ → Type 0
-MakesThree result held later new left middle right =
-    new.honest ≡ true → (before : List Bool) (keep : ℕ → Bool) → HoldsMore before held → (sizes : Sizes) (front mid back : List Record)
+abbrev pub MakesThree : Result Copied TreeFault → Option ℕ → List Bool → List Bool → DiskState → List ℕ → List ℕ → List ℕ → Type 0
+MakesThree result own held later new left middle right =
+    new.honest ≡ true → (before : List Bool) (keep : ℕ → Bool) → HoldsMore before held → KeepsOwn own before keep → (sizes : Sizes) (front mid back : List Record)
     → HasRecords left front → HasRecords middle mid → HasRecords right back
     → IfOk result (λ copied. Made (IsRenewed before later keep) sizes new.now.contents (length held) 0 (children_of copied) (front ++ (mid ++ back)))
 
 -- the records of a leaf with this one, if they have no room in one leaf, in as many more as they need
-abbrev pub SplitsLeaf : Result Copied PutFault → ℕ → List Bool → List Bool → DiskState → List ℕ → Record → Type 0
-SplitsLeaf result room held later new bytes r =
+abbrev pub SplitsLeaf : Result Copied PutFault → Option ℕ → ℕ → List Bool → List Bool → DiskState → List ℕ → Record → Type 0
+SplitsLeaf result own room held later new bytes r =
     new.honest ≡ true → (rs : List Record) → HasRecords bytes rs → LEAF_ROOM < size_of (with_record r rs)
     → PutsBelow result room (NeedsMore (with_record r rs))
-    (λ cs. (before : List Bool) (keep : ℕ → Bool) → HoldsMore before held → (sizes : Sizes)
+    (λ cs. (before : List Bool) (keep : ℕ → Bool) → HoldsMore before held → KeepsOwn own before keep → (sizes : Sizes)
     → Made (IsRenewed before later keep) sizes new.now.contents (length held) 0 cs (with_record r rs))
 
 -- the records of these bytes, if they are a leaf
-abbrev pub WritesLeaf : Result Child TreeFault → List Bool → List Bool → DiskState → List ℕ → Type 0
-WritesLeaf result held later new bytes =
-    new.honest ≡ true → (before : List Bool) (keep : ℕ → Bool) → HoldsMore before held → (sizes : Sizes) (rs : List Record) → HasRecords bytes rs
+abbrev pub WritesLeaf : Result Child TreeFault → Option ℕ → List Bool → List Bool → DiskState → List ℕ → Type 0
+WritesLeaf result own held later new bytes =
+    new.honest ≡ true → (before : List Bool) (keep : ℕ → Bool) → HoldsMore before held → KeepsOwn own before keep → (sizes : Sizes) (rs : List Record) → HasRecords bytes rs
     → IfOk result (λ child. Made (IsRenewed before later keep) sizes new.now.contents (length held) 0 (child ∷ []) rs)
 
 -- the records under the children of these bytes, if they are an inner block
-abbrev pub WritesNode : Result Child TreeFault → List Bool → List Bool → DiskState → DiskState → List ℕ → Type 0
-WritesNode result held later old new bytes =
-    new.honest ≡ true → (before : List Bool) (keep : ℕ → Bool) → HoldsMore before held → (sizes : Sizes) (level : ℕ) (cs : List Child) (rs : List Record)
+abbrev pub WritesNode : Result Child TreeFault → Option ℕ → List Bool → List Bool → DiskState → DiskState → List ℕ → Type 0
+WritesNode result own held later old new bytes =
+    new.honest ≡ true → (before : List Bool) (keep : ℕ → Bool) → HoldsMore before held → KeepsOwn own before keep → (sizes : Sizes) (level : ℕ) (cs : List Child) (rs : List Record)
     → bytes ≡ node_bytes level cs → 0 < level → level ≤ 7 → 0 < length cs → length cs ≤ MAX_CHILDREN → length cs ≤ sizes.fan → RisesFrom 0 (places rs)
-    → Made (IsRenewed before held keep) sizes old.now.contents (length held) (level - 1) cs rs
+    → Made (IsRenewed before held (without_own own keep)) sizes old.now.contents (length held) (level - 1) cs rs
     → IfOk result (λ child. Made (IsRenewed before later keep) sizes new.now.contents (length held) level (child ∷ []) rs)
 
 -- records under these children, in inner blocks of this level, if this many children may be in one
-abbrev pub MakesNodesOf : {T : Type 0} → Result T TreeFault → (T → List Child) → ℕ → ℕ → List Child → List Bool → List Bool → DiskState → DiskState → Type 0
-MakesNodesOf result children most level cs held later old new =
-    new.honest ≡ true → (before : List Bool) (keep : ℕ → Bool) → HoldsMore before held → (sizes : Sizes) (rs : List Record)
+abbrev pub MakesNodesOf : {T : Type 0} → Result T TreeFault → (T → List Child) → Option ℕ → ℕ → ℕ → List Child → List Bool → List Bool → DiskState → DiskState → Type 0
+MakesNodesOf result children own most level cs held later old new =
+    new.honest ≡ true → (before : List Bool) (keep : ℕ → Bool) → HoldsMore before held → KeepsOwn own before keep → (sizes : Sizes) (rs : List Record)
     → 0 < level → level ≤ 7 → most ≤ sizes.fan → RisesFrom 0 (places rs)
-    → Made (IsRenewed before held keep) sizes old.now.contents (length held) (level - 1) cs rs
+    → Made (IsRenewed before held (without_own own keep)) sizes old.now.contents (length held) (level - 1) cs rs
     → IfOk result (λ done. Made (IsRenewed before later keep) sizes new.now.contents (length held) level (children done) rs)
 
 -- in one
-abbrev pub MakesNode : Result Child TreeFault → ℕ → List Child → List Bool → List Bool → DiskState → DiskState → Type 0
-MakesNode result level cs held later old new = MakesNodesOf result (λ child. child ∷ []) (length cs) level cs held later old new
+abbrev pub MakesNode : Result Child TreeFault → Option ℕ → ℕ → List Child → List Bool → List Bool → DiskState → DiskState → Type 0
+MakesNode result own level cs held later old new = MakesNodesOf result (λ child. child ∷ []) own (length cs) level cs held later old new
 
 -- in one or two, of this many children at most
-abbrev pub MakesNodes : Result Copied TreeFault → ℕ → ℕ → List Child → List Bool → List Bool → DiskState → DiskState → Type 0
-MakesNodes result most level cs held later old new = MakesNodesOf result children_of most level cs held later old new
+abbrev pub MakesNodes : Result Copied TreeFault → Option ℕ → ℕ → ℕ → List Child → List Bool → List Bool → DiskState → DiskState → Type 0
+MakesNodes result own most level cs held later old new = MakesNodesOf result children_of own most level cs held later old new
 
 -- the same of the children of an inner block, with these in place of the one that was taken
-abbrev pub MakesNodesWith : Result Copied TreeFault → ℕ → ℕ → Way → List ℕ → List Child → List Bool → List Bool → DiskState → DiskState → Type 0
-MakesNodesWith result most level way bytes now held later old new =
-    new.honest ≡ true → (before : List Bool) (keep : ℕ → Bool) → HoldsMore before held
+abbrev pub MakesNodesWith : Result Copied TreeFault → Option ℕ → ℕ → ℕ → Way → List ℕ → List Child → List Bool → List Bool → DiskState → DiskState → Type 0
+MakesNodesWith result own most level way bytes now held later old new =
+    new.honest ≡ true → (before : List Bool) (keep : ℕ → Bool) → HoldsMore before held → KeepsOwn own before keep
     → (sizes : Sizes) (cs : List Child) (rs : List Record) → IsNode bytes level cs → way.count ≡ length cs → most ≤ sizes.fan
     → RisesFrom 0 (places rs)
-    → Made (IsRenewed before held keep) sizes old.now.contents (length held) (level - 1) (with_children cs way.index now) rs
+    → Made (IsRenewed before held (without_own own keep)) sizes old.now.contents (length held) (level - 1) (with_children cs way.index now) rs
     → IfOk result (λ done. Made (IsRenewed before later keep) sizes new.now.contents (length held) level (children_of done) rs)
 
 -- # By how many blocks an inner block grows

@@ -1,28 +1,27 @@
 //! Removing a record.
-ghost use Rattle.std.specs.Prelude.{◌≡◌, ◌≢◌, ◌+◌, ◌-◌, ◌<◌, ◌≤◌, true, false, None, length, IfOk, IfSome};
+ghost use Rattle.std.specs.Prelude.{◌≡◌, ◌≢◌, ◌+◌, ◌-◌, ◌<◌, ◌≤◌, true, false, None, length, option_copied, IfOk, IfSome};
 ghost use Rattle.vm_types.specs.Places.{KeyFits, place};
 ghost use Rattle.vm_alloc.specs.Held.{free_count};
-ghost use Rattle.vm_tree.specs.Calls.{OnlyLooks, LooksIf, LooksIfDamaged, WritesFree};
+ghost use Rattle.vm_tree.specs.Calls.{KeepsOthers, OnlyLooks, LooksIf, LooksIfDamaged, WritesBeside, WritesOwn};
 ghost use Rattle.vm_tree.specs.Spent.{ReadsAtMost};
-ghost use Rattle.vm_tree.specs.Free.{TakesAtMost};
+ghost use Rattle.vm_tree.specs.Free.{IsBeside, IsTaken, TakesAtMost};
+ghost use Rattle.vm_tree.specs.Insertion.{KeepsBeside};
 ghost use Rattle.vm_tree.specs.Splits.{IsWide};
-ghost use Rattle.vm_tree.specs.Paths.{NamesPath, NamesPathUnder};
 ghost use Rattle.vm_tree.specs.BlockReads.{FindsPath, FindsPathFrom};
-ghost use Rattle.vm_tree.specs.Removal.{Empties, HadOneIf, IsRootAmong, KeepsRoot, LeavesData, LeavesOut, LeavesRest, LeavesWide, LooksIfNothing, LooksIfOld, LooksIfSame, NarrowsTo, RemovesFrom, RemovesFromLeaf, RemovesUnder, TakesForLeft, child_of, level_of};
-ghost use Rattle.vm_tree.specs.Replacement.{KeepsAbove};
+ghost use Rattle.vm_tree.specs.Removal.{Empties, HadOneIf, IsOutside, IsRootAmong, KeepsRoot, LeavesData, LeavesOut, LeavesRest, LeavesWide, LooksIfNothing, LooksIfOld, LooksIfSame, NarrowsTo, RemovesFrom, RemovesFromLeaf, RemovesUnder, TakesForLeft, child_of, level_of};
 ghost use Rattle.vm_tree.specs.Root.{AreSizes, sizes_of};
 ghost use Rattle.vm_tree.specs.Tree.{IsData};
 
 use crate::block_reads::{is_data, load_leaf, load_way};
-use crate::block_writes::{write_bytes, write_node_block};
+use crate::block_writes::{own_place, write_bytes, write_node_block};
 use crate::child_lists::spliced;
 use crate::faults::TreeFault;
 use crate::root::{Root, root_at};
 use arrayvec::ArrayVec;
-use vm_alloc::Held;
+use vm_alloc::{Baseline, Held};
 use vm_block::{Child, MAX_CHILDREN, Taken, Way, read_node, remove_record, set_child};
 use vm_disk::Disk;
-use vm_types::{Block, Key};
+use vm_types::{Block, BlockNumber, Key};
 
 /// What is left of a block without a record.
 #[derive(Clone, Copy, Debug)]
@@ -64,19 +63,23 @@ fn without_child(bytes: &Block, way: Way) -> Option<ArrayVec<Child, 258>>
 fn remove_from_leaf<D: Disk>(
     disk: &mut D,
     held: &mut Held,
+    own: Option<BlockNumber>,
     top: Child,
     key: Key,
 ) -> Result<Left, TreeFault>
     requires inside { length held.old ≤ (D.state disk.old).blocks }
+    requires own { IfSome own (IsTaken held.old) }
+    requires place { IfSome own (λ n. n ≡ top.block) }
     requires free { 1 ≤ free_count held.old }
-    ensures writes { WritesFree result held.old held.new (D.state disk.old) (D.state disk.new) }
+    ensures writes { WritesOwn result own held.old held.new (D.state disk.old) (D.state disk.new) }
+    ensures others { KeepsOthers own held.old (D.state disk.old) (D.state disk.new) }
     ensures reads { ReadsAtMost 1 (D.state disk.old) (D.state disk.new) }
     ensures level { IfOk result (λ left. level_of left 0 ≡ 0) }
     ensures root { IfOk result (LeavesData (length held.old)) }
     ensures taken { TakesAtMost 1 held.old held.new }
     ensures same { LooksIfSame result held.old held.new (D.state disk.old) (D.state disk.new) }
     ensures nothing { LooksIfNothing result held.old held.new (D.state disk.old) (D.state disk.new) }
-    ensures narrowed { LooksIfOld result held.old held.new (D.state disk.old) (D.state disk.new) }
+    ensures narrowed { LooksIfOld result (IsBeside own) held.old held.new (D.state disk.old) (D.state disk.new) }
     ensures last { HadOneIf (result ≡ Ok Left.Nothing) (D.state disk.old) (D.state disk.new) 0 top.block }
     ensures looks { LooksIfDamaged result held.old held.new (D.state disk.old) (D.state disk.new) }
     ensures path { FindsPath result (D.state disk.old) (D.state disk.new) (length held.old) (place key) 0 top }
@@ -87,7 +90,7 @@ fn remove_from_leaf<D: Disk>(
     let mut bytes = *disk.at_hand();
     match remove_record(&mut bytes, key) {
         Taken::Out => {
-            let leaf = write_bytes(disk, held, &bytes)?;
+            let leaf = write_bytes(disk, held, own, &bytes)?;
             Ok(Left::Rest(root_at(leaf, 0)))
         }
         Taken::Last => Ok(Left::Nothing),
@@ -131,37 +134,40 @@ fn narrowed<D: Disk, const FAN: usize>(
 fn write_rest<D: Disk, const FAN: usize>(
     disk: &mut D,
     held: &mut Held,
+    own: Option<BlockNumber>,
     level: u8,
     is_root: bool,
     children: &[Child],
 ) -> Result<Left, TreeFault>
     requires inside { length held.old ≤ (D.state disk.old).blocks }
+    requires own { IfSome own (IsTaken held.old) }
     requires above { 0 < level }
     requires low { level ≤ 7 }
     requires few { length children.now ≤ FAN }
     requires most { FAN ≤ MAX_CHILDREN }
     requires free { 1 ≤ free_count held.old }
-    ensures writes { WritesFree result held.old held.new (D.state disk.old) (D.state disk.new) }
+    ensures writes { WritesOwn result own held.old held.new (D.state disk.old) (D.state disk.new) }
+    ensures others { KeepsOthers own held.old (D.state disk.old) (D.state disk.new) }
     ensures reads { ReadsAtMost (level - 1) (D.state disk.old) (D.state disk.new) }
     ensures idle { result ≡ Ok Left.Nothing → ReadsAtMost 0 (D.state disk.old) (D.state disk.new) }
     ensures changed { result ≢ Ok Left.Same }
     ensures level { IfOk result (λ left. level_of left level ≤ level) }
     ensures same_level { is_root ≡ false → IfOk result (λ left. level_of left level ≡ level) }
     ensures nothing { LooksIfNothing result held.old held.new (D.state disk.old) (D.state disk.new) }
-    ensures narrowed { LooksIfOld result held.old held.new (D.state disk.old) (D.state disk.new) }
+    ensures narrowed { LooksIfOld result (IsBeside own) held.old held.new (D.state disk.old) (D.state disk.new) }
     ensures last { result ≡ Ok Left.Nothing → length children.now ≡ 0 }
     ensures looks { LooksIfDamaged result held.old held.new (D.state disk.old) (D.state disk.new) }
     ensures taken { TakesAtMost 1 held.old held.new }
     ensures root { IfOk result (LeavesData (length held.old)) }
     ensures wide { is_root ≡ true → IfOk result (LeavesWide (D.state disk.new)) }
-    ensures rest { LeavesRest result FAN level children.now held.old held.new
+    ensures rest { LeavesRest result own FAN level children.now held.old held.new
         (D.state disk.old) (D.state disk.new) }
 {
     if children.is_empty() {
         return Ok(Left::Nothing);
     }
     if !is_root || children.len() > 1 {
-        let node = write_node_block(disk, held, level, children)?;
+        let node = write_node_block(disk, held, own, level, children)?;
         return Ok(Left::Rest(root_at(node, level)));
     }
     let root = narrowed::<D, FAN>(disk, held.blocks(), children[0], level - 1)?;
@@ -169,21 +175,23 @@ fn write_rest<D: Disk, const FAN: usize>(
 }
 
 /// Removes the key's record from what lies under a block of this level. A root that would have one
-/// child is not written. On return `path[l]` is the replaced block at level `l`.
+/// child is not written. An own block below the root whose child keeps its number and its lowest
+/// key stays as it is.
 fn remove_below<D: Disk, const FAN: usize>(
     disk: &mut D,
     held: &mut Held,
+    base: Option<&Baseline>,
     level: u8,
     top: Child,
     is_root: bool,
     key: Key,
-    path: &mut [u32; 8],
 ) -> Result<Left, TreeFault>
     requires inside { length held.old ≤ (D.state disk.old).blocks }
     requires fan_most { FAN ≤ MAX_CHILDREN }
     requires low { level ≤ 7 }
     requires free { level + 1 ≤ free_count held.old }
-    ensures writes { WritesFree result held.old held.new (D.state disk.old) (D.state disk.new) }
+    ensures writes { WritesBeside result (option_copied base.entry) held.old held.new (D.state disk.old) (D.state disk.new) }
+    ensures beside { KeepsBeside result FAN held.old (D.state disk.old) (D.state disk.new) level top }
     ensures reads { ReadsAtMost (level + 1 + (level - 1)) (D.state disk.old) (D.state disk.new) }
     ensures path_reads { result ≡ Ok Left.Nothing → ReadsAtMost (level + 1) (D.state disk.old) (D.state disk.new) }
     ensures fits { KeyFits key }
@@ -195,51 +203,52 @@ fn remove_below<D: Disk, const FAN: usize>(
     ensures wide { is_root ≡ true → IfOk result (LeavesWide (D.state disk.new)) }
     ensures same { LooksIfSame result held.old held.new (D.state disk.old) (D.state disk.new) }
     ensures nothing { LooksIfNothing result held.old held.new (D.state disk.old) (D.state disk.new) }
-    ensures narrowed { LooksIfOld result held.old held.new (D.state disk.old) (D.state disk.new) }
+    ensures narrowed { LooksIfOld result (IsOutside (option_copied base.entry)) held.old held.new (D.state disk.old) (D.state disk.new) }
     ensures last { HadOneIf (result ≡ Ok Left.Nothing) (D.state disk.old) (D.state disk.new) level top.block }
     ensures looks { LooksIfDamaged result held.old held.new (D.state disk.old) (D.state disk.new) }
     ensures path { FindsPath result (D.state disk.old) (D.state disk.new) (length held.old) (place key) level top }
     ensures remove { RemovesUnder result FAN held.old held.new
-        (D.state disk.old) (D.state disk.new) level top (place key) path.new }
-    ensures path_size { length path.new ≡ length path.old }
-    ensures path_above { KeepsAbove level top.block path.old path.new }
-    ensures path_in { NamesPathUnder result FAN (D.state disk.old) (D.state disk.new)
-        (length held.old) level top path.new }
+        (D.state disk.old) (D.state disk.new) level top (place key) }
 {
-    path[usize::from(level)] = top.block;
+    let own = own_place(held, base, top.block);
     if level == 0 {
-        return remove_from_leaf(disk, held, top, key);
+        return remove_from_leaf(disk, held, own, top, key);
     }
     let way = load_way::<D, FAN>(disk, held.blocks(), level, top, key)?;
     let mut bytes = *disk.at_hand();
     let alone = is_root && way.count == 1;
-    let left = remove_below::<D, FAN>(disk, held, level - 1, way.child, alone, key, path)?;
+    let left = remove_below::<D, FAN>(disk, held, base, level - 1, way.child, alone, key)?;
     match left {
         Left::Same => Ok(Left::Same),
         Left::Nothing => match without_child(&bytes, way) {
-            Some(rest) => write_rest::<D, FAN>(disk, held, level, is_root, rest.as_slice()),
+            Some(rest) => write_rest::<D, FAN>(disk, held, own, level, is_root, rest.as_slice()),
             None => Err(TreeFault::Damaged(top.block)),
         },
         Left::Rest(root) => {
             if alone {
                 return Ok(Left::Rest(root));
             }
-            set_child(&mut bytes, way.index, child_of(root));
-            let node = write_bytes(disk, held, &bytes)?;
+            let child = child_of(root);
+            if own.is_some() && !is_root && child == way.child {
+                return Ok(Left::Rest(root_at(top, level)));
+            }
+            set_child(&mut bytes, way.index, child);
+            let node = write_bytes(disk, held, own, &bytes)?;
             Ok(Left::Rest(root_at(node, level)))
         }
     }
 }
 
-/// Removes the record of a key by copying its root-to-leaf path into free blocks, and returns the
-/// new root, or None if the key is absent. Requires 16 free blocks. On return `path[l]` is the old
-/// block at level `l`. No block of the new tree is one of them.
+/// Removes the record of a key, and returns the new root, or None if the key is absent. `base`, if
+/// it is given, holds the blocks that stand as they are: each other block of the tree that is to be
+/// changed, and is held, is changed in its place. The rest of the root-to-leaf path is copied into
+/// free blocks. Requires 16 free blocks.
 pub fn remove<D: Disk, const FAN: usize, const LEVELS: usize>(
     disk: &mut D,
     held: &mut Held,
+    base: Option<&Baseline>,
     root: Root,
     key: Key,
-    path: &mut [u32; 8],
 ) -> Result<Option<Root>, TreeFault>
     requires sizes { AreSizes FAN LEVELS }
     requires inside { length held.old ≤ (D.state disk.old).blocks }
@@ -249,9 +258,10 @@ pub fn remove<D: Disk, const FAN: usize, const LEVELS: usize>(
     // The new root is a data block, or that of the empty map.
     ensures root { IfOk result (λ rest. IfSome rest (IsRootAmong (length held.old))) }
 
-    // What is held stays held, at no moment does a block that was held have other bytes than before,
-    // and each block that is taken lies below each one that is still free.
-    ensures writes { WritesFree result held.old held.new (D.state disk.old) (D.state disk.new) }
+    // What is held stays held, and each block that is taken lies below each one that is still free.
+    // At no moment does a block that was held, and is in the baseline if there is one, have other
+    // bytes than before.
+    ensures writes { WritesBeside result (option_copied base.entry) held.old held.new (D.state disk.old) (D.state disk.new) }
 
     // It reads at most one block per level, and one more for each level between the root and the leaves if
     // the root is replaced by a block below it.
@@ -268,12 +278,13 @@ pub fn remove<D: Disk, const FAN: usize, const LEVELS: usize>(
         (λ r. TakesAtMost (r.level + 1) held.old held.new)) }
 
     // Nothing is written or taken if the answer is None, if no record is left, or if the new root
-    // already existed: a root that would have one child is not written.
+    // already existed, and was not free in the baseline: a root that would have one child is not
+    // written.
     ensures kept { LooksIf (result ≡ Ok None) held.old held.new
         (D.state disk.old) (D.state disk.new) }
     ensures emptied { LooksIf (Empties result) held.old held.new
         (D.state disk.old) (D.state disk.new) }
-    ensures narrowed { LooksIf (KeepsRoot result held.old held.new) held.old held.new
+    ensures narrowed { LooksIf (KeepsRoot result (option_copied base.entry) held.old held.new) held.old held.new
         (D.state disk.old) (D.state disk.new) }
 
     // It answers that no record is left only if the old root had exactly one, whatever its blocks
@@ -291,16 +302,12 @@ pub fn remove<D: Disk, const FAN: usize, const LEVELS: usize>(
 
     // On a tree the answer is None exactly if the key is absent, and otherwise a root, unless the
     // device fails. If the blocks of the tree are held, the root has the map without the key, in
-    // blocks that are not on the old path.
+    // blocks that are held now.
     ensures remove { RemovesFrom result (sizes_of FAN LEVELS) held.old held.new
-        (D.state disk.old) (D.state disk.new) root key path.new }
+        (D.state disk.old) (D.state disk.new) root key }
 
     // On a tree the new root is a leaf, or has at least two children.
     ensures wide { IfOk result (λ rest. IfSome rest (IsWide (D.state disk.new))) }
-
-    // The path consists of blocks of the old tree.
-    ensures path_in { NamesPath result (sizes_of FAN LEVELS)
-        (D.state disk.old) (D.state disk.new) (length held.old) root path.new }
 {
     if root.block == 0 {
         return Ok(None);
@@ -312,7 +319,7 @@ pub fn remove<D: Disk, const FAN: usize, const LEVELS: usize>(
         low: root.low,
         block: root.block,
     };
-    let left = remove_below::<D, FAN>(disk, held, root.level, top, true, key, path)?;
+    let left = remove_below::<D, FAN>(disk, held, base, root.level, top, true, key)?;
     match left {
         Left::Same => Ok(None),
         Left::Nothing => Ok(Some(Root::default())),

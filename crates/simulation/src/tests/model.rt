@@ -37,6 +37,9 @@ pub struct Model {
     trees: Trees,
     committed: Vec<Roots>,
     working: Vec<Roots>,
+    // The alternative of the series of changes that goes on, and the first node that it made.
+    series: Option<Name>,
+    first: usize,
     /// The side in whose map the last Merge made changes, if it made any.
     pub merged_in: Option<Side>,
 }
@@ -75,6 +78,8 @@ impl Model {
             trees: Trees::new(alloc)?,
             committed: Vec::from_elem(alloc, first, 1)?,
             working: Vec::from_elem(alloc, first, 1)?,
+            series: None,
+            first: 0,
             merged_in: None,
         })
     }
@@ -91,6 +96,8 @@ impl Model {
             trees: self.trees.copy()?,
             committed: Vec::from_slice(self.alloc, &self.committed)?,
             working: Vec::from_slice(self.alloc, &self.committed)?,
+            series: None,
+            first: 0,
             merged_in: None,
         };
         opened.mark()?;
@@ -229,12 +236,17 @@ impl Model {
         let before = self.plain.blocks();
         let reply = self.plain.apply(command);
         let more = self.plain.blocks().saturating_sub(before);
+        if reply.is_ok() {
+            self.series = None;
+        }
         self.free = self.free.saturating_add(more);
         reply
     }
 
     /// What an accepted command other than a Merge or a Grow does to the blocks that maps are in.
     fn follow(&mut self, command: &Command<'_>) -> Result<(), Wrong> {
+        self.begin_series(command);
+        let first = self.first;
         match command {
             Command::New { name, parent } => self.follow_new(name, parent, None)?,
             Command::NewAt {
@@ -243,8 +255,10 @@ impl Model {
                 checkpoint,
             } => self.follow_new(name, parent, Some(*checkpoint))?,
             Command::Drop { alt } => self.working.retain(|roots| roots.alt != *alt),
-            Command::Put { alt, key, value } => self.follow_put(alt, *key, value.as_bytes())?,
-            Command::Remove { alt, key } => self.follow_remove(alt, *key)?,
+            Command::Put { alt, key, value } => {
+                self.follow_put(alt, *key, value.as_bytes(), first)?
+            }
+            Command::Remove { alt, key } => self.follow_remove(alt, *key, first)?,
             Command::Checkpoint { alt, name } => self.follow_checkpoint(alt, name)?,
             Command::Uncheck { alt, name } => {
                 if let Some(i) = position(&self.working, alt, Some(*name)) {
@@ -272,6 +286,19 @@ impl Model {
         Ok(())
     }
 
+    /// A series goes on with a Put or a Remove of its alternative, and one of another begins the
+    /// next. Each other command ends it.
+    fn begin_series(&mut self, command: &Command<'_>) {
+        let now = match command {
+            Command::Put { alt, .. } | Command::Remove { alt, .. } => Some(*alt),
+            _ => None,
+        };
+        if now.is_none() || self.series != now {
+            self.series = now;
+            self.first = self.trees.next();
+        }
+    }
+
     /// The new alternative shares the blocks of what its parent shows, or of what one of the
     /// parent's checkpoints does.
     fn follow_new(
@@ -293,19 +320,26 @@ impl Model {
         Ok(())
     }
 
-    fn follow_put(&mut self, alt: &Name, key: Key, value: &[u8]) -> Result<(), Wrong> {
+    fn follow_put(
+        &mut self,
+        alt: &Name,
+        key: Key,
+        value: &[u8],
+        first: usize,
+    ) -> Result<(), Wrong> {
         if let Some(i) = position(&self.working, alt, None) {
             let blocks = self.trees.blocks();
-            self.working[i].current = self.trees.put(self.working[i].current, key, value.len())?;
+            let root = self.working[i].current;
+            self.working[i].current = self.trees.put(root, key, value.len(), first)?;
             self.take_new(blocks)?;
         }
         Ok(())
     }
 
-    fn follow_remove(&mut self, alt: &Name, key: Key) -> Result<(), Wrong> {
+    fn follow_remove(&mut self, alt: &Name, key: Key, first: usize) -> Result<(), Wrong> {
         if let Some(i) = position(&self.working, alt, None) {
             let blocks = self.trees.blocks();
-            self.working[i].current = self.trees.remove(self.working[i].current, key)?;
+            self.working[i].current = self.trees.remove(self.working[i].current, key, first)?;
             self.take_new(blocks)?;
         }
         Ok(())
@@ -338,11 +372,13 @@ impl Model {
                 self.working[own].current = shown;
             }
         }
+        self.series = None;
+        let first = self.trees.next();
         for change in &plan.changes {
             self.merged_in = Some(plan.side);
             match &change.after {
-                Some(value) => self.follow_put(alt, change.key, value.as_bytes())?,
-                None => self.follow_remove(alt, change.key)?,
+                Some(value) => { self.follow_put(alt, change.key, value.as_bytes(), first)? }
+                None => self.follow_remove(alt, change.key, first)?,
             }
         }
         Ok(())

@@ -1,6 +1,7 @@
-//! The blocks that maps are in, as a plain list of nodes: a change copies the nodes of one path and
-//! leaves all others as they are. A node represents a block, and two maps share the nodes that they
-//! both reach. Of a value only its length is known here.
+//! The blocks that maps are in, as a plain list of nodes: a change copies the nodes of one path, or
+//! changes those of them that its own series made, and leaves all others as they are. A node
+//! represents a block, and two maps share the nodes that they both reach. Of a value only its
+//! length is known here.
 use std::alloc::{AllocError, Global};
 use vm_types::Key;
 
@@ -30,7 +31,7 @@ struct Node {
     rows: Vec<Row>,
 }
 
-/// All nodes that ever existed. A child comes before the nodes above it.
+/// All nodes that ever existed.
 #[derive(Drop)]
 pub struct Trees {
     alloc: Global,
@@ -234,34 +235,51 @@ impl Trees {
         Ok(path)
     }
 
-    /// A new node with these rows. Returns the row that names it.
-    fn add(&mut self, level: u32, rows: &[Row]) -> Result<Option<Row>, AllocError> {
+    /// A node with these rows: this one, or else a new one. Returns the row that names it.
+    fn add(
+        &mut self,
+        level: u32,
+        rows: &[Row],
+        place: Option<usize>,
+    ) -> Result<Option<Row>, AllocError> {
         let Some(first) = rows.first() else {
             return Ok(None);
         };
-        let row = Row {
-            low: first.low,
-            child: self.nodes.len(),
-            len: 0,
-        };
+        let low = first.low;
         let rows = Vec::from_slice(self.alloc, rows)?;
-        self.nodes.push(Node { level, rows })?;
-        Ok(Some(row))
+        let child = match place {
+            Some(node) if node < self.nodes.len() => {
+                self.nodes[node] = Node { level, rows };
+                node
+            }
+            _ => {
+                self.nodes.push(Node { level, rows })?;
+                self.nodes.len().saturating_sub(1)
+            }
+        };
+        Ok(Some(Row { low, child, len: 0 }))
     }
 
-    /// New nodes with these rows, and the rows that name them: one node for the rows up to the
-    /// first end, one for those up to the second, and one for the others, where there are any.
+    /// Nodes with these rows, and the rows that name them: one node for the rows up to the first
+    /// end, in this place if there is one, a new one for those up to the second, and one for the
+    /// others, where there are any.
     fn add_parts(
         &mut self,
         level: u32,
         rows: &[Row],
         ends: (usize, usize),
+        place: Option<usize>,
     ) -> Result<Vec<Row>, AllocError> {
         let second = ends.1.min(rows.len());
         let first = ends.0.min(second);
         let mut names = Vec::new(self.alloc);
-        for part in [&rows[..first], &rows[first..second], &rows[second..]] {
-            if let Some(row) = self.add(level, part)? {
+        let parts = [
+            (&rows[..first], place),
+            (&rows[first..second], None),
+            (&rows[second..], None),
+        ];
+        for (part, place) in parts {
+            if let Some(row) = self.add(level, part, place)? {
                 names.push(row)?;
             }
         }
@@ -270,13 +288,18 @@ impl Trees {
 
     /// The same for an inner node: two for more children than fit in one. The left one has as many
     /// as the right one, or one more.
-    fn add_inner(&mut self, level: u32, rows: &[Row]) -> Result<Vec<Row>, AllocError> {
+    fn add_inner(
+        &mut self,
+        level: u32,
+        rows: &[Row],
+        place: Option<usize>,
+    ) -> Result<Vec<Row>, AllocError> {
         let half = if rows.len() > CHILDREN {
             rows.len() - rows.len() / 2
         } else {
             rows.len()
         };
-        self.add_parts(level, rows, (half, rows.len()))
+        self.add_parts(level, rows, (half, rows.len()), place)
     }
 
     /// The same for a leaf with a change.
@@ -285,48 +308,62 @@ impl Trees {
         node: usize,
         key: Key,
         change: Change,
+        place: Option<usize>,
     ) -> Result<Vec<Row>, AllocError> {
         let old = self.rows(node);
         match change {
             Change::Put(len) => {
                 let is_new = without(self.alloc, old, key)?.len() == old.len();
                 let rows = with(self.alloc, old, key, len)?;
-                self.add_parts(0, &rows, ends(&rows, key, is_new))
+                self.add_parts(0, &rows, ends(&rows, key, is_new), place)
             }
             Change::Remove => {
                 let rows = without(self.alloc, old, key)?;
-                self.add_parts(0, &rows, (rows.len(), rows.len()))
+                self.add_parts(0, &rows, (rows.len(), rows.len()), place)
             }
         }
     }
 
-    /// Copies the nodes of a path with a change of the leaf. Returns the rows that name the copies
-    /// of the root: up to three.
-    fn copy_path(&mut self, root: usize, key: Key, change: Change) -> Result<Vec<Row>, AllocError> {
+    /// Copies the nodes of a path with a change of the leaf, or changes those from `first` on.
+    /// Returns the rows that name what became of the root: up to three.
+    fn change_path(
+        &mut self,
+        root: usize,
+        key: Key,
+        change: Change,
+        first: usize,
+    ) -> Result<Vec<Row>, AllocError> {
         let path = self.path(root, key)?;
         let mut names = Vec::new(self.alloc);
         for node in path.iter().rev() {
             let level = self.level(*node);
+            let place = if *node >= first { Some(*node) } else { None };
             if level == 0 {
-                names = self.add_leaves(*node, key, change)?;
+                names = self.add_leaves(*node, key, change, place)?;
                 continue;
             }
             let old = self.rows(*node);
             let rows = with_others(self.alloc, old, place_of(old, key), &names)?;
-            names = self.add_inner(level, &rows)?;
+            names = self.add_inner(level, &rows, place)?;
         }
         Ok(names)
     }
 
     /// The root of the map with one more key, whose value has `len` bytes. The nodes of the path
-    /// are copied, even if the key is there. If the root becomes two or three, a new root is put
-    /// above them.
-    pub(super) fn put(&mut self, root: usize, key: Key, len: usize) -> Result<usize, AllocError> {
+    /// before `first` are copied, even if the key is there. If the root becomes two or three, a new
+    /// root is put above them.
+    pub(super) fn put(
+        &mut self,
+        root: usize,
+        key: Key,
+        len: usize,
+        first: usize,
+    ) -> Result<usize, AllocError> {
         let level = self.level(root).saturating_add(1);
-        let names = self.copy_path(root, key, Change::Put(len))?;
+        let names = self.change_path(root, key, Change::Put(len), first)?;
         let name = match names.as_slice() {
             [one] => Some(*one),
-            several => self.add(level, several)?,
+            several => self.add(level, several, None)?,
         };
         Ok(child_of(name))
     }
@@ -334,12 +371,20 @@ impl Trees {
     /// The root of the map without a key. A node that would be empty is left out of the one above
     /// it, and a root that would have one child is not made: the child takes its place, and so on
     /// down.
-    pub(super) fn remove(&mut self, root: usize, key: Key) -> Result<usize, AllocError> {
-        let names = self.copy_path(root, key, Change::Remove)?;
+    pub(super) fn remove(
+        &mut self,
+        root: usize,
+        key: Key,
+        first: usize,
+    ) -> Result<usize, AllocError> {
+        let is_copied = root < first;
+        let names = self.change_path(root, key, Change::Remove, first)?;
         let mut root = child_of(names.first().copied());
         if self.level(root) > 0 && self.rows(root).len() == 1 {
             root = self.only_child(root);
-            self.nodes.pop();
+            if is_copied {
+                self.nodes.pop();
+            }
         }
         for _ in 0..self.level(root) {
             root = self.only_child(root);
@@ -355,6 +400,11 @@ impl Trees {
         }
     }
 
+    /// The number of the next new node.
+    pub(super) fn next(&self) -> usize {
+        self.nodes.len()
+    }
+
     /// How many nodes there are, without that of the empty map.
     pub(super) fn blocks(&self) -> u32 {
         u32::try_from(self.nodes.len().saturating_sub(1)).unwrap_or(u32::MAX)
@@ -366,10 +416,12 @@ impl Trees {
         for root in roots {
             reach(&mut reached, *root);
         }
-        for n in (1..self.nodes.len()).rev() {
-            if n < reached.len() && reached[n] {
-                for row in self.rows(n) {
-                    reach(&mut reached, row.child);
+        for level in (1..8).rev() {
+            for n in 1..self.nodes.len() {
+                if self.level(n) == level && n < reached.len() && reached[n] {
+                    for row in self.rows(n) {
+                        reach(&mut reached, row.child);
+                    }
                 }
             }
         }

@@ -260,7 +260,9 @@ fn run<D: Disk>(alloc: Global, store: &mut Store<D>, words: &[&str]) -> Result<S
     for (part, lent) in parts.zip(&mut lent) {
         if !part.is_empty() {
             let command = command(alloc, part, lent)?.ok_or(Wrong::Unreadable)?;
-            commands.push(command).map_err(|_| Wrong::Memory)?;
+            if commands.push(command).is_err() {
+                return Err(Wrong::Memory);
+            }
         }
     }
     let (replies, stop) = store.run(alloc, &commands);

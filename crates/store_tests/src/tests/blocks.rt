@@ -4,9 +4,6 @@ use std::alloc::Global;
 use vm_disk::{Disk, MemDisk};
 use vm_types::Block;
 
-/// What a disk in memory has in a forgotten block.
-const FORGOTTEN: Block = [0xA5; 4096];
-
 fn bytes_of(disk: &mut MemDisk, n: u32) -> Result<Block, Wrong> {
     let mut bytes = [0; 4096];
     if n >= disk.blocks() {
@@ -113,17 +110,6 @@ fn written(alloc: Global, disk: &mut MemDisk) -> Result<String, Wrong> {
     Ok(text)
 }
 
-/// The blocks that were forgotten since the last sync, and not written again.
-fn forgotten(alloc: Global, disk: &mut MemDisk) -> Result<String, Wrong> {
-    let mut text = String::new(alloc);
-    for n in 0..disk.blocks() {
-        if disk.is_dirty(n) && bytes_of(disk, n)? == FORGOTTEN {
-            write!(text, " {n}")?;
-        }
-    }
-    Ok(text)
-}
-
 /// The answer to a step that looks at blocks, if these words are such a step.
 pub(super) fn look(
     alloc: Global,
@@ -136,7 +122,6 @@ pub(super) fn look(
             Ok(Some(bytes_text(alloc, &bytes)?))
         }
         ["written"] => Ok(Some(written(alloc, disk)?)),
-        ["forgotten"] => Ok(Some(forgotten(alloc, disk)?)),
         _ => Ok(None),
     }
 }

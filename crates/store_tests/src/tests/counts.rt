@@ -63,24 +63,36 @@ const CALLS: &[Row] = &[
         calls -> 7
         dirty -> none",
     ),
-    // Opening makes four device calls, and the thirteen Puts 25. The second Remove looks first,
-    // since it may have to mark blocks. It does, which ends the series, and goes on with one of its
-    // own.
+    // Opening makes four device calls, and the fourteen Puts 26: each ends the series of the other
+    // alternative, and copies its leaf. The first Remove looks first, since it may have to mark
+    // blocks. It does, and copies its leaf, which the second changes in its place.
     (
         "remove with fewer than 17 free blocks looks first",
         NEW,
         "
-        puts top 1:1 13 v
-        free -> 17
-        remove top 1:1
+        new a top
+        put top 1:1 v
+        put a 1:1 v
+        put top 1:2 v
+        put a 1:2 v
+        put top 1:3 v
+        put a 1:3 v
+        put top 1:4 v
+        put a 1:4 v
+        put top 1:5 v
+        put a 1:5 v
+        put top 1:6 v
+        put a 1:6 v
+        put top 1:7 v
+        put a 1:7 v
         free -> 16
+        remove top 1:1
+        free -> 27
         remove top 1:2
-        free -> 28
-        remove top 1:3
         free -> 27
         close
-        # 4 + 25 + 2 + 3 + 2
-        calls -> 36",
+        # 4 + 26 + 3 + 2
+        calls -> 35",
     ),
     // The Put reads and writes a root and a leaf. The Merge reads these two and the two before
     // them, and takes the parent's map. From then on this is its base, too.

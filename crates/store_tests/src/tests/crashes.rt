@@ -79,7 +79,7 @@ const LAST_SYNC_FAILS: &[Row] = &[
         get top 7:2 -> ~",
     ),
     // Opening the store of `duct` makes five device calls, the Put two, and the Commit four. `pipe`
-    // is then in block 35: the second Put takes block 34, and the Remove block 36.
+    // is then in block 35. The second Put takes block 34, and the Remove changes it in its place.
     (
         "what was removed and not committed leaves no trace",
         DUCT,
@@ -97,7 +97,7 @@ const LAST_SYNC_FAILS: &[Row] = &[
         remove top 7:2
         get top 7:2 -> ~
         close
-        dirty -> 34 36
+        dirty -> 34
         crash all=FF
         open
         get top 7:1 -> pipe

@@ -121,7 +121,8 @@ const USED: &[RoomRow] = &[
         block 2 -> 0:534C4F5403 8:50 12:01 128:4103746F70 195:22
         block 18 -> 0:534C4F5403 8:40 12:01 128:4103746F70 195:22",
     ),
-    // The checkpoints keep blocks 34 to 73, and the last two Puts take 74 and 75.
+    // The checkpoints keep blocks 34 to 73. The Put before the last takes 74, and the last one
+    // changes it in its place.
     (
         "new blocks are taken, kept and found again",
         96,
@@ -131,12 +132,12 @@ const USED: &[RoomRow] = &[
         kept top 1:1 v 40
         put top 1:2 w
         put top 1:2 x
-        free -> 20
+        free -> 21
         reclaim
         free -> 21
         commit
         close
-        block 75 -> 0:4C454633 8:02 16:01 18:01 26:01 28:01 30:02 38:02 40:7678
+        block 74 -> 0:4C454633 8:02 16:01 18:01 26:01 28:01 30:02 38:02 40:7678
         crash all=41
         open
         blocks -> 96

@@ -33,8 +33,10 @@ const ON_BOTH: &[Row] = &[
         "
         put top 7:1 61*4000
         free -> 29
+        commit
         put top 7:1 duct
         free -> 28
+        commit
         reclaim
         free -> 29
         get top 7:1 -> duct",
@@ -87,26 +89,27 @@ const ON_BOTH: &[Row] = &[
         list a -> 1:1=62*4000 1:2=''
         changes a -> none",
     ),
-    // The first leaf is block 34. The greatest value below the others takes two leaves and a root,
-    // and the one between them three leaves and a root.
+    // The first leaf takes a block. The greatest value below the others takes one more and a root,
+    // and the one between them two more. The first Remove drops a leaf and takes a root, which the
+    // second changes in its place.
     (
         "leaf is split in two and in three",
         NEW,
         "
         put top 1:3 61*2000
         put top 1:5 62*2000
-        free -> 28
+        free -> 29
         put top 1:1 63*4000
-        free -> 25
+        free -> 27
         list top -> 1:1=63*4000 1:3=61*2000 1:5=62*2000
         put top 1:4 64*4000
-        free -> 21
+        free -> 25
         list top -> 1:1=63*4000 1:3=61*2000 1:4=64*4000 1:5=62*2000
         reclaim
         free -> 25
         remove top 1:4
         remove top 1:1
-        free -> 23
+        free -> 24
         list top -> 1:3=61*2000 1:5=62*2000
         reclaim
         free -> 27",
@@ -121,7 +124,7 @@ const ON_BOTH: &[Row] = &[
         put top 1:1 63*241
         put top 1:2 64*3000
         list top -> 1:1=63*241 1:2=64*3000 1:3=62*240
-        free -> 25
+        free -> 29
         put top 1:2 65*4000
         list top -> 1:1=63*241 1:2=65*4000 1:3=62*240
         reclaim

@@ -1,6 +1,4 @@
-//! Disks over one in memory: the disk itself, a cache of it, one that delays the writes to it, and
-//! one that keeps what is forgotten.
-use super::stays::KeepingDisk;
+//! Disks over one in memory: the disk itself, a cache of it, and one that delays the writes to it.
 use std::alloc::Global;
 use vm_disk::{CachedDisk, DelayedDisk, Disk, MemDisk};
 use vm_types::Refusal;
@@ -50,20 +48,6 @@ impl OverMemory for CachedDisk<MemDisk> {
 impl OverMemory for DelayedDisk<MemDisk> {
     fn over(alloc: Global, disk: MemDisk) -> Result<DelayedDisk<MemDisk>, Refusal> {
         DelayedDisk::new(alloc, disk, 4).map_err(|_| Refusal::Memory)
-    }
-
-    fn below(self) -> MemDisk {
-        self.into_inner()
-    }
-
-    fn memory(&self) -> &MemDisk {
-        self.inner()
-    }
-}
-
-impl OverMemory for KeepingDisk {
-    fn over(alloc: Global, disk: MemDisk) -> Result<KeepingDisk, Refusal> {
-        KeepingDisk::new(alloc, disk)
     }
 
     fn below(self) -> MemDisk {

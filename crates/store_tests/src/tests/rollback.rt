@@ -30,7 +30,7 @@ const UNDONE: &[Row] = &[
         list top -> 1:2=z
         rollback
         list top -> 1:1=x
-        free -> 26
+        free -> 28
         reclaim
         free -> 29
         rollback
@@ -268,19 +268,19 @@ fn rollback_goes_back_to_the_committed_number_of_blocks(rt: HostRuntime) {
     each_with_room(&rt, GROWN);
 }
 
-/// Block 34 is committed. The Puts take blocks 35 to 37, and each forgets the one before. Of the
-/// two after the Rollback, the first leaves block 34, and the second forgets block 38.
+/// Block 34 is committed. The Puts before the Rollback take one block, and those after it one more.
 #[test]
-fn series_ends_with_a_rollback(rt: HostRuntime) {
+fn series_after_a_rollback_leaves_what_was_committed(rt: HostRuntime) {
     let row = "
         put top 1:1 x
         commit
         puts top 1:2 3 v
+        free -> 28
         rollback
         put top 1:2 w
         put top 1:3 w
+        free -> 27
         close
-        forgotten -> 35 36 38
         crash all=41
         open
         list top -> 1:1=x";

@@ -33,13 +33,13 @@ const LISTS: &[Row] = &[
         get top 7:1 -> ~",
     ),
     // Of 64 blocks, 34 are the store's own. The first Put takes a leaf, and the second a copy of
-    // it. After that no version reaches the first leaf.
+    // it, since the commands between end the series. After that no version reaches the first leaf.
     (
         "reclaim in a list leaves the spare blocks free",
         NEW,
         "
         free -> 30
-        run put top 7:1 duct ; put top 7:1 pipe -> ok ; ok ; end
+        run put top 7:1 duct ; new a top ; drop a ; put top 7:1 pipe -> ok ; ok ; ok ; ok ; end
         free -> 28
         run reclaim ; commit -> ok ; ok ; end
         free -> 29

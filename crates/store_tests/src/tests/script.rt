@@ -34,7 +34,6 @@
 //! | `dirty` | `34 35`: the blocks that are not synced |
 //! | `anew` | `ok`: the device is made new, with nothing in its cache |
 //! | `written` | the device is made new; `0 1 2`: the blocks that have bytes other than zeros |
-//! | `forgotten` | the same; `34 35`: the blocks that were forgotten since the last sync, and not written again |
 //! | `block 18` | the same; `0:534C 195:40`: its nonzero bytes, from these offsets on; or `all=41` |
 //! | `once 5` | `ok`: the device is made new, and its sixth call fails |
 //! | `stop 5 A5 00` | the same for each call from the sixth on: a write leaves A5 and then zeros in its block |
@@ -49,7 +48,6 @@ ghost use Rattle.std.specs.Prelude.{◌≤◌};
 use super::answers::{answer, refusal_text};
 use super::blocks::{cut, look, set_block, set_bytes};
 use super::over::OverMemory;
-use super::stays::KeepingDisk;
 use super::words::{Wrong, byte, number};
 use std::alloc::{AllocError, Global};
 use std::process::Abort;
@@ -445,8 +443,8 @@ pub(super) fn and_late<R: AllocGlobal + Abort>(rt: &R, texts: &[&str]) {
     plays_all::<DelayedDisk<MemDisk>, R>(rt, ROW, "over a late disk", blank, texts);
 }
 
-/// The same on a blank disk of 256 blocks with room for 300, over a cache, over a disk that delays
-/// writes, and on one that keeps what is forgotten.
+/// The same on a blank disk of 256 blocks with room for 300, over a cache, and over a disk that
+/// delays writes.
 pub(super) fn on_each<R: AllocGlobal + Abort>(rt: &R, texts: &[&str]) {
     let blank = MemDisk::with_room(rt.alloc(), 256, 300);
     plays_all::<MemDisk, R>(rt, ROW, "in memory", blank, texts);
@@ -454,8 +452,6 @@ pub(super) fn on_each<R: AllocGlobal + Abort>(rt: &R, texts: &[&str]) {
     plays_all::<CachedDisk<MemDisk>, R>(rt, ROW, "over a cache", blank, texts);
     let blank = MemDisk::with_room(rt.alloc(), 256, 300);
     plays_all::<DelayedDisk<MemDisk>, R>(rt, ROW, "over a late disk", blank, texts);
-    let blank = MemDisk::with_room(rt.alloc(), 256, 300);
-    plays_all::<KeepingDisk, R>(rt, ROW, "with all kept", blank, texts);
 }
 
 /// Plays each row of a table on its own blank disk of 64 blocks.

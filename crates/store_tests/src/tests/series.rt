@@ -1,40 +1,33 @@
-//! Which blocks are forgotten: those that a Put or a Remove replaces, if the series that it
-//! continues took them. A disk in memory fills them with other bytes.
+//! Series of changes: a Put or a Remove changes those blocks in their places that the series which
+//! it continues took, and copies all others.
 use super::records::TWO_RECORDS;
 use super::script::{NEW, Row, SEVENTEEN, and_late, each_in_256_blocks, each_on_both, on_each};
 
-/// Each Put takes a block, from 34 on.
+/// The first Put takes a block.
 #[test]
-fn each_put_but_the_first_forgets_the_leaf_before(rt: HostRuntime) {
-    for (puts, forgotten) in &[
-        ("puts top 1:1 1 v", "forgotten -> none"),
-        ("puts top 1:1 2 v", "forgotten -> 34"),
-        ("puts top 1:1 5 v", "forgotten -> 34 35 36 37"),
-    ] {
-        and_late(&rt, &[NEW, puts, "close", forgotten]);
+fn each_put_but_the_first_takes_no_block(rt: HostRuntime) {
+    for puts in &["puts top 1:1 1 v", "puts top 1:1 2 v", "puts top 1:1 5 v"] {
+        and_late(&rt, &[NEW, puts, "free -> 29"]);
     }
 }
 
 const LOAD_AND_MERGE: &[Row] = &[
-    // The sixteenth Put takes block 49, and the next one two leaves and a root. The other three
-    // take a leaf and a root each. The first leaf, the last one and the last root are left.
+    // The seventeenth Put takes a second leaf, and a root.
     (
-        "load leaves nothing but its tree",
+        "load takes the blocks of its tree alone",
         "",
         "
         format 256
         open
         puts top 1:1 20 76*240
-        free -> 197
-        reclaim
         free -> 219
-        close
-        forgotten -> 34 35 36 37 38 39 40 41 42 43 44 45 46 47 48 49 51 52 53 54 55 56",
+        reclaim
+        free -> 219",
     ),
-    // The Puts take blocks 34 to 38, and the two changes of the Merge, in the map of `top`, the next
-    // two.
+    // The Puts take blocks 34 and 35. The first change of the Merge, in the map of `top`, takes the
+    // next one, which the second changes in its place. The last Put takes one more.
     (
-        "merge forgets what its own changes replace",
+        "merge changes in place what its own changes took",
         "",
         "
         format 256
@@ -43,44 +36,75 @@ const LOAD_AND_MERGE: &[Row] = &[
         puts top 1:1 3 v
         puts a 2:1 2 v
         merge a -> ok 3
+        free -> 219
         put a 1:4 w
-        close
-        forgotten -> 34 35 37 39",
+        free -> 218
+        list top -> 1:1=v 1:2=v 1:3=v
+        list a -> 1:1=v 1:2=v 1:3=v 1:4=w 2:1=v 2:2=v",
     ),
 ];
 
 #[test]
-fn load_and_merge_forget_what_they_replace(rt: HostRuntime) {
+fn load_and_merge_take_few_blocks(rt: HostRuntime) {
     each_in_256_blocks(&rt, LOAD_AND_MERGE);
 }
 
 const MARKINGS: &[Row] = &[
-    // The fifteenth Put finds 16 free blocks and marks, which leaves only block 47. It takes block
-    // 34 again, the next one block 35, and the last one three blocks.
+    // Thirteen Puts end the series of each other, and take a block each. The great value takes a
+    // leaf of its own and a root, so 15 blocks are free, and the last Put marks: a leaf of `a` and
+    // the three blocks of `top` are held.
     (
         "a series goes on over a marking",
-        "",
+        NEW,
         "
-        format 64
-        open
-        puts top 1:1 17 76*240
-        free -> 24
-        close
-        forgotten -> 34 35 39 40 41 42 43 44 45 46 47",
+        new a top
+        put top 1:1 v
+        put a 1:1 v
+        put top 1:2 v
+        put a 1:2 v
+        put top 1:3 v
+        put a 1:3 v
+        put top 1:4 v
+        put a 1:4 v
+        put top 1:5 v
+        put a 1:5 v
+        put top 1:6 v
+        put a 1:6 v
+        put top 1:7 v
+        put top 1:8 61*4000
+        free -> 15
+        put top 1:1 w
+        free -> 26
+        list a -> 1:1=v 1:2=v 1:3=v 1:4=v 1:5=v 1:6=v
+        get top 1:1 -> w
+        get top 1:7 -> v",
     ),
-    // Block 34 is committed. The fourteenth Put after it finds 16 free blocks and marks, which
-    // leaves 34 and 47. It takes block 35 again, and the last one block 36.
+    // Block 34 is committed, and thirteen Puts take blocks 35 to 47. The last Put finds 16 free
+    // blocks and marks, which leaves 34, 46 and 47.
     (
-        "what is committed is not forgotten after a marking",
-        "",
+        "what is committed is not changed after a marking",
+        NEW,
         "
-        format 64
-        open
         put top 7:1 duct
         commit
-        puts top 1:1 15 v
+        new a top
+        put top 1:1 v
+        put a 1:1 v
+        put top 1:2 v
+        put a 1:2 v
+        put top 1:3 v
+        put a 1:3 v
+        put top 1:4 v
+        put a 1:4 v
+        put top 1:5 v
+        put a 1:5 v
+        put top 1:6 v
+        put a 1:6 v
+        put top 1:7 v
+        free -> 16
+        put top 1:1 w
+        free -> 27
         close
-        forgotten -> 35 37 38 39 40 41 42 43 44 45 46 47
         crash all=41
         open
         list top -> 7:1=duct",
@@ -92,45 +116,56 @@ fn a_marking_ends_no_series(rt: HostRuntime) {
     each_on_both(&rt, MARKINGS);
 }
 
-/// The root is in block 38, over leaves 36 and 37, which are committed. The first Put takes blocks
-/// 34 and 35. The second one replaces both, the third one leaf 37 and the root of the second, and
-/// the Remove both of the third.
+/// The root is in block 36, over leaves 34 and 35, which are committed. The first Put takes a leaf
+/// and a root. The second one changes this leaf in its place, the third one takes the other leaf
+/// and changes the root, and the Remove changes that leaf.
 #[test]
-fn blocks_from_before_the_series_are_not_forgotten(rt: HostRuntime) {
+fn blocks_from_before_the_series_are_not_changed(rt: HostRuntime) {
     let [one, two, three, four] = [
         "put top 1:1 w",
         "put top 1:2 w",
         "put top 1:17 w",
         "remove top 1:16",
     ];
-    for (changes, forgotten) in &[
-        ([one, "", "", ""], "forgotten -> none"),
-        ([one, two, "", ""], "forgotten -> 34 35"),
-        ([one, two, three, ""], "forgotten -> 34 35 40"),
-        ([one, two, three, four], "forgotten -> 34 35 40 41 42"),
+    let kept = "
+        close
+        crash all=41
+        open
+        get top 1:1 -> 76*240
+        get top 1:2 -> 76*240
+        get top 1:16 -> 76*240
+        get top 1:17 -> 76*240";
+    for (changes, free) in &[
+        ([one, "", "", ""], "free -> 25"),
+        ([one, two, "", ""], "free -> 25"),
+        ([one, two, three, ""], "free -> 24"),
+        ([one, two, three, four], "free -> 24"),
     ] {
         let [one, two, three, four] = changes;
-        let row = [SEVENTEEN, "open", one, two, three, four, "close", forgotten];
+        let row = [SEVENTEEN, "open", one, two, three, four, free, kept];
         and_late(&rt, &row);
     }
 }
 
 #[test]
-fn removes_forget_what_the_series_took(rt: HostRuntime) {
+fn removes_change_in_place_what_the_series_took(rt: HostRuntime) {
     // Both records are committed in block 35. With the last one, the tree is gone.
     let row = "
         open
         remove top 7:2
+        free -> 28
         close
-        forgotten -> none
         open
         put top 7:3 y
+        free -> 28
         remove top 7:3
         remove top 7:2
         remove top 7:2 -> error 5 NoSuchRecord
+        list top -> 7:1=duct
         remove top 7:1
+        free -> 28
+        list top -> none
         close
-        forgotten -> 34 36 37
         open
         list top -> 7:1=duct 7:2=x";
     and_late(&rt, &[TWO_RECORDS, row]);
@@ -150,32 +185,26 @@ const BRANCHES: &str = "
     anew
     open";
 
-/// The first Put takes block 36.
+/// The first Put takes block 36, and the last one a copy of it. A Grow adds sixteen blocks, and the
+/// Put of `b` takes one.
 #[test]
 fn each_other_command_that_is_served_ends_the_series(rt: HostRuntime) {
-    for between in &[
-        "new c top",
-        "new c a k",
-        "checkpoint a m",
-        "uncheck a k",
-        "back a k",
-        "drop b",
-        "merge a -> ok 0",
-        "post a",
-        "commit",
-        "reclaim",
-        "grow 80",
-        "put b 2:2 v",
-        "remove b 2:2",
+    for (between, free) in &[
+        ("new c top", "free -> 26"),
+        ("new c a k", "free -> 26"),
+        ("checkpoint a m", "free -> 26"),
+        ("uncheck a k", "free -> 26"),
+        ("back a k", "free -> 26"),
+        ("drop b", "free -> 26"),
+        ("merge a -> ok 0", "free -> 26"),
+        ("post a", "free -> 26"),
+        ("commit", "free -> 26"),
+        ("reclaim", "free -> 26"),
+        ("grow 80", "free -> 42"),
+        ("put b 2:2 v", "free -> 25"),
+        ("remove b 2:2", "free -> 26"),
     ] {
-        let puts = [
-            BRANCHES,
-            "put a 1:1 v",
-            between,
-            "put a 1:2 w",
-            "close",
-            "forgotten -> none",
-        ];
+        let puts = [BRANCHES, "put a 1:1 v", between, "put a 1:2 w", free];
         and_late(&rt, &puts);
     }
 }
@@ -206,14 +235,13 @@ fn queries_and_refused_commands_do_not_end_it(rt: HostRuntime) {
             "put a 1:1 v",
             between,
             "put a 1:2 w",
-            "close",
-            "forgotten -> 36",
+            "free -> 27",
         ];
         and_late(&rt, &puts);
     }
 }
 
-/// The Puts take blocks 36 to 38.
+/// The first Put takes block 36, the second 37, which the third changes in its place.
 #[test]
 fn a_series_begins_after_one_that_ended(rt: HostRuntime) {
     let row = "
@@ -221,8 +249,7 @@ fn a_series_begins_after_one_that_ended(rt: HostRuntime) {
         new c top
         put a 1:2 w
         put a 1:3 w
-        close
-        forgotten -> 37";
+        free -> 26";
     and_late(&rt, &[BRANCHES, row]);
 }
 

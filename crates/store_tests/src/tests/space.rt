@@ -3,16 +3,16 @@ use super::script::{DUCT, NEW, Row, SEVENTEEN, each_in_256_blocks, each_in_memor
 
 const ON_BOTH: &[Row] = &[
     ("new store of 64 blocks has 30 free", NEW, "free -> 30"),
-    // The seventeenth record splits the leaf in eight and nine: two leaves and a root are written.
-    // Each Remove writes a leaf and a root, and that of the eleventh record marks. That of the
-    // ninth leaves the first leaf alone: it writes no block.
+    // The Puts take one block, and the seventeenth record splits it in eight and nine: it takes one
+    // more and a root. The first Remove takes a leaf and a root, and the others change these in
+    // their places. That of the ninth leaves the first leaf alone: it writes no block.
     (
         "leaf is split and takes the place of the root again",
         NEW,
         "
         puts top 1:2 16 76*240
         put top 1:1 76*240
-        free -> 24
+        free -> 27
         reclaim
         free -> 27
         remove top 1:17
@@ -24,7 +24,7 @@ const ON_BOTH: &[Row] = &[
         remove top 1:11
         remove top 1:10
         remove top 1:9
-        free -> 23
+        free -> 25
         reclaim
         free -> 29
         get top 1:1 -> 76*240
@@ -60,7 +60,7 @@ const IN_MEMORY: &[Row] = &[
         free -> 29
         put top 7:1 pipe
         put top 7:1 tube
-        free -> 27
+        free -> 28
         reclaim
         free -> 28
         commit
@@ -86,44 +86,46 @@ const IN_MEMORY: &[Row] = &[
         list nope -> error 1 NoSuchAlternative
         free -> 29",
     ),
-    // Fourteen Puts take blocks 34 to 47. The fifteenth finds sixteen free and marks: only block 47
-    // stays held, and the Put takes block 34.
+    // Each Put ends the series of the other alternative. Fourteen take blocks 34 to 47. The
+    // fifteenth finds sixteen free and marks: only blocks 46 and 47 stay held, and the Put takes
+    // block 34.
     (
         "put marks where fewer than 17 blocks are free",
         NEW,
         "
+        new a top
         put top 1:1 v
         free -> 29
+        put a 1:1 v
+        free -> 28
         put top 1:2 v
-        free -> 28
-        put top 1:3 v
         free -> 27
-        put top 1:4 v
+        put a 1:2 v
         free -> 26
-        put top 1:5 v
+        put top 1:3 v
         free -> 25
-        put top 1:6 v
+        put a 1:3 v
         free -> 24
-        put top 1:7 v
+        put top 1:4 v
         free -> 23
-        put top 1:8 v
+        put a 1:4 v
         free -> 22
-        put top 1:9 v
+        put top 1:5 v
         free -> 21
-        put top 1:10 v
+        put a 1:5 v
         free -> 20
-        put top 1:11 v
+        put top 1:6 v
         free -> 19
-        put top 1:12 v
+        put a 1:6 v
         free -> 18
-        put top 1:13 v
+        put top 1:7 v
         free -> 17
-        put top 1:14 v
+        put a 1:7 v
         free -> 16
-        put top 1:15 v
-        free -> 28
-        put top 1:16 v
+        put top 1:8 v
         free -> 27
+        put a 1:8 v
+        free -> 26
         close
         dirty -> 34 35 36 37 38 39 40 41 42 43 44 45 46 47",
     ),
@@ -162,9 +164,9 @@ const MERGES: &[Row] = &[
         list a -> 2:1=v 2:2=v 2:3=v 2:4=v 2:5=v 2:6=v 2:7=v 2:8=v
         post a -> error 8 NotMerged
         put a 1:1 v
-        free -> 27",
+        free -> 28",
     ),
-    // One record stays, and nine come in: one change asks for 17 spare blocks. The Puts take ten of
+    // One record stays, and nine come in: one change asks for 17 spare blocks. The Puts take two of
     // 30, and the Merge one.
     (
         "merge asks for the changes of the smaller side alone",
@@ -173,13 +175,13 @@ const MERGES: &[Row] = &[
         new a top
         puts top 1:1 9 v
         put a 2:1 v
-        free -> 20
+        free -> 28
         merge a -> ok 9
-        free -> 19
+        free -> 27
         list a -> 1:1=v 1:2=v 1:3=v 1:4=v 1:5=v 1:6=v 1:7=v 1:8=v 1:9=v 2:1=v
         changes a -> 2:1=~/v",
     ),
-    // The Puts take ten blocks of 30, and the Merge one, in the map of `a`.
+    // The Puts take two blocks of 30, and the Merge one, in the map of `a`.
     (
         "merge makes the parent's changes in the own map where they are fewer",
         NEW,
@@ -187,9 +189,9 @@ const MERGES: &[Row] = &[
         new a top
         puts a 1:1 9 v
         put top 2:1 v
-        free -> 20
+        free -> 28
         merge a -> ok 1
-        free -> 19
+        free -> 27
         list a -> 1:1=v 1:2=v 1:3=v 1:4=v 1:5=v 1:6=v 1:7=v 1:8=v 1:9=v 2:1=v",
     ),
     // There are 30 data blocks. Each of the 13 checkpoints of `top` keeps one, and that of `a`
@@ -220,8 +222,9 @@ const MERGES: &[Row] = &[
 ];
 
 const MERGES_IN_256_BLOCKS: &[Row] = &[
-    // Before it, 205 of 222 blocks are free. The eight changes are made in the map of `top`. The
-    // first seven write a leaf each, and the eighth two leaves and a root.
+    // Before it, 220 of 222 blocks are free. The eight changes are made in the map of `top`. The
+    // first takes a leaf, the next six change it in its place, and the eighth takes one more leaf
+    // and a root.
     (
         "merge makes one change after another",
         "",
@@ -231,9 +234,9 @@ const MERGES_IN_256_BLOCKS: &[Row] = &[
         new a top
         puts top 1:1 9 76*240
         puts a 2:1 8 76*240
-        free -> 205
+        free -> 220
         merge a -> ok 9
-        free -> 195
+        free -> 217
         list a -> 1:1=76*240 1:2=76*240 1:3=76*240 1:4=76*240 1:5=76*240 1:6=76*240 1:7=76*240 \
             1:8=76*240 1:9=76*240 \
             2:1=76*240 2:2=76*240 2:3=76*240 2:4=76*240 2:5=76*240 2:6=76*240 2:7=76*240 2:8=76*240
@@ -243,8 +246,9 @@ const MERGES_IN_256_BLOCKS: &[Row] = &[
             2:1=76*240 2:2=76*240 2:3=76*240 2:4=76*240 2:5=76*240 2:6=76*240 2:7=76*240 \
             2:8=76*240",
     ),
-    // Three records of `a` stay. The map of `top` has two leaves under a root, so each of the three
-    // changes writes two blocks.
+    // Three records of `a` stay. The map of `top` has two leaves under a root. The first of the
+    // three changes takes a leaf and a root, the second changes this leaf in its place, and the
+    // third takes the other leaf.
     (
         "merge brings changes into a map of two levels",
         "",
@@ -261,10 +265,10 @@ const MERGES_IN_256_BLOCKS: &[Row] = &[
         put a 1:30 m
         remove a 1:12
         put a 1:3 m
-        free -> 181
+        free -> 213
         conflicts a -> none
         merge a -> ok 5
-        free -> 175
+        free -> 210
         list a -> 1:1=76*240 1:2=t 1:3=m 1:4=76*240 1:6=76*240 1:7=76*240 1:8=76*240 1:9=76*240 \
             1:10=t 1:11=76*240 1:13=76*240 \
             1:14=76*240 1:15=76*240 1:16=76*240 1:17=76*240 1:18=76*240 1:19=76*240 1:20=t 1:21=t \
@@ -280,7 +284,7 @@ const MERGES_IN_256_BLOCKS: &[Row] = &[
             1:10=t 1:11=76*240 1:13=76*240 \
             1:14=76*240 1:15=76*240 1:16=76*240 1:17=76*240 1:18=76*240 1:19=76*240 1:20=t 1:21=t \
             1:30=m
-        free -> 175
+        free -> 210
         changes a -> none",
     ),
 ];

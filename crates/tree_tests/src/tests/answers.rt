@@ -136,17 +136,6 @@ fn root_text(alloc: Global, bench: &Bench) -> Result<String, Wrong> {
     Ok(text)
 }
 
-/// The blocks that the last put or remove replaced, from the leaf up.
-fn path_text(alloc: Global, bench: &Bench) -> Result<String, Wrong> {
-    let mut text = String::new(alloc);
-    for block in &bench.path {
-        if *block > 0 {
-            write!(text, " {block}")?;
-        }
-    }
-    Ok(text)
-}
-
 /// Holds the lowest free block.
 fn taken(alloc: Global, bench: &mut Bench) -> Result<String, Wrong> {
     let block = bench.held.take().ok_or(Wrong::Unreadable)?;
@@ -185,7 +174,6 @@ fn ask(alloc: Global, bench: &mut Bench, words: &[&str]) -> Result<String, Wrong
             let spent = bench.free.saturating_sub(bench.held.free_count());
             Ok(format!(in alloc; "{spent}")?)
         }
-        ["path"] => path_text(alloc, bench),
         ["free"] => Ok(format!(in alloc; "{}", bench.held.free_count())?),
         ["take"] => taken(alloc, bench),
         ["mark", roots @ ..] => marked(alloc, bench, roots),

@@ -2,7 +2,7 @@
 use super::words::Wrong;
 use std::alloc::Global;
 use std::mem;
-use vm_alloc::{Held, Marks};
+use vm_alloc::{Baseline, Held, Marks};
 use vm_disk::{FuseDisk, MemDisk};
 use vm_tree::Root;
 
@@ -38,8 +38,8 @@ pub(super) struct Bench {
     /// The roots that were kept as `a`, `b` and `c`, and how many blocks were free then.
     pub(super) kept: [Root; 3],
     pub(super) free: u32,
-    /// The blocks that the last put or remove replaced, each at its level.
-    pub(super) path: [u32; 8],
+    /// The blocks that stand as they are, if the others are changed in their places.
+    pub(super) base: Option<Baseline>,
     pub(super) sizes: Sizes,
     /// How many device calls there had been when they were last asked for.
     pub(super) seen: u32,
@@ -59,7 +59,7 @@ impl Bench {
             root: Root::default(),
             kept: [Root::default(); 3],
             free: 0,
-            path: [0; 8],
+            base: None,
             sizes: Sizes::Store,
             seen: 0,
         })

@@ -5,6 +5,7 @@ use super::bench::{Bench, Device, Sizes};
 use super::walked_differences::{place_of, root_of};
 use super::words::{Wrong, key, long, number, value};
 use std::alloc::Global;
+use vm_alloc::Baseline;
 use vm_check::mark;
 use vm_disk::Disk;
 use vm_tree::{Root, put, remove};
@@ -20,14 +21,13 @@ fn put_in<const FAN: usize, const LEVELS: usize>(
     if bench.held.free_count() < 16 || bench.held.blocks() > bench.disk.blocks() {
         return Err(Wrong::Unreadable);
     }
-    bench.path = [0; 8];
     bench.root = put::<Device, FAN, LEVELS>(
         &mut bench.disk,
         &mut bench.held,
+        bench.base.as_ref(),
         bench.root,
         key(number),
         value.as_bytes(),
-        &mut bench.path,
     )?;
     Ok(())
 }
@@ -74,13 +74,12 @@ fn removed<const FAN: usize, const LEVELS: usize>(
     if bench.held.free_count() < 16 || bench.held.blocks() > bench.disk.blocks() {
         return Err(Wrong::Unreadable);
     }
-    bench.path = [0; 8];
     let root = remove::<Device, FAN, LEVELS>(
         &mut bench.disk,
         &mut bench.held,
+        bench.base.as_ref(),
         bench.root,
         key(number),
-        &mut bench.path,
     )?;
     Ok(root)
 }
@@ -112,6 +111,16 @@ fn let_go(bench: &mut Bench) -> Result<(), Wrong> {
     }
     bench.held.replace(&bench.marks);
     Ok(())
+}
+
+/// The blocks that are held now.
+fn held_now(alloc: Global, bench: &Bench) -> Result<Baseline, Wrong> {
+    let mut base = Baseline::new(alloc, bench.held.blocks())?;
+    if base.blocks() != bench.held.blocks() {
+        return Err(Wrong::Unreadable);
+    }
+    base.take(&bench.held);
+    Ok(base)
 }
 
 fn sizes(words: &[&str]) -> Result<Sizes, Wrong> {
@@ -158,6 +167,8 @@ pub(super) fn begin(alloc: Global, bench: &mut Bench, words: &[&str]) -> Result<
             bench.free = bench.held.free_count();
         }
         ["sizes", numbers @ ..] => bench.sizes = sizes(numbers)?,
+        ["base"] => bench.base = Some(held_now(alloc, bench)?),
+        ["no", "base"] => bench.base = None,
         _ => return Ok(false),
     }
     Ok(true)

@@ -62,9 +62,7 @@ const ROWS: [Row; 9] = [
         leaf 36 -> 1=2000*a
         leaf 37 -> 2=4000*b
         leaf 38 -> 3=2000*c
-        path -> 35
         put 4 2057*d
-        path -> 38 39
         free -> 85
         root -> 42.1.1
         leaves -> 1 1 1 1
@@ -91,7 +89,6 @@ const ROWS: [Row; 9] = [
         put 2 4000*b
         root -> 43.1.1
         leaves -> 1 1 1
-        path -> 39 40
         free -> 84
         list -> 1=1000*a 2=4000*b 3=1000*c",
         ],
@@ -109,7 +106,6 @@ const ROWS: [Row; 9] = [
         root -> 40.1.1
         free -> 87
         node 1 40 -> 1:37 2:38 3:39
-        path -> 36
         put 2 b
         leaves -> 1 1 1
         free -> 85

@@ -7,12 +7,12 @@ use rand_xoshiro::Xoshiro256PlusPlus;
 use std::alloc::{AllocError, Global};
 use std::collections::BTreeMap;
 use std::test::Fail;
-use vm_alloc::{Held, Marks};
+use vm_alloc::{Baseline, Held, Marks};
 use vm_block::{Child, read_node};
 use vm_check::mark;
 use vm_disk::{DeviceFault, Disk, MemDisk};
 use vm_tree::{ListFault, PutFault, Root, TreeFault, get, put, remove, scan, scan_from, scan_part};
-use vm_types::{Block, FIRST_DATA, Key, Refusal, Value};
+use vm_types::{Block, FIRST_DATA, Key, Records, Refusal, Value};
 
 const BLOCKS: u32 = 16_384;
 
@@ -45,6 +45,8 @@ enum Wrong {
     Got(u64),
     /// After this many changes the records are not those of the sorted map.
     Records(u32),
+    /// After this many changes a root from before the series has other records than it had then.
+    Changed(u32),
     /// This block lies under the root, and is not held.
     Free(u32),
     /// After a marking the first number of blocks is free, and the second was expected.
@@ -94,6 +96,13 @@ struct Pair {
     keys: u64,
     /// How many bytes seven of eight values have at the most.
     usual: usize,
+    /// The blocks that stand as they are, if the others are changed in their places; and the root
+    /// and the records that there were when they were held.
+    base: Option<Baseline>,
+    stood: Root,
+    then: Option<Records>,
+    /// How many changes took no block.
+    in_place: u32,
     markings: u32,
     deeps: u32,
     /// The highest level that the root has had.
@@ -149,6 +158,10 @@ impl Pair {
             dice: Xoshiro256PlusPlus::seed_from_u64(seed),
             keys,
             usual: usual.min(Value::MAX_LEN),
+            base: None,
+            stood: Root::default(),
+            then: None,
+            in_place: 0,
             markings: 0,
             deeps: 0,
             top: 0,
@@ -169,6 +182,7 @@ impl Pair {
             return Err(Wrong::Sizes);
         }
         self.held.replace(&self.marks);
+        self.base = None;
         self.markings = self.markings.saturating_add(1);
         self.check_count()
     }
@@ -225,13 +239,16 @@ impl Pair {
         let changed = put::<MemDisk, FAN, LEVELS>(
             &mut self.disk,
             &mut self.held,
+            self.base.as_ref(),
             self.root,
             key(number),
             value.as_slice(),
-            &mut [0; 8],
         );
         match changed {
             Ok(root) => {
+                if self.held.free_count() == free {
+                    self.in_place = self.in_place.saturating_add(1);
+                }
                 self.root = root;
                 self.top = self.top.max(root.level);
                 if self.plain.insert(number, value).is_err() {
@@ -263,9 +280,9 @@ impl Pair {
         let removed = remove::<MemDisk, FAN, LEVELS>(
             &mut self.disk,
             &mut self.held,
+            self.base.as_ref(),
             self.root,
             key(number),
-            &mut [0; 8],
         )?;
         if self.plain.remove(&number).is_some() != removed.is_some() {
             return Err(Wrong::Removed(number));
@@ -347,12 +364,41 @@ impl Pair {
         Ok(())
     }
 
+    /// The records under the root that stood when the baseline was taken are the same still. Three
+    /// times of four a new baseline is taken, and otherwise none.
+    fn renew_base(&mut self, alloc: Global, changes: u32) -> Result<(), Wrong> {
+        let blocks = self.disk.blocks();
+        if let (Some(_), Some(then)) = (&self.base, &self.then) {
+            let records = scan(alloc, &mut self.disk, blocks, self.stood)?;
+            let is_so = records.len() == then.len()
+                && records.iter().zip(then.iter()).all(|(now, due)| now == due);
+            if !is_so {
+                return Err(Wrong::Changed(changes));
+            }
+        }
+        self.base = None;
+        if self.dice.next_u32() % 4 < 3 {
+            let mut base = Baseline::new(alloc, self.held.blocks())?;
+            if base.blocks() != self.held.blocks() {
+                return Err(Wrong::Sizes);
+            }
+            base.take(&self.held);
+            self.base = Some(base);
+            self.stood = self.root;
+            self.then = Some(scan(alloc, &mut self.disk, blocks, self.root)?);
+        }
+        Ok(())
+    }
+
     /// Makes the changes, and compares after each thousand.
     fn run<const FAN: usize, const LEVELS: usize>(&mut self, alloc: Global) -> Result<(), Wrong>
         requires { AreSizes FAN LEVELS }
     {
         for change in 0..CHANGES {
             self.let_go()?;
+            if change % 2000 == 0 {
+                self.renew_base(alloc, change)?;
+            }
             let puts = if change / SEASON % 2 == 0 { 3 } else { 1 };
             let number = self.number();
             if self.dice.next_u32() % 4 < puts {
@@ -373,7 +419,7 @@ impl Pair {
 fn agrees_at_the_sizes_of_the_store(rt: HostRuntime) -> Result<(), Fail> {
     let mut pair = Pair::new(rt.alloc(), 1, 16_384, 240)?;
     pair.run::<256, 8>(rt.alloc())?;
-    let is_so = pair.markings > 0 && pair.top == 2 && pair.deeps == 0;
+    let is_so = pair.markings > 0 && pair.in_place > 0 && pair.top == 2 && pair.deeps == 0;
     assert!(rt;
         is_so,
         "{} markings, top {}, {} times Deep",
@@ -386,7 +432,7 @@ fn agrees_at_the_sizes_of_the_store(rt: HostRuntime) -> Result<(), Fail> {
 fn agrees_where_small_blocks_make_a_tree_deep(rt: HostRuntime) -> Result<(), Fail> {
     let mut pair = Pair::new(rt.alloc(), 2, 4_096, 2_000)?;
     pair.run::<3, 8>(rt.alloc())?;
-    let is_so = pair.markings > 0 && pair.top == 7 && pair.deeps > 0;
+    let is_so = pair.markings > 0 && pair.in_place > 0 && pair.top == 7 && pair.deeps > 0;
     assert!(rt;
         is_so,
         "{} markings, top {}, {} times Deep",
@@ -399,7 +445,7 @@ fn agrees_where_small_blocks_make_a_tree_deep(rt: HostRuntime) -> Result<(), Fai
 fn agrees_with_few_keys_of_any_length(rt: HostRuntime) -> Result<(), Fail> {
     let mut pair = Pair::new(rt.alloc(), 3, 512, 4_000)?;
     pair.run::<4, 8>(rt.alloc())?;
-    let is_so = pair.markings > 0 && pair.deeps == 0;
+    let is_so = pair.markings > 0 && pair.in_place > 0 && pair.deeps == 0;
     assert!(rt;
         is_so,
         "{} markings, {} times Deep",

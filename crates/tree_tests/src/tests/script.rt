@@ -20,7 +20,7 @@
 //! | `root`, `level` | `37.1.1`: its block, its level, and the lowest key; `1`: only the level |
 //! | `keep a` | `ok`: `a` (or `b` or `c`) means this root from here on, as in `top a` |
 //! | `spent` | `3`: how many blocks were taken since a root was last kept |
-//! | `path` | `36 37`: the blocks that the last put or remove replaced, from the leaf up |
+//! | `base`, `no base` | `ok`: the blocks that are held now stand as they are from here on, and others that are held are changed in their places; none is |
 //! | `free` | `25`: how many blocks are free |
 //! | `let go` | `ok`: exactly the blocks under the root are held |
 //! | `top 35.1.0` | `ok`: this is the root from here on |

@@ -14,8 +14,8 @@ use vm_disk::{CachedDisk, DelayedDisk, Disk};
 
 /// Opens the store on a disk, and answers the lines of the input. The most recently used blocks of
 /// the disk stay in memory; if there is no memory for a cache, none do. Written blocks wait on top
-/// of that: one that is forgotten while it waits never reaches the cache, and one that was written
-/// out stays there.
+/// of that: one that is changed again while it waits reaches the cache once, and one that was
+/// written out stays there.
 pub(crate) fn answer_lines_in_memory<D: Disk, R: Read, W: Write, F: Write>(
     alloc: Global,
     disk: D,

@@ -6,7 +6,7 @@
 pub const VERSION: &str = "\
 0.1.0
 file format 3
-proved with rattle-kit-13b logic dac8208d650f15bf";
+proved with rattle-kit-13f logic dac8208d650f15bf";
 
 /// What the program is.
 pub const ALTCTL: &str = "\

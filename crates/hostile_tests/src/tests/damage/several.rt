@@ -21,7 +21,10 @@ pub const SEVERAL: [(&'static [Piece], &'static [u32]); 17] = [
     ),
     // Roots: the current one before the base.
     (&[Slot(&[(b"a", b"top", 36, 35)])], &[36, 35]),
-    (&[Byte(34, 0, 0), Slot(&[(b"a", b"top", 36, 35)])], &[34, 35, 36]),
+    (
+        &[Byte(34, 0, 0), Slot(&[(b"a", b"top", 36, 35)])],
+        &[34, 35, 36],
+    ),
     // A damaged inner block hides what lies under it, unless another block lists that.
     (
         &[
@@ -91,9 +94,6 @@ pub const SEVERAL: [(&'static [Piece], &'static [u32]); 17] = [
     ),
     (&[Node(34, 1, &[(1, 34), (5, 35)])], &[34, 35]),
     // Numbers that are none of a data block: the first one that is met, and the blocks that list them.
-    (
-        &[Node(34, 1, &[(1, 35), (3, 5)]), Leaf(35, &[1])],
-        &[5, 34],
-    ),
+    (&[Node(34, 1, &[(1, 35), (3, 5)]), Leaf(35, &[1])], &[5, 34]),
     (&[Node(34, 1, &[(1, 35), (3, 64)])], &[35, 34]),
 ];

@@ -1,4 +1,4 @@
-//! The bytes of leaves, and which of them a series forgets.
+//! The bytes of leaves, and which of them a series changes in their places.
 use crate::tests::script::{NEW, Row, and_late, each_on_both, in_256_blocks};
 
 const ON_BOTH: &[Row] = &[
@@ -13,9 +13,9 @@ const ON_BOTH: &[Row] = &[
         put top 8:2 62*100
         commit
         close
-        block 37 -> 0:4C454633 8:04 16:07 18:01 26:2C0107 30:02 38:300108 42:01 50:300108 54:02 \
+        block 34 -> 0:4C454633 8:04 16:07 18:01 26:2C0107 30:02 38:300108 42:01 50:300108 54:02 \
             62:9401 64:61*300 364:64756374 368:62*100
-        block 18 -> 0:534C4F5403 8:40 12:01 128:4103746F70 195:25
+        block 18 -> 0:534C4F5403 8:40 12:01 128:4103746F70 195:22
         anew
         open
         free -> 29
@@ -23,12 +23,12 @@ const ON_BOTH: &[Row] = &[
         put top 7:1 duct
         free -> 28
         close
-        dirty -> 34
-        block 34 -> 0:4C454633 8:04 16:07 18:01 26:04 28:07 30:02 38:08 40:08 42:01 50:08 52:08 \
+        dirty -> 35
+        block 35 -> 0:4C454633 8:04 16:07 18:01 26:04 28:07 30:02 38:08 40:08 42:01 50:08 52:08 \
             54:02 62:6C 64:6475637464756374 72:62*100",
     ),
-    // The leaf is in block 34, and the last record in 36 under the root 37. A change of the other
-    // one copies its leaf and the root.
+    // The leaf is in block 34. The first Put in `a` writes a copy of it into 35, and its own record
+    // into 36 under the root 37. The second one changes the copy in its place.
     (
         "leaf that is not changed is shared",
         NEW,
@@ -41,8 +41,8 @@ const ON_BOTH: &[Row] = &[
         close
         block 34 -> 0:4C454633 8:01 16:01 18:01 26:A00F 28:61*4000
         block 36 -> 0:4C454633 8:01 16:01 18:02 26:A00F 28:62*4000
-        block 38 -> 0:4C454633 8:01 16:01 18:01
-        block 39 -> 0:4E4F444501 8:02 16:01 18:01 26:26 30:01 32:02 40:24
+        block 35 -> 0:4C454633 8:01 16:01 18:01
+        block 37 -> 0:4E4F444501 8:02 16:01 18:01 26:23 30:01 32:02 40:24
         anew
         open
         free -> 26
@@ -67,7 +67,8 @@ fn leaves_are_spelled_and_shared(rt: HostRuntime) {
     each_on_both(&rt, ON_BOTH);
 }
 
-/// The first three Puts take blocks 34 to 36, and the fourth three leaves and the root.
+/// The first three Puts take block 34, in which the fourth leaves the first record. It takes three
+/// more, for the others and a root.
 #[test]
 fn leaf_in_three_is_spelled(rt: HostRuntime) {
     let made = "
@@ -77,44 +78,45 @@ fn leaf_in_three_is_spelled(rt: HostRuntime) {
         put top 1:2 62*1300
         put top 1:3 63*1300
         put top 1:2 64*4000
-        free -> 215
+        free -> 218
         commit
         close
-        block 37 -> 0:4C454633 8:01 16:01 18:01 26:1405 28:61*1300
-        block 38 -> 0:4C454633 8:01 16:01 18:02 26:A00F 28:64*4000
-        block 39 -> 0:4C454633 8:01 16:01 18:03 26:1405 28:63*1300
-        block 40 -> 0:4E4F444501 8:03 16:01 18:01 26:25 30:01 32:02 40:26 44:01 46:03 54:27
+        block 34 -> 0:4C454633 8:01 16:01 18:01 26:1405 28:61*1300
+        block 35 -> 0:4C454633 8:01 16:01 18:02 26:A00F 28:64*4000
+        block 36 -> 0:4C454633 8:01 16:01 18:03 26:1405 28:63*1300
+        block 37 -> 0:4E4F444501 8:03 16:01 18:01 26:22 30:01 32:02 40:23 44:01 46:03 54:24
         open
         free -> 218
         list top -> 1:1=61*1300 1:2=64*4000 1:3=63*1300";
     in_256_blocks(&rt, &[made]);
 }
 
-/// The first Put takes block 34, the second a leaf each for both records and the root, blocks 35 to
-/// 37, and the third a leaf and a root, 38 and 39. The Remove leaves the other leaf alone.
+/// The first Put takes block 34, the second one more leaf and a root. In their series, the third
+/// changes the first leaf in its place, and the Remove leaves the other one alone. Of a series that
+/// begins with it, the third takes a leaf, and a root if there is one.
 #[test]
-fn leaves_are_forgotten_in_their_own_series_alone(rt: HostRuntime) {
+fn leaves_are_changed_in_place_in_their_own_series_alone(rt: HostRuntime) {
     let [one, two, three, four] = [
         "put top 1:1 61*4000",
         "put top 1:2 62*4000",
         "put top 1:1 63*3000",
         "remove top 1:1",
     ];
-    for (changes, forgotten) in &[
-        ([one, "", "", ""], "forgotten -> none"),
-        ([one, two, "", ""], "forgotten -> 34"),
-        ([one, two, three, ""], "forgotten -> 34 35 37"),
-        ([one, two, three, four], "forgotten -> 34 35 37 38 39"),
-        ([one, "commit", three, four], "forgotten -> 35"),
-        ([one, "checkpoint top c", three, four], "forgotten -> 35"),
-        ([one, two, "commit", three], "forgotten -> none"),
-        ([one, "new a top", two, three], "forgotten -> 35 37"),
+    for (changes, free) in &[
+        ([one, "", "", ""], "free -> 29"),
+        ([one, two, "", ""], "free -> 27"),
+        ([one, two, three, ""], "free -> 27"),
+        ([one, two, three, four], "free -> 27"),
+        ([one, "commit", three, four], "free -> 28"),
+        ([one, "checkpoint top c", three, four], "free -> 28"),
+        ([one, two, "commit", three], "free -> 25"),
+        ([one, "new a top", two, three], "free -> 26"),
         (
             ["new a top", one, "merge a -> ok 1", "put a 1:1 v"],
-            "forgotten -> none",
+            "free -> 28",
         ),
     ] {
         let [one, two, three, four] = changes;
-        and_late(&rt, &[NEW, one, two, three, four, "close", forgotten]);
+        and_late(&rt, &[NEW, one, two, three, four, free]);
     }
 }

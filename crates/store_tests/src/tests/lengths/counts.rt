@@ -89,6 +89,6 @@ fn put_that_makes_three_leaves_writes_four_blocks(rt: HostRuntime) {
         put top 1:2 64*4000
         close
         calls -> 10
-        dirty -> 34 35 37 38";
+        dirty -> 35 36 37 38";
     in_memory(&rt, &[NEW, row]);
 }

@@ -1,7 +1,7 @@
 //! Leaves that no store wrote.
 use crate::tests::script::{NEW, in_memory, on_both};
 
-/// The leaf is block 36. Its entries are at 16, 28 and 40, and its values at 52, 352 and 352.
+/// The leaf is block 34. Its entries are at 16, 28 and 40, and its values at 52, 352 and 352.
 #[test]
 fn leaf_is_tested_in_each_part(rt: HostRuntime) {
     let row = "
@@ -10,34 +10,34 @@ fn leaf_is_tested_in_each_part(rt: HostRuntime) {
         put top 8:2 duct
         commit
         close
-        block 36 -> 0:4C454633 8:03 16:07 18:01 26:2C0107 30:03 38:2C0108 42:02 50:3001 52:61*300 \
+        block 34 -> 0:4C454633 8:03 16:07 18:01 26:2C0107 30:03 38:2C0108 42:02 50:3001 52:61*300 \
             352:64756374";
-    let damaged = "open -> error 18 Damaged 36";
+    let damaged = "open -> error 18 Damaged 34";
     for (change, opened) in &[
         ("anew", "open"),
-        ("set 36 52:41", "open"),
-        ("set 36 0:4D", damaged),
-        ("set 36 4:01", damaged),
-        ("set 36 8:02", damaged),
-        ("set 36 8:04", damaged),
-        ("set 36 8:00", damaged),
-        ("set 36 8:5501", damaged),
-        ("set 36 12:01", damaged),
+        ("set 34 52:41", "open"),
+        ("set 34 0:4D", damaged),
+        ("set 34 4:01", damaged),
+        ("set 34 8:02", damaged),
+        ("set 34 8:04", damaged),
+        ("set 34 8:00", damaged),
+        ("set 34 8:5501", damaged),
+        ("set 34 12:01", damaged),
         // Keys that fall, and one that is there twice.
-        ("set 36 16:09", damaged),
-        ("set 36 30:01", damaged),
-        ("set 36 40:06", damaged),
+        ("set 34 16:09", damaged),
+        ("set 34 30:01", damaged),
+        ("set 34 40:06", damaged),
         // Ends that fall, and a last one that is too low or too high.
-        ("set 36 26:2D", damaged),
-        ("set 36 38:2B", damaged),
-        ("set 36 50:2F", damaged),
-        ("set 36 50:CD0F", damaged),
-        ("set 36 356:01", damaged),
-        ("set 36 4095:01", damaged),
+        ("set 34 26:2D", damaged),
+        ("set 34 38:2B", damaged),
+        ("set 34 50:2F", damaged),
+        ("set 34 50:CD0F", damaged),
+        ("set 34 356:01", damaged),
+        ("set 34 4095:01", damaged),
         // The second value has four bytes then, and the last one none; or the first one has less.
-        ("set 36 38:30", "open"),
-        ("set 36 26:01", "open"),
-        ("set 36 26:00", "open"),
+        ("set 34 38:30", "open"),
+        ("set 34 26:01", "open"),
+        ("set 34 26:00", "open"),
     ] {
         in_memory(&rt, &[NEW, row, change, opened]);
     }
@@ -51,7 +51,7 @@ fn values_are_as_the_entries_say(rt: HostRuntime) {
         put top 7:3 ''
         commit
         close
-        set 35 26:C800
+        set 34 26:C800
         open
         list top -> 7:1=61*200 7:3=61*100
         free -> 29
@@ -60,7 +60,7 @@ fn values_are_as_the_entries_say(rt: HostRuntime) {
     on_both(&rt, &[NEW, row]);
 }
 
-/// The leaves of `top` are 36 and 37 under the root 38, and `a` shares them. What was met before is
+/// The leaves of `top` are 34 and 35 under the root 36, and `a` shares them. What was met before is
 /// not read again, but its keys are compared all the same. Only the whole opening reads a leaf under
 /// an inner block.
 #[test]
@@ -72,20 +72,20 @@ fn leaves_that_were_met_before_are_compared_all_the_same(rt: HostRuntime) {
         new a top
         commit
         close
-        block 38 -> 0:4E4F444501 8:02 16:07 18:01 26:24 30:07 32:03 40:25";
+        block 36 -> 0:4E4F444501 8:02 16:07 18:01 26:22 30:07 32:03 40:23";
     for (change, opened) in &[
         ("anew", "open"),
         // The current root of `a`.
-        ("set 18 323:25", "open"),
-        ("set 18 323:24", "open"),
-        ("set 18 323:22", "open -> error 18 Damaged 34"),
+        ("set 18 323:23", "open"),
+        ("set 18 323:22", "open"),
+        ("set 18 323:25", "open -> error 18 Damaged 37"),
         ("set 18 323:27", "open -> error 18 Damaged 39"),
         ("set 18 323:40", "open -> error 18 Damaged 64"),
         // A child twice, and one under another key.
-        ("set 38 40:24", "open whole -> error 18 Damaged 36"),
-        ("set 38 32:02", "open whole -> error 18 Damaged 37"),
-        ("set 38 40:24", "open"),
-        ("set 38 32:02", "open"),
+        ("set 36 40:22", "open whole -> error 18 Damaged 34"),
+        ("set 36 32:02", "open whole -> error 18 Damaged 35"),
+        ("set 36 40:22", "open"),
+        ("set 36 32:02", "open"),
     ] {
         in_memory(&rt, &[NEW, two, change, opened]);
     }
@@ -118,19 +118,19 @@ fn a_leaf_that_is_damaged_is_told_by_who_reads_it(rt: HostRuntime) {
         put top 7:3 63*2000
         commit
         close
-        set 37 12:01
-        open whole -> error 18 Damaged 37
+        set 35 12:01
+        open whole -> error 18 Damaged 35
         open
         free -> 27
         get top 7:1 -> 61*2000
-        get top 7:5 -> error 18 Damaged 37
-        list top -> error 18 Damaged 37
-        put top 7:5 duct -> error 18 Damaged 37
+        get top 7:5 -> error 18 Damaged 35
+        list top -> error 18 Damaged 35
+        put top 7:5 duct -> error 18 Damaged 35
         put top 7:1 duct
         get top 7:1 -> duct
         commit
         close
-        set 37 12:00
+        set 35 12:00
         open whole
         get top 7:5 -> 62*2000
         get top 7:1 -> duct";

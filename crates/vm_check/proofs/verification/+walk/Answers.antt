@@ -13,7 +13,7 @@ use Rattle.vm_check.specs.declared.verification.Span.{Span}
 use Rattle.vm_block.specs.declared.node.Child.{Child}
 use Rattle.vm_alloc.proofs.HeldLemmas.{holds_same, holds_more_then}
 use Rattle.vm_check.proofs.MarkLemmas.{set_less}
-use Rattle.vm_check.proofs.KnownLemmas.{level_one, met_visited, node_level, subtree_level}
+use Rattle.vm_check.proofs.KnownLemmas.{level_one, node_level, subtree_level}
 use Rattle.vm_check.proofs.ChildLemmas.{leaf_top, node_top, top_form}
 use Rattle.vm_check.proofs.SpanLemmas.{keys_same, keys_differ}
 use Rattle.vm_check.proofs.SurveyLemmas.{begins_wrong, child_is_reached, child_exit_fits, child_exit_misfits, child_exit_none, child_exit_number, children_exit, children_more, children_start, ends_too_high, formless, keeps_same, keeps_then, leaf_exit_surveyed, misplaced, node_noted_exit, node_span_exit, not_device, none_found, noted_again, noted_new, of_wrong_level, level_met}

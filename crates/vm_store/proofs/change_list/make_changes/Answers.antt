@@ -3,10 +3,8 @@ use Rattle.std.proofs.lemmas.List.{take_all}
 use Rattle.std.proofs.lemmas.Result.{err_from_is_err_and}
 use Rattle.vm_types.specs.declared.change.Change.{Change}
 use Rattle.vm_types.specs.Map.{with_changes}
-use Rattle.vm_disk.specs.Moments.{Throughout, TouchesOnly}
 use Rattle.vm_alloc.specs.Held.{IsHeld}
 use Rattle.vm_alloc.proofs.HeldLemmas.{holds_more_then}
-use Rattle.vm_tree.specs.Free.{is_free}
 use Rattle.vm_tree.specs.Root.{IsRootedIn}
 use Rattle.vm_tree.proofs.Touching.{touches_then, unsynced_then}
 use Rattle.vm_store.specs.Sizes.{sizes}

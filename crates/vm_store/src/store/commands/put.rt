@@ -1,14 +1,16 @@
 //! The command that sets the value of a record.
-use crate::series::{before_series, go_on, put_forgetting};
+use crate::series::{before_series, go_on};
 use crate::store::Store;
+use crate::{FAN, LEVELS};
 use vm_disk::Disk;
+use vm_tree::put;
 use vm_types::{Answer, Command, Key, Name, Refusal, ValueRef};
 
 impl<D: Disk> Store<D> {
     ghost use Rattle.vm_store.specs.Commands.{Performs};
 
-    /// Sets the value of a record of the alternative. The blocks that the series took for the old
-    /// path are forgotten.
+    /// Sets the value of a record of the alternative. The blocks that the series took are changed
+    /// in their places.
     pub(super) fn put_value(
         &mut self,
         alt: &Name,
@@ -31,7 +33,7 @@ impl<D: Disk> Store<D> {
             &self.parts.held,
             alt,
         );
-        let root = put_forgetting(
+        let root = put::<D, FAN, LEVELS>(
             &mut self.disk,
             &mut self.parts.held,
             before_series(&self.parts.series, &self.parts.before),

@@ -6,11 +6,12 @@ ghost use Rattle.vm_types.specs.Queries.{value_in};
 ghost use Rattle.vm_store.specs.Answers.{IsEarly};
 ghost use Rattle.vm_store.specs.Versions.{is_alternative_of};
 
-use crate::series::{before_series, go_on, goes_on, remove_forgetting};
+use crate::series::{before_series, go_on, goes_on};
 use crate::store::Store;
 use crate::version::Version;
+use crate::{FAN, LEVELS};
 use vm_disk::Disk;
-use vm_tree::has;
+use vm_tree::{has, remove};
 use vm_types::{Answer, Key, Name, Refusal};
 
 impl<D: Disk> Store<D> {
@@ -71,8 +72,7 @@ impl<D: Disk> Store<D> {
     }
 
     /// Removes a record from the alternative whose series goes on, or from one if no series does,
-    /// or answers that it is missing. The blocks that the series took for the old path are
-    /// forgotten.
+    /// or answers that it is missing. The blocks that the series took are changed in their places.
     fn remove_in_series(
         &mut self,
         alt: &Name,
@@ -97,7 +97,7 @@ impl<D: Disk> Store<D> {
             → (missing ≡ Refusal.NoSuchRecord) ⊎ (value_in s.working alt.now key ≢ Ok None)
             → Carries self.old self.new s holds (Remove alt.now key) result }
     {
-        let removed = remove_forgetting(
+        let removed = remove::<D, FAN, LEVELS>(
             &mut self.disk,
             &mut self.parts.held,
             before_series(&self.parts.series, &self.parts.before),

@@ -1,22 +1,20 @@
-use Rattle.std.proofs.Common.{◌≡◌, ℕ, List, [], ◌∷◌, ◌+◌, ◌≤◌, ◌<◌, length, take, ap, sym, subst, inl, inr, arith, rules}
+use Rattle.std.proofs.Common.{◌≡◌, ℕ, Bool, true, [], ◌∷◌, ◌+◌, ◌≤◌, ◌<◌, length, take, ap, sym, subst, inl, inr, arith, rules}
 use Rattle.std.specs.List.{AllByRecursion}
 use Rattle.vm_types.specs.Map.{Map, with_value}
-use Rattle.vm_types.specs.Places.{with_record}
 use Rattle.vm_alloc.specs.Held.{IsHeld}
 use Rattle.vm_block.specs.Leaf.{Record}
 use Rattle.vm_block.specs.Node.{node_bytes, node_head}
 use Rattle.vm_tree.specs.Answers.{LacksRoom}
 use Rattle.vm_tree.specs.FullPath.{GrowsBy}
-use Rattle.vm_tree.specs.Splits.{Made, children_of, extra}
-use Rattle.vm_tree.specs.Replacement.{IsHeldBeside, IsRenewed, Lacks, path_from, path_under}
+use Rattle.vm_tree.specs.Splits.{children_of, extra}
+use Rattle.vm_tree.specs.Replacement.{IsRenewed}
 use Rattle.vm_tree.specs.declared.root.Root.{Root}
 use Rattle.vm_tree.specs.Root.{IsRootedIn, sizes_of}
-use Rattle.vm_tree.proofs.Looking.{looks_as, passed_on, writes_on}
+use Rattle.vm_tree.proofs.Looking.{looks_as, passed_on, writes_as, writes_on}
 use Rattle.vm_tree.proofs.Descent.{subtree_top}
 use Rattle.vm_tree.proofs.FullPaths.{grows_few}
 use Rattle.vm_tree.proofs.RemoveLemmas.{two_children}
-use Rattle.vm_tree.proofs.Renewing.{lacks, path_bare, path_none, path_some, path_there, renewed_beside, replaces_whole, rooted_so}
-use Rattle.vm_tree.proofs.RootRemoval.{rooted_top}
+use Rattle.vm_tree.proofs.Renewing.{all_kept, rooted_so}
 use Rattle.vm_tree.proofs.RootLemmas.{grows_lacks, root_one, root_more, device_puts, fault_puts}
 use Rattle.vm_tree.proofs.insertion.put.Goals as goal
 use Rattle.vm_tree.proofs.insertion.put.Goals.{then-from-2, else-from-2}
@@ -28,13 +26,12 @@ returns-then-root-eq0-clause-put g c honest m bs (inl bare) =
     let held = c.put_first.new.held in
     let x = (g.D.Disk.state c.put_first.new.disk).now.contents in
     let limit = length before in
-    let path = path_under c.args.root c.args.path.now in
-    let none = path_bare c.args.root c.args.path.now c.if-root-eq0.true in
-    let made = c.in_ok-put_first.ensures.put honest (lacks path) sizes (omega (arith, c.requires.sizes.levels_least)) in
+    let every : ℕ → Bool = λ _. true in
+    let made = c.in_ok-put_first.ensures.put honest every sizes (omega (arith, c.requires.sizes.levels_least)) in
     let R : (ℕ → Type 0) → Map → Root → Type 0 = λ P n r. IsRootedIn sizes P x limit r (with_value n c.args.key c.args.value.now) in
     let root = c.in_ok-put_first.field-0 in
-    let now = rooted_so (IsRenewed before held (lacks path)) (IsHeldBeside held path) sizes x limit root (with_value [] c.args.key c.args.value.now) (λ n is. record { now = is.now; lacks = subst (Lacks n) (sym none) tt }) made in (
-      λ all. subst (λ (n : Map). R (IsHeldBeside held path) n root) (sym bare.empty) now,
+    let now = rooted_so (IsRenewed before held every) (IsHeld held) sizes x limit root (with_value [] c.args.key c.args.value.now) (λ n is. is.now) made in (
+      λ all. subst (λ (n : Map). R (IsHeld held) n root) (sym bare.empty) now,
       λ (lacks : LacksRoom sizes _ c.args.root (c.args.key, c.args.value.now)). omega (arith, lacks.some, c.if-root-eq0.true),
     )
 returns-then-root-eq0-clause-put g c honest m bs (inr top) =
@@ -52,17 +49,14 @@ returns-in-One-clause-put g c honest m bs (inr top) =
     let held = c.put_below.new.held in
     let limit = length before in
     let after = (g.D.Disk.state c.put_below.new.disk).now.contents in
-    let down = path_from c.args.root.level c.put_below.new.path in
-    let there = path_there c.args.root c.put_below.new.path c.if-root-eq0.false in
+    let every : ℕ → Bool = λ _. true in
     let got = c.in_ok-copied.ensures.put g.row.LEVELS honest m bs top.subtree top.lowest top.rising in
-    let within = c.in_ok-copied.ensures.path_in g.row.LEVELS honest m bs top.subtree top.lowest top.rising in
-    let P = IsRenewed before held (lacks down) in
+    let P = IsRenewed before held every in
     let done = root_one sizes _ limit c.args.root m bs c.args.key c.args.value.now c.put_below.ensures.fits top P after c.in_ok-copied.copied 0 c.in-One.top (AllByRecursion (IsHeld before) bs)
-    c.in-One.is (λ all. replaces_whole before held down bs (λ Q. Made Q sizes after limit c.args.root.level (children_of c.in_ok-copied.copied) (with_record (c.args.key, c.args.value.now) m)) got.0 all, got.1) in (
+    c.in-One.is (λ all. got.0 every all (all_kept bs), got.1) in (
       λ all.
-          let now = rooted_so P (IsHeldBeside held down) sizes after limit _ (with_value m c.args.key c.args.value.now) (renewed_beside before held down bs within all) (done.0 all) in
-          subst (λ (bs : List ℕ). IsRootedIn sizes (IsHeldBeside held bs) after limit c.root_at.result (with_value m c.args.key c.args.value.now)) (sym there)
-          (subst (λ (r : Root). IsRootedIn sizes (IsHeldBeside held down) after limit r (with_value m c.args.key c.args.value.now)) (sym c.root_at.ensures) now),
+          let now = rooted_so P (IsHeld held) sizes after limit _ (with_value m c.args.key c.args.value.now) (λ n is. is.now) (done.0 all) in
+          subst (λ (r : Root). IsRootedIn sizes (IsHeld held) after limit r (with_value m c.args.key c.args.value.now)) (sym c.root_at.ensures) now,
       done.1,
     )
 
@@ -77,26 +71,23 @@ returns-in_ok-top-in-Two-clause-put g c honest m bs (inr top) =
     let mid = (g.D.Disk.state c.put_below.new.disk).now.contents in
     let after = (g.D.Disk.state c.write_node_block.new.disk).now.contents in
     let level = c.args.root.level in
-    let down = path_from level c.put_below.new.path in
-    let there = path_there c.args.root c.put_below.new.path c.if-root-eq0.false in
+    let every : ℕ → Bool = λ _. true in
     let earlier = c.in_ok-top-in-Two.ensures.writes.goes.earlier honest in
     let got = c.in_ok-copied.ensures.put g.row.LEVELS earlier m bs top.subtree top.lowest top.rising in
-    let within = c.in_ok-copied.ensures.path_in g.row.LEVELS earlier m bs top.subtree top.lowest top.rising in
     let more = ap extra c.in-Two.is in
     let some : 0 < c.if-from-2.room = omega (arith, more, c.in_ok-copied.ensures.room) in
     let low : level + 1 < g.row.LEVELS = elim c.if-from-2.branch [ then-from-2 w ↦ omega (arith, w.if-from-2.true, c.from-2.ensures) | else-from-2 w ↦ absurd (omega (arith, some, w.room-is)) ] in
     let few : level + 1 ≤ 7 = omega (arith, low, c.requires.sizes.levels_most) in
-    let P = IsRenewed before between (lacks down) in
-    let Q = IsRenewed before held (lacks down) in
+    let P = IsRenewed before between every in
+    let Q = IsRenewed before held every in
     let done = root_more sizes _ limit c.args.root m bs c.args.key c.args.value.now c.put_below.ensures.fits top P Q mid after (length between)
     c.in_ok-copied.copied 0 (c.in-Two.left ∷ c.in-Two.right ∷ []) c.in_ok-top-in-Two.top (AllByRecursion (IsHeld before) bs)
     (ap children_of c.in-Two.is) c.in_ok-copied.ensures.writes.still.same_length low
-    (λ all. replaces_whole before between down bs (λ R. Made R sizes mid limit level (children_of c.in_ok-copied.copied) (with_record (c.args.key, c.args.value.now) m)) got.0 all, got.1)
-    (λ rs rising made. c.in_ok-top-in-Two.ensures.made honest before (lacks down) c.in_ok-copied.ensures.writes.still sizes rs (omega arith) few (omega (arith, c.requires.sizes.fan_least)) rising made) in (
+    (λ all. got.0 every all (all_kept bs), got.1)
+    (λ rs rising made. c.in_ok-top-in-Two.ensures.made honest before every c.in_ok-copied.ensures.writes.still tt sizes rs (omega arith) few (omega (arith, c.requires.sizes.fan_least)) rising made) in (
       λ all.
-          let now = rooted_so Q (IsHeldBeside held down) sizes after limit _ (with_value m c.args.key c.args.value.now) (renewed_beside before held down bs within all) (done.0 all) in
-          subst (λ (bs : List ℕ). IsRootedIn sizes (IsHeldBeside held bs) after limit c.root_at-in-Two.result (with_value m c.args.key c.args.value.now)) (sym there)
-          (subst (λ (r : Root). IsRootedIn sizes (IsHeldBeside held down) after limit r (with_value m c.args.key c.args.value.now)) (sym c.root_at-in-Two.ensures) now),
+          let now = rooted_so Q (IsHeld held) sizes after limit _ (with_value m c.args.key c.args.value.now) (λ n is. is.now) (done.0 all) in
+          subst (λ (r : Root). IsRootedIn sizes (IsHeld held) after limit r (with_value m c.args.key c.args.value.now)) (sym c.root_at-in-Two.ensures) now,
       done.1,
     )
 
@@ -111,26 +102,23 @@ returns-in_ok-top-in-Three-clause-put g c honest m bs (inr top) =
     let mid = (g.D.Disk.state c.put_below.new.disk).now.contents in
     let after = (g.D.Disk.state c.write_node_block-in-Three.new.disk).now.contents in
     let level = c.args.root.level in
-    let down = path_from level c.put_below.new.path in
-    let there = path_there c.args.root c.put_below.new.path c.if-root-eq0.false in
+    let every : ℕ → Bool = λ _. true in
     let earlier = c.in_ok-top-in-Three.ensures.writes.goes.earlier honest in
     let got = c.in_ok-copied.ensures.put g.row.LEVELS earlier m bs top.subtree top.lowest top.rising in
-    let within = c.in_ok-copied.ensures.path_in g.row.LEVELS earlier m bs top.subtree top.lowest top.rising in
     let more = ap extra c.in-Three.is in
     let some : 0 < c.if-from-2.room = omega (arith, more, c.in_ok-copied.ensures.room) in
     let low : level + 1 < g.row.LEVELS = elim c.if-from-2.branch [ then-from-2 w ↦ omega (arith, w.if-from-2.true, c.from-2.ensures) | else-from-2 w ↦ absurd (omega (arith, some, w.room-is)) ] in
     let few : level + 1 ≤ 7 = omega (arith, low, c.requires.sizes.levels_most) in
-    let P = IsRenewed before between (lacks down) in
-    let Q = IsRenewed before held (lacks down) in
+    let P = IsRenewed before between every in
+    let Q = IsRenewed before held every in
     let done = root_more sizes _ limit c.args.root m bs c.args.key c.args.value.now c.put_below.ensures.fits top P Q mid after (length between)
     c.in_ok-copied.copied 0 (c.in-Three.left ∷ c.in-Three.middle ∷ c.in-Three.right ∷ []) c.in_ok-top-in-Three.top (AllByRecursion (IsHeld before) bs)
     (ap children_of c.in-Three.is) c.in_ok-copied.ensures.writes.still.same_length low
-    (λ all. replaces_whole before between down bs (λ R. Made R sizes mid limit level (children_of c.in_ok-copied.copied) (with_record (c.args.key, c.args.value.now) m)) got.0 all, got.1)
-    (λ rs rising made. c.in_ok-top-in-Three.ensures.made honest before (lacks down) c.in_ok-copied.ensures.writes.still sizes rs (omega arith) few (omega (arith, c.requires.sizes.fan_least)) rising made) in (
+    (λ all. got.0 every all (all_kept bs), got.1)
+    (λ rs rising made. c.in_ok-top-in-Three.ensures.made honest before every c.in_ok-copied.ensures.writes.still tt sizes rs (omega arith) few (omega (arith, c.requires.sizes.fan_least)) rising made) in (
       λ all.
-          let now = rooted_so Q (IsHeldBeside held down) sizes after limit _ (with_value m c.args.key c.args.value.now) (renewed_beside before held down bs within all) (done.0 all) in
-          subst (λ (bs : List ℕ). IsRootedIn sizes (IsHeldBeside held bs) after limit c.root_at-in-Three.result (with_value m c.args.key c.args.value.now)) (sym there)
-          (subst (λ (r : Root). IsRootedIn sizes (IsHeldBeside held down) after limit r (with_value m c.args.key c.args.value.now)) (sym c.root_at-in-Three.ensures) now),
+          let now = rooted_so Q (IsHeld held) sizes after limit _ (with_value m c.args.key c.args.value.now) (λ n is. is.now) (done.0 all) in
+          subst (λ (r : Root). IsRootedIn sizes (IsHeld held) after limit r (with_value m c.args.key c.args.value.now)) (sym c.root_at-in-Three.ensures) now,
       done.1,
     )
 
@@ -169,40 +157,22 @@ returns-in_ok-top-in-Three-clause-replaced g c honest m bs (inr top) there =
     let one = (c.in_ok-copied.ensures.replaced g.row.LEVELS (c.in_ok-top-in-Three.ensures.writes.goes.earlier honest) m bs top.subtree top.lowest top.rising there).0 in
     absurd (omega (arith, one, ap extra c.in-Three.is))
 
-pub returns-then-root-eq0-clause-path_in : goal.returns-then-root-eq0-clause-path_in
-returns-then-root-eq0-clause-path_in g c honest m bs rooted = path_none c.args.root c.args.path.now bs c.if-root-eq0.true
-
-pub returns-in-One-clause-path_in : goal.returns-in-One-clause-path_in
-returns-in-One-clause-path_in g c honest m bs rooted =
-    let top = rooted_top _ _ _ c.args.root m bs rooted c.if-root-eq0.false in
-    path_some c.args.root c.put_below.new.path bs c.if-root-eq0.false (c.in_ok-copied.ensures.path_in g.row.LEVELS honest m bs top.subtree top.lowest top.rising)
-
-pub returns-in_ok-top-in-Two-clause-path_in : goal.returns-in_ok-top-in-Two-clause-path_in
-returns-in_ok-top-in-Two-clause-path_in g c honest m bs rooted =
-    let top = rooted_top _ _ _ c.args.root m bs rooted c.if-root-eq0.false in
-    path_some c.args.root c.put_below.new.path bs c.if-root-eq0.false (c.in_ok-copied.ensures.path_in g.row.LEVELS (c.in_ok-top-in-Two.ensures.writes.goes.earlier honest) m bs top.subtree top.lowest top.rising)
-
 pub returns-in_ok-top-in-Two-clause-writes : goal.returns-in_ok-top-in-Two-clause-writes
-returns-in_ok-top-in-Two-clause-writes g c = writes_on c.in_ok-copied.ensures.writes c.in_ok-top-in-Two.ensures.writes (λ is. cc)
+returns-in_ok-top-in-Two-clause-writes g c = writes_on c.in_ok-copied.ensures.writes c.in_ok-top-in-Two.ensures.writes (λ is. cc) (λ spared may. (may, tt))
 
 pub returns-in_err-top-in-Two-clause-writes : goal.returns-in_err-top-in-Two-clause-writes
-returns-in_err-top-in-Two-clause-writes g c = writes_on c.in_ok-copied.ensures.writes c.in_err-top-in-Two.ensures.writes (search rules)
+returns-in_err-top-in-Two-clause-writes g c = writes_on c.in_ok-copied.ensures.writes c.in_err-top-in-Two.ensures.writes (search rules) (λ spared may. (may, tt))
 
 pub returns-in_ok-top-in-Two-clause-wide : goal.returns-in_ok-top-in-Two-clause-wide
 unfolding node_bytes node_head
 returns-in_ok-top-in-Two-clause-wide g c higher honest up k cs node =
     two_children {l = c.args.root.level + 1} {n = 2} (ap (take 16) (c.in_ok-top-in-Two.ensures.written honest)) (omega (arith, c.if-from.false, c.from.ensures, c.requires.sizes.levels_most)) (omega arith) (omega arith) (rw c.root_at-in-Two.ensures at node)
 
-pub returns-in_ok-top-in-Three-clause-path_in : goal.returns-in_ok-top-in-Three-clause-path_in
-returns-in_ok-top-in-Three-clause-path_in g c honest m bs rooted =
-    let top = rooted_top _ _ _ c.args.root m bs rooted c.if-root-eq0.false in
-    path_some c.args.root c.put_below.new.path bs c.if-root-eq0.false (c.in_ok-copied.ensures.path_in g.row.LEVELS (c.in_ok-top-in-Three.ensures.writes.goes.earlier honest) m bs top.subtree top.lowest top.rising)
-
 pub returns-in_ok-top-in-Three-clause-writes : goal.returns-in_ok-top-in-Three-clause-writes
-returns-in_ok-top-in-Three-clause-writes g c = writes_on c.in_ok-copied.ensures.writes c.in_ok-top-in-Three.ensures.writes (λ is. cc)
+returns-in_ok-top-in-Three-clause-writes g c = writes_on c.in_ok-copied.ensures.writes c.in_ok-top-in-Three.ensures.writes (λ is. cc) (λ spared may. (may, tt))
 
 pub returns-in_err-top-in-Three-clause-writes : goal.returns-in_err-top-in-Three-clause-writes
-returns-in_err-top-in-Three-clause-writes g c = writes_on c.in_ok-copied.ensures.writes c.in_err-top-in-Three.ensures.writes (search rules)
+returns-in_err-top-in-Three-clause-writes g c = writes_on c.in_ok-copied.ensures.writes c.in_err-top-in-Three.ensures.writes (search rules) (λ spared may. (may, tt))
 
 pub returns-in_ok-top-in-Three-clause-wide : goal.returns-in_ok-top-in-Three-clause-wide
 unfolding node_bytes node_head
@@ -220,3 +190,9 @@ put_first-requires-clause-short g c = omega (arith, c.requires.short)
 
 pub put_below-requires-clause-short : goal.put_below-requires-clause-short
 put_below-requires-clause-short g c = omega (arith, c.requires.short)
+
+pub returns-then-root-eq0-clause-writes : goal.returns-then-root-eq0-clause-writes
+returns-then-root-eq0-clause-writes g c = writes_as c.in_ok-put_first.ensures.writes (λ is. cc) (λ spared may. tt)
+
+pub returns-in_err-put_first-clause-writes : goal.returns-in_err-put_first-clause-writes
+returns-in_err-put_first-clause-writes g c = writes_as c.in_err-put_first.ensures.writes (search rules) (λ spared may. tt)

@@ -17,5 +17,5 @@ returns-clause-put g c honest keep sizes levels =
     let rising : RisesFrom 0 (places rs) = (omega arith, tt) in
     let Q = IsRenewed before c.write_bytes.new.held keep in
     let z = (g.D.Disk.state c.write_bytes.new.disk).now.contents in
-    let made = c.in_ok-leaf.ensures.leaf honest before keep (holds_same before) sizes rs c.first_record.ensures in
+    let made = c.in_ok-leaf.ensures.leaf honest before keep (holds_same before) tt sizes rs c.first_record.ensures in
     subst (λ (root : Root). IsRootedIn sizes Q z limit root rs) (sym c.root_at.ensures) (made_root Q sizes z limit 0 c.in_ok-leaf.leaf rs levels rising made)

@@ -15,9 +15,9 @@ returns-in_ok-write_two-in-Two-clause-made g c honest rs leaf over =
     let two = c.in-Two.ensures.only rs (hand_records (sym c.at_hand-leaf.ensures) leaf) over in
     let done = c.in_ok-write_two-in-Two in
     let x = (g.D.Disk.state c.write_two.new.disk).now.contents in (
-      λ before keep more sizes.
+      λ before keep more mine sizes.
           subst (λ (qs : List Record). Made (IsRenewed before c.write_two.new.held keep) sizes x (length c.args.held.now) 0 (children_of done.field-0) qs) (take-append-drop two.cut all)
-          (done.ensures.made honest before keep more sizes (take two.cut all) (drop two.cut all) two.before two.behind),
+          (done.ensures.made honest before keep more mine sizes (take two.cut all) (drop two.cut all) two.before two.behind),
       subst (NeedsMore all) (sym done.ensures.two) (needs_two r rs all _ _ over two),
     )
 
@@ -28,9 +28,9 @@ returns-in_ok-write_three-in-Three-clause-made g c honest rs leaf over =
     let three = c.in-Three.ensures.only rs (hand_records (sym c.at_hand-leaf.ensures) leaf) over in
     let done = c.in_ok-write_three-in-Three in
     let x = (g.D.Disk.state c.write_three.new.disk).now.contents in (
-      λ before keep more sizes.
+      λ before keep more mine sizes.
           subst (λ (qs : List Record). Made (IsRenewed before c.write_three.new.held keep) sizes x (length c.args.held.now) 0 (children_of done.field-0) qs) (sym three.is)
-          (done.ensures.made honest before keep more sizes three.lower (r ∷ []) three.higher three.before three.one three.behind),
+          (done.ensures.made honest before keep more mine sizes three.lower (r ∷ []) three.higher three.before three.one three.behind),
       subst (NeedsMore all) (sym done.ensures.three) (over, three.needed),
     )
 

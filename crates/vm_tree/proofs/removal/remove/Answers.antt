@@ -1,16 +1,16 @@
-use Rattle.std.proofs.Common.{◌∙◌, ◌≤◌, ℕ, List, Ok, [], ◌∷◌, length, inl, inr, ap, sym, subst, refl, arith, rules, ◌≡◌}
+use Rattle.std.proofs.Common.{◌∙◌, ◌≤◌, ℕ, Ok, [], ◌∷◌, length, option_copied, Bool, true, inl, inr, ap, sym, subst, refl, arith, rules, ◌≡◌}
 use Rattle.vm_types.specs.Map.{Map, get, without}
 use Rattle.vm_types.specs.Places.{place}
-use Rattle.vm_alloc.specs.Held.{free_count}
+use Rattle.vm_alloc.specs.Held.{IsHeld, free_count}
 use Rattle.vm_tree.specs.Splits.{Made}
 use Rattle.vm_tree.specs.Tree.{IsData}
 use Rattle.vm_block.specs.Changed.{without_place}
-use Rattle.vm_tree.specs.Removal.{LeavesData, LeavesOld, RemovesBelow, TakesForLeft, child_of, level_of}
-use Rattle.vm_tree.specs.Replacement.{IsHeldBeside, IsRenewed, Replaces, path_from, path_under}
-use Rattle.vm_tree.specs.Root.{IsRootedIn, sizes_of}
+use Rattle.vm_tree.specs.Removal.{IsOutside, LeavesData, LeavesOld, RemovesBelow, TakesForLeft, child_of, level_of}
+use Rattle.vm_tree.specs.Replacement.{IsRenewed, Replaces}
+use Rattle.vm_tree.specs.Root.{sizes_of}
 use Rattle.vm_tree.specs.declared.removal.Left.{Left}
 use Rattle.vm_tree.proofs.Looking.{looks_as, passed_on}
-use Rattle.vm_tree.proofs.Renewing.{lacks, path_none, path_some, path_there, renewed_beside, replaces_whole, rooted_so}
+use Rattle.vm_tree.proofs.Renewing.{all_kept, rooted_so}
 use Rattle.vm_tree.proofs.RootRemoval.{rooted_top, rooted_bare, value_there, nothing_left, rest_left}
 use Rattle.vm_tree.proofs.removal.remove.Goals as goal
 
@@ -30,8 +30,7 @@ returns-in-Same-clause-remove g c honest m bs rooted =
     let before = c.args.held.now in
     let held = c.remove_below.new.held in
     let y = (g.D.Disk.state c.remove_below.new.disk).now.contents in
-    let down = path_from c.args.root.level c.remove_below.new.path in
-    let got = subst (λ (left : Left). RemovesBelow (Ok left) p m (λ root. Replaces before held down bs (λ P. Made P sizes y limit root.level (child_of root ∷ []) (without_place p m)))) c.in-Same.is
+    let got = subst (λ (left : Left). RemovesBelow (Ok left) p m (λ root. Replaces before held bs (λ P. Made P sizes y limit root.level (child_of root ∷ []) (without_place p m)))) c.in-Same.is
     (c.in_ok-left.ensures.remove g.row.LEVELS honest m bs top.subtree top.lowest top.rising) in
     sym (value_there sizes x limit c.args.root m bs c.args.key p is fits top) ∙ got
 
@@ -47,10 +46,9 @@ returns-in-Nothing-clause-remove g c honest m bs rooted =
     let before = c.args.held.now in
     let held = c.remove_below.new.held in
     let y = (g.D.Disk.state c.remove_below.new.disk).now.contents in
-    let down = path_from c.args.root.level c.remove_below.new.path in
-    let got = subst (λ (left : Left). RemovesBelow (Ok left) p m (λ root. Replaces before held down bs (λ P. Made P sizes y limit root.level (child_of root ∷ []) (without_place p m)))) c.in-Nothing.is
+    let got = subst (λ (left : Left). RemovesBelow (Ok left) p m (λ root. Replaces before held bs (λ P. Made P sizes y limit root.level (child_of root ∷ []) (without_place p m)))) c.in-Nothing.is
     (c.in_ok-left.ensures.remove g.row.LEVELS honest m bs top.subtree top.lowest top.rising) in
-    (λ absent. got.0 (value_there sizes x limit c.args.root m bs c.args.key p is fits top ∙ absent), λ all. nothing_left sizes x limit c.args.root m bs c.args.key p is fits top (IsHeldBeside held (path_under c.args.root c.remove_below.new.path)) y c.default.result c.default.ensures.0 got.1)
+    (λ absent. got.0 (value_there sizes x limit c.args.root m bs c.args.key p is fits top ∙ absent), λ all. nothing_left sizes x limit c.args.root m bs c.args.key p is fits top (IsHeld held) y c.default.result c.default.ensures.0 got.1)
 
 pub returns-in-Rest-clause-remove : goal.returns-in-Rest-clause-remove
 returns-in-Rest-clause-remove g c honest m bs rooted =
@@ -64,17 +62,15 @@ returns-in-Rest-clause-remove g c honest m bs rooted =
     let before = c.args.held.now in
     let held = c.remove_below.new.held in
     let y = (g.D.Disk.state c.remove_below.new.disk).now.contents in
-    let down = path_from c.args.root.level c.remove_below.new.path in
-    let got = subst (λ (left : Left). RemovesBelow (Ok left) p m (λ root. Replaces before held down bs (λ P. Made P sizes y limit root.level (child_of root ∷ []) (without_place p m)))) c.in-Rest.is
+    let got = subst (λ (left : Left). RemovesBelow (Ok left) p m (λ root. Replaces before held bs (λ P. Made P sizes y limit root.level (child_of root ∷ []) (without_place p m)))) c.in-Rest.is
     (c.in_ok-left.ensures.remove g.row.LEVELS honest m bs top.subtree top.lowest top.rising) in
     let low : c.in-Rest.root.level ≤ c.args.root.level = subst (λ (left : Left). level_of left c.args.root.level ≤ c.args.root.level) c.in-Rest.is c.in_ok-left.ensures.level in (
       λ absent. got.0 (value_there sizes x limit c.args.root m bs c.args.key p is fits top ∙ absent),
       λ all.
-          let P = IsRenewed before held (lacks down) in
-          let made = replaces_whole before held down bs (λ Q. Made Q sizes y limit c.in-Rest.root.level (child_of c.in-Rest.root ∷ []) (without_place p m)) got.1 all in
-          let rest = rest_left sizes x limit c.args.root m bs c.args.key p is fits top P y c.in-Rest.root low made in
-          subst (λ (ns : List ℕ). IsRootedIn sizes (IsHeldBeside held ns) y limit c.in-Rest.root (without m c.args.key)) (sym (path_there c.args.root c.remove_below.new.path c.if-root-eq0.false))
-          (rooted_so P (IsHeldBeside held down) sizes y limit c.in-Rest.root (without m c.args.key) (renewed_beside before held down bs (c.in_ok-left.ensures.path_in g.row.LEVELS honest m bs top.subtree top.lowest top.rising) all) rest),
+          let every : ℕ → Bool = λ _. true in
+          let P = IsRenewed before held every in
+          let rest = rest_left sizes x limit c.args.root m bs c.args.key p is fits top P y c.in-Rest.root low (got.1 every all (all_kept bs)) in
+          rooted_so P (IsHeld held) sizes y limit c.in-Rest.root (without m c.args.key) (λ n is. is.now) rest,
     )
 
 pub returns-in_err-left-clause-remove : goal.returns-in_err-left-clause-remove
@@ -87,24 +83,6 @@ returns-in_err-left-clause-remove g c honest m bs rooted =
     let is : p ≡ place c.args.key = refl in
     let fits = c.remove_below.ensures.fits in
     rw (passed_on _ c.from_residual.ensures.1) (c.in_err-left.ensures.remove g.row.LEVELS honest m bs top.subtree top.lowest top.rising)
-
-pub returns-then-root-eq0-clause-path_in : goal.returns-then-root-eq0-clause-path_in
-returns-then-root-eq0-clause-path_in g c honest m bs rooted = path_none c.args.root c.args.path.now bs c.if-root-eq0.true
-
-pub returns-in-Same-clause-path_in : goal.returns-in-Same-clause-path_in
-returns-in-Same-clause-path_in g c honest m bs rooted =
-    let top = rooted_top _ _ _ c.args.root m bs rooted c.if-root-eq0.false in
-    path_some c.args.root c.remove_below.new.path bs c.if-root-eq0.false (c.in_ok-left.ensures.path_in g.row.LEVELS honest m bs top.subtree top.lowest top.rising)
-
-pub returns-in-Nothing-clause-path_in : goal.returns-in-Nothing-clause-path_in
-returns-in-Nothing-clause-path_in g c honest m bs rooted =
-    let top = rooted_top _ _ _ c.args.root m bs rooted c.if-root-eq0.false in
-    path_some c.args.root c.remove_below.new.path bs c.if-root-eq0.false (c.in_ok-left.ensures.path_in g.row.LEVELS honest m bs top.subtree top.lowest top.rising)
-
-pub returns-in-Rest-clause-path_in : goal.returns-in-Rest-clause-path_in
-returns-in-Rest-clause-path_in g c honest m bs rooted =
-    let top = rooted_top _ _ _ c.args.root m bs rooted c.if-root-eq0.false in
-    path_some c.args.root c.remove_below.new.path bs c.if-root-eq0.false (c.in_ok-left.ensures.path_in g.row.LEVELS honest m bs top.subtree top.lowest top.rising)
 
 pub returns-in_err-left-clause-looks : goal.returns-in_err-left-clause-looks
 returns-in_err-left-clause-looks g c b = looks_as (c.in_err-left.ensures.looks b) (search rules)
@@ -130,7 +108,7 @@ pub returns-in-Nothing-clause-narrowed : goal.returns-in-Nothing-clause-narrowed
 returns-in-Nothing-clause-narrowed g c = looks_as c.in_ok-left.ensures.nothing (λ is. ap Ok c.in-Nothing.is)
 
 pub returns-in-Rest-clause-narrowed : goal.returns-in-Rest-clause-narrowed
-returns-in-Rest-clause-narrowed g c = looks_as c.in_ok-left.ensures.narrowed (λ is. subst (LeavesOld c.args.held.now c.remove_below.new.held) (sym c.in-Rest.is) is)
+returns-in-Rest-clause-narrowed g c = looks_as c.in_ok-left.ensures.narrowed (λ is. subst (LeavesOld (IsOutside (option_copied c.args.base)) c.args.held.now c.remove_below.new.held) (sym c.in-Rest.is) is)
 
 pub returns-in-Nothing-clause-last : goal.returns-in-Nothing-clause-last
 returns-in-Nothing-clause-last g c honest none = c.in_ok-left.ensures.last honest (ap Ok c.in-Nothing.is)

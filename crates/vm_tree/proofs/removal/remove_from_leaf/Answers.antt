@@ -1,4 +1,9 @@
-use Rattle.std.proofs.Common.{ℕ, Bool, List, [], ◌∷◌, length, ap, sym, subst, refl, arith, rules}
+use Rattle.std.proofs.Common.{◌≡◌, ◌∙◌, ℕ, Bool, true, List, [], ◌∷◌, length, ap, sym, subst, refl, arith, rules}
+use Rattle.std.specs.List.{AllByRecursion}
+use Rattle.vm_disk.specs.Disk.{Medium, block}
+use Rattle.vm_disk.proofs.MomentLemmas.{same_medium}
+use Rattle.vm_alloc.specs.Held.{IsHeld}
+use Rattle.vm_tree.specs.Free.{IsBeside}
 use Rattle.vm_types.specs.Places.{place}
 use Rattle.vm_block.specs.Changed.{without_place}
 use Rattle.vm_block.specs.Leaf.{Record}
@@ -12,9 +17,9 @@ use Rattle.vm_tree.proofs.HandLemmas.{hand_records}
 use Rattle.vm_tree.proofs.Looking.{looks_free, looks_never, looks_write, passed_on}
 use Rattle.vm_tree.proofs.Leading.{leads_end}
 use Rattle.vm_tree.proofs.OneLeft.{one_record}
-use Rattle.vm_tree.proofs.Renewing.{taken_now}
+use Rattle.vm_tree.proofs.Renewing.{keeps_own, place_now}
 use Rattle.vm_tree.proofs.RemovalLemmas.{without_size}
-use Rattle.vm_tree.proofs.TreeLemmas.{leaf_read}
+use Rattle.vm_tree.proofs.TreeLemmas.{leaf_opens, leaf_read}
 use Rattle.vm_tree.proofs.removal.remove_from_leaf.Goals as goal
 
 pub returns-in-Absent-clause-remove : goal.returns-in-Absent-clause-remove
@@ -41,7 +46,10 @@ returns-in_ok-leaf-in-Out-clause-remove g c sizes honest rs bs tree begins rises
     let y = (g.D.Disk.state c.write_bytes.new.disk).now.contents in
     let M : (ℕ → Bool) → Root → Type 0 = λ keep r. Made (IsRenewed before c.write_bytes.new.held keep) sizes y limit r.level (child_of r ∷ []) left in (
       out.0,
-      λ keep all keeps. subst (M keep) (sym c.root_at.ensures) (c.in_ok-leaf-in-Out.ensures.leaf honest before keep (holds_same before) sizes left out.1),
+      λ keep all keeps.
+          let first = (leaf_opens sizes x limit 0 c.args.top.block rs bs refl tree).first in
+          let mine = keeps_own c.args.own before keep c.args.top.block c.requires.place (subst (AllByRecursion (IsHeld before)) first all).0 (subst (AllByRecursion (λ n. keep n ≡ true)) first keeps).0 in
+          subst (M keep) (sym c.root_at.ensures) (c.in_ok-leaf-in-Out.ensures.leaf honest before keep (holds_same before) mine sizes left out.1),
     )
 
 pub returns-in_err-load_leaf-clause-remove : goal.returns-in_err-load_leaf-clause-remove
@@ -66,10 +74,10 @@ pub returns-in-Last-clause-writes : goal.returns-in-Last-clause-writes
 returns-in-Last-clause-writes g c = looks_free c.in_ok-load_leaf.ensures.looks (λ is. cc)
 
 pub returns-in_ok-leaf-in-Out-clause-writes : goal.returns-in_ok-leaf-in-Out-clause-writes
-returns-in_ok-leaf-in-Out-clause-writes g c = looks_write c.in_ok-load_leaf.ensures.looks c.in_ok-leaf-in-Out.ensures.writes (λ is. cc)
+returns-in_ok-leaf-in-Out-clause-writes g c = looks_write c.in_ok-load_leaf.ensures.looks c.in_ok-leaf-in-Out.ensures.writes (λ is. cc) (λ spared may. may)
 
 pub returns-in_err-leaf-in-Out-clause-writes : goal.returns-in_err-leaf-in-Out-clause-writes
-returns-in_err-leaf-in-Out-clause-writes g c = looks_write c.in_ok-load_leaf.ensures.looks c.in_err-leaf-in-Out.ensures.writes (search rules)
+returns-in_err-leaf-in-Out-clause-writes g c = looks_write c.in_ok-load_leaf.ensures.looks c.in_err-leaf-in-Out.ensures.writes (search rules) (λ spared may. may)
 
 pub returns-in_err-load_leaf-clause-writes : goal.returns-in_err-load_leaf-clause-writes
 returns-in_err-load_leaf-clause-writes g c = looks_free c.in_err-load_leaf.ensures.looks (search rules)
@@ -79,7 +87,9 @@ returns-in_ok-leaf-in-Out-clause-narrowed g c =
     let before = c.args.held.now in
     let later = c.write_bytes.new.held in
     let written = c.in_ok-leaf-in-Out.ensures in
-    looks_never (λ is. taken_now before before later c.in_ok-leaf-in-Out.leaf.block (holds_same before) written.free written.device.held_now (subst (λ (root : Root). WasThere before later root) c.root_at.ensures is))
+    looks_never (λ is.
+    let there = subst (λ (root : Root). WasThere (IsBeside c.args.own) before later root) c.root_at.ensures is in
+    place_now c.args.own before before later c.in_ok-leaf-in-Out.leaf.block (holds_same before) written.place written.device.held_now there.0 there.1)
 
 pub returns-in-Last-clause-last : goal.returns-in-Last-clause-last
 returns-in-Last-clause-last g c honest none =
@@ -87,3 +97,20 @@ returns-in-Last-clause-last g c honest none =
     let out = c.in-Last.ensures.only found.records (hand_records (sym c.at_hand.ensures) found.leaf) in
     let size = without_size (place c.args.key) found.records in
     one_record _ c.args.top.block _ found.records found.bytes_are found.leaf (omega (arith, size.1, ap (λ (rs : List Record). length rs) out.1, found.leaf.some))
+
+pub returns-in-Absent-clause-others : goal.returns-in-Absent-clause-others
+returns-in-Absent-clause-others g c honest n is beside = ap (λ (m : Medium). block m.contents n) (same_medium _ _ (c.in_ok-load_leaf.ensures.looks.reads honest))
+
+pub returns-in-Last-clause-others : goal.returns-in-Last-clause-others
+returns-in-Last-clause-others g c honest n is beside = ap (λ (m : Medium). block m.contents n) (same_medium _ _ (c.in_ok-load_leaf.ensures.looks.reads honest))
+
+pub returns-in_err-load_leaf-clause-others : goal.returns-in_err-load_leaf-clause-others
+returns-in_err-load_leaf-clause-others g c honest n is beside = ap (λ (m : Medium). block m.contents n) (same_medium _ _ (c.in_err-load_leaf.ensures.looks.reads honest))
+
+pub returns-in_ok-leaf-in-Out-clause-others : goal.returns-in_ok-leaf-in-Out-clause-others
+returns-in_ok-leaf-in-Out-clause-others g c honest n is beside =
+    c.write_bytes.ensures.others honest n is beside ∙ ap (λ (m : Medium). block m.contents n) (same_medium _ _ (c.in_ok-load_leaf.ensures.looks.reads (c.write_bytes.ensures.writes.goes.earlier honest)))
+
+pub returns-in_err-leaf-in-Out-clause-others : goal.returns-in_err-leaf-in-Out-clause-others
+returns-in_err-leaf-in-Out-clause-others g c honest n is beside =
+    c.write_bytes.ensures.others honest n is beside ∙ ap (λ (m : Medium). block m.contents n) (same_medium _ _ (c.in_ok-load_leaf.ensures.looks.reads (c.write_bytes.ensures.writes.goes.earlier honest)))

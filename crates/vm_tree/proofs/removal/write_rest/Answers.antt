@@ -1,31 +1,32 @@
 use Rattle.std.proofs.Common.{◌≡◌, ◌-◌, ◌<◌, List, [], ◌∷◌, length, get_or, take, refl, ap, sym, subst, arith, rules}
 use Rattle.std.specs.List.{AllByRecursion}
 use Rattle.vm_alloc.proofs.HeldLemmas.{holds_same}
-use Rattle.vm_disk.specs.Disk.{Medium}
+use Rattle.vm_disk.specs.Disk.{Medium, block}
 use Rattle.vm_disk.proofs.MomentLemmas.{same_medium}
 use Rattle.vm_block.specs.Node.{ChildFits, node_bytes, node_head}
 use Rattle.vm_block.specs.declared.node.Child.{Child}
 use Rattle.vm_tree.specs.Tree.{Children, Subtree}
 use Rattle.vm_tree.specs.Splits.{Made}
 use Rattle.vm_tree.specs.Removal.{Narrows, WasThere, child_of}
-use Rattle.vm_tree.specs.Replacement.{IsRenewed}
+use Rattle.vm_tree.specs.Free.{IsBeside}
+use Rattle.vm_tree.specs.Replacement.{IsRenewed, without_own}
 use Rattle.vm_tree.specs.Root.{sizes_of}
 use Rattle.vm_tree.specs.declared.root.Root.{Root}
 use Rattle.vm_tree.proofs.Looking.{looks_free, looks_never, passed_on}
-use Rattle.vm_tree.proofs.Renewing.{taken_now}
+use Rattle.vm_tree.proofs.Renewing.{place_now, renewed_all}
 use Rattle.vm_tree.proofs.RemoveLemmas.{one_child, two_children, narrowed_made}
 use Rattle.vm_tree.proofs.removal.write_rest.Goals as goal
 use Rattle.vm_tree.proofs.removal.write_rest.Goals.{then-not-is_root-via-then-not-is_root, then-not-is_root-via-else-not-is_root+then-children-gt1}
 
 pub returns-then-not-is_root-clause-rest : goal.returns-then-not-is_root-clause-rest
-returns-then-not-is_root-clause-rest g c honest levels rs bs rises fits under before keep more all =
+returns-then-not-is_root-clause-rest g c honest levels rs bs rises fits under before keep more mine all =
     let sizes = sizes_of g.row.FAN levels in
     let y = (g.D.Disk.state c.write_node_block.new.disk).now.contents in
-    let made = c.in_ok-node.ensures.made honest before keep more sizes rs (omega (arith, c.requires.above)) (omega (arith, c.requires.low)) (omega (arith, c.requires.few)) rises (record { blocks = bs; under = under; each = all; fit = fits }) in
+    let made = c.in_ok-node.ensures.made honest before keep more mine sizes rs (omega (arith, c.requires.above)) (omega (arith, c.requires.low)) (omega (arith, c.requires.few)) rises (record { blocks = bs; under = under; each = all; fit = fits }) in
     subst (λ (root : Root). Made (IsRenewed before c.write_node_block.new.held keep) sizes y (length c.args.held.now) root.level (child_of root ∷ []) rs) (sym c.root_at.ensures) made
 
 pub returns-clause-rest : goal.returns-clause-rest
-returns-clause-rest g c honest levels rs bs rises fits under before keep more all =
+returns-clause-rest g c honest levels rs bs rises fits under before keep more mine all =
     let sizes = sizes_of g.row.FAN levels in
     let x = (g.D.Disk.state c.args.disk.now).now.contents in
     let cs = c.args.children.now in
@@ -37,7 +38,7 @@ returns-clause-rest g c honest levels rs bs rises fits under before keep more al
     let alone = subst (λ n. Children (Subtree sizes x n (c.args.level - 1)) (top ∷ []) rs bs) (sym c.blocks-2.ensures.count) (subst (λ (ds : List Child). Children (Subtree sizes x (length c.args.held.now) (c.args.level - 1)) ds rs bs) is under) in
     let n = c.in_ok-root.ensures.narrow honest levels rs bs alone in
     let still = ap (λ (m : Medium). m.contents) (same_medium _ _ (c.in_ok-root.ensures.looks.reads honest)) in
-    narrowed_made (IsRenewed before c.args.held.now keep) (IsRenewed before c.args.held.now keep) sizes x _ (length c.args.held.now) (c.args.level - 1) top c.in_ok-root.root rs bs still (λ n has. has) (subst (AllByRecursion ChildFits) is fits).0 all
+    narrowed_made (IsRenewed before c.args.held.now (without_own c.args.own keep)) (IsRenewed before c.args.held.now keep) sizes x _ (length c.args.held.now) (c.args.level - 1) top c.in_ok-root.root rs bs still (renewed_all c.args.own before c.args.held.now keep) (subst (AllByRecursion ChildFits) is fits).0 all
     (subst (λ k. Narrows sizes x k top c.in_ok-root.root rs bs) c.blocks-2.ensures.count n)
 
 pub returns-in_err-root-clause-rest : goal.returns-in_err-root-clause-rest
@@ -70,7 +71,15 @@ returns-then-not-is_root-clause-narrowed g c =
     let before = c.args.held.now in
     let later = c.write_node_block.new.held in
     let written = c.in_ok-node.ensures in
-    looks_never (λ is. taken_now before before later c.in_ok-node.node.block (holds_same before) written.free written.device.held_now (subst (λ (root : Root). WasThere before later root) c.root_at.ensures is))
+    looks_never (λ is.
+    let there = subst (λ (root : Root). WasThere (IsBeside c.args.own) before later root) c.root_at.ensures is in
+    place_now c.args.own before before later c.in_ok-node.node.block (holds_same before) written.place written.device.held_now there.0 there.1)
 
 pub returns-clause-narrowed : goal.returns-clause-narrowed
 returns-clause-narrowed g c = record { kept = λ is. refl; reads = λ honest is. c.in_ok-root.ensures.looks.reads honest }
+
+pub returns-clause-others : goal.returns-clause-others
+returns-clause-others g c honest n is beside = ap (λ (m : Medium). block m.contents n) (same_medium _ _ (c.in_ok-root.ensures.looks.reads honest))
+
+pub returns-in_err-root-clause-others : goal.returns-in_err-root-clause-others
+returns-in_err-root-clause-others g c honest n is beside = ap (λ (m : Medium). block m.contents n) (same_medium _ _ (c.in_err-root.ensures.looks.reads honest))

@@ -1,4 +1,4 @@
-use Rattle.std.proofs.Common.{rules, ◌<◌, ◌^◌, find, Err, inl, refl, subst, sym, ap, ◌∙◌, arith}
+use Rattle.std.proofs.Common.{rules, ◌<◌, ◌^◌, find, Err, option_copied, inl, refl, subst, sym, ap, ◌∙◌, arith}
 use Rattle.vm_types.specs.declared.command.Command.TheVariants.{Put}
 use Rattle.vm_disk.specs.Disk.{Medium}
 use Rattle.vm_disk.proofs.MomentLemmas.{at_end, same_medium, started}
@@ -7,6 +7,7 @@ use Rattle.vm_store.specs.Answers.{LacksRoom}
 use Rattle.vm_store.specs.Store.{free_of, held_of, root_of}
 use Rattle.vm_store.specs.Versions.{is_alternative_of}
 use Rattle.vm_store.proofs.CarryLemmas.{changed, looked, stayed}
+use Rattle.vm_store.proofs.FaultLemmas.{fault_spares, spares_before}
 use Rattle.vm_store.proofs.FirstLemmas.{late_put, put_takes, takes_none}
 use Rattle.vm_store.proofs.PerformLemmas.{performs_put}
 use Rattle.vm_store.proofs.QueryLemmas.{same_store}
@@ -55,12 +56,12 @@ returns g c =
     let ok = c.in_ok-has_spare.ensures in
     let done = c.in_ok-root.ensures in
     let mid = c.has_spare.new.self in
-    let small : c.in_ok-root.root.block < 2 ^ 32 = omega (arith, done.block, done.still.same_length, mid.parts.bits, mid.parts.most) in
+    let small : c.in_ok-root.root.block < 2 ^ 32 = omega (arith, done.root.0.inside, done.writes.still.same_length, mid.parts.bits, mid.parts.most) in
     rw (← c.as_bytes.ensures.bytes)
     (performs_put _ _ _ _ _ _
     (λ honest s holds.
     let rests = holds.rests in
-    let marked = done.any.earlier honest in
+    let marked = done.writes.goes.earlier honest in
     let holds' = spare.state marked s holds in
     let rests' = holds'.rests in
     let read = same_medium _ _ (spare.reads marked) in
@@ -77,13 +78,13 @@ returns g c =
     (λ deep. put.1 (lacks_over _ e.current _ (deep_here _ _ _ _ _ _ s rests' c.args.alt.now c.args.key c.as_bytes.result.now e is (g.D.Disk.state mid.disk).now.contents
     (subst (λ (m : Medium). LacksRoom m.contents (root_of mid c.args.alt.now) (c.args.key, c.as_bytes.result.now)) (sym read)
     (subst (λ f. LacksRoom (g.D.Disk.state c.args.self.now.disk).now.contents (f c.args.alt.now) (c.args.key, c.as_bytes.result.now)) (sym spare.roots) deep))))))
-    _ (spare.reads marked) series (done.moments honest series.wider) (done.unsynced honest) done.still
+    _ (spare.reads marked) series (done.writes.moments honest _ series.wider (spares_before (option_copied c.before_series.result) mid.parts.held)) (done.writes.unsynced honest) done.writes.still
     (λ _. holds_as refl c.set_current.ensures
     (holds_then c.args.alt.now _ _ c.go_on.ensures.series stays
-    (put_holds _ _ _ _ _ _ _ s rests' c.args.alt.now e is series _ c.put_forgetting.new.held c.in_ok-root.root small
-    (at_end _ _ _ (done.moments honest series.wider)) done.still c.args.key holds'.keeps c.as_bytes.result.now grown))))
+    (put_holds _ _ _ _ _ _ _ s rests' c.args.alt.now e is series _ c.put.new.held c.in_ok-root.root small
+    (at_end _ _ _ (done.writes.moments honest _ series.wider (spares_before (option_copied c.before_series.result) mid.parts.held))) done.writes.still c.args.key holds'.keeps c.as_bytes.result.now grown))))
     (λ honest. tt)
-    (λ enough. omega (arith, ap free_of (spare.enough enough), done.taken), λ honest few late s holds. omega (arith, ok.exact (done.any.earlier honest) few s holds, done.taken))
+    (λ enough. omega (arith, ap free_of (spare.enough enough), done.taken), λ honest few late s holds. omega (arith, ok.exact (done.writes.goes.earlier honest) few s holds, done.taken))
     (search rules) (search rules) (search rules) (search rules) (search rules) tt tt)
 
 pub returns-in_err-root : goal.returns-in_err-root
@@ -97,7 +98,7 @@ returns-in_err-root g c =
     (performs_put _ _ _ _ _ _
     (λ honest s holds.
     let rests = holds.rests in
-    let marked = failed.any.earlier honest in
+    let marked = failed.writes.goes.earlier honest in
     let holds' = spare.state marked s holds in
     let rests' = holds'.rests in
     let read = same_medium _ _ (spare.reads marked) in
@@ -114,8 +115,8 @@ returns-in_err-root g c =
     (subst (λ (m : Medium). LacksRoom m.contents (root_of mid c.args.alt.now) (c.args.key, c.as_bytes.result.now)) read
     (here_deep _ _ _ _ _ _ s rests' c.args.alt.now c.args.key c.as_bytes.result.now e is (g.D.Disk.state mid.disk).now.contents (lacks_under _ e.current _ here))))
     put)
-    _ (spare.reads marked) series (failed.moments honest series.wider) (failed.unsynced honest) failed.still
-    (λ _. holds_more _ _ _ _ _ _ _ s _ _ _ (at_end _ _ _ (failed.failed honest)) failed.still on))
+    _ (spare.reads marked) series (failed.writes.moments honest _ series.wider (spares_before (option_copied c.before_series.result) mid.parts.held)) (failed.writes.unsynced honest) failed.writes.still
+    (λ fine. holds_more _ _ _ _ _ _ _ s _ _ _ (fault_spares c.in_err-root.field-0.0 _ _ _ _ failed.deep failed.looks honest fine) failed.writes.still on))
     (λ honest first. absurd (late_put c.in_err-root.field-0.0 first))
-    (λ enough. omega (arith, ap free_of (spare.enough enough), taken), λ honest few late s holds. omega (arith, ok.exact (failed.any.earlier honest) few s holds, taken))
+    (λ enough. omega (arith, ap free_of (spare.enough enough), taken), λ honest few late s holds. omega (arith, ok.exact (failed.writes.goes.earlier honest) few s holds, taken))
     (search rules) (search rules) (search rules) (search rules) (search rules) (search rules) (search rules))

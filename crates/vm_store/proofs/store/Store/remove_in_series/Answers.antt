@@ -1,4 +1,4 @@
-use Rattle.std.proofs.Common.{◌≡◌, Err, refl, subst, sym, ap, ◌∙◌, arith, Some, None, Ok}
+use Rattle.std.proofs.Common.{◌≡◌, Err, refl, subst, sym, ap, ◌∙◌, arith, Some, None, Ok, option_copied}
 use Rattle.vm_types.specs.declared.command.Command.TheVariants.{Remove}
 use Rattle.vm_types.specs.declared.refusal.Refusal.{Refusal}
 use Rattle.vm_types.specs.declared.refusal.Refusal.TheVariants.{NoSuchRecord}
@@ -10,6 +10,7 @@ use Rattle.vm_tree.proofs.Looking.{passed_on}
 use Rattle.vm_store.specs.Answers.{IsAnswer}
 use Rattle.vm_store.specs.Rest.{before_of, spare_of}
 use Rattle.vm_store.proofs.CarryLemmas.{changed, wrote}
+use Rattle.vm_store.proofs.FaultLemmas.{spares_before}
 use Rattle.vm_store.proofs.FirstLemmas.{fault_takes, late_fault}
 use Rattle.vm_store.proofs.MarkedLemmas.{free_at_most}
 use Rattle.vm_store.proofs.PartsLemmas.{same_parts}
@@ -37,11 +38,11 @@ returns-clause-carried g c honest s holds reason =
     let stays = ap (λ o. before_of o self.parts.held) c.before_series.ensures in
     let series = in_series _ _ _ _ _ _ _ s alt _ _ c.requires.series stays holds in
     changed _ _ s holds (Remove alt c.args.key) _ (removes_done s alt c.args.key _ _ value.0 there room (λ deep. deep))
-    _ (started _ _ refl) series (c.in_ok-removed.ensures.moments honest series.wider) (c.in_ok-removed.ensures.unsynced honest) c.in_ok-removed.ensures.still
+    _ (started _ _ refl) series (c.in_ok-removed.ensures.writes.moments honest _ series.wider (spares_before (option_copied c.before_series.result) self.parts.held)) (c.in_ok-removed.ensures.writes.unsynced honest) c.in_ok-removed.ensures.writes.still
     (λ _. holds_as refl c.set_current.ensures
     (holds_then alt _ _ c.requires.series stays
-    (remove_holds _ _ _ _ _ _ _ s rests alt e is series _ c.remove_forgetting.new.held c.in-Some.root (grown_small _ _ _ _ _ self.parts.most grown)
-    (at_end _ _ _ (c.in_ok-removed.ensures.moments honest series.wider)) c.in_ok-removed.ensures.still c.args.key holds.keeps value.0 there grown)))
+    (remove_holds _ _ _ _ _ _ _ s rests alt e is series _ c.remove.new.held c.in-Some.root (grown_small _ _ _ _ _ self.parts.most grown)
+    (at_end _ _ _ (c.in_ok-removed.ensures.writes.moments honest _ series.wider (spares_before (option_copied c.before_series.result) self.parts.held))) c.in_ok-removed.ensures.writes.still c.args.key holds.keeps value.0 there grown)))
 
 pub returns-in_default-clause-carried : goal.returns-in_default-clause-carried
 returns-in_default-clause-carried g c honest s holds reason =
@@ -54,13 +55,13 @@ returns-in_default-clause-carried g c honest s holds reason =
     let before = grown_of _ _ _ _ e.current _ (sym self.parts.bits) found.stands.current in
     let removed = c.in_ok-removed.ensures.remove honest found.filed.current before.stands_in before.rooted in
     let missing = value_found _ _ _ _ _ _ s rests alt e is c.args.key None (sym (removed_none _ _ _ c.in_default.is removed)) in
-    let kept = c.remove_forgetting.ensures.kept in
+    let kept = c.remove.ensures.kept in
     let there = c.in_ok-removed.was ∙ ap Ok c.in_default.is in
     let moments = reads_keep _ _ _ (kept.reads honest there) (touches_nothing (is_free self.parts.held) _) in
     let answers : (r : Refusal) → r ≡ NoSuchRecord → IsAnswer s (spare_of rests) ⊥ (Remove alt c.args.key) (Err r) = λ r same.
     subst (λ (r : Refusal). IsAnswer s (spare_of rests) ⊥ (Remove alt c.args.key) (Err r)) (sym same) (removes_missing s alt c.args.key _ _ missing) in
     wrote _ _ s holds (Remove alt c.args.key) _ (answers c.args.missing (for_reason reason (λ there. there (sym missing))))
-    _ (started _ _ refl) rests moments (c.in_ok-removed.ensures.unsynced honest) c.in_ok-removed.ensures.still
+    _ (started _ _ refl) rests moments (c.in_ok-removed.ensures.writes.unsynced honest) c.in_ok-removed.ensures.writes.still
     (λ _. looked_holds _ _ _ _ _ _ _ _ _ _ s (kept.reads honest there) (kept.kept there) holds)
 
 pub returns-in_err-removed-clause-carried : goal.returns-in_err-removed-clause-carried
@@ -72,21 +73,23 @@ returns-in_err-removed-clause-carried g c honest s holds reason =
     let found = found_entry _ _ _ _ _ _ s rests alt e c.requires.found in
     let before = grown_of _ _ _ _ e.current _ (sym self.parts.bits) found.stands.current in
     let removed = c.in_err-removed.ensures.remove honest found.filed.current before.stands_in before.rooted in
-    let moments = c.in_err-removed.ensures.failed honest in
+    let stays = ap (λ o. before_of o self.parts.held) c.before_series.ensures in
+    let series = in_series _ _ _ _ _ _ _ s alt _ _ c.requires.series stays holds in
+    let moments = c.in_err-removed.ensures.writes.moments honest _ series.wider (spares_before (option_copied c.before_series.result) self.parts.held) in
     rw (passed_on _ c.from_residual.ensures.1)
-    (wrote _ _ s holds (Remove alt c.args.key) _ (removes_device s alt c.args.key _ _ c.in_err-removed.field-0.0 removed)
-    _ (started _ _ refl) rests moments (c.in_err-removed.ensures.unsynced honest) c.in_err-removed.ensures.still
+    (changed _ _ s holds (Remove alt c.args.key) _ (removes_device s alt c.args.key _ _ c.in_err-removed.field-0.0 removed)
+    _ (started _ _ refl) series moments (c.in_err-removed.ensures.writes.unsynced honest) c.in_err-removed.ensures.writes.still
     (λ fine. absurd (fine (ap Err (ap refusal_of removed)))))
 
 pub returns-in_default-clause-reads : goal.returns-in_default-clause-reads
-returns-in_default-clause-reads g c honest first = c.remove_forgetting.ensures.kept.reads honest (c.in_ok-removed.was ∙ ap Ok c.in_default.is)
+returns-in_default-clause-reads g c honest first = c.remove.ensures.kept.reads honest (c.in_ok-removed.was ∙ ap Ok c.in_default.is)
 
 pub returns-in_err-removed-clause-reads : goal.returns-in_err-removed-clause-reads
 returns-in_err-removed-clause-reads g c honest = rw (passed_on _ c.from_residual.ensures.1) (λ first. absurd (late_fault c.in_err-removed.field-0.0 first))
 
 pub returns-in_default-clause-free : goal.returns-in_default-clause-free
 returns-in_default-clause-free g c =
-    let same = c.remove_forgetting.ensures.kept.kept (c.in_ok-removed.was ∙ ap Ok c.in_default.is) in
+    let same = c.remove.ensures.kept.kept (c.in_ok-removed.was ∙ ap Ok c.in_default.is) in
     (λ enough. omega (arith, ap free_count same), λ honest few. absurd (omega (arith, c.requires.room, few)))
 
 pub returns-in_err-removed-clause-free : goal.returns-in_err-removed-clause-free
@@ -98,5 +101,5 @@ returns-in_err-removed-clause-free g c =
 
 pub returns-in_default-clause-unchanged : goal.returns-in_default-clause-unchanged
 returns-in_default-clause-unchanged g c early =
-    let same = c.remove_forgetting.ensures.kept.kept (c.in_ok-removed.was ∙ ap Ok c.in_default.is) in
+    let same = c.remove.ensures.kept.kept (c.in_ok-removed.was ∙ ap Ok c.in_default.is) in
     record { alloc = refl; parts = same_parts _ _ refl refl refl refl refl refl same refl refl refl refl refl; failed = refl }

@@ -1,7 +1,6 @@
-use Rattle.std.proofs.Common.{rules, refl, subst, sym}
-use Rattle.vm_types.specs.State.{Seen}
+use Rattle.std.proofs.Common.{rules, subst, sym}
 use Rattle.vm_disk.specs.Disk.{Contents}
-use Rattle.vm_store.specs.Recovery.{AreRead, PartsStandAs}
+use Rattle.vm_store.specs.Recovery.{AreRead}
 use Rattle.vm_store.specs.Shown.{Shows}
 use Rattle.vm_store.proofs.OpeningLemmas.{refused_none}
 use Rattle.vm_store.proofs.store.recovery.open_by.Goals as goal
