@@ -23,7 +23,8 @@ pub mod words;
 use crate::answers::output::{WriteFault, flush, put_all};
 use crate::answers::reply::push_refusal;
 use crate::answers::text::Text;
-use crate::talk::{Manner, OnCommand, OnRefusal, ServeFault, serve};
+use crate::talk::batches::serve_batches;
+use crate::talk::{Grouping, Manner, OnCommand, OnRefusal, ServeFault, serve};
 use cached_lines::answer_lines_in_memory;
 use clap::Error;
 use clap::error::ErrorKind;
@@ -319,7 +320,10 @@ pub(crate) fn answer_lines<D: Disk, R: Read, W: Write, F: Write>(
 {
     match open_store(alloc, disk) {
         Ok(mut store) => {
-            let served = serve(alloc, input, output, &mut store, manner);
+            let served = match manner.grouping {
+                Grouping::Lines => serve(alloc, input, output, &mut store, manner),
+                Grouping::Batches => serve_batches(alloc, input, output, &mut store, manner),
+            };
             (end_of(manner.on_refusal, &served), store.close())
         }
         Err((disk, why)) => (unopened(&why, errors), disk),

@@ -9,7 +9,7 @@ use crate::program::file_lock::{Access, LockWanted};
 use crate::program::given::input_of;
 use crate::program::help;
 use crate::program::task::{InMemory, Job, MAX_BUFFER};
-use crate::talk::{Manner, OnCommand, OnRefusal};
+use crate::talk::{Grouping, Manner, OnCommand, OnRefusal};
 use clap::{Arg, ArgAction, ArgMatches, Command, Error, value_parser};
 use std::alloc::{AllocError, Global};
 use vm_types::{MAX_BLOCKS, MIN_BLOCKS};
@@ -81,6 +81,7 @@ fn access_of_task(name: &str, matches: &ArgMatches<'_>) -> Option<Access>
 {
     match name {
         "run" => Some(session_access(is_given(matches, "read-only"))),
+        "serve" => Some(session_access(is_given(matches, "read-only"))),
         "do" => Some(session_access(is_given(matches, "read-only"))),
         "check" => Some(Access::Read),
         "tree" => Some(Access::Read),
@@ -111,7 +112,8 @@ fn asked<'a>(alloc: Global, matches: &ArgMatches<'a>) -> Result<Option<Job<'a>>,
     };
     match name {
         "create" => Ok(asked_create(matches, file)),
-        "run" => Ok(asked_run(matches, file)),
+        "run" => Ok(asked_run(matches, file, Grouping::Lines)),
+        "serve" => Ok(asked_run(matches, file, Grouping::Batches)),
         "do" => asked_do(alloc, matches, file),
         "check" => Ok(Some(Job::Check { file })),
         "tree" => Ok(Some(Job::Tree { file })),
@@ -128,12 +130,16 @@ fn asked_create<'a>(matches: &ArgMatches<'a>, file: &'a str) -> Option<Job<'a>>
     Some(Job::Create { file, blocks })
 }
 
-/// The job of `run` with these matches.
-fn asked_run<'a>(matches: &ArgMatches<'a>, file: &'a str) -> Option<Job<'a>>
-    ensures { IsAsked (codes "run") (rows_of (found_of matches.now)) file.now result }
+/// The job of `run` or `serve` with these matches.
+fn asked_run<'a>(
+    matches: &ArgMatches<'a>,
+    file: &'a str,
+    grouping: Grouping,
+) -> Option<Job<'a>>
+    ensures { option_map wanted_of result ≡ run_by grouping (rows_of (found_of matches.now)) file.now }
 {
     let in_memory = in_memory(matches)?;
-    let manner = manner(matches, OnRefusal::Ignore)?;
+    let manner = manner(matches, OnRefusal::Ignore, grouping)?;
     Some(Job::Run {
         file,
         in_memory,
@@ -155,7 +161,7 @@ fn asked_do<'a>(
     let Some(in_memory) = in_memory(matches) else {
         return Ok(None);
     };
-    let Some(manner) = manner(matches, OnRefusal::Tell) else {
+    let Some(manner) = manner(matches, OnRefusal::Tell, Grouping::Lines) else {
         return Ok(None);
     };
     let input = input_of(alloc, lines)?;
@@ -186,8 +192,12 @@ fn in_memory(matches: &ArgMatches<'_>) -> Option<InMemory>
 }
 
 /// How lines are answered.
-fn manner(matches: &ArgMatches<'_>, otherwise: OnRefusal) -> Option<Manner>
-    ensures { result ≡ manner_by otherwise (rows_of (found_of matches.now)) }
+fn manner(
+    matches: &ArgMatches<'_>,
+    otherwise: OnRefusal,
+    grouping: Grouping,
+) -> Option<Manner>
+    ensures { result ≡ manner_by otherwise grouping (rows_of (found_of matches.now)) }
 {
     let most = number_of(matches, "grow-to", 0, MAX_BLOCKS)?;
     let on_command = on_command(
@@ -199,6 +209,7 @@ fn manner(matches: &ArgMatches<'_>, otherwise: OnRefusal) -> Option<Manner>
     Some(Manner {
         on_command,
         on_refusal,
+        grouping,
     })
 }
 
@@ -259,6 +270,7 @@ fn command<'a>(alloc: Global) -> Result<Command<'a>, AllocError>
 {
     let program = with_task(top(alloc), create(alloc));
     let program = with_task(program, run(alloc));
+    let program = with_task(program, serve(alloc));
     let program = with_task(program, do_lines(alloc));
     let program = with_task(program, check(alloc));
     let program = with_task(program, tree(alloc));
@@ -324,6 +336,19 @@ fn run<'a>(alloc: Global) -> Result<Command<'a>, AllocError>
 {
     let about = "Opens a store and answers the lines of the standard input";
     let command = described(alloc, "run", about, help::RUN, help::RUN_AFTER).arg(file(
+        alloc,
+        "FILE",
+        help::RUN_FILE,
+    ))?;
+    with_options(alloc, command)
+}
+
+fn serve<'a>(alloc: Global) -> Result<Command<'a>, AllocError>
+    ensures app { IfOk result (λ c. app_of c ≡ serve_app) }
+    ensures local { IfOk result (λ c. IsLocal c) }
+{
+    let about = "Opens a store and carries out batches of lines of the standard input";
+    let command = described(alloc, "serve", about, help::SERVE, help::SERVE_AFTER).arg(file(
         alloc,
         "FILE",
         help::RUN_FILE,

@@ -1,0 +1,68 @@
+-- Batches that are carried out one after another, by the states that they leave.
+use Rattle.std.specs.Prelude.{◌≡◌, ◌≤◌, ◌<◌, ◌+◌, ◌-◌, ℕ, Bool, true, false, List, [], ◌∷◌, ◌++◌, length, take, filter, All, Option, Some, None, Result, Ok, Err, slice_get}
+use Rattle.vm_types.specs.declared.answer.Answer.{Answer}
+use Rattle.vm_types.specs.declared.command.Command.{Command}
+use Rattle.vm_types.specs.declared.command.Command.TheVariants.{Commit, Rollback}
+use Rattle.vm_types.specs.declared.refusal.Refusal.{Refusal}
+use Rattle.vm_types.specs.Kept.{Kept}
+use Rattle.vm_types.specs.State.{Seen, State, accepted, after, committed_of, is_commit, is_rollback}
+
+-- commands that change the store, each with its answer
+pub record Batch : Type 0 where
+  pub commands : List Command
+  pub answers : List (Result Answer Refusal)
+
+-- what came of a batch
+pub data Round : Type 0 where
+  -- nothing was carried out
+  idle : Round
+  -- it was carried out and committed
+  committed : Batch → Answer → Round
+  -- one of its lines was refused, and what was carried out is undone
+  undone : Batch → Answer → Round
+  -- the store failed in its last command
+  broken : Batch → Round
+  -- it was carried out, and its commit was not acknowledged
+  unsure : Batch → Refusal → Round
+
+-- the commands of a round
+abbrev pub round_commands : Round → List Command
+round_commands idle = []
+round_commands (committed batch answer) = batch.commands ++ Commit ∷ []
+round_commands (undone batch answer) = batch.commands ++ Rollback ∷ []
+round_commands (broken batch) = batch.commands
+round_commands (unsure batch refusal) = batch.commands ++ Commit ∷ []
+
+-- their answers
+abbrev pub round_answers : Round → List (Result Answer Refusal)
+round_answers idle = []
+round_answers (committed batch answer) = batch.answers ++ Ok answer ∷ []
+round_answers (undone batch answer) = batch.answers ++ Ok answer ∷ []
+round_answers (broken batch) = batch.answers
+round_answers (unsure batch refusal) = batch.answers ++ Err refusal ∷ []
+
+-- the state after a batch that was carried out and committed
+abbrev pub after_batch : State → Batch → State
+after_batch s batch = accepted (after s batch.commands batch.answers) Commit
+
+-- the state after a round: only a committed batch changes what is committed, and everything else leaves just that
+abbrev pub after_round : State → Round → State
+after_round s idle = s
+after_round s (committed batch answer) = after_batch s batch
+after_round s (undone batch answer) = accepted s Rollback
+after_round s (broken batch) = s
+after_round s (unsure batch refusal) = s
+
+-- the state after rounds
+abbrev pub after_rounds : State → List Round → State
+after_rounds s [] = s
+after_rounds s (round ∷ rounds) = after_rounds (after_round s round) rounds
+
+-- all their commands, and all their answers
+abbrev pub all_commands : List Round → List Command
+all_commands [] = []
+all_commands (round ∷ rounds) = round_commands round ++ all_commands rounds
+
+abbrev pub all_answers : List Round → List (Result Answer Refusal)
+all_answers [] = []
+all_answers (round ∷ rounds) = round_answers round ++ all_answers rounds
