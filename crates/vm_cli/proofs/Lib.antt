@@ -42,3 +42,7 @@ mod RealFilesLemmas
 mod CachingLemmas
 mod DelayingLemmas
 mod MemFilesLemmas
+pub mod BatchLemmas
+pub mod RepeatedLemmas
+pub mod ReadingLemmas
+pub mod CarryLemmas

@@ -102,6 +102,7 @@ module _ {D : Type 0} {members : _} where
         let talked = serves.served.1 in talks_pass _ old new s serves.served.0 talked.commands talked.answers talked.refused talked.talks
     serves_pass old new s (Err fault.Read) before then known serves =
         let talked = serves.served.4 in talks_pass serves.served.1 old new s serves.served.0 talked.commands talked.answers talked.refused talked.talks
+    serves_pass old new s (Err fault.Unsure) before then known serves = absurd serves.served
     serves_pass old new s (Err fault.Store) before then known serves = ended_passes old new s true _ serves.served.0 serves.served.1
     serves_pass old new s (Err fault.Refused) before then known serves = ended_passes old new s false _ serves.served.0 serves.served.1
     serves_pass old new s (Err fault.Write) before then known serves = ended_passes old new s serves.served.1 _ serves.served.0 serves.served.2

@@ -83,6 +83,7 @@ pub may_end : {D : Type 0} {members : _} (first last : Store D members) (s : Sta
 may_end first last s on (Ok false) before then known serves = inl refl
 may_end first last s on (Ok true) before then known serves = after_refusal on.on_refusal
 may_end first last s on (Err fault.Read) before then known serves = inr (inl refl)
+may_end first last s on (Err fault.Unsure) before then known serves = inr (inl refl)
 may_end first last s on (Err fault.Write) before then known serves = inr (inl refl)
 may_end first last s on (Err fault.Store) before then known serves = inr (inl refl)
 may_end first last s on (Err fault.Refused) before then known serves =

@@ -241,6 +241,7 @@ module _ {D : Type 0} {members : _} where
         → Keeps start (members.state (disk_of new)) s (commands_of serves) (answers_of serves)
     serves_keeps old new so_far honest sound holds on (Ok refused) before then known serves = keeps start (members.state (disk_of new)) s _ _ (talked_keeping old new so_far honest sound holds on _ serves.served.0 serves.served.1)
     serves_keeps old new so_far honest sound holds on (Err fault.Read) before then known serves = keeps start (members.state (disk_of new)) s _ _ (talked_keeping old new so_far honest sound holds on serves.served.1 serves.served.0 serves.served.4)
+    serves_keeps old new so_far honest sound holds on (Err fault.Unsure) before then known serves = absurd serves.served
     serves_keeps old new so_far honest sound holds on (Err fault.Store) before then known serves = ended_keeps old new so_far honest sound holds on true _ serves.served.0 serves.served.1
     serves_keeps old new so_far honest sound holds on (Err fault.Refused) before then known serves = ended_keeps old new so_far honest sound holds on false _ serves.served.0 serves.served.1
     serves_keeps old new so_far honest sound holds on (Err fault.Write) before then known serves = ended_keeps old new so_far honest sound holds on serves.served.1 _ serves.served.0 serves.served.2

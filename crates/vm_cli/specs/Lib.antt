@@ -40,3 +40,7 @@ pub mod LineUses
 pub mod Rounds
 pub mod Streams
 pub mod LineReading
+pub mod LineEndings
+pub mod StreamCalls
+pub mod StreamKeeps
+pub mod Served

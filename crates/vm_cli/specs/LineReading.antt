@@ -13,11 +13,6 @@ use Rattle.vm_cli.specs.declared.talk.line_reader.LineReader.{LineReader}
 abbrev pub unread_of : LineReader → List ℕ
 unread_of reader = take (reader.end - reader.start) (drop reader.start reader.chunk)
 
--- how an input ends: behind a line, or within one
-abbrev pub ending_at : Bool → Ending
-ending_at true = ending.Input
-ending_at false = ending.HalfLine
-
 -- these bytes were taken from what the reader had left and what was unread before, and these are unread now
 pub record Took (known rest : Option (List ℕ)) (before taken after : List ℕ) : Type 0 where
   pub read : List ℕ

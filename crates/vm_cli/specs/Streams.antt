@@ -16,7 +16,7 @@ use Rattle.vm_cli.specs.LineUses.{no_memory, use_of}
 use Rattle.vm_cli.specs.Lines.{IsPart}
 use Rattle.vm_cli.specs.Replies.{is_error, reply_text}
 use Rattle.vm_cli.specs.Rounds.{Batch as Commanded, Round, after_round, after_rounds}
-use Rattle.vm_cli.specs.Rounds.Round as came
+use Rattle.vm_cli.specs.Rounds.Round.{broken, committed, idle, undone, unsure}
 use Rattle.vm_cli.specs.Talk.{HandlesLine, HasTalked, error_text, with_answer, with_command}
 use Rattle.vm_cli.specs.declared.answers.reply.Reply.TheVariants as reply
 use Rattle.vm_cli.specs.declared.lines.line.Line.{Line}
@@ -73,11 +73,14 @@ HoldsLines [] (part ∷ parts) = ⊥
 HoldsLines (line ∷ lines) [] = ⊥
 HoldsLines (line ∷ lines) (part ∷ parts) = HoldsLine line part × HoldsLines lines parts
 
--- a batch as it is held
+-- a batch as it is held: which line is lost, its lines, how many they are, and how many bytes they have
+abbrev pub IsHeldBy : Option Lost → List Line → ℕ → ℕ → Held → Type 0
+IsHeldBy lost_line lines count bytes (holds parts) = (lost_line ≡ None) × HoldsLines lines parts × (count ≡ length parts) × (bytes ≡ sum_by length parts)
+IsHeldBy lost_line lines count bytes (lost place answer all) =
+    (was : Lost) × (lost_line ≡ Some was) × (was.place ≡ place) × (reply_text was.reply ≡ answer) × (count ≡ all) × (place < all)
+
 abbrev pub IsHeld : Batch → Held → Type 0
-IsHeld batch (holds parts) =
-    (batch.lost ≡ None) × HoldsLines batch.lines.items parts × (batch.count ≡ length parts) × (batch.bytes ≡ sum_by length parts)
-IsHeld batch (lost place answer count) = (was : Lost) × (batch.lost ≡ Some was) × (was.place ≡ place) × (reply_text was.reply ≡ answer) × (batch.count ≡ count) × (place < count)
+IsHeld batch held = IsHeldBy batch.lost batch.lines.items batch.count batch.bytes held
 
 -- whether a batch was begun, and what is held of it
 abbrev pub IsStage : Batch → Option Held → Type 0
@@ -105,8 +108,8 @@ forgotten_text count = repeated count (reply_text reply.Aborted)
 
 -- how a batch came out: with these answers to its lines, or this place of it was refused so, that behind its lines being its commit
 pub data Verdict : Type 0 where
-  done : List ℕ → Verdict
-  refused : ℕ → List ℕ → Then → Verdict
+  succeeds : List ℕ → Verdict
+  fails : ℕ → List ℕ → Then → Verdict
 
 -- an answer among answers
 abbrev pub why_text : Why → List ℕ → List ℕ
@@ -121,34 +124,34 @@ answer_after other at = why.Reply (reply.Refused Memory)
 
 -- how it came out, as `settle` says it
 abbrev pub verdict_of : {T : Type 0} → Result T LastLine → List ℕ → Verdict
-verdict_of (Ok u) answers = done answers
-verdict_of (Err stop) answers = refused stop.place (why_text stop.why answers) stop.then
+verdict_of (Ok u) answers = succeeds answers
+verdict_of (Err stop) answers = fails stop.place (why_text stop.why answers) stop.then
 
 -- the answers to a batch of so many lines that a line began
 abbrev pub batch_text : ℕ → Verdict → List ℕ
-batch_text count (done answers) = answers ++ ok_text
-batch_text count (refused place answer then) = refused_text count place answer
+batch_text count (succeeds answers) = answers ++ ok_text
+batch_text count (fails place answer then) = refused_text count place answer
 
 -- the answer to a change outside of a batch
 abbrev pub change_text : Verdict → List ℕ
-change_text (done answers) = answers
-change_text (refused place answer then) = answer
+change_text (succeeds answers) = answers
+change_text (fails place answer then) = answer
 
 -- how a session goes on after an answer: with a line refused or none; or it is over
 pub data Course : Type 0 where
-  on : Bool → Course
+  proceeds : Bool → Course
   over : Course
 
 -- by an answer of the store
 abbrev pub course_of : Bool → List ℕ → Course
 course_of true text = over
-course_of false text = on (is_error text)
+course_of false text = proceeds (is_error text)
 
 -- by a batch
 abbrev pub batch_course : Verdict → Course
-batch_course (done answers) = on false
-batch_course (refused place answer GoOn) = on true
-batch_course (refused place answer then) = over
+batch_course (succeeds answers) = proceeds false
+batch_course (fails place answer GoOn) = proceeds true
+batch_course (fails place answer then) = over
 
 -- some lines were refused
 abbrev pub some_lines : ℕ → Bool
@@ -163,10 +166,10 @@ trying on = record { on_command = on.on_command; on_refusal = Stop; grouping = L
 
 -- the session goes on after it, or ends
 abbrev pub result_of : Verdict → Result Bool ServeFault
-result_of (done answers) = Ok false
-result_of (refused place answer GoOn) = Ok true
-result_of (refused place answer AsFailed) = Err fault.Store
-result_of (refused place answer AsUnsure) = Err fault.Unsure
+result_of (succeeds answers) = Ok false
+result_of (fails place answer GoOn) = Ok true
+result_of (fails place answer AsFailed) = Err fault.Store
+result_of (fails place answer AsUnsure) = Err fault.Unsure
 
 module _ {D : Type 0} {members : _} where
   -- a command was carried out, or the store had failed before
@@ -180,7 +183,7 @@ module _ {D : Type 0} {members : _} where
     pub answer : Answer
     pub carried : HasTalked old mid s (trying on) lines text
     pub applies : Applies mid new Commit (Ok answer)
-    pub came_so : round ≡ came.committed (record { commands = carried.commands; answers = carried.answers }) answer
+    pub came_so : round ≡ committed (record { commands = carried.commands; answers = carried.answers }) answer
 
   -- the same, but the commit was not acknowledged
   pub record LeavesUnsure (old new : Store D members) (s : State) (on : Manner) (lines : List (List ℕ)) (place : ℕ) (text : List ℕ) (round : Round) : Type 0 where
@@ -191,15 +194,7 @@ module _ {D : Type 0} {members : _} where
     pub applies : Applies mid new Commit (Err refusal)
     pub at : place ≡ length lines
     pub says : text ≡ reply_text reply.Unsure
-    pub came_so : round ≡ came.unsure (record { commands = carried.commands; answers = carried.answers }) refusal
-
-  -- a batch whose lines up to this one were carried out: was it undone, or had the store failed
-  abbrev pub Undoes : Store D members → Store D members → List Command → List (Result Answer Refusal) → Then → Round → Type 0
-  Undoes old new commands answers GoOn round =
-      (answer : Answer) × Applies old new Rollback (Ok answer) × (round ≡ came.undone (record { commands = commands; answers = answers }) answer)
-  Undoes old new commands answers AsFailed round =
-      (refusal : Refusal) × Applies old new Rollback (Err refusal) × (round ≡ came.broken (record { commands = commands; answers = answers }))
-  Undoes old new commands answers AsUnsure round = ⊥
+    pub came_so : round ≡ unsure (record { commands = carried.commands; answers = carried.answers }) refusal
 
   -- the lines before one were carried out, then it was, and it was refused, or memory for its answer ran out, or the store failed in it
   pub record StopsIn (old new : Store D members) (s : State) (on : Manner) (lines : List (List ℕ)) (place : ℕ) (text : List ℕ) : Type 0 where
@@ -226,8 +221,8 @@ module _ {D : Type 0} {members : _} where
 
   -- that was undone, or the store had failed
   abbrev pub Undoes : Store D members → Store D members → Commanded → Then → Round → Type 0
-  Undoes old new batch GoOn round = (answer : Answer) × Applies old new Rollback (Ok answer) × (round ≡ came.undone batch answer)
-  Undoes old new batch AsFailed round = (refusal : Refusal) × Applies old new Rollback (Err refusal) × (round ≡ came.broken batch)
+  Undoes old new batch GoOn round = (answer : Answer) × Applies old new Rollback (Ok answer) × (round ≡ undone batch answer)
+  Undoes old new batch AsFailed round = (refusal : Refusal) × Applies old new Rollback (Err refusal) × (round ≡ broken batch)
   Undoes old new batch AsUnsure round = ⊥
 
   -- a line was refused so, and all is undone
@@ -238,18 +233,18 @@ module _ {D : Type 0} {members : _} where
 
   -- how the lines of a batch came out
   abbrev pub Settles : Store D members → Store D members → State → Manner → List (List ℕ) → Verdict → Round → Type 0
-  Settles old new s on lines (done text) round = Commits old new s on lines text round
-  Settles old new s on lines (refused place text AsUnsure) round = LeavesUnsure old new s on lines place text round
-  Settles old new s on lines (refused place text then) round = RefusesLine old new s on lines place text then round
+  Settles old new s on lines (succeeds text) round = Commits old new s on lines text round
+  Settles old new s on lines (fails place text AsUnsure) round = LeavesUnsure old new s on lines place text round
+  Settles old new s on lines (fails place text then) round = RefusesLine old new s on lines place text then round
 
   -- how a batch that is held came out: one of which a line is lost has no effect
   abbrev pub SettlesHeld : Store D members → Store D members → State → Manner → Held → Verdict → Round → Type 0
   SettlesHeld old new s on (holds lines) verdict round = Settles old new s on lines verdict round
-  SettlesHeld old new s on (lost place answer count) verdict round = (new ≡ old) × (verdict ≡ refused place answer GoOn) × (round ≡ came.idle)
+  SettlesHeld old new s on (lost place answer count) verdict round = (new ≡ old) × (verdict ≡ fails place answer GoOn) × (round ≡ idle)
 
   -- a line is only answered so, and this is held then
   abbrev pub IsSaid : Store D members → Store D members → List ℕ → Bool → List ℕ → Course → Option Held → Option Held → Round → Type 0
-  IsSaid old new said refused text course stage stage' round = (new ≡ old) × (text ≡ said) × (course ≡ on refused) × (stage' ≡ stage) × (round ≡ came.idle)
+  IsSaid old new said refused text course stage stage' round = (new ≡ old) × (text ≡ said) × (course ≡ proceeds refused) × (stage' ≡ stage) × (round ≡ idle)
 
   -- a change outside of a batch is a batch of its own
   pub record MakesChange (old new : Store D members) (s : State) (how : Manner) (part text : List ℕ) (course : Course) (stage : Option Held) (round : Round) : Type 0 where
@@ -272,7 +267,7 @@ module _ {D : Type 0} {members : _} where
   -- a query is answered by the store
   abbrev pub IsAsked : Store D members → Store D members → State → Manner → List ℕ → List ℕ → Course → Option Held → Round → Type 0
   IsAsked old new s how part text course stage round =
-      (ends : Bool) × HandlesLine old new s how part text ends × (course ≡ course_of ends text) × (stage ≡ None) × (round ≡ came.idle)
+      (ends : Bool) × HandlesLine old new s how part text ends × (course ≡ course_of ends text) × (stage ≡ None) × (round ≡ idle)
 
   -- a line outside of a batch
   abbrev pub TakesOutside : Store D members → Store D members → State → Manner → LineUse → List ℕ → List ℕ → Course → Option Held → Round → Type 0
@@ -310,7 +305,7 @@ module _ {D : Type 0} {members : _} where
   Streams old new s how stage [] text stage' rounds again = (new ≡ old) × (text ≡ []) × (stage' ≡ stage) × (rounds ≡ []) × (again ≡ false)
   Streams old new s how stage (part ∷ parts) text stage' rounds again =
       (mid : Store D members) × (next : Option Held) × (first : List ℕ) × (rest : List ℕ) × (round : Round) × (later : List Round)
-      × (refused : Bool) × (others : Bool) × Takes old mid s how stage part first (on refused) next round
+      × (refused : Bool) × (others : Bool) × Takes old mid s how stage part first (proceeds refused) next round
       × (text ≡ first ++ rest) × (rounds ≡ round ∷ later) × (again ≡ (refused || others))
       × Streams mid new (after_round s round) how next parts rest stage' later others
 
@@ -385,7 +380,7 @@ module _ {D : Type 0} {members : _} where
   ServesInput old new s how (Err fault.Unsure) before after input = (text : List ℕ) × EndsStream old new s how over input text × Appends before after text
   ServesInput old new s how (Err fault.Refused) before after input =
       (text : List ℕ) × (how.on_refusal ≡ Stop)
-      × (EndsStream old new s how (on true) input text ⊎ ((again : Bool) × EndsInput old new s how input text again true))
+      × (EndsStream old new s how (proceeds true) input text ⊎ ((again : Bool) × EndsInput old new s how input text again true))
       × Appends before after text
   ServesInput old new s how (Err fault.Write) before after input =
       (text : List ℕ)
@@ -430,14 +425,33 @@ after_refusal how GoOn = refused_result how.on_refusal
 -- an answer was written whole, and the session goes on or ends with it; or a beginning of it, if the writer failed
 abbrev pub Tells : Manner → (List ℕ → Course → Type 0) → Result Bool ServeFault → Option (List ℕ) → Option (List ℕ) → Type 0
 Tells how IsAnswer (Ok refused) before after =
-    (text : List ℕ) × IsAnswer text (on refused) × (how.on_refusal ≡ Stop → refused ≡ false) × Appends before after text
+    (text : List ℕ) × IsAnswer text (proceeds refused) × (how.on_refusal ≡ Stop → refused ≡ false) × Appends before after text
 Tells how IsAnswer (Err fault.Read) before after = ⊥
 Tells how IsAnswer (Err fault.Store) before after = (text : List ℕ) × IsAnswer text over × Appends before after text
 Tells how IsAnswer (Err fault.Unsure) before after = (text : List ℕ) × IsAnswer text over × Appends before after text
-Tells how IsAnswer (Err fault.Refused) before after = (text : List ℕ) × IsAnswer text (on true) × (how.on_refusal ≡ Stop) × Appends before after text
+Tells how IsAnswer (Err fault.Refused) before after = (text : List ℕ) × IsAnswer text (proceeds true) × (how.on_refusal ≡ Stop) × Appends before after text
 Tells how IsAnswer (Err fault.Write) before after = (text : List ℕ) × (course : Course) × IsAnswer text course × WritesStart before after text
 
 -- so far a text was written, or a beginning of it
 abbrev pub Puts : {T : Type 0} → List ℕ → Result T ServeFault → Option (List ℕ) → Option (List ℕ) → Type 0
 Puts text (Ok u) before after = Appends before after text
 Puts text (Err why) before after = (why ≡ fault.Write) × WritesStart before after text
+
+-- a text was written whole, and this was the result; or a beginning of it
+abbrev pub AnswersThen : List ℕ → Result Bool ServeFault → Result Bool ServeFault → Option (List ℕ) → Option (List ℕ) → Type 0
+AnswersThen text then result before after = ((result ≡ then) × Appends before after text) ⊎ ((result ≡ Err fault.Write) × WritesStart before after text)
+
+-- how a session goes on after that many lines were refused
+abbrev pub counted_result : OnRefusal → ℕ → Result Bool ServeFault
+counted_result on_refusal zero = Ok false
+counted_result on_refusal (suc n) = refused_result on_refusal
+
+-- after a batch
+abbrev pub verdict_result : Manner → Verdict → Result Bool ServeFault
+verdict_result how (succeeds answers) = Ok false
+verdict_result how (fails place answer then) = after_refusal how then
+
+-- the answers to a batch that a line began, or to a change that is one of its own
+abbrev pub settled_text : Bool → ℕ → Verdict → List ℕ
+settled_text true count verdict = batch_text count verdict
+settled_text false count verdict = change_text verdict

@@ -1,9 +1,5 @@
 //! What is held of a batch.
-ghost use Rattle.std.specs.Prelude.{◌≡◌, ◌+◌, ◌<◌, ◌≤◌, ℕ, List, [], None, Some};
-ghost use Rattle.vm_cli.specs.Input.{HoldsLine};
-ghost use Rattle.vm_cli.specs.Replies.{reply_text};
-ghost use Rattle.vm_cli.specs.Streams.{Adds, Held, IsHeld, IsStage, losing};
-ghost use Rattle.vm_cli.specs.Streams.Held.{holds};
+ghost use Rattle.std.specs.Prelude.{◌≤◌};
 
 use crate::answers::reply::Reply;
 use crate::lines::line::{Line, LineKind};
@@ -39,6 +35,12 @@ pub(crate) struct Batch {
 }
 
 impl Batch {
+    ghost use Rattle.std.specs.Prelude.{◌≡◌, ◌+◌, ◌<◌, ℕ, List, []};
+    ghost use Rattle.vm_cli.specs.Input.{HoldsLine};
+    ghost use Rattle.vm_cli.specs.Replies.{reply_text};
+    ghost use Rattle.vm_cli.specs.Streams.{Adds, Held, IsHeld, IsStage, losing};
+    ghost use Rattle.vm_cli.specs.Streams.Held.{holds};
+
     /// No batch.
     pub(crate) fn new(alloc: Global) -> Batch
         ensures stage { IsStage result None }
@@ -87,17 +89,21 @@ impl Batch {
             self.count += 1;
             return;
         }
-        if self.lines.len() >= MAX_LINES || self.bytes + line.bytes.len() > MAX_BATCH_BYTES {
+        if self.lines.len() >= MAX_LINES {
             self.lose(Reply::TooLarge);
             return;
         }
-        let bytes = line.bytes.len();
-        let held = mem::replace(line, Line::new(alloc));
-        if self.lines.push(held).is_err() {
-            self.lose(Reply::Refused(Refusal::Memory));
+        let bytes = self.bytes + line.bytes.len();
+        if bytes > MAX_BATCH_BYTES {
+            self.lose(Reply::TooLarge);
             return;
         }
-        self.bytes += bytes;
+        let held = mem::replace(line, Line::new(alloc));
+        let Ok(()) = self.lines.push(held) else {
+            self.lose(Reply::Refused(Refusal::Memory));
+            return;
+        };
+        self.bytes = bytes;
         self.count += 1;
     }
 
@@ -109,14 +115,16 @@ impl Batch {
         ensures open { self.new.is_open ≡ self.old.is_open }
         ensures more { self.new.count ≡ self.old.count + 1 }
     {
-        if self.lost.is_none() {
-            self.lost = Some(Lost {
-                place: self.count,
-                reply,
-            });
-            self.lines.clear();
-            self.bytes = 0;
+        if self.lost.is_some() {
+            self.count += 1;
+            return;
         }
+        self.lost = Some(Lost {
+            place: self.count,
+            reply,
+        });
+        self.lines.clear();
+        self.bytes = 0;
         self.count += 1;
     }
 }

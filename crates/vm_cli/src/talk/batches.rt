@@ -1,10 +1,21 @@
 //! A session with batches: lines in, answers out, each batch as a whole.
+ghost use Rattle.std.specs.Prelude.{◌≡◌, ◌+◌, ◌<◌, ◌≤◌, ◌++◌, ℕ, List, Option, None, drop, true, false, IfErr, IsOk, OnErr, OnOk};
+ghost use Rattle.std.specs.Io.KnownBytes.{IsAtEnd};
+ghost use Rattle.vm_types.specs.State.{State};
+ghost use Rattle.vm_store.specs.Store.{GrowsOn, has_failed};
+ghost use Rattle.vm_cli.specs.Carried.{Gains, Begins};
+ghost use Rattle.vm_cli.specs.Feeds.{TalksOn};
+ghost use Rattle.vm_cli.specs.Replies.{reply_text};
+ghost use Rattle.vm_cli.specs.Rounds.{Round};
+ghost use Rattle.vm_cli.specs.StreamCalls.{KeepsSession, KeepsStream, SaysThen, SettlesBatch, TakesLine, TakesLineInside, TakesLineOutside};
+ghost use Rattle.vm_cli.specs.Streams.{Held, IsHeld, IsStage, Puts, ServesBatches, SettlesHeld, after_refusal, counted_result, end_count, end_text, forgotten_text, ok_text, repeated, result_of, verdict_of, why_text};
+ghost use Rattle.vm_cli.specs.Talk.{StoreFails};
 
 use crate::answers::output::{WriteFault, put_all};
 use crate::answers::repeated::put_repeated;
 use crate::answers::reply::Reply;
 use crate::answers::text::Text;
-use crate::lines::line::Line;
+use crate::lines::line::{Line, LineKind};
 use crate::talk::batch::Batch;
 use crate::talk::carrying::{Stop, Then, Why, settle};
 use crate::talk::line_reader::{Ending, LineReader};
@@ -66,7 +77,10 @@ struct Stream<'a, W, D: Disk> {
 
 impl<'a, W: Write, D: Disk> Stream<'a, W, D> {
     /// Takes a line. An `Ok` says whether it, or a line of the batch that it ends, was refused.
-    fn take(&mut self, line: &mut Line) -> Result<bool, ServeFault> {
+    fn take(&mut self, line: &mut Line) -> Result<bool, ServeFault>
+        requires { self.old.batch.count < usize.MAX }
+        ensures { TakesLine W.contents line.old result self.old self.new }
+    {
         let alloc = self.session.alloc;
         let used = use_of(alloc, line, self.session.manner.on_command);
         if self.batch.is_open {
@@ -77,7 +91,11 @@ impl<'a, W: Write, D: Disk> Stream<'a, W, D> {
     }
 
     /// Takes a line outside of a batch.
-    fn take_outside(&mut self, used: LineUse, line: &mut Line) -> Result<bool, ServeFault> {
+    fn take_outside(&mut self, used: LineUse, line: &mut Line) -> Result<bool, ServeFault>
+        requires room { self.old.batch.count < usize.MAX }
+        requires kept { used ≡ LineUse.Change → line.old.kind ≡ LineKind.Kept }
+        ensures { TakesLineOutside W.contents used line.old result self.old self.new }
+    {
         match used {
             LineUse::Nothing => Ok(false),
             LineUse::Begin => {
@@ -96,14 +114,27 @@ impl<'a, W: Write, D: Disk> Stream<'a, W, D> {
     }
 
     /// Takes a line within a batch.
-    fn take_inside(&mut self, used: LineUse, line: &mut Line) -> Result<bool, ServeFault> {
+    fn take_inside(&mut self, used: LineUse, line: &mut Line) -> Result<bool, ServeFault>
+        requires room { self.old.batch.count < usize.MAX }
+        requires kept { used ≡ LineUse.Change → line.old.kind ≡ LineKind.Kept }
+        ensures { TakesLineInside W.contents used line.old result self.old self.new }
+    {
         match used {
             LineUse::Nothing => Ok(false),
             LineUse::Commit => self.settle(true),
             LineUse::Abort => self.forget(),
-            LineUse::Begin => self.lose(Reply::NotInBatch),
-            LineUse::Query => self.lose(Reply::NotInBatch),
-            LineUse::Refused(reply) => self.lose(reply),
+            LineUse::Begin => {
+                self.batch.lose(Reply::NotInBatch);
+                Ok(false)
+            }
+            LineUse::Query => {
+                self.batch.lose(Reply::NotInBatch);
+                Ok(false)
+            }
+            LineUse::Refused(reply) => {
+                self.batch.lose(reply);
+                Ok(false)
+            }
             LineUse::Change => {
                 self.batch.hold(self.session.alloc, line);
                 Ok(false)
@@ -113,14 +144,14 @@ impl<'a, W: Write, D: Disk> Stream<'a, W, D> {
 }
 
 impl<'a, W: Write, D: Disk> Stream<'a, W, D> {
-    /// Refuses the batch at this line, which is answered so.
-    fn lose(&mut self, reply: Reply) -> Result<bool, ServeFault> {
-        self.batch.lose(reply);
-        Ok(false)
-    }
-
     /// Forgets the batch, and answers that to each of its lines.
-    fn forget(&mut self) -> Result<bool, ServeFault> {
+    fn forget(&mut self) -> Result<bool, ServeFault>
+        ensures said { SaysThen W.contents (forgotten_text self.old.batch.count ++ ok_text)
+            (counted_result self.old.session.manner.on_refusal self.old.batch.count) result self.old self.new }
+        ensures session { KeepsSession self.old self.new }
+        ensures closed { IsStage self.new.batch None }
+        ensures none { self.new.batch.count ≡ 0 }
+    {
         let count = self.batch.count;
         self.batch.clear();
         self.put_repeated(Reply::Aborted, count)?;
@@ -129,7 +160,13 @@ impl<'a, W: Write, D: Disk> Stream<'a, W, D> {
     }
 
     /// The input has ended, in the middle of that many lines. A batch that was begun is forgotten.
-    fn end(&mut self, half: usize) -> Result<bool, ServeFault> {
+    fn end(&mut self, half: usize) -> Result<bool, ServeFault>
+        requires { self.old.batch.count + half < usize.MAX }
+        ensures said { (stage : Option Held) → IsStage self.old.batch stage
+            → SaysThen W.contents (end_text stage half)
+            (counted_result self.old.session.manner.on_refusal (end_count stage half)) result self.old self.new }
+        ensures same { KeepsStream self.old self.new }
+    {
         let reply = if self.batch.is_open {
             Reply::Aborted
         } else {
@@ -141,7 +178,9 @@ impl<'a, W: Write, D: Disk> Stream<'a, W, D> {
     }
 
     /// Carries out the batch, and answers its lines. One that a line began has an answer more.
-    fn settle(&mut self, is_begun: bool) -> Result<bool, ServeFault> {
+    fn settle(&mut self, is_begun: bool) -> Result<bool, ServeFault>
+        ensures { SettlesBatch W.contents is_begun result self.old self.new }
+    {
         let settled = settle_batch(
             self.session.alloc,
             self.session.manner,
@@ -164,7 +203,11 @@ impl<'a, W: Write, D: Disk> Stream<'a, W, D> {
     }
 
     /// Answers the lines of a batch that was committed.
-    fn answer_done(&mut self, more: usize) -> Result<bool, ServeFault> {
+    fn answer_done(&mut self, more: usize) -> Result<bool, ServeFault>
+        ensures said { SaysThen W.contents (self.old.answers.items ++ repeated more ok_text) (Ok false)
+            result self.old self.new }
+        ensures same { KeepsStream self.old self.new }
+    {
         said(put_all(&mut *self.session.writer, self.answers.as_slice()))?;
         self.put_repeated(Reply::Done, more)?;
         Ok(false)
@@ -176,7 +219,13 @@ impl<'a, W: Write, D: Disk> Stream<'a, W, D> {
         stop: &Stop,
         before: usize,
         behind: usize,
-    ) -> Result<bool, ServeFault> {
+    ) -> Result<bool, ServeFault>
+        requires { stop.now.place < usize.MAX }
+        ensures said { let other = reply_text (Reply.NotDone (stop.now.place + 1)) in
+            SaysThen W.contents (repeated before other ++ (why_text stop.now.why self.old.answers.items ++ repeated behind other))
+            (after_refusal self.old.session.manner stop.now.then) result self.old self.new }
+        ensures same { KeepsStream self.old self.new }
+    {
         let other = Reply::NotDone(stop.place + 1);
         self.put_repeated(other, before)?;
         self.put_why(stop.why)?;
@@ -189,30 +238,44 @@ impl<'a, W: Write, D: Disk> Stream<'a, W, D> {
     }
 
     /// Writes the answer to the line that was refused.
-    fn put_why(&mut self, why: Why) -> Result<(), ServeFault> {
+    fn put_why(&mut self, why: Why) -> Result<(), ServeFault>
+        ensures put { Puts (why_text why self.old.answers.items) result
+            (W.contents self.old.session.writer.now) (W.contents self.new.session.writer.now) }
+        ensures same { KeepsStream self.old self.new }
+    {
         match why {
             Why::Answer(at) => said(put_all(
                 &mut *self.session.writer,
-                &self.answers.as_slice()[at..],
+                behind(self.answers.as_slice(), at),
             )),
             Why::Reply(reply) => self.put_repeated(reply, 1),
         }
     }
 
     /// Writes a line of an answer this many times.
-    fn put_repeated(&mut self, reply: Reply, count: usize) -> Result<(), ServeFault> {
+    fn put_repeated(&mut self, reply: Reply, count: usize) -> Result<(), ServeFault>
+        ensures put { Puts (repeated count (reply_text reply)) result
+            (W.contents self.old.session.writer.now) (W.contents self.new.session.writer.now) }
+        ensures same { KeepsStream self.old self.new }
+    {
         let text = &mut self.session.text;
         said(put_repeated(reply, count, text, &mut *self.session.writer))
     }
 
     /// Says the answer to a line that is refused if `count` is 1, or is not refused if it is 0.
-    fn say(&mut self, reply: Reply, refused: usize) -> Result<bool, ServeFault> {
+    fn say(&mut self, reply: Reply, refused: usize) -> Result<bool, ServeFault>
+        ensures said { SaysThen W.contents (repeated 1 (reply_text reply))
+            (counted_result self.old.session.manner.on_refusal refused) result self.old self.new }
+        ensures same { KeepsStream self.old self.new }
+    {
         self.put_repeated(reply, 1)?;
         self.go_on(refused)
     }
 
     /// So many lines were refused.
-    fn go_on(&self, count: usize) -> Result<bool, ServeFault> {
+    fn go_on(&self, count: usize) -> Result<bool, ServeFault>
+        ensures { result ≡ counted_result self.now.session.manner.on_refusal count }
+    {
         if count == 0 {
             return Ok(false);
         }
@@ -230,7 +293,12 @@ fn settle_batch<D: Disk>(
     batch: &Batch,
     answers: &mut Vec<u8>,
     store: &mut Store<D>,
-) -> Result<(), Stop> {
+) -> Result<(), Stop>
+    ensures settled { (s : State) (held : Held) → IsHeld batch.now held
+        → (round : Round) × SettlesHeld store.old store.new s manner held (verdict_of result answers.new.items) round }
+    ensures store { TalksOn (result_of (verdict_of result answers.new.items)) store.old store.new }
+    ensures place { OnErr result (λ stop. stop.place ≤ batch.now.count) }
+{
     match batch.lost {
         Some(lost) => Err(Stop {
             place: lost.place,
@@ -241,8 +309,21 @@ fn settle_batch<D: Disk>(
     }
 }
 
+/// The bytes from this place on.
+fn behind(bytes: &[u8], at: usize) -> &[u8]
+    ensures { result.now ≡ drop at bytes.now }
+{
+    if at > bytes.len() {
+        return &[];
+    }
+    &bytes[at..]
+}
+
 /// Whether it was said.
-fn said(written: Result<(), WriteFault>) -> Result<(), ServeFault> {
+fn said(written: Result<(), WriteFault>) -> Result<(), ServeFault>
+    ensures ok { OnOk written (IsOk result) }
+    ensures err { OnErr written (result ≡ Err ServeFault.Write) }
+{
     match written {
         Ok(()) => Ok(()),
         Err(WriteFault) => Err(ServeFault::Write),

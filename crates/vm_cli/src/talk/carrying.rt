@@ -3,7 +3,7 @@ ghost use Rattle.std.specs.Prelude.{◌≡◌, ℕ, List, []};
 ghost use Rattle.vm_types.specs.State.{State};
 ghost use Rattle.vm_cli.specs.Feeds.{TalksOn};
 ghost use Rattle.vm_cli.specs.Rounds.{Batch as Commanded, Round};
-ghost use Rattle.vm_cli.specs.Streams.{CarriesLines, CommitsOrNot, HoldsLines, Settles, Undoes, answer_after, result_of, tried_result, verdict_of};
+ghost use Rattle.vm_cli.specs.Streams.{CarriesLines, CommitsOrNot, HoldsLines, Settles, Undoes, answer_after, result_of, tried_result, trying, verdict_of};
 
 use crate::answers::reply::Reply;
 use crate::answers::text::Text;
@@ -115,20 +115,32 @@ fn carry_out<D: Disk>(
         writer: answers,
         store,
     };
-    for place in 0..lines.len() {
-        let at = session.writer.len();
-        match session.answer(&lines[place]) {
-            Ok(_) => {}
-            Err(fault) => {
-                return Err(Stop {
-                    place,
-                    why: answer_of(fault, at),
-                    then: Then::GoOn,
-                });
+    session.carry_out_each(lines)
+}
+
+impl<'a, D: Disk> Session<'a, Vec<u8>, D> {
+    ghost use Rattle.vm_cli.specs.StreamCalls.{CarriesEach};
+
+    /// Answers lines, up to the first that is refused.
+    fn carry_out_each(&mut self, lines: &[Line]) -> Result<(), Stop>
+        requires { self.old.manner ≡ trying self.old.manner }
+        ensures { CarriesEach lines.now result self.old self.new }
+    {
+        for place in 0..lines.len() {
+            let at = self.writer.len();
+            match self.answer(&lines[place]) {
+                Ok(_) => {}
+                Err(fault) => {
+                    return Err(Stop {
+                        place,
+                        why: answer_of(fault, at),
+                        then: Then::GoOn,
+                    });
+                }
             }
         }
+        Ok(())
     }
-    Ok(())
 }
 
 /// The answer to a line that ended a session with this fault.

@@ -1,7 +1,6 @@
 //! An input, read line by line.
-ghost use Rattle.std.specs.Prelude.{◌≡◌, ◌≤◌, ℕ, List, []};
-ghost use Rattle.vm_cli.specs.Input.{HoldsLine};
-ghost use Rattle.vm_cli.specs.LineReading.{ReadsLine, ending_at, unread_of};
+ghost use Rattle.std.specs.Prelude.{◌≡◌, ◌≤◌};
+ghost use Rattle.vm_cli.specs.LineEndings.{ending_at};
 
 use crate::lines::line::Line;
 use crate::talk::ServeFault;
@@ -30,6 +29,10 @@ pub(crate) struct LineReader {
 }
 
 impl LineReader {
+    ghost use Rattle.std.specs.Prelude.{ℕ, List, []};
+    ghost use Rattle.vm_cli.specs.Input.{HoldsLine};
+    ghost use Rattle.vm_cli.specs.LineReading.{ReadsLine, unread_of};
+
     pub(crate) fn new() -> LineReader
         ensures { unread_of result ≡ [] }
     {

@@ -1,0 +1,15 @@
+use Rattle.std.proofs.Common.{◌≡◌, ℕ, List, [], Ok, false, take}
+use Rattle.vm_types.specs.State.{State}
+use Rattle.vm_cli.specs.Feeds.{Stays, TalksOn}
+use Rattle.vm_cli.specs.Streams.{HoldsLines, trying}
+use Rattle.vm_cli.specs.Talk.{HasTalked}
+use Rattle.vm_cli.proofs.talk.carrying.Session.carry_out_each.Given as goal
+
+-- the lines so far were carried out, and none of them was refused
+abbrev pub invariant-loop-place : goal.invariant-loop-place
+invariant-loop-place g l = record {
+  same : Stays l.fn.self l.self;
+  store : TalksOn (Ok false) l.fn.self.store.now l.self.store.now;
+  talked : (s : State) (parts : List (List ℕ)) → l.fn.self.writer.now.items ≡ [] → HoldsLines l.lines parts
+      → HasTalked l.fn.self.store.now l.self.store.now s (trying l.fn.self.manner) (take l.place parts) l.self.writer.now.items;
+}
