@@ -46,3 +46,6 @@ pub mod BatchLemmas
 pub mod RepeatedLemmas
 pub mod ReadingLemmas
 pub mod CarryLemmas
+pub mod SettleLemmas
+pub mod StreamLemmas
+pub mod RoundLemmas

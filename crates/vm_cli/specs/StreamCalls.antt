@@ -1,12 +1,14 @@
 -- What a call of a session with batches does.
 use Rattle.std.specs.Prelude.{◌≡◌, ◌+◌, ◌≤◌, ◌<◌, ℕ, List, [], Option, None, Result, Bool, Vec}
 use Rattle.vm_types.specs.State.{State}
-use Rattle.vm_cli.specs.Feeds.{Stays, TalksOn}
+use Rattle.vm_cli.specs.Feeds.{ServesOn, Stays, TalksOn}
 use Rattle.vm_cli.specs.Input.{HoldsLine}
 use Rattle.vm_cli.specs.Rounds.{Round}
-use Rattle.vm_cli.specs.Streams.{AnswersThen, CarriesLines, Course, Held, HoldsLines, IsHeld, IsStage, SettlesHeld, Takes, TakesInside, TakesOutside, Tells, Verdict, count_of, settled_text, tried_result, verdict_result}
+use Rattle.vm_cli.specs.Streams.{AnswersThen, CarriesLines, Course, Held, HoldsLines, IsHeld, IsStage, ServesBatches, SettlesHeld, Takes, TakesInside, TakesOutside, Tells, Verdict, count_of, settled_text, tried_result, verdict_result}
+use Rattle.vm_cli.specs.Talk.{Passes}
 use Rattle.vm_cli.specs.declared.lines.line.Line.{Line}
 use Rattle.vm_cli.specs.declared.talk.Manner.{Manner}
+use Rattle.vm_cli.specs.declared.talk.OnCommand.TheVariants.{Refuse}
 use Rattle.vm_cli.specs.declared.talk.ServeFault.{ServeFault}
 use Rattle.vm_cli.specs.declared.talk.Session.{Session}
 use Rattle.vm_cli.specs.declared.talk.carrying.Stop.{Stop as LastLine}
@@ -70,6 +72,14 @@ module _ {D W : Type 0} {members : _} (contents : W → Option (List ℕ)) where
     pub taken : (s : State) (stage : Option Held) (part : List ℕ) → IsStage old.batch stage → HoldsLine line part
         → TellsLine old.session.manner (λ text course. (stage' : Option Held) × (round : Round) × IsStage new.batch stage'
         × Takes old.session.store.now new.session.store.now s old.session.manner stage part text course stage' round) result old new
+
+  -- all lines of an input were taken
+  pub record RunsStream (result : Result Bool ServeFault) (old new : Stream W D members) (known : Option (List ℕ)) : Type 0 where
+    pub same : Stays old.session new.session
+    pub store : ServesOn result old.session.store.now new.session.store.now
+    pub reads : old.session.manner.on_command ≡ Refuse → Passes old.session.store.now new.session.store.now None
+    pub answers : IsStage old.batch None → (s : State)
+        → ServesBatches old.session.store.now new.session.store.now s old.session.manner result (contents old.session.writer.now) (contents new.session.writer.now) known
 
 -- lines were answered one after another, up to the first that was refused, and the answers are kept
 pub record CarriesEach {D A T : Type 0} {members : _} (lines : List Line) (result : Result T LastLine) (old new : Session (Vec ℕ A) D members) : Type 0 where

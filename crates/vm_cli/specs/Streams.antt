@@ -18,6 +18,7 @@ use Rattle.vm_cli.specs.Replies.{is_error, reply_text}
 use Rattle.vm_cli.specs.Rounds.{Batch as Commanded, Round, after_round, after_rounds}
 use Rattle.vm_cli.specs.Rounds.Round.{broken, committed, idle, undone, unsure}
 use Rattle.vm_cli.specs.Talk.{HandlesLine, HasTalked, error_text, with_answer, with_command}
+use Rattle.vm_cli.specs.declared.answers.output.WriteFault.{WriteFault}
 use Rattle.vm_cli.specs.declared.answers.reply.Reply.TheVariants as reply
 use Rattle.vm_cli.specs.declared.lines.line.Line.{Line}
 use Rattle.vm_cli.specs.declared.talk.Grouping.TheVariants.{Lines}
@@ -455,3 +456,8 @@ verdict_result how (fails place answer then) = after_refusal how then
 abbrev pub settled_text : Bool → ℕ → Verdict → List ℕ
 settled_text true count verdict = batch_text count verdict
 settled_text false count verdict = change_text verdict
+
+-- a call that wrote, as a session takes it
+abbrev pub said_result : {T : Type 0} → Result T WriteFault → Result T ServeFault
+said_result (Ok u) = Ok u
+said_result (Err failed) = Err fault.Write

@@ -38,7 +38,7 @@ use store_counts::{Counts, count};
 use task::{InMemory, Job};
 use tree_view::tree;
 use vm_disk::{CachedDisk, DelayedDisk, Disk};
-use vm_store::format;
+use vm_store::{Store, format};
 use vm_types::Refusal;
 use words::job;
 
@@ -82,7 +82,11 @@ ghost use Rattle.vm_disk.specs.Between.{IfHonest};
 ghost use Rattle.vm_cli.specs.Told.{AnswersOver, FormatsOnly, MakesStore, TellsCount, TellsRefusal};
 ghost use Rattle.vm_cli.specs.Places.{FindsIn, WasHonest};
 ghost use Rattle.vm_cli.specs.Runs.{AnswersIn, AsksToWrite, CountsIn, DoesIn, LooksOnly, MakesIn, RunsIn, ServesIn, ServesRun, ServesWords, disks};
+ghost use Rattle.vm_types.specs.State.{State};
+ghost use Rattle.vm_store.specs.Store.{GrowsOn};
+ghost use Rattle.vm_cli.specs.Served.{ServesBy};
 ghost use Rattle.vm_cli.specs.Sessions.{end_of as end_of_talk};
+ghost use Rattle.vm_cli.specs.Talk.{Passes};
 ghost use Rattle.vm_cli.specs.Exits.{Blames, Checks, Ends, EndsSaying, Helps, IsDone, IsLineRefused, IsRefused, IsStopped, IsWrong, JobEnds, RefusesLock, RefusesOn, RefusesWords, StopsUnsaid, TalkEnds, TellsOn, counts_text, created_text, file_text, named_text, refused_text, status_of, stopped_text};
 ghost use Rattle.vm_cli.specs.Words.Wanted.{check as check_wanted, create as create_wanted, run as run_wanted};
 
@@ -320,13 +324,29 @@ pub(crate) fn answer_lines<D: Disk, R: Read, W: Write, F: Write>(
 {
     match open_store(alloc, disk) {
         Ok(mut store) => {
-            let served = match manner.grouping {
-                Grouping::Lines => serve(alloc, input, output, &mut store, manner),
-                Grouping::Batches => serve_batches(alloc, input, output, &mut store, manner),
-            };
+            let served = serve_by(alloc, input, output, &mut store, manner);
             (end_of(manner.on_refusal, &served), store.close())
         }
         Err((disk, why)) => (unopened(&why, errors), disk),
+    }
+}
+
+/// Answers the lines of the input, each by itself or in batches.
+fn serve_by<D: Disk, R: Read, W: Write>(
+    alloc: Global,
+    input: &mut R,
+    output: &mut W,
+    store: &mut Store<D>,
+    manner: Manner,
+) -> Result<bool, ServeFault>
+    ensures goes { GrowsOn ⊥ store.old store.new }
+    ensures answers { (s : State) → ServesBy manner.grouping store.old store.new s manner result
+        (W.contents output.old) (W.contents output.new) (R.remaining input.old) }
+    ensures reads { manner.on_command ≡ OnCommand.Refuse → Passes store.old store.new None }
+{
+    match manner.grouping {
+        Grouping::Lines => serve(alloc, input, output, store, manner),
+        Grouping::Batches => serve_batches(alloc, input, output, store, manner),
     }
 }
 

@@ -1,5 +1,5 @@
 //! What is held of a batch.
-ghost use Rattle.std.specs.Prelude.{◌≤◌};
+ghost use Rattle.std.specs.Prelude.{◌≤◌, ◌<◌};
 
 use crate::answers::reply::Reply;
 use crate::lines::line::{Line, LineKind};
@@ -18,6 +18,7 @@ pub(crate) struct Lost {
     /// How many lines of the batch stand before it.
     pub place: usize,
     pub reply: Reply,
+    ghost small: { place < 18446744073709551615 },
 }
 
 /// The batch that was begun, if one was.

@@ -1,5 +1,5 @@
 //! A session with batches: lines in, answers out, each batch as a whole.
-ghost use Rattle.std.specs.Prelude.{◌≡◌, ◌+◌, ◌<◌, ◌≤◌, ◌++◌, ℕ, List, Option, None, drop, true, false, IfErr, IsOk, OnErr, OnOk};
+ghost use Rattle.std.specs.Prelude.{◌≡◌, ◌+◌, ◌<◌, ◌≤◌, ◌++◌, ℕ, List, Option, None, drop, true, false, IfErr, OnErr, OnOk};
 ghost use Rattle.std.specs.Io.KnownBytes.{IsAtEnd};
 ghost use Rattle.vm_types.specs.State.{State};
 ghost use Rattle.vm_store.specs.Store.{GrowsOn, has_failed};
@@ -7,9 +7,9 @@ ghost use Rattle.vm_cli.specs.Carried.{Gains, Begins};
 ghost use Rattle.vm_cli.specs.Feeds.{TalksOn};
 ghost use Rattle.vm_cli.specs.Replies.{reply_text};
 ghost use Rattle.vm_cli.specs.Rounds.{Round};
-ghost use Rattle.vm_cli.specs.StreamCalls.{KeepsSession, KeepsStream, SaysThen, SettlesBatch, TakesLine, TakesLineInside, TakesLineOutside};
-ghost use Rattle.vm_cli.specs.Streams.{Held, IsHeld, IsStage, Puts, ServesBatches, SettlesHeld, after_refusal, counted_result, end_count, end_text, forgotten_text, ok_text, repeated, result_of, verdict_of, why_text};
-ghost use Rattle.vm_cli.specs.Talk.{StoreFails};
+ghost use Rattle.vm_cli.specs.StreamCalls.{KeepsSession, KeepsStream, RunsStream, SaysThen, SettlesBatch, TakesLine, TakesLineInside, TakesLineOutside};
+ghost use Rattle.vm_cli.specs.Streams.{Held, IsHeld, IsStage, Puts, ServesBatches, SettlesHeld, after_refusal, counted_result, end_count, end_text, forgotten_text, ok_text, repeated, result_of, said_result, verdict_of, why_text};
+ghost use Rattle.vm_cli.specs.Talk.{Passes, StoreFails};
 
 use crate::answers::output::{WriteFault, put_all};
 use crate::answers::repeated::put_repeated;
@@ -20,7 +20,7 @@ use crate::talk::batch::Batch;
 use crate::talk::carrying::{Stop, Then, Why, settle};
 use crate::talk::line_reader::{Ending, LineReader};
 use crate::talk::line_use::{LineUse, use_of};
-use crate::talk::{Manner, OnRefusal, ServeFault, Session};
+use crate::talk::{Manner, OnCommand, OnRefusal, ServeFault, Session};
 use std::alloc::Global;
 use std::io::{Read, Write};
 use vm_disk::Disk;
@@ -37,9 +37,25 @@ pub fn serve_batches<R: Read, W: Write, D: Disk>(
     store: &mut Store<D>,
     manner: Manner,
 ) -> Result<bool, ServeFault>
+    // On any disk, the session ends with Store only if a device call failed in it, or the store had
+    // already failed. A store that had already failed is left as it was.
+    ensures goes { GrowsOn ⊥ store.old store.new }
+    ensures ok { has_failed store.old ≡ false → OnOk result (has_failed store.new ≡ false) }
+    ensures err { has_failed store.old ≡ false → IfErr result (StoreFails store.old store.new) }
+    ensures left { has_failed store.old ≡ true → store.new ≡ store.old }
+
+    // The lines of the input are taken one after another. A change outside of a batch is a batch of
+    // its own. A batch is carried out by its commit, line by line, as `serve` carries lines out, and
+    // committed then, before any of it is answered; if a line of it is refused, all of it is undone
+    // first. So the state changes by whole batches alone. A query is answered by the state that the
+    // batches before it leave, all of which are committed. What the input ends in is forgotten.
+    ensures answers { (s : State) → ServesBatches store.old store.new s manner result
+        (W.contents writer.old) (W.contents writer.new) (R.remaining reader.old) }
+
+    // If commands are refused, the disk is only read: it is never written or synced, and the store
+    // is left as it was.
+    ensures reads { manner.on_command ≡ OnCommand.Refuse → Passes store.old store.new None }
 {
-    let mut line = Line::new(alloc);
-    let mut input = LineReader::new();
     let mut stream = Stream {
         batch: Batch::new(alloc),
         answers: Vec::new(alloc),
@@ -52,18 +68,7 @@ pub fn serve_batches<R: Read, W: Write, D: Disk>(
             store,
         },
     };
-    let mut refused = false;
-    for _ in 0..u64::MAX {
-        match input.read_line(reader, &mut line)? {
-            Ending::Line => {
-                refused |= stream.take(&mut line)?;
-                line.clear();
-            }
-            Ending::HalfLine => return Ok(refused | stream.end(1)?),
-            Ending::Input => return Ok(refused | stream.end(0)?),
-        }
-    }
-    Err(ServeFault::Read)
+    stream.run(reader)
 }
 
 /// A session with batches.
@@ -76,6 +81,27 @@ struct Stream<'a, W, D: Disk> {
 }
 
 impl<'a, W: Write, D: Disk> Stream<'a, W, D> {
+    /// Takes all lines of the input.
+    fn run<R: Read>(&mut self, reader: &mut R) -> Result<bool, ServeFault>
+        requires { self.old.batch.count ≡ 0 }
+        ensures { RunsStream W.contents result self.old self.new (R.remaining reader.old) }
+    {
+        let mut line = Line::new(self.session.alloc);
+        let mut input = LineReader::new();
+        let mut refused = false;
+        for _ in 0..usize::MAX - 1 {
+            match input.read_line(reader, &mut line)? {
+                Ending::Line => {
+                    refused |= self.take(&mut line)?;
+                    line.clear();
+                }
+                Ending::HalfLine => return Ok(refused | self.end(1)?),
+                Ending::Input => return Ok(refused | self.end(0)?),
+            }
+        }
+        Err(ServeFault::Read)
+    }
+
     /// Takes a line. An `Ok` says whether it, or a line of the batch that it ends, was refused.
     fn take(&mut self, line: &mut Line) -> Result<bool, ServeFault>
         requires { self.old.batch.count < usize.MAX }
@@ -194,7 +220,7 @@ impl<'a, W: Write, D: Disk> Stream<'a, W, D> {
             Ok(()) => self.answer_done(usize::from(is_begun)),
             Err(stop) => {
                 if is_begun {
-                    self.answer_refused(&stop, stop.place, count - stop.place)
+                    self.answer_refused(&stop, stop.place, count.saturating_sub(stop.place))
                 } else {
                     self.answer_refused(&stop, 0, 0)
                 }
@@ -297,7 +323,7 @@ fn settle_batch<D: Disk>(
     ensures settled { (s : State) (held : Held) → IsHeld batch.now held
         → (round : Round) × SettlesHeld store.old store.new s manner held (verdict_of result answers.new.items) round }
     ensures store { TalksOn (result_of (verdict_of result answers.new.items)) store.old store.new }
-    ensures place { OnErr result (λ stop. stop.place ≤ batch.now.count) }
+    ensures place { OnErr result (λ stop. stop.place < usize.MAX) }
 {
     match batch.lost {
         Some(lost) => Err(Stop {
@@ -321,8 +347,7 @@ fn behind(bytes: &[u8], at: usize) -> &[u8]
 
 /// Whether it was said.
 fn said(written: Result<(), WriteFault>) -> Result<(), ServeFault>
-    ensures ok { OnOk written (IsOk result) }
-    ensures err { OnErr written (result ≡ Err ServeFault.Write) }
+    ensures { result ≡ said_result written }
 {
     match written {
         Ok(()) => Ok(()),

@@ -1,5 +1,5 @@
 //! A batch, carried out.
-ghost use Rattle.std.specs.Prelude.{◌≡◌, ℕ, List, []};
+ghost use Rattle.std.specs.Prelude.{◌≡◌, ◌≤◌, ℕ, List, [], length, OnErr};
 ghost use Rattle.vm_types.specs.State.{State};
 ghost use Rattle.vm_cli.specs.Feeds.{TalksOn};
 ghost use Rattle.vm_cli.specs.Rounds.{Batch as Commanded, Round};
@@ -54,6 +54,7 @@ pub(crate) fn settle<D: Disk>(
     ensures settled { (s : State) (parts : List (List ℕ)) → HoldsLines lines.now parts
         → (round : Round) × Settles store.old store.new s manner parts (verdict_of result answers.new.items) round }
     ensures store { TalksOn (result_of (verdict_of result answers.new.items)) store.old store.new }
+    ensures place { OnErr result (λ stop. stop.place ≤ length lines.now) }
 {
     answers.clear();
     match carry_out(alloc, manner, lines, answers, store) {
@@ -102,6 +103,7 @@ fn carry_out<D: Disk>(
     ensures carried { (s : State) (parts : List (List ℕ)) → HoldsLines lines.now parts
         → CarriesLines store.old store.new s manner parts result answers.new.items }
     ensures store { TalksOn (tried_result result) store.old store.new }
+    ensures place { OnErr result (λ stop. stop.place ≤ length lines.now) }
 {
     let mut session = Session {
         alloc,
@@ -124,7 +126,8 @@ impl<'a, D: Disk> Session<'a, Vec<u8>, D> {
     /// Answers lines, up to the first that is refused.
     fn carry_out_each(&mut self, lines: &[Line]) -> Result<(), Stop>
         requires { self.old.manner ≡ trying self.old.manner }
-        ensures { CarriesEach lines.now result self.old self.new }
+        ensures carries { CarriesEach lines.now result self.old self.new }
+        ensures place { OnErr result (λ stop. stop.place ≤ length lines.now) }
     {
         for place in 0..lines.len() {
             let at = self.writer.len();

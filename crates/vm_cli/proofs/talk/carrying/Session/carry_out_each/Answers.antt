@@ -17,8 +17,8 @@ loop-place-init g c = record {
   talked = λ s parts empty held. subst (HasTalked c.args.self.now.store.now c.args.self.now.store.now s (trying c.args.self.now.manner) []) (sym empty) (talked-none c.args.self.now.store.now s (trying c.args.self.now.manner));
 }
 
-pub returns-in-Err : goal.returns-in-Err
-returns-in-Err g c =
+pub returns-in-Err-clause-carries : goal.returns-in-Err-clause-carries
+returns-in-Err-clause-carries g c =
     let so_far = c.loop-place.invariant in
     let said = answers_as _ c.loop-place.self.manner (trying c.args.self.now.manner) (so_far.same.2 ∙ c.requires) c.in-Err.ensures in
     record {
@@ -28,7 +28,7 @@ returns-in-Err g c =
           let at = held_at c.args.lines.now parts c.loop-place.place c.index-lines-place.result held (omega (arith, c.loop-place-test.true)) (sym c.index-lines-place.is) in
           let talked = so_far.talked s parts empty held in
           subst (λ w. StopsIn c.args.self.now.store.now c.answer.new.self.store.now s c.args.self.now.manner parts c.loop-place.place (why_text w c.answer.new.self.writer.now.items)) (sym c.answer_of.ensures)
-          (talks_stop _ _ _ s c.args.self.now.manner parts c.loop-place.place c.index-lines-place.result _ talked at c.in-Err.fault _ (said.answer _ at.part at.holds) c.len-at.result ?);
+          (talks_stop _ _ _ s c.args.self.now.manner parts c.loop-place.place c.index-lines-place.result _ talked at c.in-Err.fault _ (said.answer _ at.part at.holds) c.len-at.result c.len-at.ensures);
     }
 
 pub loop-place-preserved : goal.loop-place-preserved
@@ -44,8 +44,8 @@ loop-place-preserved g c =
           talks_more _ _ _ s c.args.self.now.manner parts c.loop-place.place c.index-lines-place.result _ talked at _ _ (said.answer _ at.part at.holds);
     }
 
-pub returns : goal.returns
-returns g c =
+pub returns-clause-carries : goal.returns-clause-carries
+returns-clause-carries g c =
     let so_far = c.loop-place.invariant in
     record {
       same = so_far.same;

@@ -1,0 +1,158 @@
+-- What a session with batches answers.
+use Rattle.std.proofs.Common.{◌≡◌, ◌⊎◌, inl, inr, ◌||◌, ◌+◌, ◌++◌, ◌∙◌, ℕ, zero, suc, Bool, true, false, List, [], ◌∷◌, Option, None, Some, Result, Ok, Err, OnErr, OnOk, ap, sym, refl, subst, append-nil, append_assoc}
+use Rattle.std.specs.Io.KnownBytes.{Appends}
+use Rattle.vm_types.specs.State.{State}
+use Rattle.vm_store.specs.declared.store.Store.{Store}
+use Rattle.vm_cli.specs.Carried.{WritesStart}
+use Rattle.vm_cli.specs.Feeds.{TalksOn, Writes}
+use Rattle.vm_cli.specs.Replies.{is_error}
+use Rattle.vm_cli.specs.Rounds.{Round, after_round, after_rounds}
+use Rattle.vm_cli.specs.Streams.{AnswersThen, Course, Held, HasStreamed, Puts, Streams, Takes, Tells, Verdict, after_refusal, batch_course, counted_result, course_of, refused_result, result_of, said_result, some_lines, verdict_result}
+use Rattle.vm_cli.specs.Streams.Course.{over, proceeds}
+use Rattle.vm_cli.specs.Streams.Verdict.{fails, succeeds}
+use Rattle.vm_cli.specs.declared.answers.output.WriteFault.{WriteFault}
+use Rattle.vm_cli.specs.declared.talk.Manner.{Manner}
+use Rattle.vm_cli.specs.declared.talk.OnRefusal.{OnRefusal}
+use Rattle.vm_cli.specs.declared.talk.OnRefusal.TheVariants.{Ignore, Stop, Tell}
+use Rattle.vm_cli.specs.declared.talk.ServeFault.{ServeFault}
+use Rattle.vm_cli.specs.declared.talk.ServeFault.TheVariants as fault
+use Rattle.vm_cli.specs.declared.talk.carrying.Then.{Then}
+use Rattle.vm_cli.specs.declared.talk.carrying.Then.TheVariants.{GoOn, Failed as AsFailed, Unsure as AsUnsure}
+use Rattle.vm_cli.proofs.CarriedLemmas.{begins-more, begins-then, begins-whole, carries-all}
+use Rattle.vm_cli.proofs.EndLemmas.{talks_fine}
+use Rattle.vm_cli.proofs.Known.{Appends-nil, Appends-then}
+
+or-assoc : (a b c : Bool) → ((a || b) || c) ≡ (a || (b || c))
+or-assoc true b c = refl
+or-assoc false b c = refl
+
+or-false : (a : Bool) → (a || false) ≡ a
+or-false true = refl
+or-false false = refl
+
+neither : (a b : Bool) → a ≡ false → b ≡ false → (a || b) ≡ false
+neither a b e f = rw (e, f) refl
+
+-- a text was written, or a beginning of it
+pub puts_said : {T : Type 0} (text : List ℕ) (written : Result T WriteFault) (a b : Option (List ℕ)) → OnOk written (Appends a b text) → OnErr written (WritesStart a b text) → Puts text (said_result written) a b
+puts_said text (Ok u) a b ok err = ok
+puts_said text (Err failed) a b ok err = (refl, err)
+
+module _ (a b c : Option (List ℕ)) (first second : List ℕ) (then : Result Bool ServeFault) where
+  -- the writer failed in the first of two texts
+  pub cut_short : (why : ServeFault) → (why ≡ fault.Write) × WritesStart a b first → AnswersThen (first ++ second) then (Err why) a b
+  cut_short why h = inr (ap Err h.0, begins-more a b first second h.1)
+
+  -- the second is written behind the first
+  pub written_behind : (result : Result Bool ServeFault) → Appends a b first → AnswersThen second then result b c → AnswersThen (first ++ second) then result a c
+  written_behind result all (inl h) = inl (h.0, Appends-then a b c first second all h.1)
+  written_behind result all (inr h) = inr (h.0, begins-then a b c second (first ++ second) (record { sent = first; split = refl; written = all }) h.1)
+
+-- it was the last text
+pub written_last : (a b : Option (List ℕ)) (text : List ℕ) (then : Result Bool ServeFault) → Appends a b text → AnswersThen text then then a b
+written_last a b text then all = inl (refl, all)
+
+-- what an answer of the store is to a session with batches
+pub tells_writes : (how : Manner) (P : List ℕ → Bool → Type 0) (Q : List ℕ → Course → Type 0) → ((text : List ℕ) (ends : Bool) → P text ends → Q text (course_of ends text))
+    → (result : Result Bool ServeFault) (a b : Option (List ℕ)) → Writes how P result a b → Tells how Q result a b
+tells_writes how P Q as (Ok refused) a b (text, says, same, goes_on, written) = (text, subst (λ r. Q text (proceeds r)) (sym same) (as text false says), goes_on, written)
+tells_writes how P Q as (Err fault.Read) a b writes = writes
+tells_writes how P Q as (Err fault.Unsure) a b writes = absurd writes
+tells_writes how P Q as (Err fault.Store) a b (text, says, written) = (text, as text true says, written)
+tells_writes how P Q as (Err fault.Refused) a b (text, says, error, stop, written) = (text, subst (λ r. Q text (proceeds r)) error (as text false says), stop, written)
+tells_writes how P Q as (Err fault.Write) a b (text, ends, says, begun) = (text, course_of ends text, as text ends says, begun)
+
+-- an answer that was written
+module _ (how : Manner) (P : List ℕ → Course → Type 0) (text : List ℕ) (a b : Option (List ℕ)) where
+  refused_by : (on_refusal : OnRefusal) → how.on_refusal ≡ on_refusal → P text (proceeds true) → Appends a b text → Tells how P (refused_result on_refusal) a b
+  refused_by Stop is says written = (text, says, is, written)
+  refused_by Ignore is says written = (text, says, (λ stop. let bad : Ignore ≡ Stop = sym is ∙ stop in cc), written)
+  refused_by Tell is says written = (text, says, (λ stop. let bad : Tell ≡ Stop = sym is ∙ stop in cc), written)
+
+  -- by which some lines were refused, or none
+  pub tells_counted : (count : ℕ) (result : Result Bool ServeFault) → P text (proceeds (some_lines count)) → AnswersThen text (counted_result how.on_refusal count) result a b → Tells how P result a b
+  tells_counted count result says (inr h) = subst (λ r. Tells how P r a b) (sym h.0) (text, proceeds (some_lines count), says, h.1)
+  tells_counted zero result says (inl h) = subst (λ r. Tells how P r a b) (sym h.0) (text, says, (λ stop. refl), h.1)
+  tells_counted (suc n) result says (inl h) = subst (λ r. Tells how P r a b) (sym h.0) (refused_by how.on_refusal refl says h.1)
+
+  -- the answer to a batch
+  pub tells_verdict : (verdict : Verdict) (result : Result Bool ServeFault) → P text (batch_course verdict) → AnswersThen text (verdict_result how verdict) result a b → Tells how P result a b
+  tells_verdict verdict result says (inr h) = subst (λ r. Tells how P r a b) (sym h.0) (text, batch_course verdict, says, h.1)
+  tells_verdict (succeeds answers) result says (inl h) = subst (λ r. Tells how P r a b) (sym h.0) (text, says, (λ stop. refl), h.1)
+  tells_verdict (fails place answer GoOn) result says (inl h) = subst (λ r. Tells how P r a b) (sym h.0) (refused_by how.on_refusal refl says h.1)
+  tells_verdict (fails place answer AsFailed) result says (inl h) = subst (λ r. Tells how P r a b) (sym h.0) (text, says, h.1)
+  tells_verdict (fails place answer AsUnsure) result says (inl h) = subst (λ r. Tells how P r a b) (sym h.0) (text, says, h.1)
+
+-- nothing was written
+pub tells_nothing : (how : Manner) (P : List ℕ → Course → Type 0) (a : Option (List ℕ)) → P [] (proceeds false) → Tells how P (Ok false) a a
+tells_nothing how P a says = ([], says, (λ stop. refl), Appends-nil a)
+
+module _ {D : Type 0} {members : _} where
+  -- the store after a batch that was answered
+  pub verdict_talks : (how : Manner) (old new : Store D members) (text : List ℕ) (a b : Option (List ℕ)) (verdict : Verdict) (result : Result Bool ServeFault) → AnswersThen text (verdict_result how verdict) result a b
+      → TalksOn (result_of verdict) old new → TalksOn result old new
+  verdict_talks how old new text a b verdict result (inr h) talks =
+      subst (λ r. TalksOn r old new) (sym h.0) (record { goes = talks.goes; ok = λ sound. tt; err = λ sound. tt; failing = talks.failing; left = talks.left })
+  verdict_talks how old new text a b (succeeds answers) result (inl h) talks = subst (λ r. TalksOn r old new) (sym h.0) talks
+  verdict_talks how old new text a b (fails place answer AsFailed) result (inl h) talks = subst (λ r. TalksOn r old new) (sym h.0) talks
+  verdict_talks how old new text a b (fails place answer AsUnsure) result (inl h) talks = subst (λ r. TalksOn r old new) (sym h.0) talks
+  verdict_talks how old new text a b (fails place answer GoOn) result (inl h) talks = subst (λ r. TalksOn r old new) (sym h.0) (by how.on_refusal)
+    where
+      by : (on_refusal : OnRefusal) → TalksOn (refused_result on_refusal) old new
+      by Stop = record { goes = talks.goes; ok = λ sound. tt; err = λ sound. tt; failing = talks.failing; left = talks.left }
+      by Ignore = talks
+      by Tell = talks
+
+  -- one more line was taken
+  pub streams_more : (old mid new : Store D members) (s : State) (how : Manner) (stage : Option Held) (parts : List (List ℕ)) (text : List ℕ) (next : Option Held) (rounds : List Round) (again : Bool)
+      → Streams old mid s how stage parts text next rounds again
+      → (part said : List ℕ) (refused : Bool) (stage' : Option Held) (round : Round) → Takes mid new (after_rounds s rounds) how next part said (proceeds refused) stage' round
+      → Streams old new s how stage (parts ++ part ∷ []) (text ++ said) stage' (rounds ++ round ∷ []) (again || refused)
+  streams_more old mid new s how stage [] text next rounds again (same, none, stage_is, no_rounds, no_refusal) part said refused stage' round takes =
+      let from_old = subst (λ (t : Store D members). Takes t new (after_rounds s rounds) how next part said (proceeds refused) stage' round) same takes in
+      let from_here = subst (λ rs. Takes old new (after_rounds s rs) how next part said (proceeds refused) stage' round) no_rounds from_old in
+      let here = subst (λ st. Takes old new s how st part said (proceeds refused) stage' round) stage_is from_here in (
+        new,
+        stage',
+        said,
+        [],
+        round,
+        [],
+        refused,
+        false,
+        here,
+        ap (λ t. t ++ said) none ∙ sym (append-nil said),
+        ap (λ rs. rs ++ round ∷ []) no_rounds,
+        ap (λ b. b || refused) no_refusal ∙ sym (or-false refused),
+        (refl, refl, refl, refl, refl),
+      )
+  streams_more old mid new s how stage (p ∷ parts) text next rounds again (to, st, first, rest, came, later, bad, others, step, texts, came_so, again_is, streams) part said refused stage' round takes = (
+    to,
+    st,
+    first,
+    rest ++ said,
+    came,
+    later ++ round ∷ [],
+    bad,
+    others || refused,
+    step,
+    ap (λ t. t ++ said) texts ∙ append_assoc first rest said,
+    ap (λ rs. rs ++ round ∷ []) came_so,
+    ap (λ b. b || refused) again_is ∙ or-assoc bad others refused,
+    streams_more to mid new (after_round s came) how st parts rest next later others streams part said refused stage' round
+        (subst (λ rs. Takes mid new (after_rounds s rs) how next part said (proceeds refused) stage' round) came_so takes),
+  )
+
+  -- all lines so far, and one more
+  pub streamed_more : (old mid new : Store D members) (s : State) (how : Manner) (parts : List (List ℕ)) (text : List ℕ) (stage : Option Held) (again : Bool) (so_far : HasStreamed old mid s how parts text stage again)
+      → (part said : List ℕ) (refused : Bool) (stage' : Option Held) (round : Round) → Takes mid new (after_rounds s so_far.rounds) how stage part said (proceeds refused) stage' round
+      → (how.on_refusal ≡ Stop → refused ≡ false) → HasStreamed old new s how (parts ++ part ∷ []) (text ++ said) stage' (again || refused)
+  streamed_more old mid new s how parts text stage again so_far part said refused stage' round takes goes_on = record {
+    rounds = so_far.rounds ++ round ∷ [];
+    streams = streams_more old mid new s how None parts text stage so_far.rounds again so_far.streams part said refused stage' round takes;
+    goes_on = λ stop. neither again refused (so_far.goes_on stop) (goes_on stop);
+  }
+
+  -- no line
+  pub streamed_none : (store : Store D members) (s : State) (how : Manner) → HasStreamed store store s how [] [] None false
+  streamed_none store s how = record { rounds = []; streams = (refl, refl, refl, refl, refl); goes_on = λ stop. refl }
