@@ -91,7 +91,8 @@ fn asked(alloc: Global, words: &[String]) -> Result<Vec<u8>> {
                 manner,
             },
         ) => format!(in alloc;
-            "run {file}, cache {}, buffer {}, {:?}, {:?}\n",
+            "{} {file}, cache {}, buffer {}, {:?}, {:?}\n",
+            word_of(manner.grouping),
             in_memory.cache,
             buffers(alloc, in_memory)?,
             manner.on_refusal,
@@ -148,6 +149,14 @@ fn play_talks(alloc: Global, passes: u32, steps: &mut [Step]) -> Result<()> {
     }
     let _disk = store.close();
     played
+}
+
+/// The word of a session.
+fn word_of(grouping: Grouping) -> &'static str {
+    match grouping {
+        Grouping::Lines => "run",
+        Grouping::Batches => "serve",
+    }
 }
 
 /// The manner of a session that words give: `serve ignore`, `tell` or `stop`, followed by

@@ -1,9 +1,59 @@
--- What a crash leaves of batches: the state after a beginning of them.
-use Rattle.std.proofs.Common.{◌≡◌, ℕ, List, [], ◌∷◌, refl}
-use Rattle.vm_types.specs.State.{State, accepted, after}
+-- The states that batches leave.
+use Rattle.std.proofs.Common.{◌≡◌, ◌∙◌, ℕ, Bool, true, false, List, [], ◌∷◌, Result, Ok, Err, ap, sym, refl}
+use Rattle.vm_types.specs.declared.answer.Answer.{Answer}
+use Rattle.vm_types.specs.declared.command.Command.{Command}
 use Rattle.vm_types.specs.declared.command.Command.TheVariants.{Commit, Rollback}
-use Rattle.vm_cli.specs.Rounds.{Batch, after_batch}
+use Rattle.vm_types.specs.declared.refusal.Refusal.{Refusal}
+use Rattle.vm_types.specs.State.{State, accepted, after, is_commit, next}
+use Rattle.vm_types.specs.Tree.{Tree}
+use Rattle.vm_types.proofs.Runs.{after_more}
+use Rattle.vm_cli.specs.Rounds.{Batch, CommitNothing, IsSettled, IsWhole, Round, after_batch, after_batches, after_round, after_rounds, committed_batches}
+use Rattle.vm_cli.specs.Rounds.Round.{broken, committed, idle, undone, unsure}
 
--- a state in which all is committed is left as it was by a batch that is undone
-pub undone_leaves : (s : State) → s.working ≡ s.committed → s.blocks ≡ s.kept → accepted s Rollback ≡ s
-undone_leaves s same blocks = ?
+-- a command that is no commit leaves what is committed
+next_keeps : (s : State) (c : Command) (a : Result Answer Refusal) → is_commit c ≡ false → ((next s c a).committed ≡ s.committed) × ((next s c a).kept ≡ s.kept)
+next_keeps s c (Ok answer) no = (rw no refl, rw no refl)
+next_keeps s c (Err refusal) no = (refl, refl)
+
+-- and so do more of them
+pub after_keeps : (s : State) (commands : List Command) (answers : List (Result Answer Refusal)) → CommitNothing commands
+    → ((after s commands answers).committed ≡ s.committed) × ((after s commands answers).kept ≡ s.kept)
+after_keeps s [] answers none = (refl, refl)
+after_keeps s (c ∷ commands) [] none = (refl, refl)
+after_keeps s (c ∷ commands) (a ∷ answers) none =
+    let here = next_keeps s c a none.0 in
+    let rest = after_keeps (next s c a) commands answers none.1 in
+    (rest.0 ∙ here.0, rest.1 ∙ here.1)
+
+-- all that is not committed is undone
+abbrev back_to : Tree → ℕ → State
+back_to tree blocks = record { committed = tree; kept = blocks; working = tree; blocks = blocks }
+
+-- a batch that is undone leaves what was committed
+pub undone_state : (s : State) (batch : Batch) → IsWhole batch → (answer : Answer)
+    → next (after s batch.commands batch.answers) Rollback (Ok answer) ≡ after_round s (undone batch answer)
+undone_state s batch whole answer =
+    let keeps = after_keeps s batch.commands batch.answers whole.changes in
+    ap (λ tree. back_to tree (after s batch.commands batch.answers).kept) keeps.0 ∙ ap (λ blocks. back_to s.committed blocks) keeps.1
+
+-- which is the state itself, if all was committed
+pub settled_stays : (s : State) → IsSettled s → (batch : Batch) (answer : Answer) → after_round s (undone batch answer) ≡ s
+settled_stays s settled batch answer =
+    ap (λ tree. record s { working = tree; blocks = s.kept }) (sym settled.tree) ∙ ap (λ blocks. record s { blocks = blocks }) (sym settled.blocks)
+
+-- all is committed after each round
+pub round_settles : (s : State) (round : Round) → IsSettled s → IsSettled (after_round s round)
+round_settles s idle settled = settled
+round_settles s (committed batch answer) settled = record { tree = refl; blocks = refl }
+round_settles s (undone batch answer) settled = record { tree = refl; blocks = refl }
+round_settles s (broken batch) settled = settled
+round_settles s (unsure batch refusal) settled = settled
+
+-- the state after rounds is that after the batches that were committed
+pub rounds_are : (s : State) (rounds : List Round) → IsSettled s → after_rounds s rounds ≡ after_batches s (committed_batches rounds)
+rounds_are s [] settled = refl
+rounds_are s (idle ∷ rounds) settled = rounds_are s rounds settled
+rounds_are s (committed batch answer ∷ rounds) settled = rounds_are (after_batch s batch) rounds (record { tree = refl; blocks = refl })
+rounds_are s (undone batch answer ∷ rounds) settled = ap (λ t. after_rounds t rounds) (settled_stays s settled batch answer) ∙ rounds_are s rounds settled
+rounds_are s (broken batch ∷ rounds) settled = rounds_are s rounds settled
+rounds_are s (unsure batch refusal ∷ rounds) settled = rounds_are s rounds settled

@@ -12,7 +12,7 @@ use Rattle.vm_cli.specs.Feeds.{TalksOn}
 use Rattle.vm_cli.specs.Replies.{reply_text}
 use Rattle.vm_cli.specs.Rounds.{Batch as Commanded, Round}
 use Rattle.vm_cli.specs.Rounds.Round.{committed, idle, unsure}
-use Rattle.vm_cli.specs.Streams.{Applies, CommitsOrNot, Held, IsHeldBy, Settles, SettlesHeld, StopsIn, Undoes, carried_by, result_of, trying, verdict_of, why_text}
+use Rattle.vm_cli.specs.Streams.{Applies, CommitsOrNot, Held, HoldsLines, IsHeldBy, Settles, SettlesHeld, StopsIn, Undoes, Verdict, carried_by, result_of, trying, verdict_of, why_text}
 use Rattle.vm_cli.specs.Streams.Held.{holds, lost}
 use Rattle.vm_cli.specs.Streams.Verdict.{fails}
 use Rattle.vm_cli.specs.Talk.{HasTalked}
@@ -146,3 +146,10 @@ settles_lost store s how was lines count bytes found is (holds parts) h answers 
 settles_lost store s how was lines count bytes found is (lost place answer all) h answers =
     let same : found ≡ h.0 = (let known : was ≡ Some h.0 = h.1 in cc) in
     (idle, (refl, ap (λ (l : Lost). fails l.place (reply_text l.reply) GoOn) same ∙ ap (λ n. fails n (reply_text h.0.reply) GoOn) h.2 ∙ ap (λ t. fails place t GoOn) h.3, refl))
+
+-- or of which none is
+pub settles_held : {D : Type 0} {members : _} (old new : Store D members) (s : State) (how : Manner) (was : Option Lost) (lines : List Line) (count bytes : ℕ) → was ≡ None
+    → (verdict : Verdict) → ((parts : List (List ℕ)) → HoldsLines lines parts → (round : Round) × Settles old new s how parts verdict round)
+    → (held : Held) → IsHeldBy was lines count bytes held → (round : Round) × SettlesHeld old new s how held verdict round
+settles_held old new s how was lines count bytes none verdict settled (holds parts) h = settled parts h.1
+settles_held old new s how was lines count bytes none verdict settled (lost place answer all) h = let found : was ≡ Some h.0 = h.1 in cc

@@ -1,16 +1,25 @@
 -- Batches that are carried out one after another, by the states that they leave.
-use Rattle.std.specs.Prelude.{◌≡◌, ◌≤◌, ◌<◌, ◌+◌, ◌-◌, ℕ, Bool, true, false, List, [], ◌∷◌, ◌++◌, length, take, filter, All, Option, Some, None, Result, Ok, Err, slice_get}
+use Rattle.std.specs.Prelude.{◌≡◌, false, List, [], ◌∷◌, ◌++◌, length, Result, Ok, Err}
 use Rattle.vm_types.specs.declared.answer.Answer.{Answer}
 use Rattle.vm_types.specs.declared.command.Command.{Command}
 use Rattle.vm_types.specs.declared.command.Command.TheVariants.{Commit, Rollback}
 use Rattle.vm_types.specs.declared.refusal.Refusal.{Refusal}
-use Rattle.vm_types.specs.Kept.{Kept}
-use Rattle.vm_types.specs.State.{Seen, State, accepted, after, committed_of, is_commit, is_rollback}
+use Rattle.vm_types.specs.State.{State, accepted, after, is_commit}
 
 -- commands that change the store, each with its answer
 pub record Batch : Type 0 where
   pub commands : List Command
   pub answers : List (Result Answer Refusal)
+
+-- none of them commits
+abbrev pub CommitNothing : List Command → Type 0
+CommitNothing [] = Unit {0}
+CommitNothing (command ∷ commands) = (is_commit command ≡ false) × CommitNothing commands
+
+-- each of them was answered, and none commits
+pub record IsWhole (batch : Batch) : Type 0 where
+  pub even : length batch.answers ≡ length batch.commands
+  pub changes : CommitNothing batch.commands
 
 -- what came of a batch
 pub data Round : Type 0 where
@@ -66,3 +75,19 @@ all_commands (round ∷ rounds) = round_commands round ++ all_commands rounds
 abbrev pub all_answers : List Round → List (Result Answer Refusal)
 all_answers [] = []
 all_answers (round ∷ rounds) = round_answers round ++ all_answers rounds
+
+-- the batches that were committed, in order
+abbrev pub committed_batches : List Round → List Batch
+committed_batches [] = []
+committed_batches (committed batch answer ∷ rounds) = batch ∷ committed_batches rounds
+committed_batches (round ∷ rounds) = committed_batches rounds
+
+-- the state after batches
+abbrev pub after_batches : State → List Batch → State
+after_batches s [] = s
+after_batches s (batch ∷ batches) = after_batches (after_batch s batch) batches
+
+-- all is committed
+pub record IsSettled (s : State) : Type 0 where
+  pub tree : s.working ≡ s.committed
+  pub blocks : s.blocks ≡ s.kept
