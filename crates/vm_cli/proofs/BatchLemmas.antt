@@ -46,6 +46,17 @@ module _ (was : Option Lost) (lines : List Line) (count bytes : ℕ) (part : Lis
   held_lost (holds parts) h some = absurd (some h.0)
   held_lost (lost place answer all) h some = (lost place answer (all + 1), (h.0, h.1, h.2, h.3, ap (λ n. n + 1) h.4, omega (arith, h.5)), refl)
 
+  -- one more is lost
+  pub losing_again : (answer : List ℕ) (held : Held) → IsHeldBy was lines count bytes held → (was ≡ None → ⊥) → IsHeldBy was lines (count + 1) bytes (losing answer held)
+  losing_again answer (holds parts) h some = absurd (some h.0)
+  losing_again answer (lost place first all) h some = (h.0, h.1, h.2, h.3, ap (λ n. n + 1) h.4, omega (arith, h.5))
+
+  -- the first one is
+  pub losing_first : (found : Lost) (lines' : List Line) (bytes' : ℕ) (held : Held) → IsHeldBy was lines count bytes held → was ≡ None → found.place ≡ count
+      → IsHeldBy (Some found) lines' (count + 1) bytes' (losing (reply_text found.reply) held)
+  losing_first found lines' bytes' (holds parts) h none at = (found, refl, at ∙ h.2, refl, ap (λ n. n + 1) h.2, omega (arith, h.2))
+  losing_first found lines' bytes' (lost place first all) h none at = let known : was ≡ Some h.0 = h.1 in cc
+
   module _ (was' : Option Lost) (lines' : List Line) (count' bytes' : ℕ) (none : was ≡ None) where
     -- a line is lost, since memory ran out
     pub adds_wanting : (held : Held) → IsHeldBy was lines count bytes held → IsHeldBy was' lines' count' bytes' (losing (error_text Memory) held)

@@ -49,3 +49,4 @@ pub mod CarryLemmas
 pub mod SettleLemmas
 pub mod StreamLemmas
 pub mod RoundLemmas
+pub mod StreamEndLemmas

@@ -6,6 +6,7 @@ use Rattle.std.specs.Io.KnownBytes.{Consumes, IsAtEnd, Keeps}
 use Rattle.vm_cli.specs.Input.{HoldsLine, is_nil}
 use Rattle.vm_cli.specs.LineEndings.{ending_at}
 use Rattle.vm_cli.specs.LineReading.{ReadsLine, Took}
+use Rattle.vm_cli.specs.Streams.{ended_lines}
 use Rattle.vm_cli.specs.declared.lines.line.Line.{Line}
 use Rattle.vm_cli.proofs.FeedLemmas.{line_is}
 
@@ -60,3 +61,17 @@ reads_end line from more known rest before holds took end = by line.is_empty hol
     by : (empty : Bool) → empty ≡ is_nil (from ++ more) → ReadsLine (Ok (ending_at empty)) from known rest before [] line
     by true is = (more, holds, took, refl, end, sym is)
     by false is = (more, holds, took, refl, end, sym is)
+
+-- what is taken after what was taken
+pub took_then : (known mid rest : Option (List ℕ)) (before first unread second after : List ℕ) → Took known mid before first unread → Took mid rest unread second after → Took known rest before (first ++ second) after
+took_then known mid rest before first unread second after p q = record {
+  read = p.read ++ q.read;
+  consumed = Consumes-trans known mid rest p.read q.read p.consumed q.consumed;
+  split = sym (append_assoc before p.read q.read) ∙ ap (λ bs. bs ++ q.read) p.split ∙ append_assoc first unread q.read ∙ ap (λ bs. first ++ bs) q.split ∙ sym (append_assoc first second after);
+}
+
+-- one more line
+pub ended-more : (parts : List (List ℕ)) (part : List ℕ) → ended_lines (parts ++ part ∷ []) ≡ ended_lines parts ++ (part ++ 10 ∷ [])
+ended-more [] part = refl
+ended-more (p ∷ parts) part =
+    ap (λ bs. p ++ (10 ∷ bs)) (ended-more parts part) ∙ sym (append_assoc p (10 ∷ ended_lines parts) (part ++ 10 ∷ []))

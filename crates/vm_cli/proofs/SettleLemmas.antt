@@ -138,14 +138,40 @@ module _ {D : Type 0} {members : _} (old mid new : Store D members) where
     undo_talks place text AsFailed round batch (refusal, applies, is) = failed_talks refusal applies
     undo_talks place text AsUnsure round batch undoes = absurd undoes
 
+-- a line that is lost, by what is known of it
+lost_as : (was : Option Lost) (found known : Lost) → was ≡ Some found → was ≡ Some known → (place : ℕ) (answer : List ℕ) → known.place ≡ place → reply_text known.reply ≡ answer
+    → ◌≡◌ {A = Verdict} (fails found.place (reply_text found.reply) GoOn) (fails place answer GoOn)
+lost_as was found known is is_known place answer at says =
+    let same : found ≡ known = cc in
+    let places : found.place ≡ place = ap (λ (l : Lost). l.place) same ∙ at in
+    let answers : reply_text found.reply ≡ answer = ap (λ (l : Lost). reply_text l.reply) same ∙ says in
+    ap (λ n. fails n (reply_text found.reply) GoOn) places ∙ ap (λ t. fails place t GoOn) answers
+
+-- what is held of a batch of which a line is lost
+record IsLost (found : Lost) (held : Held) : Type 0 where
+  pub place : ℕ
+  pub answer : List ℕ
+  pub all : ℕ
+  pub is : held ≡ lost place answer all
+  pub says : ◌≡◌ {A = Verdict} (fails found.place (reply_text found.reply) GoOn) (fails place answer GoOn)
+
+is_lost : (was : Option Lost) (lines : List Line) (count bytes : ℕ) (found : Lost) → was ≡ Some found → (held : Held) → IsHeldBy was lines count bytes held → IsLost found held
+is_lost was lines count bytes found is (holds parts) h = let none : was ≡ None = h.0 in cc
+is_lost was lines count bytes found is (lost place answer all) h = record {
+  place = place;
+  answer = answer;
+  all = all;
+  is = refl;
+  says = lost_as was found h.0 is h.1 place answer h.2 h.3;
+}
+
 -- a batch of which a line is lost
 pub settles_lost : {D : Type 0} {members : _} (store : Store D members) (s : State) (how : Manner) (was : Option Lost) (lines : List Line) (count bytes : ℕ) (found : Lost) → was ≡ Some found
-    → (held : Held) → IsHeldBy was lines count bytes held → (answers : List ℕ)
-    → (round : Round) × SettlesHeld store store s how held (fails found.place (reply_text found.reply) GoOn) round
-settles_lost store s how was lines count bytes found is (holds parts) h answers = let none : was ≡ None = h.0 in cc
-settles_lost store s how was lines count bytes found is (lost place answer all) h answers =
-    let same : found ≡ h.0 = (let known : was ≡ Some h.0 = h.1 in cc) in
-    (idle, (refl, ap (λ (l : Lost). fails l.place (reply_text l.reply) GoOn) same ∙ ap (λ n. fails n (reply_text h.0.reply) GoOn) h.2 ∙ ap (λ t. fails place t GoOn) h.3, refl))
+    → (held : Held) → IsHeldBy was lines count bytes held → (round : Round) × SettlesHeld store store s how held (fails found.place (reply_text found.reply) GoOn) round
+settles_lost store s how was lines count bytes found is held h =
+    let known = is_lost was lines count bytes found is held h in
+    let here : SettlesHeld store store s how (lost known.place known.answer known.all) (fails found.place (reply_text found.reply) GoOn) idle = (refl, known.says, refl) in
+    (idle, subst (λ hd. SettlesHeld store store s how hd (fails found.place (reply_text found.reply) GoOn) idle) (sym known.is) here)
 
 -- or of which none is
 pub settles_held : {D : Type 0} {members : _} (old new : Store D members) (s : State) (how : Manner) (was : Option Lost) (lines : List Line) (count bytes : ℕ) → was ≡ None

@@ -1,5 +1,5 @@
 -- What a session with batches answers.
-use Rattle.std.proofs.Common.{◌≡◌, ◌⊎◌, inl, inr, ◌||◌, ◌+◌, ◌++◌, ◌∙◌, ℕ, zero, suc, Bool, true, false, List, [], ◌∷◌, Option, None, Some, Result, Ok, Err, OnErr, OnOk, ap, sym, refl, subst, append-nil, append_assoc}
+use Rattle.std.proofs.Common.{◌≡◌, ◌⊎◌, inl, inr, ◌||◌, ◌+◌, ◌++◌, ◌∙◌, ℕ, zero, suc, Bool, true, false, List, [], ◌∷◌, Option, None, Some, Result, Ok, Err, OnErr, OnOk, ap, sym, refl, subst, append-nil, append_assoc, take}
 use Rattle.std.specs.Io.KnownBytes.{Appends}
 use Rattle.vm_types.specs.State.{State}
 use Rattle.vm_store.specs.declared.store.Store.{Store}
@@ -7,7 +7,7 @@ use Rattle.vm_cli.specs.Carried.{WritesStart}
 use Rattle.vm_cli.specs.Feeds.{TalksOn, Writes}
 use Rattle.vm_cli.specs.Replies.{is_error}
 use Rattle.vm_cli.specs.Rounds.{Round, after_round, after_rounds}
-use Rattle.vm_cli.specs.Streams.{AnswersThen, Course, Held, HasStreamed, Puts, Streams, Takes, Tells, Verdict, after_refusal, batch_course, counted_result, course_of, refused_result, result_of, said_result, some_lines, verdict_result}
+use Rattle.vm_cli.specs.Streams.{AnswersThen, Course, Held, HasStreamed, Puts, Streams, Takes, Tells, Verdict, after_refusal, batch_course, counted_result, course_of, refused_result, repeated, result_of, said_result, some_lines, verdict_result}
 use Rattle.vm_cli.specs.Streams.Course.{over, proceeds}
 use Rattle.vm_cli.specs.Streams.Verdict.{fails, succeeds}
 use Rattle.vm_cli.specs.declared.answers.output.WriteFault.{WriteFault}
@@ -18,7 +18,7 @@ use Rattle.vm_cli.specs.declared.talk.ServeFault.{ServeFault}
 use Rattle.vm_cli.specs.declared.talk.ServeFault.TheVariants as fault
 use Rattle.vm_cli.specs.declared.talk.carrying.Then.{Then}
 use Rattle.vm_cli.specs.declared.talk.carrying.Then.TheVariants.{GoOn, Failed as AsFailed, Unsure as AsUnsure}
-use Rattle.vm_cli.proofs.CarriedLemmas.{begins-more, begins-then, begins-whole, carries-all}
+use Rattle.vm_cli.proofs.CarriedLemmas.{begins-cut, begins-more, begins-then}
 use Rattle.vm_cli.proofs.EndLemmas.{talks_fine}
 use Rattle.vm_cli.proofs.Known.{Appends-nil, Appends-then}
 
@@ -37,6 +37,15 @@ neither a b e f = rw (e, f) refl
 pub puts_said : {T : Type 0} (text : List ℕ) (written : Result T WriteFault) (a b : Option (List ℕ)) → OnOk written (Appends a b text) → OnErr written (WritesStart a b text) → Puts text (said_result written) a b
 puts_said text (Ok u) a b ok err = ok
 puts_said text (Err failed) a b ok err = (refl, err)
+
+-- or its first bytes
+pub puts_put : {T : Type 0} (text : List ℕ) (written : Result T WriteFault) (a b : Option (List ℕ)) → OnOk written (Appends a b text) → OnErr written ((k : ℕ) × Appends a b (take k text)) → Puts text (said_result written) a b
+puts_put text (Ok u) a b ok err = ok
+puts_put text (Err failed) a b ok err = (refl, begins-cut a b text err.0 err.1)
+
+-- once
+pub repeated-one : (text : List ℕ) → repeated 1 text ≡ text
+repeated-one text = append-nil text
 
 module _ (a b c : Option (List ℕ)) (first second : List ℕ) (then : Result Bool ServeFault) where
   -- the writer failed in the first of two texts

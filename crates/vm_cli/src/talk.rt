@@ -27,6 +27,7 @@ use crate::answers::reply::Reply;
 use crate::answers::text::Text;
 use crate::lines::line::{Line, LineKind};
 use crate::lines::request::{Request, parse_request};
+use batch::Batch;
 use commands::{reply_to_merge, reply_to_small};
 use memchr::memchr;
 use puts::reply_to_put;
@@ -135,9 +136,13 @@ pub fn serve<R: Read, W: Write, D: Disk>(
     // is left as it was.
     ensures reads { manner.on_command ≡ OnCommand.Refuse → Passes store.old store.new None }
 {
+    let mut batch = Batch::new(alloc);
+    let mut answers = Vec::new(alloc);
     let mut session = Session {
         alloc,
         manner,
+        batch: &mut batch,
+        answers: &mut answers,
         text: Text::new(),
         room: [0; 4096],
         writer,
@@ -151,6 +156,10 @@ pub fn serve<R: Read, W: Write, D: Disk>(
 struct Session<'a, W, D: Disk> {
     alloc: Global,
     manner: Manner,
+    // What is held of a batch, and the answers to its lines while it is carried out: nothing, where
+    // lines are answered each by itself.
+    batch: &'a mut Batch,
+    answers: &'a mut Vec<u8>,
     // Answers are composed in it. Nothing is kept in it from line to line.
     text: Text,
     // Values are read into this buffer, and nothing is kept in it. All lines share it, so that none

@@ -56,37 +56,28 @@ pub fn serve_batches<R: Read, W: Write, D: Disk>(
     // is left as it was.
     ensures reads { manner.on_command ≡ OnCommand.Refuse → Passes store.old store.new None }
 {
-    let mut stream = Stream {
-        batch: Batch::new(alloc),
-        answers: Vec::new(alloc),
-        session: Session {
-            alloc,
-            manner,
-            text: Text::new(),
-            room: [0; 4096],
-            writer,
-            store,
-        },
+    let mut batch = Batch::new(alloc);
+    let mut answers = Vec::new(alloc);
+    let mut session = Session {
+        alloc,
+        manner,
+        batch: &mut batch,
+        answers: &mut answers,
+        text: Text::new(),
+        room: [0; 4096],
+        writer,
+        store,
     };
-    stream.run(reader)
+    session.run_batches(reader)
 }
 
-/// A session with batches.
-#[derive(Drop)]
-struct Stream<'a, W, D: Disk> {
-    batch: Batch,
-    // The answers to the lines of a batch that is being carried out.
-    answers: Vec<u8>,
-    session: Session<'a, W, D>,
-}
-
-impl<'a, W: Write, D: Disk> Stream<'a, W, D> {
+impl<'a, W: Write, D: Disk> Session<'a, W, D> {
     /// Takes all lines of the input.
-    fn run<R: Read>(&mut self, reader: &mut R) -> Result<bool, ServeFault>
-        requires { self.old.batch.count ≡ 0 }
+    fn run_batches<R: Read>(&mut self, reader: &mut R) -> Result<bool, ServeFault>
+        requires { self.old.batch.now.count ≡ 0 }
         ensures { RunsStream W.contents result self.old self.new (R.remaining reader.old) }
     {
-        let mut line = Line::new(self.session.alloc);
+        let mut line = Line::new(self.alloc);
         let mut input = LineReader::new();
         let mut refused = false;
         for _ in 0..usize::MAX - 1 {
@@ -104,11 +95,11 @@ impl<'a, W: Write, D: Disk> Stream<'a, W, D> {
 
     /// Takes a line. An `Ok` says whether it, or a line of the batch that it ends, was refused.
     fn take(&mut self, line: &mut Line) -> Result<bool, ServeFault>
-        requires { self.old.batch.count < usize.MAX }
+        requires { self.old.batch.now.count < usize.MAX }
         ensures { TakesLine W.contents line.old result self.old self.new }
     {
-        let alloc = self.session.alloc;
-        let used = use_of(alloc, line, self.session.manner.on_command);
+        let alloc = self.alloc;
+        let used = use_of(alloc, line, self.manner.on_command);
         if self.batch.is_open {
             self.take_inside(used, line)
         } else {
@@ -118,7 +109,7 @@ impl<'a, W: Write, D: Disk> Stream<'a, W, D> {
 
     /// Takes a line outside of a batch.
     fn take_outside(&mut self, used: LineUse, line: &mut Line) -> Result<bool, ServeFault>
-        requires room { self.old.batch.count < usize.MAX }
+        requires room { self.old.batch.now.count < usize.MAX }
         requires kept { used ≡ LineUse.Change → line.old.kind ≡ LineKind.Kept }
         ensures { TakesLineOutside W.contents used line.old result self.old self.new }
     {
@@ -130,10 +121,10 @@ impl<'a, W: Write, D: Disk> Stream<'a, W, D> {
             }
             LineUse::Commit => self.say(Reply::Done, 0),
             LineUse::Abort => self.say(Reply::Done, 0),
-            LineUse::Query => self.session.answer(line),
+            LineUse::Query => self.answer(line),
             LineUse::Refused(reply) => self.say(reply, 1),
             LineUse::Change => {
-                self.batch.hold(self.session.alloc, line);
+                self.batch.hold(self.alloc, line);
                 self.settle(false)
             }
         }
@@ -141,7 +132,7 @@ impl<'a, W: Write, D: Disk> Stream<'a, W, D> {
 
     /// Takes a line within a batch.
     fn take_inside(&mut self, used: LineUse, line: &mut Line) -> Result<bool, ServeFault>
-        requires room { self.old.batch.count < usize.MAX }
+        requires room { self.old.batch.now.count < usize.MAX }
         requires kept { used ≡ LineUse.Change → line.old.kind ≡ LineKind.Kept }
         ensures { TakesLineInside W.contents used line.old result self.old self.new }
     {
@@ -162,21 +153,21 @@ impl<'a, W: Write, D: Disk> Stream<'a, W, D> {
                 Ok(false)
             }
             LineUse::Change => {
-                self.batch.hold(self.session.alloc, line);
+                self.batch.hold(self.alloc, line);
                 Ok(false)
             }
         }
     }
 }
 
-impl<'a, W: Write, D: Disk> Stream<'a, W, D> {
+impl<'a, W: Write, D: Disk> Session<'a, W, D> {
     /// Forgets the batch, and answers that to each of its lines.
     fn forget(&mut self) -> Result<bool, ServeFault>
-        ensures said { SaysThen W.contents (forgotten_text self.old.batch.count ++ ok_text)
-            (counted_result self.old.session.manner.on_refusal self.old.batch.count) result self.old self.new }
+        ensures said { SaysThen W.contents (forgotten_text self.old.batch.now.count ++ ok_text)
+            (counted_result self.old.manner.on_refusal self.old.batch.now.count) result self.old self.new }
         ensures session { KeepsSession self.old self.new }
-        ensures closed { IsStage self.new.batch None }
-        ensures none { self.new.batch.count ≡ 0 }
+        ensures closed { IsStage self.new.batch.now None }
+        ensures none { self.new.batch.now.count ≡ 0 }
     {
         let count = self.batch.count;
         self.batch.clear();
@@ -187,10 +178,10 @@ impl<'a, W: Write, D: Disk> Stream<'a, W, D> {
 
     /// The input has ended, in the middle of that many lines. A batch that was begun is forgotten.
     fn end(&mut self, half: usize) -> Result<bool, ServeFault>
-        requires { self.old.batch.count + half < usize.MAX }
-        ensures said { (stage : Option Held) → IsStage self.old.batch stage
+        requires { self.old.batch.now.count + half < usize.MAX }
+        ensures said { (stage : Option Held) → IsStage self.old.batch.now stage
             → SaysThen W.contents (end_text stage half)
-            (counted_result self.old.session.manner.on_refusal (end_count stage half)) result self.old self.new }
+            (counted_result self.old.manner.on_refusal (end_count stage half)) result self.old self.new }
         ensures same { KeepsStream self.old self.new }
     {
         let reply = if self.batch.is_open {
@@ -208,11 +199,11 @@ impl<'a, W: Write, D: Disk> Stream<'a, W, D> {
         ensures { SettlesBatch W.contents is_begun result self.old self.new }
     {
         let settled = settle_batch(
-            self.session.alloc,
-            self.session.manner,
-            &self.batch,
-            &mut self.answers,
-            &mut *self.session.store,
+            self.alloc,
+            self.manner,
+            &*self.batch,
+            &mut *self.answers,
+            &mut *self.store,
         );
         let count = self.batch.count;
         self.batch.clear();
@@ -230,11 +221,11 @@ impl<'a, W: Write, D: Disk> Stream<'a, W, D> {
 
     /// Answers the lines of a batch that was committed.
     fn answer_done(&mut self, more: usize) -> Result<bool, ServeFault>
-        ensures said { SaysThen W.contents (self.old.answers.items ++ repeated more ok_text) (Ok false)
+        ensures said { SaysThen W.contents (self.old.answers.now.items ++ repeated more ok_text) (Ok false)
             result self.old self.new }
         ensures same { KeepsStream self.old self.new }
     {
-        said(put_all(&mut *self.session.writer, self.answers.as_slice()))?;
+        self.put_why(Why::Answer(0))?;
         self.put_repeated(Reply::Done, more)?;
         Ok(false)
     }
@@ -248,8 +239,8 @@ impl<'a, W: Write, D: Disk> Stream<'a, W, D> {
     ) -> Result<bool, ServeFault>
         requires { stop.now.place < usize.MAX }
         ensures said { let other = reply_text (Reply.NotDone (stop.now.place + 1)) in
-            SaysThen W.contents (repeated before other ++ (why_text stop.now.why self.old.answers.items ++ repeated behind other))
-            (after_refusal self.old.session.manner stop.now.then) result self.old self.new }
+            SaysThen W.contents (repeated before other ++ (why_text stop.now.why self.old.answers.now.items ++ repeated behind other))
+            (after_refusal self.old.manner stop.now.then) result self.old self.new }
         ensures same { KeepsStream self.old self.new }
     {
         let other = Reply::NotDone(stop.place + 1);
@@ -265,13 +256,13 @@ impl<'a, W: Write, D: Disk> Stream<'a, W, D> {
 
     /// Writes the answer to the line that was refused.
     fn put_why(&mut self, why: Why) -> Result<(), ServeFault>
-        ensures put { Puts (why_text why self.old.answers.items) result
-            (W.contents self.old.session.writer.now) (W.contents self.new.session.writer.now) }
+        ensures put { Puts (why_text why self.old.answers.now.items) result
+            (W.contents self.old.writer.now) (W.contents self.new.writer.now) }
         ensures same { KeepsStream self.old self.new }
     {
         match why {
             Why::Answer(at) => said(put_all(
-                &mut *self.session.writer,
+                &mut *self.writer,
                 behind(self.answers.as_slice(), at),
             )),
             Why::Reply(reply) => self.put_repeated(reply, 1),
@@ -281,17 +272,17 @@ impl<'a, W: Write, D: Disk> Stream<'a, W, D> {
     /// Writes a line of an answer this many times.
     fn put_repeated(&mut self, reply: Reply, count: usize) -> Result<(), ServeFault>
         ensures put { Puts (repeated count (reply_text reply)) result
-            (W.contents self.old.session.writer.now) (W.contents self.new.session.writer.now) }
+            (W.contents self.old.writer.now) (W.contents self.new.writer.now) }
         ensures same { KeepsStream self.old self.new }
     {
-        let text = &mut self.session.text;
-        said(put_repeated(reply, count, text, &mut *self.session.writer))
+        let text = &mut self.text;
+        said(put_repeated(reply, count, text, &mut *self.writer))
     }
 
     /// Says the answer to a line that is refused if `count` is 1, or is not refused if it is 0.
     fn say(&mut self, reply: Reply, refused: usize) -> Result<bool, ServeFault>
         ensures said { SaysThen W.contents (repeated 1 (reply_text reply))
-            (counted_result self.old.session.manner.on_refusal refused) result self.old self.new }
+            (counted_result self.old.manner.on_refusal refused) result self.old self.new }
         ensures same { KeepsStream self.old self.new }
     {
         self.put_repeated(reply, 1)?;
@@ -300,12 +291,12 @@ impl<'a, W: Write, D: Disk> Stream<'a, W, D> {
 
     /// So many lines were refused.
     fn go_on(&self, count: usize) -> Result<bool, ServeFault>
-        ensures { result ≡ counted_result self.now.session.manner.on_refusal count }
+        ensures { result ≡ counted_result self.now.manner.on_refusal count }
     {
         if count == 0 {
             return Ok(false);
         }
-        match self.session.manner.on_refusal {
+        match self.manner.on_refusal {
             OnRefusal::Stop => Err(ServeFault::Refused),
             _ => Ok(true),
         }
@@ -323,7 +314,7 @@ fn settle_batch<D: Disk>(
     ensures settled { (s : State) (held : Held) → IsHeld batch.now held
         → (round : Round) × SettlesHeld store.old store.new s manner held (verdict_of result answers.new.items) round }
     ensures store { TalksOn (result_of (verdict_of result answers.new.items)) store.old store.new }
-    ensures place { OnErr result (λ stop. stop.place < usize.MAX) }
+    ensures place { IfErr result (λ stop. stop.place < usize.MAX) }
 {
     match batch.lost {
         Some(lost) => Err(Stop {

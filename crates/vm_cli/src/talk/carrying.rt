@@ -1,5 +1,5 @@
 //! A batch, carried out.
-ghost use Rattle.std.specs.Prelude.{◌≡◌, ◌≤◌, ℕ, List, [], length, OnErr};
+ghost use Rattle.std.specs.Prelude.{◌≡◌, ◌≤◌, ℕ, List, [], length, IfErr};
 ghost use Rattle.vm_types.specs.State.{State};
 ghost use Rattle.vm_cli.specs.Feeds.{TalksOn};
 ghost use Rattle.vm_cli.specs.Rounds.{Batch as Commanded, Round};
@@ -8,6 +8,7 @@ ghost use Rattle.vm_cli.specs.Streams.{CarriesLines, CommitsOrNot, HoldsLines, S
 use crate::answers::reply::Reply;
 use crate::answers::text::Text;
 use crate::lines::line::Line;
+use crate::talk::batch::Batch;
 use crate::talk::{Grouping, Manner, OnRefusal, ServeFault, Session};
 use std::alloc::Global;
 use vm_disk::Disk;
@@ -54,7 +55,7 @@ pub(crate) fn settle<D: Disk>(
     ensures settled { (s : State) (parts : List (List ℕ)) → HoldsLines lines.now parts
         → (round : Round) × Settles store.old store.new s manner parts (verdict_of result answers.new.items) round }
     ensures store { TalksOn (result_of (verdict_of result answers.new.items)) store.old store.new }
-    ensures place { OnErr result (λ stop. stop.place ≤ length lines.now) }
+    ensures place { IfErr result (λ stop. stop.place ≤ length lines.now) }
 {
     answers.clear();
     match carry_out(alloc, manner, lines, answers, store) {
@@ -103,8 +104,10 @@ fn carry_out<D: Disk>(
     ensures carried { (s : State) (parts : List (List ℕ)) → HoldsLines lines.now parts
         → CarriesLines store.old store.new s manner parts result answers.new.items }
     ensures store { TalksOn (tried_result result) store.old store.new }
-    ensures place { OnErr result (λ stop. stop.place ≤ length lines.now) }
+    ensures place { IfErr result (λ stop. stop.place ≤ length lines.now) }
 {
+    let mut batch = Batch::new(alloc);
+    let mut inner = Vec::new(alloc);
     let mut session = Session {
         alloc,
         manner: Manner {
@@ -112,6 +115,8 @@ fn carry_out<D: Disk>(
             on_refusal: OnRefusal::Stop,
             grouping: Grouping::Lines,
         },
+        batch: &mut batch,
+        answers: &mut inner,
         text: Text::new(),
         room: [0; 4096],
         writer: answers,
@@ -127,7 +132,7 @@ impl<'a, D: Disk> Session<'a, Vec<u8>, D> {
     fn carry_out_each(&mut self, lines: &[Line]) -> Result<(), Stop>
         requires { self.old.manner ≡ trying self.old.manner }
         ensures carries { CarriesEach lines.now result self.old self.new }
-        ensures place { OnErr result (λ stop. stop.place ≤ length lines.now) }
+        ensures place { IfErr result (λ stop. stop.place ≤ length lines.now) }
     {
         for place in 0..lines.len() {
             let at = self.writer.len();

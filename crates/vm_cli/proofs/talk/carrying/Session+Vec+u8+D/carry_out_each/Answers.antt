@@ -8,7 +8,7 @@ use Rattle.std.proofs.lemmas.List.{take_all}
 use Rattle.vm_cli.proofs.CarryLemmas.{held_at, held_count, talks_more, talks_stop}
 use Rattle.vm_cli.proofs.EndLemmas.{answers_as, stays_then, talks_fine, talks_none, talks_refused, talks_then}
 use Rattle.vm_cli.proofs.FeedLemmas.{talked-none}
-use Rattle.vm_cli.proofs.talk.carrying.Session.carry_out_each.Goals as goal
+use Rattle.vm_cli.proofs.talk.carrying.Session+Vec+u8+D.carry_out_each.Goals as goal
 
 pub loop-place-init : goal.loop-place-init
 loop-place-init g c = record {
@@ -28,7 +28,7 @@ returns-in-Err-clause-carries g c =
           let at = held_at c.args.lines.now parts c.loop-place.place c.index-lines-place.result held (omega (arith, c.loop-place-test.true)) (sym c.index-lines-place.is) in
           let talked = so_far.talked s parts empty held in
           subst (λ w. StopsIn c.args.self.now.store.now c.answer.new.self.store.now s c.args.self.now.manner parts c.loop-place.place (why_text w c.answer.new.self.writer.now.items)) (sym c.answer_of.ensures)
-          (talks_stop _ _ _ s c.args.self.now.manner parts c.loop-place.place c.index-lines-place.result _ talked at c.in-Err.fault _ (said.answer _ at.part at.holds) c.len-at.result c.len-at.ensures);
+          (talks_stop _ _ _ s c.args.self.now.manner parts c.loop-place.place c.index-lines-place.result _ talked at c.in-Err.fault _ (said.answer _ at.part at.holds) c.len-at.result (omega (arith, c.len-at.ensures, c.loop-place.self.writer.now.ok.0)));
     }
 
 pub loop-place-preserved : goal.loop-place-preserved

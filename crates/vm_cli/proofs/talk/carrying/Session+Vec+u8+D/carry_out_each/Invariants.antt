@@ -3,7 +3,7 @@ use Rattle.vm_types.specs.State.{State}
 use Rattle.vm_cli.specs.Feeds.{Stays, TalksOn}
 use Rattle.vm_cli.specs.Streams.{HoldsLines, trying}
 use Rattle.vm_cli.specs.Talk.{HasTalked}
-use Rattle.vm_cli.proofs.talk.carrying.Session.carry_out_each.Given as goal
+use Rattle.vm_cli.proofs.talk.carrying.Session+Vec+u8+D.carry_out_each.Given as goal
 
 -- the lines so far were carried out, and none of them was refused
 abbrev pub invariant-loop-place : goal.invariant-loop-place
