@@ -6,7 +6,7 @@ use Rattle.vm_types.specs.declared.refusal.Refusal.TheVariants.{Memory}
 use Rattle.vm_cli.specs.Input.{HoldsLine, KindHolds}
 use Rattle.vm_cli.specs.declared.lines.line.LineKind.TheVariants.{Kept}
 use Rattle.vm_cli.specs.Replies.{reply_text}
-use Rattle.vm_cli.specs.Streams.{Adds, Held, HoldsLines, IsHeldBy, IsTooLarge, losing}
+use Rattle.vm_cli.specs.Streams.{Adds, Held, HoldsLines, IsHeldBy, IsTooLarge, count_of, losing}
 use Rattle.vm_cli.specs.Streams.Held.{holds, lost}
 use Rattle.vm_cli.specs.Talk.{error_text}
 use Rattle.vm_cli.specs.declared.answers.reply.Reply.TheVariants as reply
@@ -89,3 +89,8 @@ module _ (was : Option Lost) (lines : List Line) (count bytes : ℕ) (part : Lis
 -- a line that is kept has its bytes
 pub kept_bytes : (line : Line) (part : List ℕ) → HoldsLine line part → line.kind ≡ Kept → line.bytes.items ≡ part
 kept_bytes line part h kept = let kind : KindHolds Kept line.bytes.items part = subst (λ k. KindHolds k line.bytes.items part) kept h.kind in kind.0
+
+-- how many lines are counted
+pub held_count : (was : Option Lost) (lines : List Line) (count bytes : ℕ) (held : Held) → IsHeldBy was lines count bytes held → count ≡ count_of held
+held_count was lines count bytes (holds parts) h = h.2
+held_count was lines count bytes (lost place answer all) h = h.4

@@ -19,7 +19,8 @@ use Rattle.vm_cli.specs.declared.talk.ServeFault.TheVariants as fault
 use Rattle.vm_cli.specs.declared.talk.carrying.Then.{Then}
 use Rattle.vm_cli.specs.declared.talk.carrying.Then.TheVariants.{GoOn, Failed as AsFailed, Unsure as AsUnsure}
 use Rattle.vm_cli.proofs.CarriedLemmas.{begins-cut, begins-more, begins-then}
-use Rattle.vm_cli.proofs.EndLemmas.{talks_fine}
+use Rattle.vm_cli.proofs.EndLemmas.{talks_none}
+use Rattle.vm_cli.specs.Talk.{EndsBy}
 use Rattle.vm_cli.proofs.Known.{Appends-nil, Appends-then}
 
 or-assoc : (a b c : Bool) → ((a || b) || c) ≡ (a || (b || c))
@@ -92,6 +93,16 @@ module _ (how : Manner) (P : List ℕ → Course → Type 0) (text : List ℕ) (
   tells_verdict (fails place answer AsFailed) result says (inl h) = subst (λ r. Tells how P r a b) (sym h.0) (text, says, h.1)
   tells_verdict (fails place answer AsUnsure) result says (inl h) = subst (λ r. Tells how P r a b) (sym h.0) (text, says, h.1)
 
+-- what is told is told of more
+pub tells_as : (how : Manner) (P Q : List ℕ → Course → Type 0) → ((text : List ℕ) (course : Course) → P text course → Q text course)
+    → (result : Result Bool ServeFault) (a b : Option (List ℕ)) → Tells how P result a b → Tells how Q result a b
+tells_as how P Q as (Ok refused) a b (text, says, goes_on, written) = (text, as text (proceeds refused) says, goes_on, written)
+tells_as how P Q as (Err fault.Read) a b tells = tells
+tells_as how P Q as (Err fault.Store) a b (text, says, written) = (text, as text over says, written)
+tells_as how P Q as (Err fault.Unsure) a b (text, says, written) = (text, as text over says, written)
+tells_as how P Q as (Err fault.Refused) a b (text, says, stop, written) = (text, as text (proceeds true) says, stop, written)
+tells_as how P Q as (Err fault.Write) a b (text, course, says, begun) = (text, course, as text course says, begun)
+
 -- nothing was written
 pub tells_nothing : (how : Manner) (P : List ℕ → Course → Type 0) (a : Option (List ℕ)) → P [] (proceeds false) → Tells how P (Ok false) a a
 tells_nothing how P a says = ([], says, (λ stop. refl), Appends-nil a)
@@ -111,6 +122,19 @@ module _ {D : Type 0} {members : _} where
       by Stop = record { goes = talks.goes; ok = λ sound. tt; err = λ sound. tt; failing = talks.failing; left = talks.left }
       by Ignore = talks
       by Tell = talks
+
+  -- the store was asked nothing
+  pub counted_talks : (store : Store D members) (text : List ℕ) (a b : Option (List ℕ)) (on_refusal : OnRefusal) (count : ℕ) (result : Result Bool ServeFault) → AnswersThen text (counted_result on_refusal count) result a b → TalksOn result store store
+  counted_talks store text a b on_refusal count result (inr h) = subst (λ r. TalksOn r store store) (sym h.0) (stopped fault.Write tt)
+    where
+      stopped : (why : ServeFault) → EndsBy store store why → TalksOn (Err why) store store
+      stopped why ends = let none = talks_none store false in record { goes = none.goes; ok = λ sound. tt; err = λ sound. ends; failing = none.failing; left = none.left }
+  counted_talks store text a b on_refusal zero result (inl h) = subst (λ r. TalksOn r store store) (sym h.0) (talks_none store false)
+  counted_talks store text a b Stop (suc n) result (inl h) =
+      let none = talks_none store false in
+      subst (λ r. TalksOn r store store) (sym h.0) (record { goes = none.goes; ok = λ sound. tt; err = λ sound. tt; failing = none.failing; left = none.left })
+  counted_talks store text a b Ignore (suc n) result (inl h) = subst (λ r. TalksOn r store store) (sym h.0) (talks_none store true)
+  counted_talks store text a b Tell (suc n) result (inl h) = subst (λ r. TalksOn r store store) (sym h.0) (talks_none store true)
 
   -- one more line was taken
   pub streams_more : (old mid new : Store D members) (s : State) (how : Manner) (stage : Option Held) (parts : List (List ℕ)) (text : List ℕ) (next : Option Held) (rounds : List Round) (again : Bool)

@@ -1,11 +1,12 @@
 -- What a call of a session with batches does.
-use Rattle.std.specs.Prelude.{◌≡◌, ◌+◌, ◌≤◌, ◌<◌, ℕ, List, [], Option, None, Result, Bool, Vec}
+use Rattle.std.specs.Prelude.{◌≡◌, ◌+◌, ◌≤◌, ◌<◌, ℕ, List, [], Option, None, Some, Result, Bool, Vec}
 use Rattle.vm_types.specs.State.{State}
-use Rattle.vm_cli.specs.Feeds.{ServesOn, Stays, TalksOn}
+use Rattle.vm_cli.specs.Feeds.{ServesOn, Stays, TalksOn, Writes}
 use Rattle.vm_cli.specs.Input.{HoldsLine}
 use Rattle.vm_cli.specs.Rounds.{Round}
 use Rattle.vm_cli.specs.Streams.{AnswersThen, CarriesLines, Course, Held, HoldsLines, IsHeld, IsStage, ServesBatches, SettlesHeld, Takes, TakesInside, TakesOutside, Tells, Verdict, count_of, settled_text, tried_result, verdict_result}
-use Rattle.vm_cli.specs.Talk.{Passes}
+use Rattle.vm_cli.specs.Talk.{HandlesLine, Passes}
+use Rattle.vm_store.specs.declared.store.Store.{Store}
 use Rattle.vm_cli.specs.declared.lines.line.Line.{Line}
 use Rattle.vm_cli.specs.declared.talk.Manner.{Manner}
 use Rattle.vm_cli.specs.declared.talk.OnCommand.TheVariants.{Refuse}
@@ -59,7 +60,7 @@ module _ {D W : Type 0} {members : _} (contents : W → Option (List ℕ)) where
     pub same : Stays old new
     pub store : TalksOn result old.store.now new.store.now
     pub count : new.batch.now.count ≤ old.batch.now.count + 1
-    pub taken : (s : State) (held : Held) (part : List ℕ) → IsHeld old.batch.now held → HoldsLine line part
+    pub taken : (s : State) (held : Held) (part : List ℕ) → IsStage old.batch.now (Some held) → HoldsLine line part
         → TellsLine old.manner (λ text course. (stage : Option Held) × (round : Round) × IsStage new.batch.now stage
         × TakesInside old.store.now new.store.now s old.manner used held part text course stage round) result old new
 
@@ -71,6 +72,11 @@ module _ {D W : Type 0} {members : _} (contents : W → Option (List ℕ)) where
     pub taken : (s : State) (stage : Option Held) (part : List ℕ) → IsStage old.batch.now stage → HoldsLine line part
         → TellsLine old.manner (λ text course. (stage' : Option Held) × (round : Round) × IsStage new.batch.now stage'
         × Takes old.store.now new.store.now s old.manner stage part text course stage' round) result old new
+
+  -- a line was answered by itself
+  pub record AnswersAlone (on : Manner) (line : Line) (result : Result Bool ServeFault) (old new : Store D members) (writer writer' : W) : Type 0 where
+    pub store : TalksOn result old new
+    pub answer : (s : State) (part : List ℕ) → HoldsLine line part → Writes on (HandlesLine old new s on part) result (contents writer) (contents writer')
 
   -- all lines of an input were taken
   pub record RunsStream (result : Result Bool ServeFault) (old new : Session W D members) (known : Option (List ℕ)) : Type 0 where

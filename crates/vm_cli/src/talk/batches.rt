@@ -7,7 +7,7 @@ ghost use Rattle.vm_cli.specs.Carried.{Gains, Begins};
 ghost use Rattle.vm_cli.specs.Feeds.{TalksOn};
 ghost use Rattle.vm_cli.specs.Replies.{reply_text};
 ghost use Rattle.vm_cli.specs.Rounds.{Round};
-ghost use Rattle.vm_cli.specs.StreamCalls.{KeepsSession, KeepsStream, RunsStream, SaysThen, SettlesBatch, TakesLine, TakesLineInside, TakesLineOutside};
+ghost use Rattle.vm_cli.specs.StreamCalls.{AnswersAlone, KeepsSession, KeepsStream, RunsStream, SaysThen, SettlesBatch, TakesLine, TakesLineInside, TakesLineOutside};
 ghost use Rattle.vm_cli.specs.Streams.{Held, IsHeld, IsStage, Puts, ServesBatches, SettlesHeld, after_refusal, counted_result, end_count, end_text, forgotten_text, ok_text, repeated, result_of, said_result, verdict_of, why_text};
 ghost use Rattle.vm_cli.specs.Talk.{Passes, StoreFails};
 
@@ -121,7 +121,10 @@ impl<'a, W: Write, D: Disk> Session<'a, W, D> {
             }
             LineUse::Commit => self.say(Reply::Done, 0),
             LineUse::Abort => self.say(Reply::Done, 0),
-            LineUse::Query => self.answer(line),
+            LineUse::Query => {
+                let (alloc, manner) = (self.alloc, self.manner);
+                answer_alone(alloc, manner, line, &mut *self.writer, &mut *self.store)
+            }
             LineUse::Refused(reply) => self.say(reply, 1),
             LineUse::Change => {
                 self.batch.hold(self.alloc, line);
@@ -301,6 +304,31 @@ impl<'a, W: Write, D: Disk> Session<'a, W, D> {
             _ => Ok(true),
         }
     }
+}
+
+/// Answers a line by itself, in a session of its own.
+fn answer_alone<W: Write, D: Disk>(
+    alloc: Global,
+    manner: Manner,
+    line: &Line,
+    writer: &mut W,
+    store: &mut Store<D>,
+) -> Result<bool, ServeFault>
+    ensures { AnswersAlone W.contents manner line.now result store.old store.new writer.old writer.new }
+{
+    let mut batch = Batch::new(alloc);
+    let mut answers = Vec::new(alloc);
+    let mut session = Session {
+        alloc,
+        manner,
+        batch: &mut batch,
+        answers: &mut answers,
+        text: Text::new(),
+        room: [0; 4096],
+        writer,
+        store,
+    };
+    session.answer(line)
 }
 
 /// Carries out a batch, unless a line of it is lost.

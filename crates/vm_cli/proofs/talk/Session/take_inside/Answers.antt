@@ -1,0 +1,108 @@
+use Rattle.std.proofs.Common.{◌≡◌, ◌∙◌, ◌++◌, ◌+◌, ◌≤◌, List, [], Option, None, Some, ap, sym, subst, refl, false, true, arith}
+use Rattle.vm_store.specs.declared.store.Store.{Store}
+use Rattle.vm_cli.specs.Feeds.{TalksOn}
+use Rattle.vm_cli.specs.Replies.{reply_text}
+use Rattle.vm_cli.specs.Rounds.{Round}
+use Rattle.vm_cli.specs.Rounds.Round.{idle}
+use Rattle.vm_cli.specs.Streams.{Held, IsStage, TakesInside, batch_text, count_of, forgotten_text, losing, ok_text}
+use Rattle.vm_cli.specs.declared.answers.reply.Reply.TheVariants.{NotInBatch}
+use Rattle.vm_cli.specs.declared.talk.line_use.LineUse.TheVariants as line
+use Rattle.vm_cli.proofs.BatchLemmas.{held_count}
+use Rattle.vm_cli.proofs.EndLemmas.{talks_none}
+use Rattle.vm_cli.proofs.Known.{Appends-nil}
+use Rattle.vm_cli.proofs.StreamLemmas.{counted_talks, tells_counted, tells_verdict}
+use Rattle.vm_cli.proofs.talk.Session.take_inside.Goals as goal
+
+pub returns-in-Nothing : goal.returns-in-Nothing
+returns-in-Nothing g c =
+    rw c.in-Nothing.is
+    (record {
+      same = (refl, refl, refl);
+      store = talks_none c.args.self.now.store.now false;
+      count = omega arith;
+      taken = λ s held part is holds. ([], (Some held, idle, is, (refl, refl, refl, refl, refl)), (λ stop. refl), Appends-nil (g.W.Write.contents c.args.self.now.writer.now));
+    })
+
+pub returns-in-Begin : goal.returns-in-Begin
+returns-in-Begin g c =
+    rw c.in-Begin.is
+    (record {
+      same = (refl, refl, refl);
+      store = talks_none c.args.self.now.store.now false;
+      count = omega (arith, c.lose.ensures.more);
+      taken = λ s held part is holds.
+          (
+          [],
+          (Some (losing (reply_text NotInBatch) held), idle, (c.lose.ensures.open ∙ is.0, c.lose.ensures.held held is.1), (refl, refl, refl, refl, refl)),
+          (λ stop. refl),
+          Appends-nil (g.W.Write.contents c.args.self.now.writer.now),
+          );
+    })
+
+pub returns-in-Query : goal.returns-in-Query
+returns-in-Query g c =
+    rw c.in-Query.is
+    (record {
+      same = (refl, refl, refl);
+      store = talks_none c.args.self.now.store.now false;
+      count = omega (arith, c.lose-in-Query.ensures.more);
+      taken = λ s held part is holds.
+          (
+          [],
+          (Some (losing (reply_text NotInBatch) held), idle, (c.lose-in-Query.ensures.open ∙ is.0, c.lose-in-Query.ensures.held held is.1), (refl, refl, refl, refl, refl)),
+          (λ stop. refl),
+          Appends-nil (g.W.Write.contents c.args.self.now.writer.now),
+          );
+    })
+
+pub returns-in-Refused : goal.returns-in-Refused
+returns-in-Refused g c =
+    rw c.in-Refused.is
+    (record {
+      same = (refl, refl, refl);
+      store = talks_none c.args.self.now.store.now false;
+      count = omega (arith, c.lose-in-Refused.ensures.more);
+      taken = λ s held part is holds.
+          (
+          [],
+          (Some (losing (reply_text c.in-Refused.reply) held), idle, (c.lose-in-Refused.ensures.open ∙ is.0, c.lose-in-Refused.ensures.held held is.1), (refl, refl, refl, refl, refl)),
+          (λ stop. refl),
+          Appends-nil (g.W.Write.contents c.args.self.now.writer.now),
+          );
+    })
+
+pub returns-in-Change : goal.returns-in-Change
+returns-in-Change g c =
+    rw c.in-Change.is
+    (record {
+      same = (refl, refl, refl);
+      store = talks_none c.args.self.now.store.now false;
+      count = omega (arith, c.hold.ensures.more);
+      taken = λ s held part is holds.
+          let added = c.hold.ensures.held held part is.1 holds in (
+            [],
+            (Some added.0, idle, (c.hold.ensures.open ∙ is.0, added.1), (added.0, added.2, (refl, refl, refl, refl, refl))),
+            (λ stop. refl),
+            Appends-nil (g.W.Write.contents c.args.self.now.writer.now),
+          );
+    })
+
+pub returns-in-Abort : goal.returns-in-Abort
+returns-in-Abort g c = ?
+
+pub returns-in-Commit : goal.returns-in-Commit
+returns-in-Commit g c =
+    let how = c.args.self.now.manner in
+    let done = c.settle.ensures in
+    rw c.in-Commit.is
+    (record {
+      same = done.same;
+      store = done.store;
+      count = omega (arith, done.none);
+      taken = λ s held part is holds.
+          let p = done.settled s held is.1 in
+          tells_verdict how
+          (λ text course. (stage : Option Held) × (round : Round) × IsStage c.settle.new.self.batch.now stage × TakesInside c.args.self.now.store.now c.settle.new.self.store.now s how line.Commit held part text course stage round)
+          (batch_text (count_of held) p.0) _ _ p.0 c.settle.result
+          (None, p.1, done.closed, record { verdict = p.0; settles = p.2; says = refl; goes = refl; outside = refl }) p.3;
+    })

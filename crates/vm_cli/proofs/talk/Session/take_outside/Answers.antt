@@ -1,0 +1,57 @@
+use Rattle.std.proofs.Common.{◌≡◌, ◌∙◌, ◌++◌, ◌+◌, ◌≤◌, List, [], Option, None, Some, ap, sym, subst, refl, false, true, arith}
+use Rattle.vm_cli.specs.Replies.{reply_text}
+use Rattle.vm_cli.specs.Rounds.{Round}
+use Rattle.vm_cli.specs.Rounds.Round.{idle}
+use Rattle.vm_cli.specs.Streams.{AnswersThen, Held, IsStage, TakesOutside, change_text, counted_result, course_of, ok_text}
+use Rattle.vm_cli.specs.Streams.Held.{holds}
+use Rattle.vm_cli.specs.Talk.{HandlesLine}
+use Rattle.vm_cli.specs.declared.talk.line_use.LineUse.TheVariants as line
+use Rattle.vm_cli.proofs.Known.{Appends-nil}
+use Rattle.vm_cli.proofs.StreamLemmas.{repeated-one, tells_counted, tells_verdict, tells_writes}
+use Rattle.vm_cli.proofs.talk.Session.take_outside.Goals as goal
+
+pub returns-in-Query : goal.returns-in-Query
+returns-in-Query g c =
+    let how = c.args.self.now.manner in
+    let old = c.args.self.now.store.now in
+    let new = c.answer_alone.new.store in
+    rw c.in-Query.is
+    (record {
+      same = (refl, refl, refl);
+      store = c.answer_alone.ensures.store;
+      count = omega arith;
+      taken = λ s part is held.
+          tells_writes how (HandlesLine old new s how part)
+          (λ text course. (stage : Option Held) × (round : Round) × IsStage c.args.self.now.batch.now stage × TakesOutside old new s how line.Query part text course stage round)
+          (λ text ends handled. (None, idle, is, (ends, handled, refl, refl, refl))) _ _ _ (c.answer_alone.ensures.answer s part held);
+    })
+
+pub returns-in-Change : goal.returns-in-Change
+returns-in-Change g c =
+    let how = c.args.self.now.manner in
+    let done = c.settle.ensures in
+    rw c.in-Change.is
+    (record {
+      same = done.same;
+      store = done.store;
+      count = omega (arith, done.none);
+      taken = λ s part is holding.
+          let added = c.hold.ensures.held (holds []) part is.1 holding in
+          let p = done.settled s added.0 added.1 in
+          tells_verdict how
+          (λ text course. (stage : Option Held) × (round : Round) × IsStage c.settle.new.self.batch.now stage × TakesOutside c.args.self.now.store.now c.settle.new.self.store.now s how line.Change part text course stage round)
+          (change_text p.0) _ _ p.0 c.settle.result
+          (None, p.1, done.closed, record { held = added.0; adds = added.2; verdict = p.0; settles = p.2; says = refl; goes = refl; outside = refl }) p.3;
+    })
+
+pub returns-in-Begin : goal.returns-in-Begin
+returns-in-Begin g c = ?
+
+pub returns-in-Commit : goal.returns-in-Commit
+returns-in-Commit g c = ?
+
+pub returns-in-Abort : goal.returns-in-Abort
+returns-in-Abort g c = ?
+
+pub returns-in-Refused : goal.returns-in-Refused
+returns-in-Refused g c = ?
