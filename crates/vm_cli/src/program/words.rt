@@ -131,11 +131,7 @@ fn asked_create<'a>(matches: &ArgMatches<'a>, file: &'a str) -> Option<Job<'a>>
 }
 
 /// The job of `run` or `serve` with these matches.
-fn asked_run<'a>(
-    matches: &ArgMatches<'a>,
-    file: &'a str,
-    grouping: Grouping,
-) -> Option<Job<'a>>
+fn asked_run<'a>(matches: &ArgMatches<'a>, file: &'a str, grouping: Grouping) -> Option<Job<'a>>
     ensures { option_map wanted_of result ≡ run_by grouping (rows_of (found_of matches.now)) file.now }
 {
     let in_memory = in_memory(matches)?;
@@ -192,11 +188,7 @@ fn in_memory(matches: &ArgMatches<'_>) -> Option<InMemory>
 }
 
 /// How lines are answered.
-fn manner(
-    matches: &ArgMatches<'_>,
-    otherwise: OnRefusal,
-    grouping: Grouping,
-) -> Option<Manner>
+fn manner(matches: &ArgMatches<'_>, otherwise: OnRefusal, grouping: Grouping) -> Option<Manner>
     ensures { result ≡ manner_by otherwise grouping (rows_of (found_of matches.now)) }
 {
     let most = number_of(matches, "grow-to", 0, MAX_BLOCKS)?;

@@ -30,13 +30,12 @@ returns-in-Begin g c =
       same = (refl, refl, refl);
       store = talks_none c.args.self.now.store.now false;
       count = omega (arith, c.lose.ensures.more);
-      taken = λ s held part is holds.
-          (
-          [],
-          (Some (losing (reply_text NotInBatch) held), idle, (c.lose.ensures.open ∙ is.0, c.lose.ensures.held held is.1), (refl, refl, refl, refl, refl)),
-          (λ stop. refl),
-          Appends-nil (g.W.Write.contents c.args.self.now.writer.now),
-          );
+      taken = λ s held part is holds. (
+        [],
+        (Some (losing (reply_text NotInBatch) held), idle, (c.lose.ensures.open ∙ is.0, c.lose.ensures.held held is.1), (refl, refl, refl, refl, refl)),
+        (λ stop. refl),
+        Appends-nil (g.W.Write.contents c.args.self.now.writer.now),
+      );
     })
 
 pub returns-in-Query : goal.returns-in-Query
@@ -46,13 +45,12 @@ returns-in-Query g c =
       same = (refl, refl, refl);
       store = talks_none c.args.self.now.store.now false;
       count = omega (arith, c.lose-in-Query.ensures.more);
-      taken = λ s held part is holds.
-          (
-          [],
-          (Some (losing (reply_text NotInBatch) held), idle, (c.lose-in-Query.ensures.open ∙ is.0, c.lose-in-Query.ensures.held held is.1), (refl, refl, refl, refl, refl)),
-          (λ stop. refl),
-          Appends-nil (g.W.Write.contents c.args.self.now.writer.now),
-          );
+      taken = λ s held part is holds. (
+        [],
+        (Some (losing (reply_text NotInBatch) held), idle, (c.lose-in-Query.ensures.open ∙ is.0, c.lose-in-Query.ensures.held held is.1), (refl, refl, refl, refl, refl)),
+        (λ stop. refl),
+        Appends-nil (g.W.Write.contents c.args.self.now.writer.now),
+      );
     })
 
 pub returns-in-Refused : goal.returns-in-Refused
@@ -62,13 +60,12 @@ returns-in-Refused g c =
       same = (refl, refl, refl);
       store = talks_none c.args.self.now.store.now false;
       count = omega (arith, c.lose-in-Refused.ensures.more);
-      taken = λ s held part is holds.
-          (
-          [],
-          (Some (losing (reply_text c.in-Refused.reply) held), idle, (c.lose-in-Refused.ensures.open ∙ is.0, c.lose-in-Refused.ensures.held held is.1), (refl, refl, refl, refl, refl)),
-          (λ stop. refl),
-          Appends-nil (g.W.Write.contents c.args.self.now.writer.now),
-          );
+      taken = λ s held part is holds. (
+        [],
+        (Some (losing (reply_text c.in-Refused.reply) held), idle, (c.lose-in-Refused.ensures.open ∙ is.0, c.lose-in-Refused.ensures.held held is.1), (refl, refl, refl, refl, refl)),
+        (λ stop. refl),
+        Appends-nil (g.W.Write.contents c.args.self.now.writer.now),
+      );
     })
 
 pub returns-in-Change : goal.returns-in-Change

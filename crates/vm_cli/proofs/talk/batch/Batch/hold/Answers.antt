@@ -28,6 +28,9 @@ returns-clause-held c = λ held part h one.
     let kept = kept_bytes c.args.line.now part one c.requires.kept in
     let size : length part ≡ c.len-2.result = omega (arith, ap length kept, c.len-2.ensures) in
     let line : HoldsLine c.replace-held.result part = subst (λ l. HoldsLine l part) (sym c.replace-held.ensures.value) one in
-    let added = adds_line _ c.args.self.now.lines.items c.args.self.now.count c.args.self.now.bytes part c.replace-held.result line (none_of _ (sym c.is_some.ensures ∙ c.if-is_some.false)) held h in
-    (added.0, subst (λ lines. IsHeldBy c.args.self.now.lost lines (c.args.self.now.count + 1) (c.args.self.now.bytes + c.len-2.result) added.0) (sym c.in-Ok.ensures.items)
-    (subst (λ n. IsHeldBy c.args.self.now.lost (c.args.self.now.lines.items ++ c.replace-held.result ∷ []) (c.args.self.now.count + 1) (c.args.self.now.bytes + n) added.0) size added.1), added.2)
+    let added = adds_line _ c.args.self.now.lines.items c.args.self.now.count c.args.self.now.bytes part c.replace-held.result line (none_of _ (sym c.is_some.ensures ∙ c.if-is_some.false)) held h in (
+      added.0,
+      subst (λ lines. IsHeldBy c.args.self.now.lost lines (c.args.self.now.count + 1) (c.args.self.now.bytes + c.len-2.result) added.0) (sym c.in-Ok.ensures.items)
+          (subst (λ n. IsHeldBy c.args.self.now.lost (c.args.self.now.lines.items ++ c.replace-held.result ∷ []) (c.args.self.now.count + 1) (c.args.self.now.bytes + n) added.0) size added.1),
+      added.2,
+    )

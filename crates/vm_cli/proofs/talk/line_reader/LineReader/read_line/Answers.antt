@@ -25,7 +25,7 @@ returns-in-Some g c = λ from holds.
       line,
       subst (Took (g.R.Read.remaining c.args.reader.now) (g.R.Read.remaining c.loop.reader) (unread_of c.args.self.now) ((p.0 ++ bytes) ++ 10 ∷ []))
           (sym (unread_behind c.loop.self.start (c.in-Some.end + 1) c.loop.self.end c.loop.self.chunk
-              (omega (arith, first.0.high, unread_short (c.loop.self.end - c.loop.self.start) (drop c.loop.self.start c.loop.self.chunk), c.loop.self.in_order)))) (took_line _ _ _ p.0 unread p.2 c.in-Some.end first.0.high first.1),
+          (omega (arith, first.0.high, unread_short (c.loop.self.end - c.loop.self.start) (drop c.loop.self.start c.loop.self.chunk), c.loop.self.in_order)))) (took_line _ _ _ p.0 unread p.2 c.in-Some.end first.0.high first.1),
     )
 
 pub returns-in-Ok-eq0 : goal.returns-in-Ok-eq0
