@@ -65,12 +65,12 @@ written_last a b text then all = inl (refl, all)
 -- what an answer of the store is to a session with batches
 pub tells_writes : (how : Manner) (P : List ℕ → Bool → Type 0) (Q : List ℕ → Course → Type 0) → ((text : List ℕ) (ends : Bool) → P text ends → Q text (course_of ends text))
     → (result : Result Bool ServeFault) (a b : Option (List ℕ)) → Writes how P result a b → Tells how Q result a b
-tells_writes how P Q as (Ok refused) a b (text, says, same, goes_on, written) = (text, subst (λ r. Q text (proceeds r)) (sym same) (as text false says), goes_on, written)
-tells_writes how P Q as (Err fault.Read) a b writes = writes
-tells_writes how P Q as (Err fault.Unsure) a b writes = absurd writes
-tells_writes how P Q as (Err fault.Store) a b (text, says, written) = (text, as text true says, written)
-tells_writes how P Q as (Err fault.Refused) a b (text, says, error, stop, written) = (text, subst (λ r. Q text (proceeds r)) error (as text false says), stop, written)
-tells_writes how P Q as (Err fault.Write) a b (text, ends, says, begun) = (text, course_of ends text, as text ends says, begun)
+tells_writes how P Q of (Ok refused) a b (text, says, same, goes_on, written) = (text, subst (λ r. Q text (proceeds r)) (sym same) (of text false says), goes_on, written)
+tells_writes how P Q of (Err fault.Read) a b writes = writes
+tells_writes how P Q of (Err fault.Unsure) a b writes = absurd writes
+tells_writes how P Q of (Err fault.Store) a b (text, says, written) = (text, of text true says, written)
+tells_writes how P Q of (Err fault.Refused) a b (text, says, error, stop, written) = (text, subst (λ r. Q text (proceeds r)) error (of text false says), stop, written)
+tells_writes how P Q of (Err fault.Write) a b (text, ends, says, begun) = (text, course_of ends text, of text ends says, begun)
 
 -- an answer that was written
 module _ (how : Manner) (P : List ℕ → Course → Type 0) (text : List ℕ) (a b : Option (List ℕ)) where
@@ -96,12 +96,12 @@ module _ (how : Manner) (P : List ℕ → Course → Type 0) (text : List ℕ) (
 -- what is told is told of more
 pub tells_as : (how : Manner) (P Q : List ℕ → Course → Type 0) → ((text : List ℕ) (course : Course) → P text course → Q text course)
     → (result : Result Bool ServeFault) (a b : Option (List ℕ)) → Tells how P result a b → Tells how Q result a b
-tells_as how P Q as (Ok refused) a b (text, says, goes_on, written) = (text, as text (proceeds refused) says, goes_on, written)
-tells_as how P Q as (Err fault.Read) a b tells = tells
-tells_as how P Q as (Err fault.Store) a b (text, says, written) = (text, as text over says, written)
-tells_as how P Q as (Err fault.Unsure) a b (text, says, written) = (text, as text over says, written)
-tells_as how P Q as (Err fault.Refused) a b (text, says, stop, written) = (text, as text (proceeds true) says, stop, written)
-tells_as how P Q as (Err fault.Write) a b (text, course, says, begun) = (text, course, as text course says, begun)
+tells_as how P Q of (Ok refused) a b (text, says, goes_on, written) = (text, of text (proceeds refused) says, goes_on, written)
+tells_as how P Q of (Err fault.Read) a b tells = tells
+tells_as how P Q of (Err fault.Store) a b (text, says, written) = (text, of text over says, written)
+tells_as how P Q of (Err fault.Unsure) a b (text, says, written) = (text, of text over says, written)
+tells_as how P Q of (Err fault.Refused) a b (text, says, stop, written) = (text, of text (proceeds true) says, stop, written)
+tells_as how P Q of (Err fault.Write) a b (text, course, says, begun) = (text, course, of text course says, begun)
 
 -- nothing was written
 pub tells_nothing : (how : Manner) (P : List ℕ → Course → Type 0) (a : Option (List ℕ)) → P [] (proceeds false) → Tells how P (Ok false) a a

@@ -4,7 +4,7 @@ use Rattle.vm_types.specs.State.{State}
 use Rattle.vm_cli.specs.Feeds.{ServesOn, Stays, TalksOn, Writes}
 use Rattle.vm_cli.specs.Input.{HoldsLine}
 use Rattle.vm_cli.specs.Rounds.{Round}
-use Rattle.vm_cli.specs.Streams.{AnswersThen, CarriesLines, Course, Held, HoldsLines, IsHeld, IsStage, ServesBatches, SettlesHeld, Takes, TakesInside, TakesOutside, Tells, Verdict, count_of, settled_text, tried_result, verdict_result}
+use Rattle.vm_cli.specs.Streams.{AnswersThen, CarriesLines, Course, Held, HoldsLines, IsHeld, IsStage, ServesBatches, SettlesHeld, Takes, TakesInside, TakesOutside, Tells, Verdict, count_of, settled_text, tried_result, trying, verdict_result}
 use Rattle.vm_cli.specs.Talk.{HandlesLine, Passes}
 use Rattle.vm_store.specs.declared.store.Store.{Store}
 use Rattle.vm_cli.specs.declared.lines.line.Line.{Line}
@@ -90,5 +90,5 @@ module _ {D W : Type 0} {members : _} (contents : W → Option (List ℕ)) where
 pub record CarriesEach {D A T : Type 0} {members : _} (lines : List Line) (result : Result T LastLine) (old new : Session (Vec ℕ A) D members) : Type 0 where
   pub same : Stays old new
   pub store : TalksOn (tried_result result) old.store.now new.store.now
-  pub carried : (s : State) (parts : List (List ℕ)) → old.writer.now.items ≡ [] → HoldsLines lines parts
-      → CarriesLines old.store.now new.store.now s old.manner parts result new.writer.now.items
+  pub carried : (s : State) (how : Manner) (parts : List (List ℕ)) → old.manner ≡ trying how → old.writer.now.items ≡ [] → HoldsLines lines parts
+      → CarriesLines old.store.now new.store.now s how parts result new.writer.now.items

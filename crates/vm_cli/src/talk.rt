@@ -153,13 +153,13 @@ pub fn serve<R: Read, W: Write, D: Disk>(
 
 /// A session: the store that its lines are about, where their answers go, and what they share.
 #[derive(Drop)]
-struct Session<'a, W, D: Disk> {
+struct Session<'a, 'b, W, D: Disk> {
     alloc: Global,
     manner: Manner,
     // What is held of a batch, and the answers to its lines while it is carried out: nothing, where
     // lines are answered each by itself.
-    batch: &'a mut Batch,
-    answers: &'a mut Vec<u8>,
+    batch: &'b mut Batch,
+    answers: &'b mut Vec<u8>,
     // Answers are composed in it. Nothing is kept in it from line to line.
     text: Text,
     // Values are read into this buffer, and nothing is kept in it. All lines share it, so that none
@@ -169,7 +169,7 @@ struct Session<'a, W, D: Disk> {
     store: &'a mut Store<D>,
 }
 
-impl<'a, W: Write, D: Disk> Session<'a, W, D> {
+impl<'a, 'b, W: Write, D: Disk> Session<'a, 'b, W, D> {
     ghost use Rattle.vm_cli.specs.Feeds.{AnswersLine, Asks, FeedsLine, RepliesToLine, RunsToEnd};
 
     /// Reads lines to the end of the input, and answers each in order.

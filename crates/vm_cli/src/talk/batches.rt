@@ -71,7 +71,7 @@ pub fn serve_batches<R: Read, W: Write, D: Disk>(
     session.run_batches(reader)
 }
 
-impl<'a, W: Write, D: Disk> Session<'a, W, D> {
+impl<'a, 'b, W: Write, D: Disk> Session<'a, 'b, W, D> {
     /// Takes all lines of the input.
     fn run_batches<R: Read>(&mut self, reader: &mut R) -> Result<bool, ServeFault>
         requires { self.old.batch.now.count ≡ 0 }
@@ -163,7 +163,7 @@ impl<'a, W: Write, D: Disk> Session<'a, W, D> {
     }
 }
 
-impl<'a, W: Write, D: Disk> Session<'a, W, D> {
+impl<'a, 'b, W: Write, D: Disk> Session<'a, 'b, W, D> {
     /// Forgets the batch, and answers that to each of its lines.
     fn forget(&mut self) -> Result<bool, ServeFault>
         ensures said { SaysThen W.contents (forgotten_text self.old.batch.now.count ++ ok_text)

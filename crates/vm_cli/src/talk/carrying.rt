@@ -3,7 +3,7 @@ ghost use Rattle.std.specs.Prelude.{◌≡◌, ◌≤◌, ℕ, List, [], length,
 ghost use Rattle.vm_types.specs.State.{State};
 ghost use Rattle.vm_cli.specs.Feeds.{TalksOn};
 ghost use Rattle.vm_cli.specs.Rounds.{Batch as Commanded, Round};
-ghost use Rattle.vm_cli.specs.Streams.{CarriesLines, CommitsOrNot, HoldsLines, Settles, Undoes, answer_after, result_of, tried_result, trying, verdict_of};
+ghost use Rattle.vm_cli.specs.Streams.{CarriesLines, CommitsOrNot, HoldsLines, Settles, Undoes, answer_after, result_of, tried_result, verdict_of};
 
 use crate::answers::reply::Reply;
 use crate::answers::text::Text;
@@ -125,12 +125,11 @@ fn carry_out<D: Disk>(
     session.carry_out_each(lines)
 }
 
-impl<'a, D: Disk> Session<'a, Vec<u8>, D> {
+impl<'a, 'b, D: Disk> Session<'a, 'b, Vec<u8>, D> {
     ghost use Rattle.vm_cli.specs.StreamCalls.{CarriesEach};
 
     /// Answers lines, up to the first that is refused.
     fn carry_out_each(&mut self, lines: &[Line]) -> Result<(), Stop>
-        requires { self.old.manner ≡ trying self.old.manner }
         ensures carries { CarriesEach lines.now result self.old self.new }
         ensures place { IfErr result (λ stop. stop.place ≤ length lines.now) }
     {
