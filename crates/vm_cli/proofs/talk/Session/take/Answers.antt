@@ -1,6 +1,6 @@
-use Rattle.std.proofs.Common.{◌≡◌, ◌⊎◌, inl, inr, List, ℕ, Option, None, Some, ap, sym, subst, refl, false, true, arith}
+use Rattle.std.proofs.Common.{◌≡◌, ◌⊎◌, inl, inr, Option, None, Some, subst, sym, false, true}
 use Rattle.vm_cli.specs.Rounds.{Round}
-use Rattle.vm_cli.specs.Streams.{Course, Held, IsStage, Takes, TakesInside, TakesOutside}
+use Rattle.vm_cli.specs.Streams.{Held, IsStage, Takes, TakesInside, TakesOutside}
 use Rattle.vm_cli.proofs.StreamLemmas.{tells_as}
 use Rattle.vm_cli.proofs.talk.Session.take.Goals as goal
 

@@ -4,7 +4,8 @@ use Rattle.vm_cli.specs.Feeds.{TalksOn}
 use Rattle.vm_cli.specs.Replies.{reply_text}
 use Rattle.vm_cli.specs.Rounds.{Round}
 use Rattle.vm_cli.specs.Rounds.Round.{idle}
-use Rattle.vm_cli.specs.Streams.{Held, IsStage, TakesInside, batch_text, count_of, forgotten_text, losing, ok_text}
+use Rattle.vm_cli.specs.Streams.{Held, IsStage, TakesInside, batch_text, count_of, forgotten_text, losing, ok_text, some_lines}
+use Rattle.vm_cli.specs.Streams.Course.{proceeds}
 use Rattle.vm_cli.specs.declared.answers.reply.Reply.TheVariants.{NotInBatch}
 use Rattle.vm_cli.specs.declared.talk.line_use.LineUse.TheVariants as line
 use Rattle.vm_cli.proofs.BatchLemmas.{held_count}
@@ -85,7 +86,24 @@ returns-in-Change g c =
     })
 
 pub returns-in-Abort : goal.returns-in-Abort
-returns-in-Abort g c = ?
+returns-in-Abort g c =
+    let how = c.args.self.now.manner in
+    let old = c.args.self.now.store.now in
+    let new = c.forget.new.self.store.now in
+    let count = c.args.self.now.batch.now.count in
+    let kept = c.forget.ensures.session in
+    rw c.in-Abort.is
+    (record {
+      same = kept.same;
+      store = subst (λ (t : Store _ _). TalksOn c.forget.result old t) (sym kept.store) (counted_talks old _ _ _ how.on_refusal count c.forget.result c.forget.ensures.said);
+      count = omega (arith, c.forget.ensures.none);
+      taken = λ s held part is holds.
+          let all = held_count _ _ _ _ held is.1 in
+          tells_counted how
+          (λ text course. (stage : Option Held) × (round : Round) × IsStage c.forget.new.self.batch.now stage × TakesInside old new s how line.Abort held part text course stage round)
+          (forgotten_text count ++ ok_text) _ _ count c.forget.result
+          (None, idle, c.forget.ensures.closed, (kept.store, ap (λ n. forgotten_text n ++ ok_text) all, ap (λ n. proceeds (some_lines n)) all, refl, refl)) c.forget.ensures.said;
+    })
 
 pub returns-in-Commit : goal.returns-in-Commit
 returns-in-Commit g c =

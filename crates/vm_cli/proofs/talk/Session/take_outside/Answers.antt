@@ -1,13 +1,16 @@
 use Rattle.std.proofs.Common.{◌≡◌, ◌∙◌, ◌++◌, ◌+◌, ◌≤◌, List, [], Option, None, Some, ap, sym, subst, refl, false, true, arith}
+use Rattle.vm_store.specs.declared.store.Store.{Store}
+use Rattle.vm_cli.specs.Feeds.{TalksOn}
 use Rattle.vm_cli.specs.Replies.{reply_text}
 use Rattle.vm_cli.specs.Rounds.{Round}
 use Rattle.vm_cli.specs.Rounds.Round.{idle}
-use Rattle.vm_cli.specs.Streams.{AnswersThen, Held, IsStage, TakesOutside, change_text, counted_result, course_of, ok_text}
+use Rattle.vm_cli.specs.Streams.{Held, IsStage, TakesOutside, change_text, course_of, ok_text, repeated}
 use Rattle.vm_cli.specs.Streams.Held.{holds}
 use Rattle.vm_cli.specs.Talk.{HandlesLine}
+use Rattle.vm_cli.specs.declared.talk.batch.Batch.{Batch}
 use Rattle.vm_cli.specs.declared.talk.line_use.LineUse.TheVariants as line
 use Rattle.vm_cli.proofs.Known.{Appends-nil}
-use Rattle.vm_cli.proofs.StreamLemmas.{repeated-one, tells_counted, tells_verdict, tells_writes}
+use Rattle.vm_cli.proofs.StreamLemmas.{counted_talks, repeated-one, tells_counted, tells_verdict, tells_writes}
 use Rattle.vm_cli.proofs.talk.Session.take_outside.Goals as goal
 
 pub returns-in-Query : goal.returns-in-Query
@@ -45,13 +48,73 @@ returns-in-Change g c =
     })
 
 pub returns-in-Begin : goal.returns-in-Begin
-returns-in-Begin g c = ?
+returns-in-Begin g c =
+    let how = c.args.self.now.manner in
+    let old = c.args.self.now.store.now in
+    let new = c.say.new.self.store.now in
+    let kept = c.say.ensures.same in
+    rw c.in-Begin.is
+    (record {
+      same = kept.same;
+      store = subst (λ (t : Store _ _). TalksOn c.say.result old t) (sym kept.store) (counted_talks old _ _ _ how.on_refusal 0 c.say.result c.say.ensures.said);
+      count = omega (arith, ap (λ (b : Batch). b.count) kept.batch, c.begin.ensures.same);
+      taken = λ s part is held.
+          tells_counted how
+          (λ text course. (stage : Option Held) × (round : Round) × IsStage c.say.new.self.batch.now stage × TakesOutside old new s how line.Begin part text course stage round)
+          (repeated 1 ok_text) _ _ 0 c.say.result
+          ((Some (holds [])), idle, subst (λ b. IsStage b (Some (holds []))) (sym kept.batch) (c.begin.ensures.stage is), (kept.store, repeated-one ok_text, refl, refl, refl)) c.say.ensures.said;
+    })
 
 pub returns-in-Commit : goal.returns-in-Commit
-returns-in-Commit g c = ?
+returns-in-Commit g c =
+    let how = c.args.self.now.manner in
+    let old = c.args.self.now.store.now in
+    let new = c.say-in-Commit.new.self.store.now in
+    let kept = c.say-in-Commit.ensures.same in
+    rw c.in-Commit.is
+    (record {
+      same = kept.same;
+      store = subst (λ (t : Store _ _). TalksOn c.say-in-Commit.result old t) (sym kept.store) (counted_talks old _ _ _ how.on_refusal 0 c.say-in-Commit.result c.say-in-Commit.ensures.said);
+      count = omega (arith, ap (λ (b : Batch). b.count) kept.batch);
+      taken = λ s part is held.
+          tells_counted how
+          (λ text course. (stage : Option Held) × (round : Round) × IsStage c.say-in-Commit.new.self.batch.now stage × TakesOutside old new s how line.Commit part text course stage round)
+          (repeated 1 ok_text) _ _ 0 c.say-in-Commit.result
+          (None, idle, subst (λ b. IsStage b None) (sym kept.batch) is, (kept.store, repeated-one ok_text, refl, refl, refl)) c.say-in-Commit.ensures.said;
+    })
 
 pub returns-in-Abort : goal.returns-in-Abort
-returns-in-Abort g c = ?
+returns-in-Abort g c =
+    let how = c.args.self.now.manner in
+    let old = c.args.self.now.store.now in
+    let new = c.say-in-Abort.new.self.store.now in
+    let kept = c.say-in-Abort.ensures.same in
+    rw c.in-Abort.is
+    (record {
+      same = kept.same;
+      store = subst (λ (t : Store _ _). TalksOn c.say-in-Abort.result old t) (sym kept.store) (counted_talks old _ _ _ how.on_refusal 0 c.say-in-Abort.result c.say-in-Abort.ensures.said);
+      count = omega (arith, ap (λ (b : Batch). b.count) kept.batch);
+      taken = λ s part is held.
+          tells_counted how
+          (λ text course. (stage : Option Held) × (round : Round) × IsStage c.say-in-Abort.new.self.batch.now stage × TakesOutside old new s how line.Abort part text course stage round)
+          (repeated 1 ok_text) _ _ 0 c.say-in-Abort.result
+          (None, idle, subst (λ b. IsStage b None) (sym kept.batch) is, (kept.store, repeated-one ok_text, refl, refl, refl)) c.say-in-Abort.ensures.said;
+    })
 
 pub returns-in-Refused : goal.returns-in-Refused
-returns-in-Refused g c = ?
+returns-in-Refused g c =
+    let how = c.args.self.now.manner in
+    let old = c.args.self.now.store.now in
+    let new = c.say-in-Refused.new.self.store.now in
+    let kept = c.say-in-Refused.ensures.same in
+    rw c.in-Refused.is
+    (record {
+      same = kept.same;
+      store = subst (λ (t : Store _ _). TalksOn c.say-in-Refused.result old t) (sym kept.store) (counted_talks old _ _ _ how.on_refusal 1 c.say-in-Refused.result c.say-in-Refused.ensures.said);
+      count = omega (arith, ap (λ (b : Batch). b.count) kept.batch);
+      taken = λ s part is held.
+          tells_counted how
+          (λ text course. (stage : Option Held) × (round : Round) × IsStage c.say-in-Refused.new.self.batch.now stage × TakesOutside old new s how (line.Refused c.in-Refused.reply) part text course stage round)
+          (repeated 1 (reply_text c.in-Refused.reply)) _ _ 1 c.say-in-Refused.result
+          (None, idle, subst (λ b. IsStage b None) (sym kept.batch) is, (kept.store, repeated-one (reply_text c.in-Refused.reply), refl, refl, refl)) c.say-in-Refused.ensures.said;
+    })
