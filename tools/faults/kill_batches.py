@@ -15,7 +15,7 @@ from pathlib import Path
 
 sys.dont_write_bytecode = True
 sys.path.insert(0, str(Path(__file__).resolve().parent))
-from kill import BLOCKS, EMPTY, QUERIES, Failure, answered, change, part_query, unlike
+from kill import BLOCKS, EMPTY, Failure, answered, change, part_query, unlike
 
 LONGEST_LIFE = 0.3
 MOST_LINES = 12
@@ -48,7 +48,7 @@ def turn(chance, state):
         [answer], after = answered(state, line)
         return [line], [answer], after
     if kind == "query":
-        line = chance.choice(["alts", f"list top", part_query(chance, state.tree)])
+        line = chance.choice(["alts", "list top", part_query(chance, state.tree)])
         return [line], answered(state, line)[0], state
     if kind == "word":
         return [chance.choice(["commit", "abort", "rollback"])], ["ok"], state
@@ -111,7 +111,10 @@ class Life:
             self.possible = [self.state]
 
     def end(self):
-        self.process.stdin.close()
+        try:
+            self.process.stdin.close()
+        except BrokenPipeError:
+            pass  # It was killed.
         self.process.stdout.close()
         self.process.wait()
 
@@ -140,7 +143,8 @@ def lived(altctl, file, chance, state, kills):
         life.live()
     finally:
         timer.cancel()
-        life.process.kill() if kills else None
+        if kills:
+            life.process.kill()
         life.end()
     wrong = [seen(altctl, file, it) for it in life.possible]
     if all(wrong):
