@@ -48,15 +48,14 @@ puts_put text (Err failed) a b ok err = (refl, begins-cut a b text err.0 err.1)
 pub repeated-one : (text : List ℕ) → repeated 1 text ≡ text
 repeated-one text = append-nil text
 
-module _ (a b c : Option (List ℕ)) (first second : List ℕ) (then : Result Bool ServeFault) where
-  -- the writer failed in the first of two texts
-  pub cut_short : (why : ServeFault) → (why ≡ fault.Write) × WritesStart a b first → AnswersThen (first ++ second) then (Err why) a b
-  cut_short why h = inr (ap Err h.0, begins-more a b first second h.1)
+-- the writer failed in the first of two texts
+pub cut_short : (a b : Option (List ℕ)) (first second : List ℕ) (then : Result Bool ServeFault) (why : ServeFault) → (why ≡ fault.Write) × WritesStart a b first → AnswersThen (first ++ second) then (Err why) a b
+cut_short a b first second then why h = inr (ap Err h.0, begins-more a b first second h.1)
 
-  -- the second is written behind the first
-  pub written_behind : (result : Result Bool ServeFault) → Appends a b first → AnswersThen second then result b c → AnswersThen (first ++ second) then result a c
-  written_behind result all (inl h) = inl (h.0, Appends-then a b c first second all h.1)
-  written_behind result all (inr h) = inr (h.0, begins-then a b c second (first ++ second) (record { sent = first; split = refl; written = all }) h.1)
+-- the second is written behind the first
+pub written_behind : (a b c : Option (List ℕ)) (first second : List ℕ) (then result : Result Bool ServeFault) → Appends a b first → AnswersThen second then result b c → AnswersThen (first ++ second) then result a c
+written_behind a b c first second then result all (inl h) = inl (h.0, Appends-then a b c first second all h.1)
+written_behind a b c first second then result all (inr h) = inr (h.0, begins-then a b c second (first ++ second) (record { sent = first; split = refl; written = all }) h.1)
 
 -- it was the last text
 pub written_last : (a b : Option (List ℕ)) (text : List ℕ) (then : Result Bool ServeFault) → Appends a b text → AnswersThen text then then a b

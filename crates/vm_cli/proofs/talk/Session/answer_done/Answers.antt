@@ -7,7 +7,7 @@ use Rattle.vm_cli.proofs.talk.Session.answer_done.Goals as goal
 pub returns-in_err-put_why-clause-said : goal.returns-in_err-put_why-clause-said
 returns-in_err-put_why-clause-said g c =
     rw (passed_on _ c.from_residual.ensures.1)
-    (cut_short _ _ _ c.args.self.now.answers.now.items (repeated c.args.more ok_text) (Ok false) _ c.in_err-put_why.ensures.put)
+    (cut_short _ _ c.args.self.now.answers.now.items (repeated c.args.more ok_text) (Ok false) _ c.in_err-put_why.ensures.put)
 
 pub returns-in_err-put_repeated-clause-said : goal.returns-in_err-put_repeated-clause-said
 returns-in_err-put_repeated-clause-said g c =

@@ -1,4 +1,6 @@
-use Rattle.std.proofs.Common.{◌++◌, ◌+◌, List, ℕ, inr, ap, Err}
+use Rattle.std.proofs.Common.{◌++◌, ◌+◌, List, ℕ, Vec, inr, ap, subst, Err}
+use Rattle.std.specs.Io.KnownBytes.{Appends}
+use Rattle.vm_cli.specs.Carried.{WritesStart}
 use Rattle.vm_cli.specs.Replies.{reply_text}
 use Rattle.vm_cli.specs.Streams.{after_refusal, repeated, why_text}
 use Rattle.vm_cli.specs.declared.answers.reply.Reply.TheVariants.{NotDone}
@@ -11,16 +13,18 @@ returns-in_err-put_repeated-clause-said g c =
     let other : List ℕ = reply_text (NotDone (c.args.stop.now.place + 1)) in
     let why : List ℕ = why_text c.args.stop.now.why c.args.self.now.answers.now.items in
     rw (passed_on _ c.from_residual.ensures.1)
-    (cut_short _ _ _ (repeated c.args.before other) (why ++ repeated c.args.behind other) (after_refusal c.args.self.now.manner c.args.stop.now.then) _ c.in_err-put_repeated.ensures.put)
+    (cut_short _ _ (repeated c.args.before other) (why ++ repeated c.args.behind other) (after_refusal c.args.self.now.manner c.args.stop.now.then) _ c.in_err-put_repeated.ensures.put)
 
 pub returns-in_err-put_why-clause-said : goal.returns-in_err-put_why-clause-said
 returns-in_err-put_why-clause-said g c =
     let other : List ℕ = reply_text (NotDone (c.args.stop.now.place + 1)) in
     let why : List ℕ = why_text c.args.stop.now.why c.args.self.now.answers.now.items in
     let then = after_refusal c.args.self.now.manner c.args.stop.now.then in
+    let kept = ap (λ (v : Vec ℕ _). why_text c.args.stop.now.why v.items) c.in_ok-put_repeated.ensures.same.answers in
+    let cut = c.in_err-put_why.ensures.put in
     rw (passed_on _ c.from_residual-in_err-put_why.ensures.1)
     (written_behind _ (g.W.Write.contents c.put_repeated.new.self.writer.now) _ (repeated c.args.before other) (why ++ repeated c.args.behind other) then _ c.in_ok-put_repeated.ensures.put
-    (cut_short _ _ (g.W.Write.contents c.put_why.new.self.writer.now) why (repeated c.args.behind other) then _ c.in_err-put_why.ensures.put))
+    (cut_short _ _ why (repeated c.args.behind other) then _ (cut.0, subst (WritesStart (g.W.Write.contents c.put_repeated.new.self.writer.now) (g.W.Write.contents c.put_why.new.self.writer.now)) kept cut.1)))
 
 pub returns-in_err-put_repeated-2-clause-said : goal.returns-in_err-put_repeated-2-clause-said
 returns-in_err-put_repeated-2-clause-said g c =
@@ -28,6 +32,8 @@ returns-in_err-put_repeated-2-clause-said g c =
     let why : List ℕ = why_text c.args.stop.now.why c.args.self.now.answers.now.items in
     let then = after_refusal c.args.self.now.manner c.args.stop.now.then in
     let h = c.in_err-put_repeated-2.ensures.put in
+    let kept = ap (λ (v : Vec ℕ _). why_text c.args.stop.now.why v.items) c.in_ok-put_repeated.ensures.same.answers in
+    let whole = subst (Appends (g.W.Write.contents c.put_repeated.new.self.writer.now) (g.W.Write.contents c.put_why.new.self.writer.now)) kept c.in_ok-put_why.ensures.put in
     rw (passed_on _ c.from_residual-in_err-put_repeated-2.ensures.1)
     (written_behind _ (g.W.Write.contents c.put_repeated.new.self.writer.now) _ (repeated c.args.before other) (why ++ repeated c.args.behind other) then _ c.in_ok-put_repeated.ensures.put
-    (written_behind _ (g.W.Write.contents c.put_why.new.self.writer.now) _ why (repeated c.args.behind other) then _ c.in_ok-put_why.ensures.put (inr (ap Err h.0, h.1))))
+    (written_behind _ (g.W.Write.contents c.put_why.new.self.writer.now) _ why (repeated c.args.behind other) then _ whole (inr (ap Err h.0, h.1))))

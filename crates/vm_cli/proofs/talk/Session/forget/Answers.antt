@@ -8,7 +8,7 @@ use Rattle.vm_cli.proofs.talk.Session.forget.Goals as goal
 pub returns-in_err-put_repeated-clause-said : goal.returns-in_err-put_repeated-clause-said
 returns-in_err-put_repeated-clause-said g c =
     rw (passed_on _ c.from_residual.ensures.1)
-    (cut_short _ _ _ (forgotten_text c.args.self.now.batch.now.count) ok_text (counted_result c.args.self.now.manner.on_refusal c.args.self.now.batch.now.count) _ c.in_err-put_repeated.ensures.put)
+    (cut_short _ _ (forgotten_text c.args.self.now.batch.now.count) ok_text (counted_result c.args.self.now.manner.on_refusal c.args.self.now.batch.now.count) _ c.in_err-put_repeated.ensures.put)
 
 pub returns-in_err-put_repeated-2-clause-said : goal.returns-in_err-put_repeated-2-clause-said
 returns-in_err-put_repeated-2-clause-said g c =
