@@ -122,8 +122,17 @@ impl<'a, 'b, W: Write, D: Disk> Session<'a, 'b, W, D> {
             LineUse::Commit => self.say(Reply::Done, 0),
             LineUse::Abort => self.say(Reply::Done, 0),
             LineUse::Query => {
-                let (alloc, manner) = (self.alloc, self.manner);
-                answer_alone(alloc, manner, line, &mut *self.writer, &mut *self.store)
+                let mut batch = Batch::new(self.alloc);
+                let mut answers = Vec::new(self.alloc);
+                answer_alone(
+                    self.alloc,
+                    self.manner,
+                    line,
+                    &mut batch,
+                    &mut answers,
+                    &mut *self.writer,
+                    &mut *self.store,
+                )
             }
             LineUse::Refused(reply) => self.say(reply, 1),
             LineUse::Change => {
@@ -306,23 +315,23 @@ impl<'a, 'b, W: Write, D: Disk> Session<'a, 'b, W, D> {
     }
 }
 
-/// Answers a line by itself, in a session of its own.
-fn answer_alone<W: Write, D: Disk>(
+/// Answers a line by itself, in a session of its own, which holds no batch.
+fn answer_alone<'a, 'b, W: Write, D: Disk>(
     alloc: Global,
     manner: Manner,
     line: &Line,
-    writer: &mut W,
-    store: &mut Store<D>,
+    batch: &'b mut Batch,
+    answers: &'b mut Vec<u8>,
+    writer: &'a mut W,
+    store: &'a mut Store<D>,
 ) -> Result<bool, ServeFault>
     ensures { AnswersAlone W.contents manner line.now result store.old store.new writer.old writer.new }
 {
-    let mut batch = Batch::new(alloc);
-    let mut answers = Vec::new(alloc);
     let mut session = Session {
         alloc,
         manner,
-        batch: &mut batch,
-        answers: &mut answers,
+        batch,
+        answers,
         text: Text::new(),
         room: [0; 4096],
         writer,
