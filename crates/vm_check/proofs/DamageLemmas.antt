@@ -1,14 +1,12 @@
 -- What is known of damaged blocks holds if more of them are, and more were met.
-use Rattle.std.proofs.Common.{◌≡◌, ◌⊎◌, inl, inr, ℕ, zero, suc, Bool, List, Option, Some, None, refl, sym, ap, ◌∙◌, subst, arith}
-use Rattle.std.specs.Prelude.{unwrap_or}
+use Rattle.std.proofs.Common.{inl, inr, ℕ, zero, suc, Bool, List}
 use Rattle.vm_types.specs.declared.key.Key.{Key}
 use Rattle.vm_disk.specs.Disk.{Contents}
 use Rattle.vm_alloc.specs.Held.{HoldsMore}
-use Rattle.vm_alloc.specs.Marks.{IsMarked}
 use Rattle.vm_block.specs.declared.node.Child.{Child}
 use Rattle.vm_tree.specs.Tree.{Sizes}
-use Rattle.vm_check.specs.Damage.{BeginsWrong, EndsWrong, Fits, HasWrongKeys, IsDamaged, IsFirst, IsListed, IsMet, IsWhole, LastKey}
-use Rattle.vm_check.specs.Surveys.{HasSpan, IsHigh}
+use Rattle.vm_check.specs.Damage.{EndsWrong, Fits, HasWrongKeys, IsDamaged, IsFirst, IsMet, IsWhole, LastKey}
+use Rattle.vm_check.specs.Surveys.{HasSpan}
 use Rattle.vm_check.specs.declared.verification.Span.{Span}
 
 module _ (x : Contents) (d e : List Bool) (more : HoldsMore d e) where

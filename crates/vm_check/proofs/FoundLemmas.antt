@@ -1,19 +1,23 @@
 -- What was found under numbers, one after another.
-use Rattle.std.proofs.Common.{◌≡◌, inl, inr, ℕ, zero, suc, ◌+◌, ◌-◌, ◌<◌, ◌≤◌, Bool, false, List, [], ◌∷◌, ◌++◌, length, get_or, take, map, replicate, refl, sym, ap, ◌∙◌, subst, arith, append_assoc, append-nil}
-use Rattle.std.specs.Prelude.{Contains}
+use Rattle.std.proofs.Common.{◌≡◌, inl, inr, ℕ, zero, suc, ◌+◌, ◌-◌, ◌<◌, ◌≤◌, Bool, false, Err, List, [], ◌∷◌, ◌++◌, length, get_or, take, map, replicate, refl, sym, ap, ◌∙◌, subst, arith, append_assoc, append-nil}
+use Rattle.std.specs.Global.{Vec}
+use Rattle.std.specs.Prelude.{Contains, Result}
 use Rattle.std.specs.List.{AllByRecursion}
 use Rattle.std.proofs.lemmas.Bool.{false≢true}
 use Rattle.std.proofs.lemmas.List.{map-append, take_all, take_more}
 use Rattle.std.proofs.lemmas.List.Elements.{Contains-append_left, Contains-append_right}
+use Rattle.vm_types.specs.declared.sizes.TheConstants.{FIRST_DATA}
 use Rattle.vm_types.specs.Map.{Map}
-use Rattle.vm_disk.specs.Disk.{Contents, Medium}
+use Rattle.vm_disk.specs.Disk.{Contents, DiskState, Medium}
 use Rattle.vm_alloc.specs.Marks.{IsMarked}
 use Rattle.vm_alloc.proofs.HeldLemmas.{holds_same, no_mark}
 use Rattle.vm_block.proofs.EachLemmas.{each_so, each_join}
+use Rattle.vm_tree.specs.Calls.{OnlyLists}
 use Rattle.vm_tree.specs.Tree.{Sizes, IsTree}
 use Rattle.vm_tree.specs.Root.{IsRooted}
 use Rattle.vm_tree.specs.declared.root.Root.{Root}
-use Rattle.vm_check.specs.Verification.{AreRoots, Found, HaveTrees}
+use Rattle.vm_tree.specs.declared.faults.ListFault.{ListFault}
+use Rattle.vm_check.specs.Verification.{AcceptsTrees, AreRoots, Found, HaveTrees, Verifies}
 use Rattle.vm_check.specs.Visits.{Known, RootVisited, Visited}
 use Rattle.vm_check.specs.declared.verification.Span.{Span}
 use Rattle.vm_check.specs.declared.verification.Met.{Met}
@@ -132,3 +136,11 @@ module _ (sizes : Sizes) (limit : ℕ) where
 pub named_more : (ns : List ℕ) (i : ℕ) (roots pushed : List Root) (root : Root) → i < length ns → pushed ≡ roots ++ root ∷ [] → map (λ (r : Root). r.block) roots ≡ take i ns → root.block ≡ get_or ns i 0 → map (λ (r : Root). r.block) pushed ≡ take (i + 1) ns
 named_more ns i roots pushed root lt push named is =
     ap (map (λ (r : Root). r.block)) push ∙ map-append (λ (r : Root). r.block) roots (root ∷ []) ∙ ap (λ z. z ++ root.block ∷ []) named ∙ ap (λ n. take i ns ++ n ∷ []) is ∙ sym (take_more ns i 0 lt)
+
+-- where no roots are answered
+abbrev pub refused : ListFault → Result (Vec Root × List Bool) ListFault
+refused e = Err e
+
+pub verifies_none : {sizes : Sizes} {old new : DiskState} {limit : ℕ} {ns : List ℕ} (e : ListFault) → OnlyLists (refused e) old new → new.reads + FIRST_DATA ≤ old.reads + limit → AcceptsTrees (refused e) sizes old new limit ns
+    → Verifies (refused e) sizes old new limit ns
+verifies_none e looks once only = record { looks = looks; given = tt; once = once; paid = tt; found = λ honest. tt; only = only }

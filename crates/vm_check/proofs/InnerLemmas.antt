@@ -1,13 +1,12 @@
 -- How many blocks that begin as inner blocks are not marked.
-use Rattle.std.proofs.Common.{◌≡◌, ℕ, zero, suc, ◌+◌, ◌<◌, ◌≤◌, ◌&&◌, not, Bool, true, false, cond, List, [], ◌∷◌, length, Result, Ok, Err, refl, sym, ap, ap₂, ◌∙◌, subst, arith}
-use Rattle.std.specs.Prelude.{slice_set, OnOk, ⊤}
+use Rattle.std.proofs.Common.{◌≡◌, ℕ, zero, suc, ◌+◌, ◌<◌, ◌≤◌, ◌&&◌, not, Bool, true, false, cond, List, [], ◌∷◌, length, refl, sym, ap, ap₂, ◌∙◌, subst, arith}
+use Rattle.std.specs.Prelude.{slice_set}
 use Rattle.vm_disk.specs.Disk.{Contents, Medium, block}
 use Rattle.vm_alloc.specs.Held.{HoldsMore}
 use Rattle.vm_alloc.specs.Marks.{IsMarked, is_marked}
 use Rattle.vm_block.specs.Node.{IsNode, node_bytes, node_head}
 use Rattle.vm_block.specs.declared.node.Child.{Child}
 use Rattle.std.proofs.lemmas.Bool.{false_from_ne_true}
-use Rattle.vm_tree.specs.declared.faults.TreeFault.{TreeFault}
 use Rattle.vm_check.specs.Marks.{inner_from, is_inner, unmarked_inner}
 
 -- an inner block begins as one
@@ -63,8 +62,3 @@ pub inner_then : (old mid : Medium) (a b c : ℕ) (first now later : List Bool) 
 inner_then old mid a b c first now later same so_far step =
     let here : c + unmarked_inner old.contents later ≤ b + unmarked_inner old.contents now = subst (λ (m : Medium). c + unmarked_inner m.contents later ≤ b + unmarked_inner m.contents now) same step in
     omega (arith, so_far, here)
-
--- where nothing was read
-pub inner_still : (result : Result ⊤ TreeFault) (x : Contents) (reads : ℕ) (marks later : List Bool) → HoldsMore marks later → OnOk result (reads + unmarked_inner x later ≤ reads + unmarked_inner x marks)
-inner_still (Ok y) x reads marks later grows = omega (arith, inner_more x marks later grows)
-inner_still (Err e) x reads marks later grows = tt

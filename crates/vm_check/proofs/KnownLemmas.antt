@@ -6,7 +6,7 @@ use Rattle.std.proofs.lemmas.List.{get_or-set_same, get_or-set_other}
 use Rattle.vm_disk.specs.Disk.{Contents, block}
 use Rattle.vm_alloc.specs.Held.{HoldsMore}
 use Rattle.vm_alloc.specs.Marks.{IsMarked}
-use Rattle.vm_alloc.proofs.HeldLemmas.{holds_same, holds_more_then, taken_holds_more, taken_is_held, others_as_before}
+use Rattle.vm_alloc.proofs.HeldLemmas.{holds_more_then, taken_holds_more, taken_is_held, others_as_before}
 use Rattle.vm_block.specs.Leaf.{BeginsWith, HasRecords, Record}
 use Rattle.vm_block.specs.Node.{IsNode}
 use Rattle.vm_block.specs.declared.node.Child.{Child}

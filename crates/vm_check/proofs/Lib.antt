@@ -8,6 +8,7 @@ pub mod InnerLemmas
 pub mod JoinLemmas
 pub mod KnownLemmas
 pub mod MarkLemmas
+pub mod MarkingLemmas
 pub mod OnlyLemmas
 pub mod ReachedLemmas
 pub mod RenumberLemmas

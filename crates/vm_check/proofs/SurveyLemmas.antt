@@ -5,21 +5,23 @@ use Rattle.std.proofs.lemmas.Bool.{cases_eq, cases_lt, false≢true}
 use Rattle.std.proofs.lemmas.List.{get_or_default}
 use Rattle.vm_types.specs.declared.key.Key.{Key}
 use Rattle.vm_types.specs.Places.{place}
-use Rattle.vm_disk.specs.Disk.{Contents, Medium, block}
+use Rattle.vm_disk.specs.Disk.{Contents, DiskState, Medium, block}
 use Rattle.vm_alloc.specs.Held.{HoldsMore}
 use Rattle.vm_alloc.specs.Marks.{IsMarked}
 use Rattle.vm_alloc.proofs.HeldLemmas.{holds_same, holds_more_then, taken_holds_more, taken_is_held, others_as_before, no_mark}
-use Rattle.vm_block.specs.Leaf.{BeginsWith, HasRecords, Record}
+use Rattle.vm_block.specs.Leaf.{HasRecords, Record}
 use Rattle.vm_block.specs.Node.{IsNode, lows}
 use Rattle.vm_block.specs.Way.{Lowest}
 use Rattle.vm_block.specs.declared.node.Child.{Child}
+use Rattle.vm_tree.specs.BlockReads.{LooksOnce}
 use Rattle.vm_tree.specs.Tree.{Sizes, IsData}
+use Rattle.vm_tree.proofs.Looking.{looks_none, looks_on, looks_once, looks_so}
 use Rattle.vm_tree.specs.declared.faults.TreeFault.{TreeFault}
 use Rattle.vm_tree.specs.declared.faults.TreeFault.TheVariants.{Damaged, Device}
-use Rattle.vm_check.specs.Damage.{AreDamaged, BeginsWrong, EndsWrong, Entry, Fits, HasNoForm, HasWrongKeys, HasWrongLevel, IsDamaged, IsFirst, IsListed, IsMet, IsWhole, LastKey, ListsNumber, Reaches, ReachesIn, StartsWith}
+use Rattle.vm_check.specs.Damage.{AreDamaged, Entry, HasWrongLevel, IsDamaged, IsFirst, IsListed, IsMet, IsWhole, LastKey, ListsNumber, Reaches, ReachesIn, StartsWith}
 use Rattle.vm_check.specs.Keys.{HasLevel, IsHighest}
 use Rattle.vm_check.specs.Notes.{IsOver, NotesListing, NotesNumber}
-use Rattle.vm_check.specs.Surveys.{AreMet, BlockSurveyed, ChildMet, ChildSurveyed, ChildrenSurveyed, GoesOn, HasSpan, IsHigh, IsParent, IsSurveyed, IsTopMet, KeepsNotes, RootSurveyed, Surveyed}
+use Rattle.vm_check.specs.Surveys.{AreMet, BlockSurveyed, ChildMet, ChildSurveyed, ChildrenSurveyed, GoesOn, HasSpan, IsHigh, IsParent, IsSurveyed, IsTopMet, KeepsNotes, RootSurveyed, Surveyed, Walks}
 use Rattle.vm_check.specs.Visits.{met_of, span_at}
 use Rattle.vm_check.specs.declared.notes.Notes.{Notes}
 use Rattle.vm_check.specs.declared.notes.OnDamage.{OnDamage}
@@ -28,6 +30,7 @@ use Rattle.vm_check.specs.declared.verification.Span.{Span}
 use Rattle.vm_check.specs.declared.verification.Met.{Met}
 use Rattle.vm_check.proofs.DamageLemmas.{damaged_more, first_is_more, met_more, span_more}
 use Rattle.vm_check.proofs.KnownLemmas.{node_level, span_here, span_there}
+use Rattle.vm_check.proofs.MarkLemmas.{set_less}
 use Rattle.vm_check.proofs.WalkLemmas.{LeafRead, NodeRead}
 
 -- what is noted first, after one note more
@@ -495,6 +498,46 @@ keeps_then a b c first then = record {
   none = λ is. first.none (then.none is);
   damaged = holds_more_then a.damaged b.damaged c.damaged first.damaged then.damaged;
 }
+
+-- a walk that read nothing
+pub walks_none : {fails : Type 0} {s : DiskState} {marks : List Bool} {notes : Notes} → (fails → ⊥) → Walks fails s s marks marks notes notes
+walks_none {notes = notes} fine = record { looks = looks_none _ fine; once = refl; growing = holds_same _; keeps = keeps_same notes }
+
+-- one that read a block which was not marked, and marked it
+pub walks_read : {fails both : Type 0} {limit b : ℕ} {old new : DiskState} {marks first : List Bool} {notes : Notes} → LooksOnce limit b fails old new → IsData limit b → first ≡ slice_set marks b true → length marks ≡ limit → (IsMarked marks b → ⊥)
+    → (both → fails) → Walks both old new marks first notes notes
+walks_read {b = b} {marks = marks} {notes = notes} looks inside set many fresh cause = record {
+  looks = looks_so (looks_once looks) cause;
+  once = omega (arith, looks.once.one inside, set_less _ _ _ _ set many inside fresh);
+  growing = subst (HoldsMore marks) (sym set) (taken_holds_more marks b);
+  keeps = keeps_same notes;
+}
+
+-- one after another
+pub walks_on : {first second both : Type 0} {old mid new : DiskState} {a b c : List Bool} {notes then noted : Notes} → Walks first old mid a b notes then → Walks second mid new b c then noted → (both → second) → Walks both old new a c notes noted
+walks_on so_far more cause = record {
+  looks = looks_on so_far.looks more.looks cause;
+  once = omega (arith, so_far.once, more.once);
+  growing = holds_more_then _ _ _ so_far.growing more.growing;
+  keeps = keeps_then _ _ _ so_far.keeps more.keeps;
+}
+
+-- the same walk, after which a block was noted
+pub walks_noted : {fails both : Type 0} {b n : ℕ} {old new : DiskState} {marks later : List Bool} {notes then noted : Notes} → Walks fails old new marks later notes then → NotesListing b n then noted → (both → fails) → Walks both old new marks later notes noted
+walks_noted {b = b} {then = then} walks note cause = record {
+  looks = looks_so walks.looks cause;
+  once = walks.once;
+  growing = walks.growing;
+  keeps = keeps_then _ _ _ walks.keeps (record {
+    on_damage = note.on_damage;
+    none = λ is. absurd (cc (note.first, is));
+    damaged = subst (HoldsMore then.damaged) (sym note.damaged) (taken_holds_more then.damaged b);
+  });
+}
+
+-- a number was noted
+pub number_noted : {n : ℕ} {old new : Notes} → NotesNumber n old new → KeepsNotes old new
+number_noted {old = old} note = record { on_damage = note.on_damage; none = λ is. absurd (cc (note.first, is)); damaged = subst (HoldsMore old.damaged) (sym note.damaged) (holds_same old.damaged) }
 
 -- a leaf that was read, and was not met before
 pub leaf_exit_surveyed : (sizes : Sizes) (limit : ℕ) (ns : List ℕ) (x : Contents) (least most b : ℕ) (rs : List Record) (span : Span) (met : Met) (marks : List Bool) (spans : List Met) (notes : Notes) (new : List Bool) → LeafRead sizes limit x b rs span met marks spans new → least ≡ 0

@@ -1,6 +1,5 @@
 -- What the top block of a tree tells of its root, and how trees are found by their roots.
-use Rattle.std.proofs.Common.{◌≡◌, inl, inr, ℕ, zero, suc, ◌+◌, ◌<◌, ◌≤◌, Bool, false, true, List, [], ◌∷◌, ◌++◌, length, map, get_or, take, drop, replicate, refl, sym, ap, ◌∙◌, subst, arith}
-use Rattle.std.specs.List.{AllByRecursion}
+use Rattle.std.proofs.Common.{◌≡◌, inl, inr, ℕ, zero, suc, ◌+◌, ◌<◌, ◌≤◌, Bool, false, List, [], ◌∷◌, ◌++◌, length, map, get_or, take, drop, replicate, refl, sym, ap, ◌∙◌, subst, arith}
 use Rattle.std.proofs.lemmas.Bool.{false≢true}
 use Rattle.std.proofs.lemmas.List.{length-replicate}
 use Rattle.vm_types.specs.declared.key.Key.{Key}
@@ -8,7 +7,7 @@ use Rattle.vm_types.specs.Map.{Map}
 use Rattle.vm_disk.specs.Disk.{Contents, Medium, block}
 use Rattle.vm_alloc.specs.Marks.{IsMarked}
 use Rattle.vm_alloc.proofs.HeldLemmas.{no_mark}
-use Rattle.vm_block.specs.Leaf.{BeginsWith, Record, key_bytes}
+use Rattle.vm_block.specs.Leaf.{BeginsWith, key_bytes}
 use Rattle.vm_block.proofs.EachLemmas.{each_join, each_so}
 use Rattle.vm_block.specs.Look.{IfRecords}
 use Rattle.vm_block.specs.Node.{IsNode}
@@ -18,7 +17,7 @@ use Rattle.vm_tree.specs.Tree.{Sizes, IsData, IsTree, Subtree}
 use Rattle.vm_tree.specs.Root.{IsRooted}
 use Rattle.vm_tree.specs.declared.root.Root.{Root}
 use Rattle.vm_tree.proofs.TreeLemmas.{leaf_opens, node_opens, tree_opens}
-use Rattle.vm_check.specs.Form.{IsFilled, IsForm}
+use Rattle.vm_check.specs.Form.{IsForm}
 use Rattle.vm_check.specs.Marks.{AreUnder, IsClosed, MarksMore, unmarked_inner}
 use Rattle.vm_check.specs.Trees.{AreFound, AreTopped, IsFound, IsTop, IsTopped, level_of}
 use Rattle.vm_check.specs.Verification.{AreRoots, Found, HaveTrees}

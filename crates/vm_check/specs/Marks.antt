@@ -1,5 +1,5 @@
 -- Marks on the blocks of trees.
-use Rattle.std.specs.Prelude.{◌≡◌, ◌⊎◌, ℕ, suc, ◌+◌, ◌≤◌, ◌&&◌, not, Bool, true, List, [], ◌∷◌, ◌++◌, length, take, drop, codes, Contains, Result, OnOk, if◌then◌else◌}
+use Rattle.std.specs.Prelude.{◌≡◌, ◌⊎◌, ℕ, suc, ◌+◌, ◌≤◌, ◌&&◌, not, Bool, true, List, [], ◌∷◌, ◌++◌, length, take, drop, codes, Contains, Result, Err, IsOk, OnOk, if◌then◌else◌}
 use Rattle.std.specs.Str.{bytes_eq}
 use Rattle.std.specs.List.{AllByRecursion}
 use Rattle.vm_types.specs.declared.sizes.TheConstants.{FIRST_DATA}
@@ -12,9 +12,11 @@ use Rattle.vm_block.specs.Node.{IsNode}
 use Rattle.vm_block.specs.declared.node.Child.{Child}
 use Rattle.vm_tree.specs.Tree.{Sizes, Subtree}
 use Rattle.vm_tree.specs.Answers.{OkOrDevice}
+use Rattle.vm_tree.specs.Calls.{Looks}
 use Rattle.vm_tree.specs.Root.{IsRooted}
 use Rattle.vm_tree.specs.declared.root.Root.{Root}
 use Rattle.vm_tree.specs.declared.faults.TreeFault.{TreeFault}
+use Rattle.vm_tree.specs.declared.faults.TreeFault.TheVariants.{Device}
 use Rattle.vm_check.specs.Form.{OkUnlessDevice}
 
 -- how many data blocks are not marked
@@ -78,10 +80,22 @@ inner_from x n (m ∷ ms) = (if is_inner (block x n) && not m then 1 else 0) + i
 abbrev pub unmarked_inner : Contents → List Bool → ℕ
 unmarked_inner x marks = inner_from x 0 marks
 
--- if the disk is honest after the call, and the answer is Ok, for each block that was read an inner block was marked
-abbrev pub PaysInner : {T : Type 0} → Result T TreeFault → DiskState → DiskState → List Bool → List Bool → Type 0
-PaysInner result old new marks later =
-    new.honest ≡ true → OnOk result (new.reads + unmarked_inner old.now.contents later ≤ old.reads + unmarked_inner old.now.contents marks)
+-- if the disk is honest after the call, for each block that was read an inner block was marked
+abbrev pub PaysInner : DiskState → DiskState → List Bool → List Bool → Type 0
+PaysInner old new marks later =
+    new.honest ≡ true → new.reads + unmarked_inner old.now.contents later ≤ old.reads + unmarked_inner old.now.contents marks
+
+-- a call that answers that the device failed exactly if `fails` holds, and Ok exactly if `done` does, only looked at the disk, and marked blocks
+pub record Marking (fails done : Type 0) (old new : DiskState) (marks later : List Bool) : Type 0 where
+  pub looks : Looks fails old new
+  pub growing : HoldsMore marks later
+  -- For each block that it reads, it marks a data block that was not marked, and with Ok an inner block: no leaf is read.
+  pub once : PaysReads old new marks later
+  pub inner : done → PaysInner old new marks later
+
+-- a call with this result did
+abbrev pub MarksBlocks : {T : Type 0} → Result T TreeFault → DiskState → DiskState → List Bool → List Bool → Type 0
+MarksBlocks result old new marks later = Marking (result ≡ Err Device) (IsOk result) old new marks later
 
 -- # What is marked of trees, if the disk is honest after the call
 

@@ -1,5 +1,5 @@
 -- What a walk has noted of damaged blocks.
-use Rattle.std.specs.Prelude.{◌≡◌, ℕ, Bool, true, List, Option, Some, None, IsSome, slice_set, unwrap_or}
+use Rattle.std.specs.Prelude.{◌≡◌, ℕ, true, Some, IsSome, slice_set, unwrap_or}
 use Rattle.vm_check.specs.declared.notes.Notes.{Notes}
 use Rattle.vm_check.specs.declared.notes.OnDamage.TheVariants.{Stop}
 

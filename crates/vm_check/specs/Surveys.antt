@@ -1,5 +1,5 @@
 -- What a walk that goes on behind damaged blocks knows of the blocks that it met.
-use Rattle.std.specs.Prelude.{◌≡◌, ◌≢◌, ◌⊎◌, ℕ, suc, ◌+◌, ◌-◌, ◌<◌, ◌≤◌, Bool, true, List, length, slice_index_or, Contains, Option, None, Some, Result, IfOk}
+use Rattle.std.specs.Prelude.{◌≡◌, ◌⊎◌, ℕ, ◌+◌, ◌-◌, ◌<◌, ◌≤◌, Bool, true, List, length, slice_index_or, Contains, Option, None, Some, Result, IfOk}
 use Rattle.vm_types.specs.declared.key.Key.{Key}
 use Rattle.vm_disk.specs.Disk.{Contents, DiskState, block}
 use Rattle.vm_disk.specs.declared.disk.DeviceFault.{DeviceFault}
@@ -7,11 +7,13 @@ use Rattle.vm_alloc.specs.Held.{HoldsMore}
 use Rattle.vm_alloc.specs.Marks.{IsMarked}
 use Rattle.vm_block.specs.Node.{IsNode}
 use Rattle.vm_block.specs.declared.node.Child.{Child}
+use Rattle.vm_tree.specs.Calls.{Looks}
 use Rattle.vm_tree.specs.Tree.{Sizes, IsData}
 use Rattle.vm_tree.specs.Root.{sizes_of}
 use Rattle.vm_tree.specs.declared.root.Root.{Root}
 use Rattle.vm_check.specs.Damage.{HasWrongLevel, IsDamaged, IsFirst, IsMet, IsWhole, LastKey, Reaches, StartsWith}
 use Rattle.vm_check.specs.Keys.{HasLevel}
+use Rattle.vm_check.specs.Marks.{PaysJustReads}
 use Rattle.vm_check.specs.Visits.{span_at}
 use Rattle.vm_check.specs.declared.notes.Notes.{Notes}
 use Rattle.vm_check.specs.declared.notes.OnDamage.TheVariants.{GoOn}
@@ -23,6 +25,13 @@ pub record KeepsNotes (old new : Notes) : Type 0 where
   pub on_damage : new.on_damage ≡ old.on_damage
   pub none : new.first ≡ None → old.first ≡ None
   pub damaged : HoldsMore old.damaged new.damaged
+
+-- a walk that fails exactly if `fails` holds only looked at the disk, read just the data blocks that it marked, and forgot nothing
+pub record Walks (fails : Type 0) (old new : DiskState) (marks later : List Bool) (notes noted : Notes) : Type 0 where
+  pub looks : Looks fails old new
+  pub once : PaysJustReads old new marks later
+  pub growing : HoldsMore marks later
+  pub keeps : KeepsNotes notes noted
 
 -- block n, which is not damaged, has this span
 pub record HasSpan (sizes : Sizes) (x : Contents) (limit : ℕ) (marks damaged : List Bool) (n : ℕ) (span : Span) : Type 0 where

@@ -1,5 +1,5 @@
 -- What a walk knows of the blocks that it met, and what its visits find.
-use Rattle.std.specs.Prelude.{◌≡◌, ◌↔◌, ◌⊎◌, ℕ, zero, suc, ◌+◌, ◌-◌, ◌<◌, ◌≤◌, Bool, true, List, length, slice_index_or, Contains, Option, None, Result, IfOk, IsSomeAnd}
+use Rattle.std.specs.Prelude.{◌≡◌, ◌↔◌, ◌⊎◌, ℕ, ◌+◌, ◌-◌, ◌<◌, ◌≤◌, Bool, true, List, length, slice_index_or, Contains, Option, None, Result, IfOk, IsSomeAnd}
 use Rattle.std.specs.List.{AllByRecursion}
 use Rattle.vm_types.specs.declared.key.Key.{Key}
 use Rattle.vm_types.specs.Map.{Map}
@@ -7,7 +7,7 @@ use Rattle.vm_types.specs.Places.{RisesFrom, place, places}
 use Rattle.vm_disk.specs.Disk.{Contents, DiskState, block}
 use Rattle.vm_alloc.specs.Held.{HoldsMore}
 use Rattle.vm_alloc.specs.Marks.{IsMarked}
-use Rattle.vm_block.specs.Leaf.{BeginsWith, HasRecords, Record}
+use Rattle.vm_block.specs.Leaf.{BeginsWith, Record}
 use Rattle.vm_block.specs.Node.{IsNode, lows}
 use Rattle.vm_block.specs.declared.node.Child.{Child}
 use Rattle.vm_tree.specs.Tree.{Sizes, Children, IsTree, Subtree}
@@ -34,11 +34,12 @@ no_met = record { low_number = 0; high_number = 0; low_table = 0; high_table = 0
 abbrev pub span_at : List Met → ℕ → Span
 span_at spans n = span_of (slice_index_or spans n no_met)
 
--- what is kept fits the disk: there are a mark and a span for each of `blocks` blocks, which the disk has
-pub record SpansFit (blocks : ℕ) (x : DiskState) (marks : List Bool) (spans : List Met) : Type 0 where
+-- what is kept fits the disk: there are a mark, a span and a note for each of `blocks` blocks, which the disk has
+pub record SpansFit (blocks : ℕ) (x : DiskState) (marks : List Bool) (spans : List Met) (notes : Notes) : Type 0 where
   pub inside : blocks ≤ x.blocks
   pub bits : length marks ≡ blocks
   pub room : length spans ≡ blocks
+  pub noted : length notes.damaged ≡ blocks
 
 -- block n is the top of a subtree of this level, with these lowest and highest keys, all of whose blocks are marked
 pub record Whole (sizes : Sizes) (x : Contents) (limit : ℕ) (marks : List Bool) (n : ℕ) (span : Span) : Type 0 where

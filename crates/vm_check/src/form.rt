@@ -1,7 +1,6 @@
 //! What a block of a tree is, read from a disk.
 ghost use Rattle.std.specs.Prelude.{◌≡◌, ◌≢◌, ◌≤◌, IfOk};
-ghost use Rattle.vm_tree.specs.Calls.{OnlyLooks};
-ghost use Rattle.vm_tree.specs.BlockReads.{ReadsOne};
+ghost use Rattle.vm_tree.specs.BlockReads.{ReadsOnce};
 ghost use Rattle.vm_check.specs.Form.{AcceptsLeaf, AcceptsNode, HasRead, IsFilled, IsForm};
 
 use vm_block::{is_leaf, node_size, records_len};
@@ -26,8 +25,7 @@ pub(crate) fn form_at<D: Disk>(
     need: Need,
 ) -> Result<Form, TreeFault>
     requires { blocks ≤ (D.state disk.old).blocks }
-    ensures looks { OnlyLooks result (D.state disk.old) (D.state disk.new) }
-    ensures once { ReadsOne blocks block (D.state disk.old).reads (D.state disk.new).reads }
+    ensures looks { ReadsOnce result blocks block (D.state disk.old) (D.state disk.new) }
     ensures some { IfOk result IsFilled }
     ensures form { IfOk result (IsForm (D.hand disk.new)) }
     ensures found { HasRead result (D.state disk.old) (D.state disk.new) block (D.hand disk.new) }

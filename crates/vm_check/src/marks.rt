@@ -2,9 +2,8 @@
 ghost use Rattle.std.specs.Prelude.{◌≡◌, ◌≢◌, ◌+◌, ◌<◌, ◌≤◌, [], ◌∷◌, length, IsOk, OnOk};
 ghost use Rattle.vm_alloc.specs.Held.{HoldsMore};
 ghost use Rattle.vm_alloc.specs.Marks.{IsMarked};
-ghost use Rattle.vm_tree.specs.Calls.{OnlyLooks};
 ghost use Rattle.vm_tree.specs.Tree.{IsData};
-ghost use Rattle.vm_check.specs.Marks.{Closes, Covers, CoversBelow, CoversUnder, MarksFit, MarksOnly, MarksOnlyBelow, MarksOnlyOn, MarksOnlyUnder, PaysInner, PaysReads, SoundBelow, SoundOn, SoundUnder, unmarked};
+ghost use Rattle.vm_check.specs.Marks.{Closes, Covers, CoversBelow, CoversUnder, MarksBlocks, MarksFit, MarksOnly, MarksOnlyBelow, MarksOnlyOn, MarksOnlyUnder, SoundBelow, SoundOn, SoundUnder, unmarked};
 
 use vm_alloc::Marks;
 use vm_block::child_at;
@@ -41,10 +40,7 @@ fn mark_node<D: Disk>(
 ) -> Result<(), TreeFault>
     requires fit { MarksFit blocks (D.state disk.old) marks.old }
     requires inner { 0 < level }
-    ensures looks { OnlyLooks result (D.state disk.old) (D.state disk.new) }
-    ensures once { PaysReads (D.state disk.old) (D.state disk.new) marks.old marks.new }
-    ensures inner { PaysInner result (D.state disk.old) (D.state disk.new) marks.old marks.new }
-    ensures growing { HoldsMore marks.old marks.new }
+    ensures marking { MarksBlocks result (D.state disk.old) (D.state disk.new) marks.old marks.new }
     ensures marked { CoversBelow result (D.state disk.old) (D.state disk.new)
         blocks level block marks.old marks.new }
     ensures sound { SoundBelow result (D.state disk.old) (D.state disk.new) blocks level block }
@@ -79,10 +75,7 @@ fn mark_below<D: Disk>(
     marks: &mut Marks,
 ) -> Result<(), TreeFault>
     requires fit { MarksFit blocks (D.state disk.old) marks.old }
-    ensures looks { OnlyLooks result (D.state disk.old) (D.state disk.new) }
-    ensures once { PaysReads (D.state disk.old) (D.state disk.new) marks.old marks.new }
-    ensures inner { PaysInner result (D.state disk.old) (D.state disk.new) marks.old marks.new }
-    ensures growing { HoldsMore marks.old marks.new }
+    ensures marking { MarksBlocks result (D.state disk.old) (D.state disk.new) marks.old marks.new }
     ensures marked { CoversBelow result (D.state disk.old) (D.state disk.new)
         blocks level block marks.old marks.new }
     ensures sound { SoundBelow result (D.state disk.old) (D.state disk.new) blocks level block }
@@ -104,10 +97,7 @@ fn mark_root<D: Disk>(
     marks: &mut Marks,
 ) -> Result<(), TreeFault>
     requires fit { MarksFit blocks (D.state disk.old) marks.old }
-    ensures looks { OnlyLooks result (D.state disk.old) (D.state disk.new) }
-    ensures once { PaysReads (D.state disk.old) (D.state disk.new) marks.old marks.new }
-    ensures inner { PaysInner result (D.state disk.old) (D.state disk.new) marks.old marks.new }
-    ensures growing { HoldsMore marks.old marks.new }
+    ensures marking { MarksBlocks result (D.state disk.old) (D.state disk.new) marks.old marks.new }
     ensures marked { CoversUnder result (D.state disk.old) (D.state disk.new)
         blocks root marks.old marks.new }
     ensures sound { SoundUnder result (D.state disk.old) (D.state disk.new) blocks root }
@@ -127,13 +117,7 @@ fn mark_root<D: Disk>(
 /// On trees it never answers Damaged. If the device fails, some of the blocks are marked.
 pub fn mark<D: Disk>(disk: &mut D, roots: &[Root], marks: &mut Marks) -> Result<(), TreeFault>
     requires { length marks.old ≤ (D.state disk.old).blocks }
-    ensures looks { OnlyLooks result (D.state disk.old) (D.state disk.new) }
-    ensures growing { HoldsMore marks.old marks.new }
-
-    // For each block that it reads, it marks a data block that was not marked, and with Ok an inner
-    // block: no leaf is read.
-    ensures once { PaysReads (D.state disk.old) (D.state disk.new) marks.old marks.new }
-    ensures inner { PaysInner result (D.state disk.old) (D.state disk.new) marks.old marks.new }
+    ensures marking { MarksBlocks result (D.state disk.old) (D.state disk.new) marks.old marks.new }
 
     // On trees, whatever the sizes of their blocks and whatever was marked before, it is Ok unless
     // the device fails. Whatever the answer, it marks only blocks under the roots.

@@ -219,10 +219,7 @@ pub fn copy_tree<S: Disk, T: Disk>(
     root: Root,
     numbers: &mut Renumbering,
 ) -> Result<Root, CopyFault>
-    requires inside { blocks ≤ (S.state source.old).blocks }
-    requires room { limit ≤ (T.state target.old).blocks }
-    requires known { count_of numbers.old ≡ blocks }
-    requires least { FIRST_DATA ≤ next_of numbers.old }
+    requires fit { NumbersFit blocks limit (S.state source.old) (T.state target.old) numbers.old }
 
     // On any disks, the source is only read, no block of the target is touched but those of the numbers
     // from the next one on, up to the next one afterwards and below the limit, and nothing is synced. On

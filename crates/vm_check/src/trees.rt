@@ -1,10 +1,10 @@
 //! Finding trees by their tops and their inner blocks.
 ghost use Rattle.std.specs.Prelude.{◌≡◌, ◌+◌, ◌≤◌, length, map, replicate, false, IfOk, ⊤};
-ghost use Rattle.vm_tree.specs.Calls.{OnlyLists, OnlyLooks};
+ghost use Rattle.vm_tree.specs.Calls.{OnlyLists, ReadsWithin};
 ghost use Rattle.vm_tree.specs.BlockReads.{Finds};
 ghost use Rattle.vm_check.specs.Marks.{unmarked_inner};
 ghost use Rattle.vm_check.specs.Trees.{AcceptsNumber, AreFound, AreTopped, IsFound, WhereTrees, level_of};
-ghost use Rattle.vm_check.specs.Verification.{Found};
+ghost use Rattle.vm_check.specs.Verification.{AreGiven, Found, SizeFits};
 
 use crate::form::{Form, form_at};
 use crate::marks::mark;
@@ -13,7 +13,6 @@ use vm_alloc::Marks;
 use vm_block::lowest_key;
 use vm_disk::{Disk, Need};
 use vm_tree::{ListFault, Root, TreeFault, is_data};
-use vm_types::{MAX_BLOCKS, MIN_BLOCKS};
 
 /// The level of a block of this form.
 fn level_of(form: Form) -> u8
@@ -28,8 +27,7 @@ fn level_of(form: Form) -> u8
 /// The root of the tree under a number, by its top block alone.
 fn root_at<D: Disk>(disk: &mut D, blocks: u32, number: u32) -> Result<Root, TreeFault>
     requires { blocks ≤ (D.state disk.old).blocks }
-    ensures looks { OnlyLooks result (D.state disk.old) (D.state disk.new) }
-    ensures once { (D.state disk.new).reads ≤ (D.state disk.old).reads + 1 }
+    ensures looks { ReadsWithin 1 result (D.state disk.old) (D.state disk.new) }
     ensures named { IfOk result (λ root. root.block ≡ number) }
     ensures found { Finds result (D.state disk.old) (D.state disk.new) (λ x root. IsFound x blocks root) }
     ensures only { AcceptsNumber result (D.state disk.old) (D.state disk.new) blocks number }
@@ -51,8 +49,7 @@ fn root_at<D: Disk>(disk: &mut D, blocks: u32, number: u32) -> Result<Root, Tree
 /// The same. If it is the root that was found last, its block is not read again.
 fn next_root<D: Disk>(disk: &mut D, blocks: u32, number: u32, last: Root) -> Result<Root, TreeFault>
     requires { blocks ≤ (D.state disk.old).blocks }
-    ensures looks { OnlyLooks result (D.state disk.old) (D.state disk.new) }
-    ensures once { (D.state disk.new).reads ≤ (D.state disk.old).reads + 1 }
+    ensures looks { ReadsWithin 1 result (D.state disk.old) (D.state disk.new) }
     ensures named { IfOk result (λ root. root.block ≡ number) }
     ensures found { IsFound (D.state disk.old).now.contents blocks last
         → Finds result (D.state disk.old) (D.state disk.new) (λ x root. IsFound x blocks root) }
@@ -102,16 +99,12 @@ pub fn find_trees<D: Disk>(
     blocks: u32,
     numbers: &[u32],
 ) -> Result<(Vec<Root>, Marks), ListFault>
-    requires enough { MIN_BLOCKS ≤ blocks }
-    requires few { blocks ≤ MAX_BLOCKS }
-    requires inside { blocks ≤ (D.state disk.old).blocks }
+    requires fit { SizeFits blocks (D.state disk.old) }
     ensures looks { OnlyLists result (D.state disk.old) (D.state disk.new) }
 
     // On any disk there is a flag for each block, and a root for each number, whose top block has
     // its form.
-    ensures count { IfOk result (λ found. length found.1 ≡ blocks) }
-    ensures roots { IfOk result (λ found. length found.0.items ≡ length numbers.now) }
-    ensures named { IfOk result (λ found. map (λ root. root.block) found.0.items ≡ numbers.now) }
+    ensures given { IfOk result (AreGiven blocks numbers.now) }
     ensures topped { Finds result (D.state disk.old) (D.state disk.new)
         (λ x found. AreTopped x blocks found.0.items) }
 

@@ -1,16 +1,12 @@
 //! Validates the trees under untrusted block numbers.
-ghost use Rattle.std.specs.Prelude.{◌≡◌, ◌≢◌, ◌↔◌, ◌+◌, ◌<◌, ◌≤◌, None, length, map, IsErr, IsTrue, IfOk};
-ghost use Rattle.vm_alloc.specs.Held.{HoldsMore};
+ghost use Rattle.std.specs.Prelude.{◌≡◌, ◌↔◌, ◌<◌, ◌≤◌, length, IsErr, IsTrue, IfOk};
 ghost use Rattle.vm_block.specs.Leaf.{BeginsWith};
 ghost use Rattle.vm_block.specs.Look.{IfRecords};
-ghost use Rattle.vm_tree.specs.Calls.{Looks, OnlyLists};
-ghost use Rattle.vm_tree.specs.BlockReads.{Finds};
 ghost use Rattle.vm_tree.specs.Root.{AreSizes, sizes_of};
 ghost use Rattle.vm_tree.specs.Tree.{IsData};
 ghost use Rattle.vm_check.specs.Keys.{IsHighest};
-ghost use Rattle.vm_check.specs.Marks.{PaysJustReads};
-ghost use Rattle.vm_check.specs.Surveys.{KeepsNotes, Surveys, SurveysChild, SurveysChildren, SurveysRoot};
-ghost use Rattle.vm_check.specs.Verification.{AcceptsTrees, Found, PaidFor, TellsDamaged};
+ghost use Rattle.vm_check.specs.Surveys.{Surveys, SurveysChild, SurveysChildren, SurveysRoot, Walks};
+ghost use Rattle.vm_check.specs.Verification.{SizeFits, TellsDamaged, Verifies};
 ghost use Rattle.vm_check.specs.Visits.{AcceptsChild, AcceptsSubtree, AcceptsTree, EndsBelowNext, SpansFit, Visits, VisitsChild, VisitsChildren, VisitsRoot, met_of, span_of};
 
 use crate::form::{Form, form_at};
@@ -20,7 +16,7 @@ use vm_alloc::Marks;
 use vm_block::{MAX_CHILDREN, MAX_RECORDS, child_at, lowest_key, record_key};
 use vm_disk::{DeviceFault, Disk, Need};
 use vm_tree::{ListFault, Root, TreeFault, is_data};
-use vm_types::{Block, BlockNumber, FIRST_DATA, Key, MAX_BLOCKS, MIN_BLOCKS};
+use vm_types::{Block, BlockNumber, Key};
 
 /// What was found at a block: its level, and the lowest and the highest key under it.
 #[derive(Clone, Copy, Debug)]
@@ -84,14 +80,11 @@ fn visit<D: Disk, const FAN: usize>(
     spans: &mut [Met],
     notes: &mut Notes,
 ) -> Result<Option<Span>, DeviceFault>
-    requires fit { SpansFit blocks (D.state disk.old) marks.old spans.old }
-    requires noted { length notes.old.damaged ≡ blocks }
+    requires fit { SpansFit blocks (D.state disk.old) marks.old spans.old notes.old }
     requires low { most ≤ 7 }
     requires inside { IsData blocks block }
-    ensures looks { Looks (IsErr result) (D.state disk.old) (D.state disk.new) }
-    ensures once { PaysJustReads (D.state disk.old) (D.state disk.new) marks.old marks.new }
-    ensures growing { HoldsMore marks.old marks.new }
-    ensures keeps { KeepsNotes notes.old notes.new }
+    ensures walks { Walks (IsErr result) (D.state disk.old) (D.state disk.new)
+        marks.old marks.new notes.old notes.new }
     ensures found { Visits result FAN (D.state disk.old) (D.state disk.new)
         blocks least most block marks.old spans.old marks.new spans.new notes.new }
     ensures only { AcceptsSubtree FAN (D.state disk.old) (D.state disk.new)
@@ -192,16 +185,13 @@ fn visit_child<D: Disk, const FAN: usize>(
     spans: &mut [Met],
     notes: &mut Notes,
 ) -> Result<Key, DeviceFault>
-    requires fit { SpansFit blocks (D.state disk.old) marks.old spans.old }
-    requires noted { length notes.old.damaged ≡ blocks }
+    requires fit { SpansFit blocks (D.state disk.old) marks.old spans.old notes.old }
     requires few { count ≤ MAX_CHILDREN }
     requires within { i < count }
     requires low { level ≤ 7 }
     requires inside { IsData blocks parent }
-    ensures looks { Looks (IsErr result) (D.state disk.old) (D.state disk.new) }
-    ensures once { PaysJustReads (D.state disk.old) (D.state disk.new) marks.old marks.new }
-    ensures growing { HoldsMore marks.old marks.new }
-    ensures keeps { KeepsNotes notes.old notes.new }
+    ensures walks { Walks (IsErr result) (D.state disk.old) (D.state disk.new)
+        marks.old marks.new notes.old notes.new }
     ensures found { VisitsChild result FAN (D.state disk.old) (D.state disk.new)
         blocks level bytes.now count i marks.old spans.old marks.new spans.new notes.new }
     ensures only { AcceptsChild FAN (D.state disk.old) (D.state disk.new)
@@ -239,15 +229,12 @@ fn visit_children<D: Disk, const FAN: usize>(
     spans: &mut [Met],
     notes: &mut Notes,
 ) -> Result<Key, DeviceFault>
-    requires fit { SpansFit blocks (D.state disk.old) marks.old spans.old }
-    requires noted { length notes.old.damaged ≡ blocks }
+    requires fit { SpansFit blocks (D.state disk.old) marks.old spans.old notes.old }
     requires few { count ≤ MAX_CHILDREN }
     requires low { level ≤ 7 }
     requires inside { IsData blocks parent }
-    ensures looks { Looks (IsErr result) (D.state disk.old) (D.state disk.new) }
-    ensures once { PaysJustReads (D.state disk.old) (D.state disk.new) marks.old marks.new }
-    ensures growing { HoldsMore marks.old marks.new }
-    ensures keeps { KeepsNotes notes.old notes.new }
+    ensures walks { Walks (IsErr result) (D.state disk.old) (D.state disk.new)
+        marks.old marks.new notes.old notes.new }
     ensures found { VisitsChildren result FAN (D.state disk.old) (D.state disk.new)
         blocks level bytes.now count marks.old spans.old marks.new spans.new notes.new }
     ensures only { AcceptsChild FAN (D.state disk.old) (D.state disk.new)
@@ -293,28 +280,9 @@ pub fn verify<D: Disk, const FAN: usize, const LEVELS: usize>(
     numbers: &[u32],
 ) -> Result<(Vec<Root>, Marks), ListFault>
     requires sizes { AreSizes FAN LEVELS }
-    requires enough { MIN_BLOCKS ≤ blocks }
-    requires few { blocks ≤ MAX_BLOCKS }
-    requires inside { blocks ≤ (D.state disk.old).blocks }
-    ensures looks { OnlyLists result (D.state disk.old) (D.state disk.new) }
-
-    // On any disk there is a flag for each block, and a root for each number.
-    ensures count { IfOk result (λ found. length found.1 ≡ blocks) }
-    ensures roots { IfOk result (λ found. length found.0.items ≡ length numbers.now) }
-    ensures named { IfOk result (λ found. map (λ root. root.block) found.0.items ≡ numbers.now) }
-
-    // Whatever the disk holds and whatever the answer, there are at most as many reads as data
-    // blocks; with Ok, exactly as many as there are marked blocks.
-    ensures once { (D.state disk.new).reads + FIRST_DATA ≤ (D.state disk.old).reads + blocks }
-    ensures paid { IfOk result
-        (λ found. PaidFor (D.state disk.old) (D.state disk.new) blocks found.1) }
-
-    // It is Ok exactly when each number has a tree, unless the device fails or memory cannot be
-    // allocated.
-    ensures found { Finds result (D.state disk.old) (D.state disk.new)
-        (λ x found. Found (sizes_of FAN LEVELS) x blocks numbers.now found.0.items found.1) }
-    ensures only { AcceptsTrees result (sizes_of FAN LEVELS)
-        (D.state disk.old) (D.state disk.new) blocks numbers.now }
+    requires fit { SizeFits blocks (D.state disk.old) }
+    ensures { Verifies result (sizes_of FAN LEVELS) (D.state disk.old) (D.state disk.new)
+        blocks numbers.now }
 {
     let mut damaged = None;
     walk_numbers::<D, FAN, LEVELS>(alloc, disk, blocks, numbers, OnDamage::Stop, &mut damaged)
@@ -334,22 +302,11 @@ pub fn survey<D: Disk, const FAN: usize, const LEVELS: usize>(
     damaged: &mut Option<Marks>,
 ) -> Result<(Vec<Root>, Marks), ListFault>
     requires sizes { AreSizes FAN LEVELS }
-    requires enough { MIN_BLOCKS ≤ blocks }
-    requires few { blocks ≤ MAX_BLOCKS }
-    requires inside { blocks ≤ (D.state disk.old).blocks }
+    requires fit { SizeFits blocks (D.state disk.old) }
 
     // It reads, answers and finds what `verify` does.
-    ensures looks { OnlyLists result (D.state disk.old) (D.state disk.new) }
-    ensures count { IfOk result (λ found. length found.1 ≡ blocks) }
-    ensures roots { IfOk result (λ found. length found.0.items ≡ length numbers.now) }
-    ensures named { IfOk result (λ found. map (λ root. root.block) found.0.items ≡ numbers.now) }
-    ensures once { (D.state disk.new).reads + FIRST_DATA ≤ (D.state disk.old).reads + blocks }
-    ensures paid { IfOk result
-        (λ found. PaidFor (D.state disk.old) (D.state disk.new) blocks found.1) }
-    ensures found { Finds result (D.state disk.old) (D.state disk.new)
-        (λ x found. Found (sizes_of FAN LEVELS) x blocks numbers.now found.0.items found.1) }
-    ensures only { AcceptsTrees result (sizes_of FAN LEVELS)
-        (D.state disk.old) (D.state disk.new) blocks numbers.now }
+    ensures verifies { Verifies result (sizes_of FAN LEVELS) (D.state disk.old) (D.state disk.new)
+        blocks numbers.now }
 
     // With Damaged, each marked block is damaged, and so is each other one that is reached by whole
     // blocks: these list whole blocks alone, and marked ones.
@@ -370,20 +327,9 @@ fn walk_numbers<D: Disk, const FAN: usize, const LEVELS: usize>(
     damaged: &mut Option<Marks>,
 ) -> Result<(Vec<Root>, Marks), ListFault>
     requires sizes { AreSizes FAN LEVELS }
-    requires enough { MIN_BLOCKS ≤ blocks }
-    requires few { blocks ≤ MAX_BLOCKS }
-    requires inside { blocks ≤ (D.state disk.old).blocks }
-    ensures looks { OnlyLists result (D.state disk.old) (D.state disk.new) }
-    ensures count { IfOk result (λ found. length found.1 ≡ blocks) }
-    ensures roots { IfOk result (λ found. length found.0.items ≡ length numbers.now) }
-    ensures named { IfOk result (λ found. map (λ root. root.block) found.0.items ≡ numbers.now) }
-    ensures once { (D.state disk.new).reads + FIRST_DATA ≤ (D.state disk.old).reads + blocks }
-    ensures paid { IfOk result
-        (λ found. PaidFor (D.state disk.old) (D.state disk.new) blocks found.1) }
-    ensures found { Finds result (D.state disk.old) (D.state disk.new)
-        (λ x found. Found (sizes_of FAN LEVELS) x blocks numbers.now found.0.items found.1) }
-    ensures only { AcceptsTrees result (sizes_of FAN LEVELS)
-        (D.state disk.old) (D.state disk.new) blocks numbers.now }
+    requires fit { SizeFits blocks (D.state disk.old) }
+    ensures verifies { Verifies result (sizes_of FAN LEVELS) (D.state disk.old) (D.state disk.new)
+        blocks numbers.now }
     ensures damaged { on_damage ≡ OnDamage.GoOn → TellsDamaged result (sizes_of FAN LEVELS)
         (D.state disk.old) (D.state disk.new) blocks numbers.now damaged.old damaged.new }
 {
@@ -428,12 +374,9 @@ fn visit_root<D: Disk, const FAN: usize, const LEVELS: usize>(
     notes: &mut Notes,
 ) -> Result<Root, DeviceFault>
     requires sizes { AreSizes FAN LEVELS }
-    requires fit { SpansFit blocks (D.state disk.old) marks.old spans.old }
-    requires noted { length notes.old.damaged ≡ blocks }
-    ensures looks { Looks (IsErr result) (D.state disk.old) (D.state disk.new) }
-    ensures once { PaysJustReads (D.state disk.old) (D.state disk.new) marks.old marks.new }
-    ensures count { length marks.new ≡ blocks }
-    ensures keeps { KeepsNotes notes.old notes.new }
+    requires fit { SpansFit blocks (D.state disk.old) marks.old spans.old notes.old }
+    ensures walks { Walks (IsErr result) (D.state disk.old) (D.state disk.new)
+        marks.old marks.new notes.old notes.new }
     ensures named { IfOk result (λ root. root.block ≡ number) }
     ensures found { VisitsRoot result (sizes_of FAN LEVELS) (D.state disk.old) (D.state disk.new)
         blocks number marks.old spans.old marks.new spans.new notes.new }

@@ -3,7 +3,7 @@ use Rattle.std.proofs.Common.{◌≡◌, ◌⊎◌, ℕ, ◌+◌, ◌<◌, ◌�
 use Rattle.std.specs.Bool.{OnTrue, OnFalse}
 use Rattle.std.specs.Map.{lookup, remove_entry}
 use Rattle.vm_disk.specs.declared.disk.DeviceFault.{DeviceFault}
-use Rattle.vm_disk.specs.Disk.{DiskState, Medium, Contents, block, Counts, Reads, Writes, Idles, Forgets, Extends, Enlarges}
+use Rattle.vm_disk.specs.Disk.{DiskState, Medium, Contents, block, Counts, Reads, Writes, Extends, Enlarges}
 use Rattle.vm_disk.specs.Moments.{TouchesOnly, WritesRun, in_run}
 use Rattle.vm_disk.specs.declared.kept.Kept.{Kept}
 use Rattle.vm_disk.specs.Kept.{Entries, keeps, with_first, without_run, entries_of, AreOf, UsesBlock, UsesBlocks}
@@ -114,15 +114,6 @@ pub right_after_fault : {T : Type 0} (result : Result T DeviceFault) (old new : 
 right_after_fault result old new n bytes es es' is gone counts writes right honest =
     same_right new.now.contents _ es' is
     (rest_are_by (block old.now.contents) (block new.now.contents) (length old.now.contents) (length new.now.contents) n (writes honest).count (writes honest).others es (sym (ap (keeps n) is) ∙ gone) (right (counts.earlier honest)))
-
--- a block was forgotten
-pub right_after_forgetting : (old new : DiskState) (n : ℕ) (es es' : Entries)
-    → es' ≡ remove_entry (nat_eq n) es → keeps n es' ≡ false
-    → Idles old new → (new.honest ≡ true → Forgets n old new)
-    → AreRight old es → AreRight new es'
-right_after_forgetting old new n es es' is gone idles forgets right honest =
-    same_right new.now.contents _ es' is
-    (rest_are_by (block old.now.contents) (block new.now.contents) (length old.now.contents) (length new.now.contents) n (forgets honest).count (forgets honest).others es (sym (ap (keeps n) is) ∙ gone) (right (idles.earlier honest)))
 
 -- the disk grew
 pub right_after_growing : {T : Type 0} (blocks : ℕ) (result : Result T DeviceFault) (old new : DiskState) (es : Entries)

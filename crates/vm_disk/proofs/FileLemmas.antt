@@ -1,18 +1,16 @@
 -- How the calls of a file show as calls of a disk over it.
 use Rattle.std.proofs.Common.{◌≡◌, ◌≢◌, ◌⊎◌, inl, inr, ℕ, ◌+◌, ◌-◌, ◌*◌, ◌/◌, ◌^◌, min, ◌<◌, ◌≤◌, ◌&&◌, ◌||◌, nat_lt, nat_le, Bool, true, false, List, [], ◌∷◌, length, map, replicate, take, drop, Result, Ok, Err, OnOk, refl, sym, ◌∙◌, ap, subst, arith, length-drop}
-use Rattle.std.proofs.lemmas.Bool.{and_parts, and_from, and_left, and_right, or_left, or_right, lt-ltb, le-ltb, leb-true, le-leb, lt-leb, cases_order, cases_lt}
+use Rattle.std.proofs.lemmas.Bool.{and_parts, and_from, and_left, and_right, or_left, lt-ltb, le-ltb, leb-true, le-leb, lt-leb, cases_order, cases_lt}
 use Rattle.std.proofs.Math.Nat.{le_refl, min-eq_left}
-use Rattle.std.proofs.Math.Bool.{or_assoc}
 use Rattle.std.proofs.lemmas.List.{get_or_past}
 use Rattle.std.proofs.lemmas.List.FromFn.{length-map-range_with_len, get_or-map-range_with_len}
 use Rattle.vm_disk.specs.declared.disk.DeviceFault.{DeviceFault}
-use Rattle.vm_disk.specs.Disk.{block, Medium, DiskState, IsClean, Reads, Writes, Forgets, Syncs, Lengthens, Enlarges}
+use Rattle.vm_disk.specs.Disk.{block, Medium, DiskState, IsClean, Reads, Writes, Syncs, Lengthens, Enlarges}
 use Rattle.vm_disk.specs.Positional.{FileState, overwritten, IsTorn, ReadsAt, WritesAt, SyncsFile}
 use Rattle.vm_disk.specs.Past.{noted}
-use Rattle.vm_disk.specs.declared.history.History.{History}
 use Rattle.vm_disk.specs.declared.file.Earlier.{Earlier}
 use Rattle.vm_disk.specs.declared.file.FileDisk.{FileDisk}
-use Rattle.vm_disk.specs.File.{Part, file_state, file_block, file_blocks, touches, is_touched, is_unsure, file_medium, waits_with, forgetting, forgotten_of, was_whole, part_of, part_then, IsPart, IsOver, IsMade, IsOpened, IsZero, AddsZeros, KeepsBehind, StaysHonest, unsure_dirty}
+use Rattle.vm_disk.specs.File.{Part, file_state, file_block, file_blocks, touches, is_touched, is_unsure, file_medium, was_whole, part_of, part_then, IsPart, IsOver, IsMade, IsOpened, IsZero, AddsZeros, KeepsBehind, StaysHonest, unsure_dirty}
 use Rattle.vm_disk.proofs.OverwrittenLemmas.{overwritten_at, overwritten_before, overwritten_after, overwritten_no_shorter}
 use Rattle.vm_disk.proofs.ZeroLemmas.{zero_blocks}
 
@@ -164,24 +162,6 @@ part_longer from to sure old new order known adds =
       sure = least;
     }
 
--- a write that waits touches a block with the forgotten ones or without
-pub touched_with : (forgotten : List ℕ) (writes : List (ℕ × ℕ)) (n : ℕ) → is_touched (waits_with forgotten writes) n ≡ (is_touched (waits_with forgotten []) n || is_touched writes n)
-touched_with [] writes n = refl
-touched_with (k ∷ forgotten) writes n =
-    ap (λ t. touches (4096 * k, 4096) n || t) (touched_with forgotten writes n)
-    ∙ sym (or_assoc (touches (4096 * k, 4096) n) (is_touched (waits_with forgotten []) n) (is_touched writes n))
-
--- zero blocks that were added to a file, where some blocks of it were forgotten
-adds_with : (forgotten : List ℕ) (from to : ℕ) (old new : FileState) → AddsZeros from to old new → AddsZeros from to (forgetting forgotten old) (forgetting forgotten new)
-adds_with forgotten from to old new adds =
-    record {
-      long = adds.long;
-      same = adds.same;
-      zero = adds.zero;
-      same_waiting = λ n before.
-          touched_with forgotten new.waiting n ∙ ap (λ t. is_touched (waits_with forgotten []) n || t) (adds.same_waiting n before) ∙ sym (touched_with forgotten old.waiting n);
-    }
-
 module _ {F : Type 0} (state : F → FileState) where
   -- what it was before, and before that
   abbrev parts_before : FileDisk F → List Part
@@ -224,28 +204,15 @@ module _ {F : Type 0} (state : F → FileState) where
 
   -- the same part of the file, which is now this one
   abbrev pub same_part : FileDisk F → F → Part
-  same_part was file = record { file = forgetting (forgotten_of was) (state file); blocks = was.blocks; sure = was.sure }
+  same_part was file = record { file = state file; blocks = was.blocks; sure = was.sure }
 
   -- the same blocks of it, all of them sure
   abbrev pub sure_part : FileDisk F → F → Part
   sure_part was file = record { file = state file; blocks = was.blocks; sure = was.blocks }
 
-  -- no block is forgotten after a sync
-  pub emptied : (was : FileDisk F) (file : F) (none : History ℕ) → noted none ≡ [] → record { file = forgetting (noted none) (state file); blocks = was.blocks; sure = was.blocks } ≡ sure_part was file
-  emptied was file none empty =
-      let part : List ℕ → Part = λ ns. record { file = forgetting ns (state file); blocks = was.blocks; sure = was.blocks } in ap part empty
-
-  -- one block more was forgotten
-  abbrev pub forgot_part : FileDisk F → ℕ → Part
-  forgot_part was n = record { file = forgetting (n ∷ forgotten_of was) (state was.file); blocks = was.blocks; sure = was.sure }
-
-  pub forgot : (was : FileDisk F) (n : ℕ) (more : History ℕ) → noted more ≡ n ∷ noted was.forgotten → record { file = forgetting (noted more) (state was.file); blocks = was.blocks; sure = was.sure } ≡ forgot_part was n
-  forgot was n more noting =
-      let part : List ℕ → Part = λ ns. record { file = forgetting ns (state was.file); blocks = was.blocks; sure = was.sure } in ap part noting
-
   -- more blocks of it
   abbrev pub grown_part : FileDisk F → F → ℕ → Part
-  grown_part was file blocks = record { file = forgetting (forgotten_of was) (state file); blocks = blocks; sure = was.sure }
+  grown_part was file blocks = record { file = state file; blocks = blocks; sure = was.sure }
 
   -- a read of the file, as a read of the disk
   pub disk_reads : {T : Type 0} (answer : Result T DeviceFault) (n offset : ℕ) (bytes : List ℕ) (was now : FileDisk F) (file : F)
@@ -257,7 +224,7 @@ module _ {F : Type 0} (state : F → FileState) where
       let reads = law (good_file was now (same_part was file) called honest) in
       record {
         bytes_are = read_is answer was.blocks n offset bytes (state was.file).bytes inside at full reads.bytes_are;
-        same = now_shown was now (same_part was file) called ∙ same_shown was.blocks was.sure (forgetting (forgotten_of was) (state was.file)) (forgetting (forgotten_of was) (state file)) reads.same (ap (waits_with (forgotten_of was)) reads.same_waiting);
+        same = now_shown was now (same_part was file) called ∙ same_shown was.blocks was.sure (state was.file) (state file) reads.same reads.same_waiting;
         time = record { step = inl (past_shown was now (same_part was file) called) };
       }
 
@@ -277,33 +244,17 @@ module _ {F : Type 0} (state : F → FileState) where
       let some = some_written answer offset bytes old new writes in
       let torn = subst (λ k. IsTorn offset k old.bytes new.bytes) full some in
       let is = now_shown was now (same_part was file) called in
-      let gone = forgotten_of was in
-      let touched = touched_with gone new.waiting n ∙ or_right _ _ (ap (λ ws. is_touched ws n) writes.waiting ∙ touched_itself n offset (length bytes) old.waiting at full) in
+      let touched = ap (λ ws. is_touched ws n) writes.waiting ∙ touched_itself n offset (length bytes) old.waiting at full in
       let W : Medium → Type 0 = λ m. OnOk answer (block m.contents n ≡ bytes) in record {
         written = subst W (sym is) (write_is answer count n offset bytes old.bytes new.bytes inside at full within writes.written);
         dirty = ap (λ m. m.dirty n) is ∙ or_left _ _ touched;
         count = ap (λ m. length m.contents) is ∙ length-map-range_with_len (file_block new.bytes) 0 count ∙ sym (length-map-range_with_len (file_block old.bytes) 0 count);
         others = λ k apart. ap (λ m. block m.contents k) is ∙ same_block count k old.bytes new.bytes (others_are count n k offset old.bytes new.bytes at within apart torn);
         others_dirty = λ k apart.
-            let one = ap (λ ws. is_touched ws k) writes.waiting ∙ others_touched n k offset (length bytes) old.waiting at full apart in
-            let same = touched_with gone new.waiting k ∙ ap (λ t. is_touched (waits_with gone []) k || t) one ∙ sym (touched_with gone old.waiting k) in
+            let same = ap (λ ws. is_touched ws k) writes.waiting ∙ others_touched n k offset (length bytes) old.waiting at full apart in
             ap (λ m. m.dirty k) is ∙ ap (λ t. t || is_unsure was.sure count k) same;
         sure = ap (λ m. m.sure) is;
         time = record { step = inl (past_shown was now (same_part was file) called) };
-      }
-
-  -- a block was forgotten, and no call was made of the file
-  pub disk_forgets : (n : ℕ) (was now : FileDisk F) → IsCalled was now (forgot_part was n) → Forgets n (file_state state was) (file_state state now)
-  disk_forgets n was now called =
-      let is = now_shown was now (forgot_part was n) called in
-      let writes = waits_with (forgotten_of was) (state was.file).waiting in
-      record {
-        dirty = ap (λ m. m.dirty n) is ∙ or_left _ _ (touched_itself n (4096 * n) 4096 writes refl refl);
-        count = ap (λ m. length m.contents) is;
-        others = λ k apart. ap (λ m. block m.contents k) is;
-        others_dirty = λ k apart. ap (λ m. m.dirty k) is ∙ ap (λ t. t || is_unsure was.sure was.blocks k) (others_touched n k (4096 * n) 4096 writes refl refl apart);
-        sure = ap (λ m. m.sure) is;
-        time = record { step = inl (past_shown was now (forgot_part was n) called) };
       }
 
   -- a sync of the file that succeeded, as one of the disk
@@ -331,12 +282,11 @@ module _ {F : Type 0} (state : F → FileState) where
       → Enlarges (file_state state was) (file_state state now)
   disk_extends was now file blocks called order law honest =
       let part = grown_part was file blocks in
-      let gone = forgotten_of was in
       let adds = law (good_file was now part called honest) (long_file was now part called honest) in
       let R : Medium → Type 0 = λ m. Lengthens (file_state state was).now m in
       record {
         longer = subst R (sym (now_shown was now part called))
-            (part_longer was.blocks blocks was.sure (forgetting gone (state was.file)) (forgetting gone (state file)) order was.known (adds_with gone was.blocks blocks (state was.file) (state file) adds));
+            (part_longer was.blocks blocks was.sure (state was.file) (state file) order was.known adds);
         time = record { step = inl (past_shown was now part called) };
       }
 

@@ -1,6 +1,6 @@
 -- How one write of blocks in a row to a file shows as one to a disk over it.
 use Rattle.std.proofs.Common.{◌≡◌, ◌⊎◌, inl, inr, ℕ, zero, suc, ◌+◌, ◌-◌, ◌*◌, ◌<◌, ◌≤◌, ◌||◌, nat_le, nat_lt, Bool, true, false, List, [], ◌∷◌, ◌++◌, length, take, drop, slice_index_or, Result, Ok, Err, OnOk, refl, sym, ◌∙◌, ap, subst, arith, length-append}
-use Rattle.std.proofs.lemmas.Bool.{and_from, and_parts, and_left, and_right, or_left, or_right, lt-ltb, le-ltb, leb-true, ltb-true, cases_lt}
+use Rattle.std.proofs.lemmas.Bool.{and_from, and_parts, and_left, and_right, or_left, lt-ltb, le-ltb, leb-true, ltb-true, cases_lt}
 use Rattle.std.proofs.lemmas.List.{take_at, drop_at, drop-drop}
 use Rattle.std.proofs.lemmas.List.Concat.{flat_map-cons}
 use Rattle.std.proofs.lemmas.List.FromFn.{length-map-range_with_len}
@@ -9,13 +9,13 @@ use Rattle.vm_disk.specs.declared.file.FileDisk.{FileDisk}
 use Rattle.vm_disk.specs.Disk.{block, Medium, Elapses}
 use Rattle.vm_disk.specs.Moments.{TouchesOnly, CleanAsBefore, in_run, WritesRun}
 use Rattle.vm_disk.specs.Positional.{FileState, joined, overwritten, IsTorn, WritesAt}
-use Rattle.vm_disk.specs.File.{KeepsBehind, file_state, file_block, touches, is_touched, is_unsure, waits_with, forgotten_of}
+use Rattle.vm_disk.specs.File.{KeepsBehind, file_state, file_block, touches, is_touched, is_unsure}
 use Rattle.vm_disk.proofs.OverwrittenLemmas.{overwritten_inside, overwritten_before, overwritten_after}
 use Rattle.vm_disk.proofs.ZeroLemmas.{behind_torn}
 use Rattle.vm_disk.proofs.KeptLemmas.{by_answer}
 use Rattle.vm_disk.proofs.MomentLemmas.{started, goes_on, touches_nothing, as_itself}
 use Rattle.vm_disk.proofs.RunLemmas.{run_has}
-use Rattle.vm_disk.proofs.FileLemmas.{block_is, same_block, some_written, touched_with, IsCalled, same_part, now_shown, past_shown, good_file, long_file}
+use Rattle.vm_disk.proofs.FileLemmas.{block_is, same_block, some_written, IsCalled, same_part, now_shown, past_shown, good_file, long_file}
 
 -- each of them has the bytes of a block
 abbrev pub AreFull : List (List ℕ) → Type 0
@@ -116,21 +116,19 @@ module _ {F : Type 0} (state : F → FileState) where
       let writes = law (good_file state was now part called honest) within in
       let torn = subst (λ k. IsTorn offset k old.bytes new.bytes) many (some_written answer offset (joined blocks) old new writes) in
       let is = now_shown state was now part called in
-      let gone = forgotten_of was in
       let lengths = ap (λ m. length m.contents) is ∙ length-map-range_with_len (file_block new.bytes) 0 count ∙ sym (length-map-range_with_len (file_block old.bytes) 0 count) in
       let others : (k : ℕ) → in_run n size k ≡ false → block (file_state state now).now.contents k ≡ block (file_state state was).now.contents k =
       λ k out. ap (λ m. block m.contents k) is ∙ same_block count k old.bytes new.bytes (others_stay n size k offset old.bytes new.bytes at within out torn) in
       let others_dirty : (k : ℕ) → in_run n size k ≡ false → (file_state state now).now.dirty k ≡ (file_state state was).now.dirty k =
       λ k out.
-      let one = ap (λ ws. is_touched ws k) writes.waiting ∙ others_wait n size k offset (length (joined blocks)) old.waiting at many out in
-      let same = touched_with gone new.waiting k ∙ ap (λ t. is_touched (waits_with gone []) k || t) one ∙ sym (touched_with gone old.waiting k) in
+      let same = ap (λ ws. is_touched ws k) writes.waiting ∙ others_wait n size k offset (length (joined blocks)) old.waiting at many out in
       ap (λ m. m.dirty k) is ∙ ap (λ t. t || is_unsure was.sure count k) same in
       let sure = ap (λ m. m.sure) is in
       let time : Elapses (file_state state was) (file_state state now) = record { step = inl (past_shown state was now part called) } in
       let dirty : (i : ℕ) → i < size → (file_state state now).now.dirty (n + i) ≡ true =
       λ i before.
       ap (λ m. m.dirty (n + i)) is
-      ∙ or_left _ _ (touched_with gone new.waiting (n + i) ∙ or_right _ _ (ap (λ ws. is_touched ws (n + i)) writes.waiting ∙ run_waits n size i offset (length (joined blocks)) old.waiting at many before)) in
+      ∙ or_left _ _ (ap (λ ws. is_touched ws (n + i)) writes.waiting ∙ run_waits n size i offset (length (joined blocks)) old.waiting at many before) in
       let out : (k : ℕ) → (file_state state now).now.dirty k ≡ false → in_run n size k ≡ false =
       λ k clean. clean_is_out n size (file_state state now).now.dirty dirty k clean in
       record {

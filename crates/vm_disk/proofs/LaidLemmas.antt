@@ -8,7 +8,7 @@ use Rattle.std.proofs.lemmas.Bool.{cases_lt, and_parts, or_from, or_parts, or_le
 use Rattle.std.proofs.lemmas.List.{ext_get_or, get_or_past, length-map}
 use Rattle.std.proofs.lemmas.List.FromFn.{get_or-map-range_with_len}
 use Rattle.vm_disk.specs.declared.disk.DeviceFault.{DeviceFault}
-use Rattle.vm_disk.specs.Disk.{Contents, block, Medium, DiskState, IsClean, MayLeave, moment, Elapses, Reads, Writes, Forgets, Syncs, Lengthens}
+use Rattle.vm_disk.specs.Disk.{Contents, block, Medium, DiskState, IsClean, MayLeave, moment, Elapses, Reads, Writes, Syncs, Lengthens}
 use Rattle.vm_disk.specs.Following.{HeldPast, HeldAt, IsUnder, IsMeanwhile}
 use Rattle.vm_disk.specs.Moments.{Throughout, Leaves, TouchesOnly, in_run, WritesRun}
 use Rattle.vm_disk.specs.Laid.{Held, over, laid_contents, laid_length, laid, TouchesDirty, Rest, Covers, IsCovered, time_at, rests_before}
@@ -552,27 +552,6 @@ covered_before lower medium =
     by_moment : (t : ℕ) (m : Medium) → t < moment lower → HeldAt lower t m → HeldPast lower.past t m
     by_moment t m less (inl is) = let same = is.0 in absurd (omega (arith, same, less))
     by_moment t m less (inr earlier) = earlier
-
--- a block was forgotten, and waits no longer
-pub forgotten_under : (held held' : Held) (lower lower' : DiskState) (n : ℕ) (old new : DiskState)
-    → laid held lower.now ≡ old.now → new.now ≡ laid held' lower'.now → new.past ≡ old.now ∷ old.past
-    → ((k : ℕ) → held' k ≡ update nat_eq held n None k) → Forgets n lower lower' → Forgets n old new
-forgotten_under held held' lower lower' n old new was is past gone forgets =
-    record {
-      dirty = ap (λ m. m.dirty n) is ∙ or_left _ _ forgets.dirty;
-      count = ap (λ m. length m.contents) is ∙ laid_length held' lower'.now.contents ∙ forgets.count ∙ sym (laid_length held lower.now.contents) ∙ ap (λ m. length m.contents) was;
-      others = λ k apart.
-          ap (λ m. block m.contents k) is
-          ∙ same_laid held held' lower.now.contents lower'.now.contents k forgets.count (ap (λ o. over o (block lower'.now.contents k)) (there k apart) ∙ ap (over (held k)) (forgets.others k apart))
-          ∙ ap (λ m. block m.contents k) was;
-      others_dirty = λ k apart.
-          ap (λ m. m.dirty k) is ∙ ap (λ o. lower'.now.dirty k || is_some o) (there k apart) ∙ ap (λ b. b || is_some (held k)) (forgets.others_dirty k apart) ∙ ap (λ m. m.dirty k) was;
-      sure = ap (λ m. m.sure) is ∙ forgets.sure ∙ ap (λ m. m.sure) was;
-      time = record { step = inl past };
-    }
-  where
-    there : (k : ℕ) → k ≢ n → held' k ≡ held k
-    there k apart = gone k ∙ cond_no _ _ (ne_eqb n k (λ same. apart (sym same)))
 
 -- blocks in a row
 module _ (held : Held) (first : ℕ) (blocks : List (List ℕ)) (old new : DiskState)

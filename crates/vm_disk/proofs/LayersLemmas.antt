@@ -1,23 +1,17 @@
 -- What blocks that were written out leave, one after another.
-use Rattle.std.proofs.Common.{◌≡◌, ℕ, Bool, ap, ◌∙◌, subst, refl}
+use Rattle.std.proofs.Common.{◌≡◌, ℕ, Bool, ap, ◌∙◌, subst}
 use Rattle.vm_disk.specs.declared.layers.Layers.{Layers}
 use Rattle.vm_disk.specs.Disk.{DiskState, Medium}
 use Rattle.vm_disk.specs.Moments.{Throughout, TouchesOnly}
 use Rattle.vm_disk.specs.Laid.{laid}
 use Rattle.vm_disk.specs.Waiting.{bytes_for}
 use Rattle.vm_disk.specs.Layers.{lower_of, medium_of, waiting_of, Sends}
-use Rattle.vm_disk.proofs.MomentLemmas.{and_then, weaken, at_end, started, touches_nothing}
+use Rattle.vm_disk.proofs.MomentLemmas.{and_then, weaken, at_end}
 use Rattle.vm_disk.proofs.LaidLemmas.{touches_then}
 use Rattle.vm_disk.proofs.WrittenLemmas.{same_shown}
 
 module _ {D : Type 0} {members : _} (state : D → DiskState) where
-  -- nothing was written out
-  pub sends_nothing : (layers : Layers D members) → Sends state layers layers
-  sends_nothing layers =
-      let below = state (lower_of layers) in
-      record { same = refl; touches = started below (TouchesOnly (medium_of state layers).dirty below.now) (touches_nothing (medium_of state layers).dirty below.now) }
-
-  -- some were, and then more
+  -- some were written out, and then more
   pub sends_then : (old mid new : Layers D members) → Sends state old mid → Sends state mid new → Sends state old new
   sends_then old mid new first second =
       let lower = state (lower_of old) in

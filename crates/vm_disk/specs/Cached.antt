@@ -5,7 +5,7 @@ use Rattle.vm_disk.specs.declared.cached.CachedDisk.{CachedDisk}
 use Rattle.vm_disk.specs.declared.disk.DeviceFault.{DeviceFault}
 use Rattle.vm_disk.specs.declared.disk.Need.{Need}
 use Rattle.vm_disk.specs.declared.disk.Need.TheVariants.{Again, Once}
-use Rattle.vm_disk.specs.Calls.{DiskCall, Read, Load, Write, WriteRun, Forget, Sync, Extend}
+use Rattle.vm_disk.specs.Calls.{DiskCall, Read, Load, Write, WriteRun, Sync, Extend}
 use Rattle.vm_disk.specs.Disk.{Counts, DiskState, Extends}
 use Rattle.vm_disk.specs.Kept.{Entries, UsesBlock, UsesBlocks, entries_of, keeps, limit_of, refusals_in, first_or, without_run}
 use Rattle.vm_disk.specs.Past.{noted}
@@ -111,11 +111,6 @@ module _ {D : Type 0} {members : _} where
     -- If that failed, none of them is kept.
     pub lost : OnErr result (LosesRun first (length blocks) old new)
 
-  -- what forgetting block n does: it is not kept
-  pub record DropsBlock (n : ℕ) (old new : CachedDisk D members) : Type 0 where
-    pub kept : Loses n old new
-    pub gone : keeps n (kept_of new) ≡ false
-
   -- what a sync or an extension does: it goes to the disk below, and the same blocks stay kept
   pub record PassesOn (state : D → DiskState) (R : DiskState → DiskState → Type 0) (old new : CachedDisk D members) : Type 0 where
     pub passed : Below state R old new
@@ -127,6 +122,5 @@ module _ {D : Type 0} {members : _} where
   cached_does state (Load n need result) old new = LoadsBlock state n need (cached_hand new) result old new
   cached_does state (Write n bytes result) old new = WritesThrough state n bytes result old new
   cached_does state (WriteRun n blocks result) old new = WritesRunThrough state n blocks result old new
-  cached_does state (Forget n) old new = DropsBlock n old new
   cached_does state (Sync result) old new = PassesOn state (Counts 0 result) old new
   cached_does state (Extend blocks result) old new = PassesOn state (Extends blocks result) old new

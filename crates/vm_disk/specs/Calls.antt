@@ -17,8 +17,6 @@ pub data DiskCall : Type 0 where
   Write : ℕ → List ℕ → DeviceResult → DiskCall
   -- these blocks were written in a row, from block n on
   WriteRun : ℕ → List (List ℕ) → DeviceResult → DiskCall
-  -- block n was forgotten
-  Forget : ℕ → DiskCall
   Sync : DeviceResult → DiskCall
   -- the disk was lengthened to this many blocks
   Extend : ℕ → DeviceResult → DiskCall

@@ -3,7 +3,7 @@ use Rattle.std.specs.Prelude.{◌≡◌, ◌++◌, ℕ, true, List, length, map,
 use Rattle.std.proofs.Common.{◌∙◌}
 use Rattle.vm_disk.specs.declared.delayed.DelayedDisk.{DelayedDisk}
 use Rattle.vm_disk.specs.declared.disk.DeviceFault.{DeviceFault}
-use Rattle.vm_disk.specs.Calls.{DiskCall, Read, Load, Write, WriteRun, Forget, Sync, Extend}
+use Rattle.vm_disk.specs.Calls.{DiskCall, Read, Load, Write, WriteRun, Sync, Extend}
 use Rattle.vm_disk.specs.Disk.{DiskState}
 use Rattle.vm_disk.specs.Following.{Follows}
 use Rattle.vm_disk.specs.Laid.{laid_length, Rest, TouchesDirty, rests_before}
@@ -86,6 +86,5 @@ module _ {D : Type 0} {members : _} where
   delayed_does state (Load n need result) old new = DelaysRead state n result old new
   delayed_does state (Write n bytes result) old new = Delays state old new
   delayed_does state (WriteRun n blocks result) old new = ⊤
-  delayed_does state (Forget n) old new = Delays state old new
   delayed_does state (Sync result) old new = Delays state old new
   delayed_does state (Extend blocks result) old new = Delays state old new

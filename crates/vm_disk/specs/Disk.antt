@@ -109,22 +109,6 @@ pub record Writes {T : Type 0} (n : ℕ) (bytes : List ℕ) (result : Result T D
   pub sure : new.now.sure ≡ old.now.sure
   pub time : Elapses old new
 
--- what forgetting a block does, on any disk: it reads nothing, and cannot fail
-pub record Idles (old new : DiskState) : Type 0 where
-  pub same_blocks : new.blocks ≡ old.blocks
-  pub earlier : new.honest ≡ true → old.honest ≡ true
-  pub read : new.reads ≡ old.reads
-  pub fine : new.failures ≡ old.failures
-
--- what it does, on a disk that is honest after it: as after a write that failed, the block holds any bytes
-pub record Forgets (n : ℕ) (old new : DiskState) : Type 0 where
-  pub dirty : new.now.dirty n ≡ true
-  pub count : length new.now.contents ≡ length old.now.contents
-  pub others : (k : ℕ) → k ≢ n → block new.now.contents k ≡ block old.now.contents k
-  pub others_dirty : (k : ℕ) → k ≢ n → new.now.dirty k ≡ old.now.dirty k
-  pub sure : new.now.sure ≡ old.now.sure
-  pub time : Elapses old new
-
 -- what a sync does, on a disk that is honest after it: it makes all blocks sure, and if it fails, nothing changes
 pub record Syncs {T : Type 0} (result : Result T DeviceFault) (old new : DiskState) : Type 0 where
   pub synced : OnOk result (IsClean new.now)

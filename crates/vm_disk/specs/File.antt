@@ -8,7 +8,7 @@ use Rattle.std.proofs.lemmas.List.FromFn.{length-map-range_with_len}
 use Rattle.vm_types.specs.declared.sizes.TheConstants.{BLOCK_SIZE}
 use Rattle.vm_disk.specs.declared.file.Earlier.{Earlier}
 use Rattle.vm_disk.specs.declared.file.FileDisk.{FileDisk}
-use Rattle.vm_disk.specs.Calls.{DiskCall, Read, Load, Write, WriteRun, Forget, Sync, Extend}
+use Rattle.vm_disk.specs.Calls.{DiskCall, Read, Load, Write, WriteRun, Sync, Extend}
 use Rattle.vm_disk.specs.Disk.{Contents, Medium, DiskState}
 use Rattle.vm_disk.specs.Past.{noted}
 use Rattle.vm_disk.specs.Positional.{FileState}
@@ -29,15 +29,6 @@ touches write n = nat_lt write.0 (BLOCK_SIZE * n + BLOCK_SIZE) && nat_lt (BLOCK_
 abbrev pub is_touched : List (ℕ × ℕ) → ℕ → Bool
 is_touched [] n = false
 is_touched (write ∷ writes) n = touches write n || is_touched writes n
-
--- the writes that wait, and one of each of these blocks, which were forgotten
-abbrev pub waits_with : List ℕ → List (ℕ × ℕ) → List (ℕ × ℕ)
-waits_with [] writes = writes
-waits_with (n ∷ forgotten) writes = (BLOCK_SIZE * n, BLOCK_SIZE) ∷ waits_with forgotten writes
-
--- a file of which these blocks were forgotten: they hold any bytes, as if a write of them waited
-abbrev pub forgetting : List ℕ → FileState → FileState
-forgetting forgotten file = record file { waiting = waits_with forgotten file.waiting }
 
 -- the first blocks of a file, and how many of them it surely keeps
 pub record Part : Type 0 where
@@ -144,17 +135,13 @@ module _ {F : Type 0} where
   file_left (Ok disk) = file_of disk
   file_left (Err file) = file
 
-  -- the blocks that were forgotten since the last sync
-  abbrev pub forgotten_of : FileDisk F → List ℕ
-  forgotten_of disk = noted disk.forgotten
-
   -- the part of its file that the disk is
   abbrev pub part_of : (F → FileState) → FileDisk F → Part
-  part_of state disk = record { file = forgetting (forgotten_of disk) (state disk.file); blocks = disk.blocks; sure = disk.sure }
+  part_of state disk = record { file = state disk.file; blocks = disk.blocks; sure = disk.sure }
 
   -- the part that it was at an earlier moment
   abbrev pub part_then : (F → FileState) → Earlier F → Part
-  part_then state was = record { file = forgetting (noted was.forgotten.value) (state was.file.value); blocks = was.blocks; sure = was.sure }
+  part_then state was = record { file = state was.file.value; blocks = was.blocks; sure = was.sure }
 
   -- honest as long as its file is, and is long enough for the disk's blocks; its failures are the file's
   abbrev pub file_state : (F → FileState) → FileDisk F → DiskState
@@ -211,11 +198,6 @@ module _ {F : Type 0} where
     -- The bytes of the file behind the disk do not change.
     pub behind : LeavesBehind state count old new
 
-  -- what forgetting a block does
-  pub record ForgetsAlone (state : F → FileState) (old new : FileDisk F) : Type 0 where
-    pub file : file_of new ≡ file_of old
-    pub stays : StaysHonest state old new
-
   -- what growing to this many blocks does
   pub record GrowsWithin (state : F → FileState) (count : ℕ) (old new : FileDisk F) : Type 0 where
     -- The new blocks of the file are zeros, and nothing after them changes.
@@ -228,6 +210,5 @@ module _ {F : Type 0} where
   file_does state (Load n need result) old new = StaysHonest state old new
   file_does state (Write n bytes result) old new = WritesWithin state old.blocks old new
   file_does state (WriteRun n blocks result) old new = WritesWithin state old.blocks old new
-  file_does state (Forget n) old new = ForgetsAlone state old new
   file_does state (Sync result) old new = StaysHonest state old new
   file_does state (Extend blocks result) old new = GrowsWithin state blocks old new

@@ -2,7 +2,7 @@
 use Rattle.std.specs.Prelude.{◌≡◌, ℕ, ◌+◌, ◌-◌, ◌^◌, ◌==◌, ◌||◌, min, nat_le, Bool, true, false, if◌then◌else◌, List, length, Result, IsErr, ⊤}
 use Rattle.vm_disk.specs.declared.fuse.FuseDisk.{FuseDisk}
 use Rattle.vm_disk.specs.declared.disk.DeviceFault.{DeviceFault}
-use Rattle.vm_disk.specs.Calls.{DiskCall, Read, Load, Write, WriteRun, Forget, Sync, Extend}
+use Rattle.vm_disk.specs.Calls.{DiskCall, Read, Load, Write, WriteRun, Sync, Extend}
 use Rattle.vm_disk.specs.Disk.{Counts, DiskState, Extends, block}
 use Rattle.vm_disk.specs.Past.{noted}
 
@@ -39,27 +39,10 @@ module _ {D : Type 0} where
   abbrev pub fails_next : FuseDisk D → Bool
   fails_next fuse = if is_stop fuse then nat_le (passes_of fuse) (calls_of fuse) else calls_of fuse == passes_of fuse
 
-  -- just set, over this disk: no call was made yet
-  pub record IsSet (disk : D) (k : ℕ) (fails_on : Bool) (bytes : List ℕ) (fuse : FuseDisk D) : Type 0 where
-    pub inner : inner_of fuse ≡ disk
-    pub passes : passes_of fuse ≡ k
-    pub stop : is_stop fuse ≡ fails_on
-    pub torn : torn_of fuse ≡ bytes
-    pub calls : calls_of fuse ≡ 0
-    pub blown : is_blown fuse ≡ false
-
   -- a device call is counted, and the setting stays
   pub record Burns (old new : FuseDisk D) : Type 0 where
     pub calls : calls_of new ≡ min (calls_of old + 1) (2 ^ 32 - 1)
     pub blown : is_blown new ≡ (is_blown old || fails_next old)
-    pub passes : passes_of new ≡ passes_of old
-    pub stop : is_stop new ≡ is_stop old
-    pub torn : torn_of new ≡ torn_of old
-
-  -- no device call is counted
-  pub record Stays (old new : FuseDisk D) : Type 0 where
-    pub calls : calls_of new ≡ calls_of old
-    pub blown : is_blown new ≡ is_blown old
     pub passes : passes_of new ≡ passes_of old
     pub stop : is_stop new ≡ is_stop old
     pub torn : torn_of new ≡ torn_of old
@@ -75,6 +58,16 @@ module _ {D : Type 0} where
         now = below.now;
         past = below.past;
       }
+
+  -- just set, over this disk, and the same is known of both: no call was made yet
+  pub record IsSet (state : D → DiskState) (disk : D) (k : ℕ) (fails_on : Bool) (bytes : List ℕ) (fuse : FuseDisk D) : Type 0 where
+    pub inner : inner_of fuse ≡ disk
+    pub passes : passes_of fuse ≡ k
+    pub stop : is_stop fuse ≡ fails_on
+    pub torn : torn_of fuse ≡ bytes
+    pub calls : calls_of fuse ≡ 0
+    pub blown : is_blown fuse ≡ false
+    pub known : fuse_state state fuse ≡ state disk
 
   -- the block at hand is the one below
   abbrev pub fuse_hand : (D → List ℕ) → FuseDisk D → List ℕ
@@ -114,6 +107,5 @@ module _ {D : Type 0} where
   fuse_does state (Load n need result) old new = MayFailAlone state (Counts 1 result) result old new
   fuse_does state (Write n bytes result) old new = MayTear state n result old new
   fuse_does state (WriteRun n blocks result) old new = ⊤
-  fuse_does state (Forget n) old new = Stays old new
   fuse_does state (Sync result) old new = MayFailAlone state (Counts 0 result) result old new
   fuse_does state (Extend blocks result) old new = MayFailAlone state (Extends blocks result) result old new

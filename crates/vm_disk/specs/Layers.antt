@@ -4,7 +4,8 @@ use Rattle.vm_disk.specs.declared.disk.DeviceFault.{DeviceFault}
 use Rattle.vm_disk.specs.declared.layers.Hand.{Hand}
 use Rattle.vm_disk.specs.declared.layers.Hand.TheVariants.{Waits, Kept, Below}
 use Rattle.vm_disk.specs.declared.layers.Layers.{Layers}
-use Rattle.vm_disk.specs.Disk.{Medium, DiskState, moment}
+use Rattle.vm_disk.specs.Between.{Between}
+use Rattle.vm_disk.specs.Disk.{Counts, Medium, DiskState, moment}
 use Rattle.vm_disk.specs.Moments.{Throughout, TouchesOnly}
 use Rattle.vm_disk.specs.Laid.{laid, TouchesDirty, Rest}
 use Rattle.vm_disk.specs.declared.waiting.Waiting.{Waiting}
@@ -83,6 +84,19 @@ module _ {D : Type 0} {members : _} where
   -- except for its last call, the disk below was touched exactly where it is dirty above
   abbrev pub IsApart : (D → DiskState) → Layers D members → Layers D members → Type 0
   IsApart state old new = TouchesDirty (medium_of state old) (state (lower_of old)) (state (lower_of new))
+
+  -- what a call does that writes waiting blocks out, and fails where the disk below does
+  pub record MaySend {T : Type 0} (state : D → DiskState) (result : Result T DeviceFault) (old new : Layers D members) : Type 0 where
+    pub any : Between (layers_state state) (Counts 0 result) old new
+    pub honest : (state (lower_of new)).honest ≡ true → Sends state old new
+    pub limit : KeepsLimit old new
+
+  -- what each call of a disk does: R holds on any disk below, and S if that is honest after it
+  pub record Acts (state : D → DiskState) (R S : DiskState → DiskState → Type 0) (old new : Layers D members) : Type 0 where
+    pub any : Between (layers_state state) R old new
+    pub honest : IfHonestBelow state S old new
+    pub below : (state (lower_of new)).honest ≡ true → IsApart state old new
+    pub limit : KeepsLimit old new
 
   -- what they show, and the moment of the disk below
   abbrev pub rest_of : (D → DiskState) → Layers D members → Rest

@@ -2,12 +2,11 @@
 use Rattle.std.specs.Prelude.{◌≡◌, ℕ, ◌+◌, ◌<◌, ◌≤◌, ◌==◌, ◌&&◌, true, false, if◌then◌else◌, List, [], ◌∷◌, length, map, replicate, slice_index_or, Result, IsOk, IsErr, OnOk, OnErr, ⊤}
 use Rattle.vm_types.specs.declared.sizes.TheConstants.{BLOCK_SIZE}
 use Rattle.vm_disk.specs.declared.disk.DeviceFault.{DeviceFault}
-use Rattle.vm_disk.specs.declared.memory.TheConstants.{FORGOTTEN}
 use Rattle.vm_disk.specs.declared.memory.Platter.{Platter}
 use Rattle.vm_disk.specs.declared.memory.MemDisk.{MemDisk}
 use Rattle.vm_disk.specs.Between.{Between}
-use Rattle.vm_disk.specs.Calls.{DiskCall, Read, Load, Write, WriteRun, Forget, Sync, Extend}
-use Rattle.vm_disk.specs.Disk.{Medium, DiskState, IsClean, block}
+use Rattle.vm_disk.specs.Calls.{DiskCall, Read, Load, Write, WriteRun, Sync, Extend}
+use Rattle.vm_disk.specs.Disk.{Medium, DiskState, IsClean, MayLeave, block}
 use Rattle.vm_disk.specs.Fill.{filled_up}
 use Rattle.vm_disk.specs.Past.{noted}
 
@@ -73,6 +72,22 @@ IsRefilledBelow count fill old new = (n : ℕ) → n < count → block new.conte
 abbrev pub IsRefilledAt : ℕ → List ℕ → Medium → Medium → Type 0
 IsRefilledAt n bytes old new = (k : ℕ) → block new.contents k ≡ (if old.dirty k && n == k then bytes else block old.contents k)
 
+-- all but the bytes of its blocks is as it was
+pub record ChangesBytesOnly (old new : Platter) : Type 0 where
+  pub dirty : new.dirty ≡ old.dirty
+  pub sure : new.sure ≡ old.sure
+  pub room : new.room ≡ old.room
+  pub count : length new.blocks.items ≡ length old.blocks.items
+
+-- what a crash of the old one left, all of it synced, and no call was made of it so far
+pub record IsLeft (old new : MemDisk) : Type 0 where
+  pub clean : IsClean (memory_state new).now
+  pub left : MayLeave (memory_state old).now (memory_state new).now.contents
+  pub reads : (memory_state new).reads ≡ 0
+  pub failures : (memory_state new).failures ≡ 0
+  pub past : (memory_state new).past ≡ []
+  pub room : room_of new ≡ room_of old
+
 -- zero blocks were added until there are this many
 abbrev pub GetsZeros : ℕ → DiskState → DiskState → Type 0
 GetsZeros count old new = new.now.contents ≡ filled_up count (replicate BLOCK_SIZE 0) old.now.contents
@@ -90,12 +105,6 @@ pub record NeverFails {T : Type 0} (result : Result T DeviceFault) (old new : Me
   pub served : IsOk result
   pub room : KeepsRoom old new
 
--- what forgetting block n does
-pub record Spoils (n : ℕ) (old new : MemDisk) : Type 0 where
-  pub room : KeepsRoom old new
-  -- The block then has other bytes, so that a test finds whoever reads them.
-  pub other : block (memory_state new).now.contents n ≡ replicate BLOCK_SIZE FORGOTTEN
-
 -- what growing to this many blocks does
 pub record GrowsInRoom {T : Type 0} (blocks : ℕ) (result : Result T DeviceFault) (old new : MemDisk) : Type 0 where
   pub room : KeepsRoom old new
@@ -112,6 +121,5 @@ memory_does (Read n bytes result) old new = NeverFails result old new
 memory_does (Load n need result) old new = NeverFails result old new
 memory_does (Write n bytes result) old new = NeverFails result old new
 memory_does (WriteRun n blocks result) old new = ⊤
-memory_does (Forget n) old new = Spoils n old new
 memory_does (Sync result) old new = NeverFails result old new
 memory_does (Extend blocks result) old new = GrowsInRoom blocks result old new

@@ -146,16 +146,22 @@ pub record IsRewritten (offset : ℕ) (old new : List Call) : Type 0 where
 abbrev pub Rewrites : {T W : Type 0} → ℕ → Result T DeviceFault → SystemFile W → SystemFile W → Type 0
 Rewrites offset result old new = OnOk result (IsRewritten offset (noted old.calls) (noted new.calls))
 
-module _ {W : Type 0} (held : ℕ → List ℕ → Option (List ℕ)) (torn : ℕ → List ℕ → ℕ → List ℕ) where
-  -- a file of this name that was opened after these others, for reading only or not, and of which these calls were made
-  abbrev pub IsAfter : Bool → List (Unit {0}) → List ℕ → List Call → SystemFile W → Type 0
-  IsAfter reads_alone opened name calls file =
-      let opening = length opened in
-      system_state held torn file ≡ state_after reads_alone (held_bytes (held opening name)) (torn opening name) calls
+-- what a file shows that is found under this name after these others were opened, before a call is made of it
+abbrev pub found : (ℕ → List ℕ → Option (List ℕ)) → List (Unit {0}) → List ℕ → FileState
+found held opened name = fresh (held_bytes (held (length opened) name))
 
-  -- a file of this name that was opened after these others, and of which no call was made so far
-  abbrev pub IsFresh : List (Unit {0}) → List ℕ → SystemFile W → Type 0
-  IsFresh opened name file = system_state held torn file ≡ fresh (held_bytes (held (length opened) name))
+-- and once these calls were made of it, whether it was opened for reading only or not
+abbrev pub found_after : (ℕ → List ℕ → Option (List ℕ)) → (ℕ → List ℕ → ℕ → List ℕ) → Bool → List (Unit {0}) → List ℕ → List Call → FileState
+found_after held torn reads_alone opened name calls =
+    let opening = length opened in state_after reads_alone (held_bytes (held opening name)) (torn opening name) calls
+
+module _ {W : Type 0} (held : ℕ → List ℕ → Option (List ℕ)) (torn : ℕ → List ℕ → ℕ → List ℕ) where
+  -- a file that was opened under this name after these others, for reading only or not, and shows this
+  pub record IsOpenedAs (reads_alone : Bool) (opened : List (Unit {0})) (called : List ℕ) (shows : FileState) (file : SystemFile W) : Type 0 where
+    pub state : system_state held torn file ≡ shows
+    pub mode : is_read_alone file ≡ reads_alone
+    pub name : name_of file ≡ called
+    pub opening : opening_of file ≡ length opened
 
   -- if the file is honest after it, R holds between what it shows before and after
   abbrev pub IfHonestIn : (FileState → FileState → Type 0) → SystemFile W → SystemFile W → Type 0

@@ -1,5 +1,5 @@
 -- The blocks that wait to be written, and those that were.
-use Rattle.std.specs.Prelude.{◌≡◌, ◌⊎◌, ◌+◌, ◌<◌, ◌&&◌, ℕ, Bool, true, false, if◌then◌else◌, List, [], length, nat_eq, nat_le, nat_lt, is_some, slice_index_or, Option, Some, None}
+use Rattle.std.specs.Prelude.{◌≡◌, ◌⊎◌, ◌+◌, ◌<◌, ◌≤◌, ◌&&◌, ℕ, Bool, true, false, if◌then◌else◌, List, [], length, nat_eq, nat_le, nat_lt, is_some, slice_index_or, Option, Some, None}
 use Rattle.std.specs.Map.{lookup, update}
 use Rattle.vm_disk.specs.Kept.{Entries, rooms_in}
 use Rattle.vm_disk.specs.declared.waiting.Waiting.{Waiting}
@@ -48,6 +48,13 @@ IsRun first run waiting = (i : ℕ) → i < length run → bytes_for waiting (fi
 -- how many may wait
 abbrev pub limit_of : Waiting → ℕ
 limit_of waiting = waiting.rooms.cap
+
+-- block n waits no longer, all others wait as before, and as many may wait
+pub record StopsWaiting (n : ℕ) (old new : Waiting) : Type 0 where
+  pub gone : ChangesOne n None old new
+  pub fewer : waits old n ≡ true → count_of new < count_of old
+  pub most : count_of new ≤ count_of old
+  pub limit : limit_of new ≡ limit_of old
 
 -- each written block that is kept was kept before, with the same bytes
 abbrev pub KeepsNoMore : Waiting → Waiting → Type 0

@@ -148,11 +148,6 @@ impl<D: Disk> Disk for CachedDisk<D> {
         }
     }
 
-    fn forget(&mut self, n: BlockNumber) {
-        self.inner.forget(n);
-        self.kept.forget(n)
-    }
-
     fn sync(&mut self) -> Result<(), DeviceFault> {
         self.inner.sync()
     }

@@ -16,8 +16,7 @@ use vm_types::{Block, BlockNumber};
 /// wait. In that case the block that was written or loaded the longest ago is written out, together
 /// with the waiting blocks right before and after it. A read looks among the waiting blocks first,
 /// and then among the written ones. Written blocks stay until their frames are needed. All of them
-/// go if a write below fails or if memory for one more waiting block is refused; a block that is
-/// forgotten goes, too.
+/// go if a write below fails or if memory for one more waiting block is refused.
 ///
 /// A waiting block takes the frame of one that no longer waits: a spare frame, or else that of the
 /// block that was written out first. If there is none, memory is taken; if that is refused, the
@@ -116,11 +115,6 @@ impl<D: Disk> Disk for DelayedDisk<D> {
 
     fn write_run(&mut self, n: BlockNumber, blocks: &[Block]) -> Result<(), DeviceFault> {
         self.write_each(n, blocks)
-    }
-
-    fn forget(&mut self, n: BlockNumber) {
-        self.past.note(&self.layers);
-        self.layers.forget(n);
     }
 
     fn sync(&mut self) -> Result<(), DeviceFault> {

@@ -2,7 +2,7 @@
 ghost use Rattle.std.specs.Prelude.{◌≡◌, ◌+◌, ◌<◌, ◌≤◌, ◌^◌, ℕ, true, List, length, ⊤};
 ghost use Rattle.vm_disk.specs.Calls.{DiskCall};
 ghost use Rattle.vm_disk.specs.Moments.{WritesRun};
-ghost use Rattle.vm_disk.specs.Disk.{DiskState, Counts, Reads, Writes, Idles, Forgets, Syncs, Extends, Enlarges};
+ghost use Rattle.vm_disk.specs.Disk.{DiskState, Counts, Reads, Writes, Syncs, Extends, Enlarges};
 
 use vm_types::{Block, BlockNumber};
 
@@ -92,15 +92,6 @@ pub trait Disk {
         }
         Ok(())
     }
-
-    /// Says that the contents of block n are not needed before it is written again. From then on it
-    /// holds any bytes, as after a failed write.
-    fn forget(&mut self, n: BlockNumber)
-        requires { n < (state self.old).blocks }
-        ensures any { Idles (state self.old) (state self.new) }
-        ensures honest { (state self.new).honest ≡ true
-            → Forgets n (state self.old) (state self.new) }
-        ensures does { does (DiskCall.Forget n) self.old self.new };
 
     /// Makes all writes so far durable.
     fn sync(&mut self) -> Result<(), DeviceFault>

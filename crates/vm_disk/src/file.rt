@@ -19,7 +19,6 @@ struct Earlier<F> {
     file: Snapshot<F>,
     blocks: u32,
     sure: u32,
-    forgotten: Snapshot<History<u32>>,
 }
 
 impl<F> Drop for Earlier<F> {
@@ -28,7 +27,6 @@ impl<F> Drop for Earlier<F> {
             file: _,
             blocks: _,
             sure: _,
-            forgotten: _,
         } = self;
     }
 }
@@ -40,7 +38,6 @@ pub struct FileDisk<F> {
     file: F,
     blocks: u32,
     sure: u32,
-    forgotten: History<u32>,
     past: History<Earlier<F>>,
     reads: History<()>,
     room: Block,
@@ -117,7 +114,6 @@ impl<F: Positional> FileDisk<F> {
             file,
             blocks,
             sure,
-            forgotten: History::new(),
             past: History::new(),
             reads: History::new(),
             room: [0; 4096],
@@ -132,7 +128,6 @@ impl<F: Positional> FileDisk<F> {
             file: Snapshot::of(&self.file),
             blocks: self.blocks,
             sure: self.sure,
-            forgotten: Snapshot::of(&self.forgotten),
         }
     }
 
@@ -211,18 +206,11 @@ impl<F: Positional> Disk for FileDisk<F> {
         self.file.write_blocks_at(blocks, offset_of(n))
     }
 
-    fn forget(&mut self, n: BlockNumber) {
-        let was = self.earlier();
-        self.past.note(&was);
-        self.forgotten.note(&n);
-    }
-
     fn sync(&mut self) -> Result<(), DeviceFault> {
         let was = self.earlier();
         self.past.note(&was);
         self.file.sync()?;
         self.sure = self.blocks;
-        self.forgotten = History::new();
         Ok(())
     }
 

@@ -22,14 +22,13 @@ pub struct FuseDisk<D: Disk> {
 
 impl<D: Disk> FuseDisk<D> {
     ghost use Rattle.vm_disk.specs.Past.{noted};
-    ghost use Rattle.vm_disk.specs.Fuse.{inner_of, passes_of, is_stop, torn_of, calls_of, is_blown, failed_of, fails_next, IsSet, fuse_state};
+    ghost use Rattle.vm_disk.specs.Fuse.{inner_of, calls_of, is_blown, failed_of, fails_next, Burns, IsSet};
 
     /// Passes `k` device calls, fails the next, and goes on. `k` must not be the greatest u32,
     /// because the count of calls stops there.
     pub fn once(inner: D, k: u32, torn: Block) -> FuseDisk<D>
         requires { k < 2 ^ 32 - 1 }
-        ensures set { IsSet inner k false torn result }
-        ensures state { fuse_state D.state result ≡ D.state inner }
+        ensures { IsSet D.state inner k false torn result }
     {
         FuseDisk::set(inner, k, false, torn)
     }
@@ -37,15 +36,13 @@ impl<D: Disk> FuseDisk<D> {
     /// Passes `k` device calls, and fails every one from there.
     pub fn stop(inner: D, k: u32, torn: Block) -> FuseDisk<D>
         requires { k < 2 ^ 32 - 1 }
-        ensures set { IsSet inner k true torn result }
-        ensures state { fuse_state D.state result ≡ D.state inner }
+        ensures { IsSet D.state inner k true torn result }
     {
         FuseDisk::set(inner, k, true, torn)
     }
 
     fn set(inner: D, passes: u32, stops: bool, torn: Block) -> FuseDisk<D>
-        ensures set { IsSet inner passes stops torn result }
-        ensures state { fuse_state D.state result ≡ D.state inner }
+        ensures { IsSet D.state inner passes stops torn result }
     {
         FuseDisk {
             inner,
@@ -91,11 +88,7 @@ impl<D: Disk> FuseDisk<D> {
     fn fails(&mut self) -> bool
         ensures fails { result ≡ fails_next self.old }
         ensures inner { inner_of self.new ≡ inner_of self.old }
-        ensures passes { passes_of self.new ≡ passes_of self.old }
-        ensures stop { is_stop self.new ≡ is_stop self.old }
-        ensures torn { torn_of self.new ≡ torn_of self.old }
-        ensures calls { calls_of self.new ≡ min (calls_of self.old + 1) (2 ^ 32 - 1) }
-        ensures blown { is_blown self.new ≡ (is_blown self.old || result) }
+        ensures burns { Burns self.old self.new }
         ensures missed { self.new.missed ≡ self.old.missed }
         ensures failed { failed_of self.new ≡ failed_of self.old + (if result then 1 else 0) }
     {
@@ -160,10 +153,6 @@ impl<D: Disk> Disk for FuseDisk<D> {
 
     fn write_run(&mut self, n: BlockNumber, blocks: &[Block]) -> Result<(), DeviceFault> {
         self.write_each(n, blocks)
-    }
-
-    fn forget(&mut self, n: BlockNumber) {
-        self.inner.forget(n);
     }
 
     fn sync(&mut self) -> Result<(), DeviceFault> {

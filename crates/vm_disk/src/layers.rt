@@ -1,7 +1,6 @@
 //! A disk, and over it the blocks that wait to be written or were written.
 ghost use Rattle.std.specs.Prelude.{◌≡◌, ◌<◌, ◌≤◌, ℕ, true, false, None, IfOk, IfErr, OnOk, OnErr, IsOk};
-ghost use Rattle.vm_disk.specs.Between.{Between};
-ghost use Rattle.vm_disk.specs.Disk.{Counts, Reads, Writes, Idles, Forgets, Syncs, Extends, Enlarges};
+ghost use Rattle.vm_disk.specs.Disk.{Counts, Reads, Writes, Syncs, Extends, Enlarges};
 ghost use Rattle.std.specs.NonZero.{non_zero_usize_get};
 ghost use Rattle.vm_disk.specs.Kept.{AreOf};
 ghost use Rattle.vm_disk.specs.Waiting.{bytes_for, waits, written_in, count_of, limit_of};
@@ -35,7 +34,7 @@ pub(crate) struct Layers<D: Disk> {
 }
 
 impl<D: Disk> Layers<D> {
-    ghost use Rattle.vm_disk.specs.Layers.{lower_of, waiting_of, layers_state, layers_hand, AnswersHere, FewerWait, IfHonestBelow, IsApart, KeepsLimit, Sends, WaitNoMore};
+    ghost use Rattle.vm_disk.specs.Layers.{lower_of, waiting_of, layers_state, layers_hand, Acts, AnswersHere, FewerWait, MaySend, WaitNoMore};
 
     /// No block waits yet. If memory is refused, the disk comes back.
     pub(crate) fn new(alloc: Global, inner: D, capacity: NonZeroUsize) -> Result<Layers<D>, D>
@@ -58,11 +57,9 @@ impl<D: Disk> Layers<D> {
 
     /// Writes block n out, if it waits.
     fn send_alone(&mut self, n: BlockNumber) -> Result<(), DeviceFault>
-        ensures any { Between (layers_state D.state) (Counts 0 result) self.old self.new }
-        ensures honest { (D.state (lower_of self.new)).honest ≡ true → Sends D.state self.old self.new }
+        ensures sends { MaySend D.state result self.old self.new }
         ensures fewer { OnOk result (FewerWait n self.old self.new) }
         ensures no_more { WaitNoMore self.old self.new }
-        ensures limit { KeepsLimit self.old self.new }
     {
         let Some(bytes) = self.waiting.bytes(n) else {
             return Ok(());
@@ -82,11 +79,9 @@ impl<D: Disk> Layers<D> {
     /// Writes block n out, if it waits, together with the waiting blocks around it. A block that
     /// waits alone is not copied for that.
     fn send(&mut self, n: BlockNumber) -> Result<(), DeviceFault>
-        ensures any { Between (layers_state D.state) (Counts 0 result) self.old self.new }
-        ensures honest { (D.state (lower_of self.new)).honest ≡ true → Sends D.state self.old self.new }
+        ensures sends { MaySend D.state result self.old self.new }
         ensures fewer { OnOk result (FewerWait n self.old self.new) }
         ensures no_more { WaitNoMore self.old self.new }
-        ensures limit { KeepsLimit self.old self.new }
     {
         let first = self.waiting.begin_run(n);
         if first == n && self.waiting.bytes(n.saturating_add(1)).is_none() {
@@ -112,10 +107,8 @@ impl<D: Disk> Layers<D> {
     /// Writes out the least recently used waiting block with its neighbours, unless one more block
     /// may wait anyway.
     fn make_place(&mut self) -> Result<(), DeviceFault>
-        ensures any { Between (layers_state D.state) (Counts 0 result) self.old self.new }
-        ensures honest { (D.state (lower_of self.new)).honest ≡ true → Sends D.state self.old self.new }
+        ensures sends { MaySend D.state result self.old self.new }
         ensures no_more { WaitNoMore self.old self.new }
-        ensures limit { KeepsLimit self.old self.new }
     {
         if self.waiting.has_place() {
             return Ok(());
@@ -128,10 +121,8 @@ impl<D: Disk> Layers<D> {
 
     /// Writes out every waiting block.
     fn send_all(&mut self) -> Result<(), DeviceFault>
-        ensures any { Between (layers_state D.state) (Counts 0 result) self.old self.new }
-        ensures honest { (D.state (lower_of self.new)).honest ≡ true → Sends D.state self.old self.new }
+        ensures sends { MaySend D.state result self.old self.new }
         ensures none { OnOk result ((n : ℕ) → waits (waiting_of self.new) n ≡ false) }
-        ensures limit { KeepsLimit self.old self.new }
     {
         while let Some(n) = self.waiting.oldest() {
             self.send(n)?;
@@ -142,12 +133,8 @@ impl<D: Disk> Layers<D> {
     /// Reads block n from the waiting or kept blocks, or else from the disk below.
     pub(crate) fn read(&mut self, n: BlockNumber, into: &mut Block) -> Result<(), DeviceFault>
         requires { n < (layers_state D.state self.old).blocks }
-        ensures any { Between (layers_state D.state) (Counts 0 result) self.old self.new }
-        ensures honest { IfHonestBelow D.state (Reads n into.new result) self.old self.new }
-        ensures below { (D.state (lower_of self.new)).honest ≡ true
-            → IsApart D.state self.old self.new }
+        ensures acts { Acts D.state (Counts 0 result) (Reads n into.new result) self.old self.new }
         ensures hit { AnswersHere n result self.old self.new }
-        ensures limit { KeepsLimit self.old self.new }
     {
         match self.waiting.known(n) {
             Some(bytes) => {
@@ -161,13 +148,9 @@ impl<D: Disk> Layers<D> {
     /// Loads block n from the waiting or kept blocks, or else from the disk below.
     pub(crate) fn load(&mut self, n: BlockNumber, need: Need) -> Result<(), DeviceFault>
         requires { n < (layers_state D.state self.old).blocks }
-        ensures any { Between (layers_state D.state) (Counts 0 result) self.old self.new }
-        ensures honest { IfHonestBelow D.state (Reads n (layers_hand D.hand self.new) result)
+        ensures acts { Acts D.state (Counts 0 result) (Reads n (layers_hand D.hand self.new) result)
             self.old self.new }
-        ensures below { (D.state (lower_of self.new)).honest ≡ true
-            → IsApart D.state self.old self.new }
         ensures hit { AnswersHere n result self.old self.new }
-        ensures limit { KeepsLimit self.old self.new }
     {
         if self.waiting.use_waiting(n) {
             self.at = Hand::Waits;
@@ -205,11 +188,7 @@ impl<D: Disk> Layers<D> {
     /// written.
     pub(crate) fn write(&mut self, n: BlockNumber, from: &Block) -> Result<(), DeviceFault>
         requires { n < (layers_state D.state self.old).blocks }
-        ensures any { Between (layers_state D.state) (Counts 0 result) self.old self.new }
-        ensures honest { IfHonestBelow D.state (Writes n from.now result) self.old self.new }
-        ensures below { (D.state (lower_of self.new)).honest ≡ true
-            → IsApart D.state self.old self.new }
-        ensures limit { KeepsLimit self.old self.new }
+        ensures { Acts D.state (Counts 0 result) (Writes n from.now result) self.old self.new }
     {
         if self.waiting.put(n, from) {
             return Ok(());
@@ -230,27 +209,9 @@ impl<D: Disk> Layers<D> {
         self.inner.write(n, from)
     }
 
-    /// Drops block n from the waiting and the written blocks, and forgets it below.
-    pub(crate) fn forget(&mut self, n: BlockNumber)
-        requires { n < (layers_state D.state self.old).blocks }
-        ensures any { Between (layers_state D.state) Idles self.old self.new }
-        ensures honest { IfHonestBelow D.state (Forgets n) self.old self.new }
-        ensures below { (D.state (lower_of self.new)).honest ≡ true
-            → IsApart D.state self.old self.new }
-        ensures limit { KeepsLimit self.old self.new }
-        ensures gone { waits (waiting_of self.new) n ≡ false }
-    {
-        self.waiting.forget(n);
-        self.inner.forget(n);
-    }
-
     /// Writes out every waiting block, and syncs the disk below.
     pub(crate) fn sync(&mut self) -> Result<(), DeviceFault>
-        ensures any { Between (layers_state D.state) (Counts 0 result) self.old self.new }
-        ensures honest { IfHonestBelow D.state (Syncs result) self.old self.new }
-        ensures below { (D.state (lower_of self.new)).honest ≡ true
-            → IsApart D.state self.old self.new }
-        ensures limit { KeepsLimit self.old self.new }
+        ensures { Acts D.state (Counts 0 result) (Syncs result) self.old self.new }
     {
         self.send_all()?;
         self.inner.sync()
@@ -259,11 +220,7 @@ impl<D: Disk> Layers<D> {
     /// Lengthens the disk below.
     pub(crate) fn extend(&mut self, blocks: u32) -> Result<(), DeviceFault>
         requires { (layers_state D.state self.old).blocks ≤ blocks }
-        ensures any { Between (layers_state D.state) (Extends blocks result) self.old self.new }
-        ensures honest { IfHonestBelow D.state Enlarges self.old self.new }
-        ensures below { (D.state (lower_of self.new)).honest ≡ true
-            → IsApart D.state self.old self.new }
-        ensures limit { KeepsLimit self.old self.new }
+        ensures { Acts D.state (Extends blocks result) Enlarges self.old self.new }
     {
         self.inner.extend(blocks)
     }

@@ -8,9 +8,6 @@ use crate::history::History;
 use std::alloc::{AllocError, Global};
 use vm_types::{BLOCK_SIZE, Block, BlockNumber};
 
-/// The value of every byte of a block that was forgotten.
-const FORGOTTEN: u8 = 0xa5;
-
 /// Blocks, which of them are not synced, how many there were at the last sync, and how many there
 /// is room for.
 #[derive(Drop)]
@@ -54,7 +51,7 @@ fn fill_up<T: Copy>(items: &mut Vec<T>, item: T, count: usize)
 }
 
 impl Platter {
-    ghost use Rattle.vm_disk.specs.Memory.{medium_of, IsRefilled, IsRefilledAt};
+    ghost use Rattle.vm_disk.specs.Memory.{medium_of, IsRefilled, IsRefilledAt, ChangesBytesOnly};
 
     /// Memory for `room` blocks, with no block yet.
     fn with_room(alloc: Global, room: u32) -> Result<Platter, AllocError>
@@ -105,10 +102,7 @@ impl Platter {
     }
 
     fn refill_block(&mut self, n: BlockNumber, bytes: &Block)
-        ensures dirty { self.new.dirty ≡ self.old.dirty }
-        ensures sure { self.new.sure ≡ self.old.sure }
-        ensures room { self.new.room ≡ self.old.room }
-        ensures count { length self.new.blocks.items ≡ length self.old.blocks.items }
+        ensures keeps { ChangesBytesOnly self.old self.new }
         ensures filled { IsRefilledAt n bytes.now (medium_of self.old) (medium_of self.new) }
     {
         if self.is_dirty(n) {
@@ -129,10 +123,7 @@ impl Platter {
 
     /// Gives each dirty block the bytes of its last entry.
     fn refill(&mut self, fill: &[(u32, Block)])
-        ensures dirty { self.new.dirty ≡ self.old.dirty }
-        ensures sure { self.new.sure ≡ self.old.sure }
-        ensures room { self.new.room ≡ self.old.room }
-        ensures count { length self.new.blocks.items ≡ length self.old.blocks.items }
+        ensures keeps { ChangesBytesOnly self.old self.new }
         ensures filled { IsRefilled fill.now (medium_of self.old) (medium_of self.new) }
     {
         for (n, bytes) in fill {
@@ -142,7 +133,7 @@ impl Platter {
 }
 
 impl MemDisk {
-    ghost use Rattle.vm_disk.specs.Memory.{memory_state, room_of, IsBlank, IsRefilled, IsRefilledBelow};
+    ghost use Rattle.vm_disk.specs.Memory.{memory_state, room_of, IsBlank, IsLeft, IsRefilled, IsRefilledBelow};
 
     /// A disk of zero bytes, all of it synced. It has no room for more blocks.
     pub fn new(alloc: Global, blocks: u32) -> Result<MemDisk, AllocError>
@@ -189,13 +180,8 @@ impl MemDisk {
     /// own. Entries for other blocks and for numbers past the end are ignored.
     pub fn crash(self, fill: &[(u32, Block)]) -> MemDisk
         ensures blocks { (memory_state result).blocks ≡ (memory_state self).blocks }
-        ensures clean { IsClean (memory_state result).now }
         ensures filled { IsRefilled fill.now (memory_state self).now (memory_state result).now }
-        ensures left { MayLeave (memory_state self).now (memory_state result).now.contents }
-        ensures reads { (memory_state result).reads ≡ 0 }
-        ensures failures { (memory_state result).failures ≡ 0 }
-        ensures past { (memory_state result).past ≡ [] }
-        ensures room { room_of result ≡ room_of self }
+        ensures left { IsLeft self result }
     {
         let MemDisk {
             mut platter,
@@ -222,14 +208,9 @@ impl MemDisk {
         requires sure { (memory_state self).now.sure ≤ blocks }
         requires fewer { blocks ≤ (memory_state self).blocks }
         ensures blocks { (memory_state result).blocks ≡ blocks }
-        ensures clean { IsClean (memory_state result).now }
         ensures filled { IsRefilledBelow blocks fill.now (memory_state self).now
             (memory_state result).now }
-        ensures left { MayLeave (memory_state self).now (memory_state result).now.contents }
-        ensures reads { (memory_state result).reads ≡ 0 }
-        ensures failures { (memory_state result).failures ≡ 0 }
-        ensures past { (memory_state result).past ≡ [] }
-        ensures room { room_of result ≡ room_of self }
+        ensures left { IsLeft self result }
     {
         self.platter.shorten(blocks);
         self.crash(fill)
@@ -284,13 +265,6 @@ impl Disk for MemDisk {
 
     fn write_run(&mut self, n: BlockNumber, blocks: &[Block]) -> Result<(), DeviceFault> {
         self.write_each(n, blocks)
-    }
-
-    fn forget(&mut self, n: BlockNumber) {
-        self.past.note(&self.platter);
-        let at = n as usize;
-        self.platter.blocks[at] = [FORGOTTEN; 4096];
-        self.platter.dirty[at] = true;
     }
 
     fn sync(&mut self) -> Result<(), DeviceFault> {

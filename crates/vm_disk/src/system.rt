@@ -168,7 +168,7 @@ pub struct SystemFile<W> {
 }
 
 impl<W: World> SystemFile<W> {
-    ghost use Rattle.vm_disk.specs.System.{system_state, fresh, name_of, opening_calls, opening_of, is_read_alone, IsAfter, IsFresh};
+    ghost use Rattle.vm_disk.specs.System.{fresh, found, found_after, opening_calls, IsOpenedAs};
 
     /// Opens an existing plain file or block device for reading and writing, after the `opened`
     /// others. None if it cannot be opened, is neither of these, has a standard descriptor, or is
@@ -178,10 +178,8 @@ impl<W: World> SystemFile<W> {
         path: &str,
         opened: &History<()>,
     ) -> Option<SystemFile<W>>
-        ensures state { IfSome result (IsFresh W.held W.torn (noted opened.now) path.now) }
-        ensures mode { IfSome result (λ file. is_read_alone file ≡ false) }
-        ensures name { IfSome result (λ file. name_of file ≡ path.now) }
-        ensures opening { IfSome result (λ file. opening_of file ≡ length (noted opened.now)) }
+        ensures { IfSome result (IsOpenedAs W.held W.torn false (noted opened.now) path.now
+            (found W.held (noted opened.now) path.now)) }
     {
         if !has_blocks(rt, path) {
             return None;
@@ -199,10 +197,8 @@ impl<W: World> SystemFile<W> {
         path: &str,
         opened: &History<()>,
     ) -> Option<SystemFile<W>>
-        ensures state { IfSome result (IsFresh W.held W.torn (noted opened.now) path.now) }
-        ensures mode { IfSome result (λ file. is_read_alone file ≡ true) }
-        ensures name { IfSome result (λ file. name_of file ≡ path.now) }
-        ensures opening { IfSome result (λ file. opening_of file ≡ length (noted opened.now)) }
+        ensures { IfSome result (IsOpenedAs W.held W.torn true (noted opened.now) path.now
+            (found W.held (noted opened.now) path.now)) }
     {
         if !has_blocks(rt, path) {
             return None;
@@ -219,10 +215,7 @@ impl<W: World> SystemFile<W> {
         path: &str,
         opened: &History<()>,
     ) -> Option<SystemFile<W>>
-        ensures state { IfSome result (λ file. system_state W.held W.torn file ≡ fresh []) }
-        ensures mode { IfSome result (λ file. is_read_alone file ≡ false) }
-        ensures name { IfSome result (λ file. name_of file ≡ path.now) }
-        ensures opening { IfSome result (λ file. opening_of file ≡ length (noted opened.now)) }
+        ensures { IfSome result (IsOpenedAs W.held W.torn false (noted opened.now) path.now (fresh [])) }
     {
         SystemFile::opened(rt, &how_to_create(), path, opened)
     }
@@ -239,11 +232,10 @@ impl<W: World> SystemFile<W> {
         opened: &History<()>,
     ) -> Option<SystemFile<W>>
         requires { KeepsFile how.now }
-        ensures state { IfSome result (IsAfter W.held W.torn
-            (not (asks_write how.now)) (noted opened.now) path.now (opening_calls how.now)) }
-        ensures mode { IfSome result (λ file. is_read_alone file ≡ not (asks_write how.now)) }
-        ensures name { IfSome result (λ file. name_of file ≡ path.now) }
-        ensures opening { IfSome result (λ file. opening_of file ≡ length (noted opened.now)) }
+        ensures { IfSome result (IsOpenedAs W.held W.torn
+            (not (asks_write how.now)) (noted opened.now) path.now
+            (found_after W.held W.torn (not (asks_write how.now)) (noted opened.now) path.now
+            (opening_calls how.now))) }
     {
         let file = how.open(rt, path).ok()?;
         let metadata = file.metadata().ok()?;

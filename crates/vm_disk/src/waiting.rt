@@ -28,7 +28,7 @@ pub(crate) struct Waiting {
 }
 
 impl Waiting {
-    ghost use Rattle.vm_disk.specs.Waiting.{bytes_for, known_for, waits, written_for, written_in, count_of, limit_of, ChangesOne, Drops, Gains, IsRun, KeepsNoMore, LosesRun, Settles};
+    ghost use Rattle.vm_disk.specs.Waiting.{bytes_for, known_for, waits, written_for, written_in, count_of, limit_of, ChangesOne, Drops, Gains, IsRun, KeepsNoMore, LosesRun, Settles, StopsWaiting};
 
     /// No blocks yet. Takes memory for the order of `capacity` blocks.
     pub(crate) fn new(alloc: Global, capacity: NonZeroUsize) -> Result<Waiting, AllocError>
@@ -171,28 +171,13 @@ impl Waiting {
     /// The frame of block n, if it waited. It waits no longer.
     fn take(&mut self, n: BlockNumber) -> Option<Room>
         ensures bytes { option_map (λ room. room.value) result ≡ bytes_for self.old n }
-        ensures gone { ChangesOne n None self.old self.new }
-        ensures fewer { waits self.old n ≡ true → count_of self.new < count_of self.old }
-        ensures most { count_of self.new ≤ count_of self.old }
-        ensures limit { limit_of self.new ≡ limit_of self.old }
+        ensures stops { StopsWaiting n self.old self.new }
         ensures written { self.new.written ≡ self.old.written }
     {
         if self.rooms.len() == 0 {
             return None;
         }
         self.rooms.pop(&n)
-    }
-
-    /// Drops block n from the waiting and the written blocks.
-    pub(crate) fn forget(&mut self, n: BlockNumber)
-        ensures gone { ChangesOne n None self.old self.new }
-        ensures drops { Drops n self.old self.new }
-        ensures limit { limit_of self.new ≡ limit_of self.old }
-    {
-        self.forget_written(n);
-        if let Some(room) = self.take(n) {
-            let _ = self.spare.push(room);
-        }
     }
 
     /// Stops keeping block n as a written one.
@@ -236,10 +221,7 @@ impl Waiting {
     /// Marks block n, which was written as it waits, as no longer waiting, and keeps it as a
     /// written one.
     pub(crate) fn settle(&mut self, n: BlockNumber)
-        ensures gone { ChangesOne n None self.old self.new }
-        ensures fewer { waits self.old n ≡ true → count_of self.new < count_of self.old }
-        ensures most { count_of self.new ≤ count_of self.old }
-        ensures limit { limit_of self.new ≡ limit_of self.old }
+        ensures stops { StopsWaiting n self.old self.new }
         ensures settles { Settles (nat_eq n) self.old self.new }
     {
         match self.take(n) {

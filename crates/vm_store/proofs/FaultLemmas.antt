@@ -7,7 +7,7 @@ use Rattle.vm_disk.specs.Disk.{DiskState}
 use Rattle.vm_disk.specs.Moments.{TouchesOnly}
 use Rattle.vm_disk.proofs.MomentLemmas.{at_end, reads_keep, touches_nothing}
 use Rattle.vm_alloc.proofs.HeldLemmas.{holds_same}
-use Rattle.vm_tree.specs.Calls.{PutsIfDamaged, PutsIfDeep}
+use Rattle.vm_tree.specs.Calls.{LooksIfRefused}
 use Rattle.vm_tree.specs.Faults.{refusal_of_put}
 use Rattle.vm_tree.specs.Free.{SparesBase, is_free}
 use Rattle.vm_tree.specs.declared.root.Root.{Root}
@@ -21,13 +21,13 @@ abbrev pub answer_of : PutFault → Result Answer Refusal
 answer_of fault = Err (refusal_of_put fault)
 
 -- a Put that answers another fault than the device's touches nothing
-pub fault_spares : (fault : PutFault) (bits later : List Bool) (old new : DiskState) → PutsIfDeep {T = Root} (Err fault) bits later old new → PutsIfDamaged {T = Root} (Err fault) bits later old new → new.honest ≡ true
+pub fault_spares : (fault : PutFault) (bits later : List Bool) (old new : DiskState) → LooksIfRefused {T = Root} (Err fault) bits later old new → new.honest ≡ true
     → answer_of fault ≢ Err refusal.Device → TouchesOnly (is_free bits) old.now new.now
-fault_spares (Tree Device) bits later old new deep looks honest fine = absurd (fine refl)
-fault_spares (Tree (Damaged b)) bits later old new deep looks honest fine =
-    at_end old new (TouchesOnly (is_free bits) old.now) (reads_keep old new (TouchesOnly (is_free bits) old.now) ((looks b).reads honest refl) (touches_nothing (is_free bits) old.now))
-fault_spares Deep bits later old new deep looks honest fine =
-    at_end old new (TouchesOnly (is_free bits) old.now) (reads_keep old new (TouchesOnly (is_free bits) old.now) (deep.reads honest refl) (touches_nothing (is_free bits) old.now))
+fault_spares (Tree Device) bits later old new refused honest fine = absurd (fine refl)
+fault_spares (Tree (Damaged b)) bits later old new refused honest fine =
+    at_end old new (TouchesOnly (is_free bits) old.now) (reads_keep old new (TouchesOnly (is_free bits) old.now) (refused.reads honest tt) (touches_nothing (is_free bits) old.now))
+fault_spares Deep bits later old new refused honest fine =
+    at_end old new (TouchesOnly (is_free bits) old.now) (reads_keep old new (TouchesOnly (is_free bits) old.now) (refused.reads honest tt) (touches_nothing (is_free bits) old.now))
 
 -- the blocks that were held before a series are those of its baseline
 pub spares_before : (base : Option (List Bool)) (bits : List Bool) → SparesBase base (before_of base bits)

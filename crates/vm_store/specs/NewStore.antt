@@ -62,6 +62,11 @@ module _ (old new : DiskState) where
   abbrev pub LeavesStore : {T E : Type 0} → Result T E → Type 0
   LeavesStore result = new.honest ≡ true → IsAnyHeader (block old.now.contents 0) → IsErr result × (new.now.contents ≡ old.now.contents)
 
+  -- that there is a store is told only if there is one, and it is left as it was
+  pub record SparesStore {T E : Type 0} (refused : Type 0) (result : Result T E) : Type 0 where
+    pub already : HadHeader refused
+    pub was_there : LeavesStore result
+
   -- at each moment nothing has changed except that it may be synced; or there was no header, and a crash shows at most a new store
   abbrev pub FormatsAtMost : ℕ → Type 0
   FormatsAtMost blocks = new.honest ≡ true → Throughout old new (IsFormatting blocks old.now)

@@ -7,7 +7,7 @@ use Rattle.vm_types.specs.declared.command.Command.TheVariants.{Commit, Grow, Me
 use Rattle.vm_types.specs.declared.command.Side.{Side}
 use Rattle.vm_types.specs.declared.key.Key.{Key}
 use Rattle.vm_types.specs.declared.refusal.Refusal.{Refusal}
-use Rattle.vm_types.specs.declared.refusal.Refusal.TheVariants.{Device, Full}
+use Rattle.vm_types.specs.declared.refusal.Refusal.TheVariants.{Device, Failed, Full, Memory}
 use Rattle.vm_types.specs.Kept.{LeftBy}
 use Rattle.vm_types.specs.State.{Seen, State, blocks_a_change, changes_made, committed_of, merge_changes, next, outcome, start_of}
 use Rattle.vm_disk.specs.Disk.{Goes}
@@ -98,6 +98,19 @@ module _ {D : Type 0} {members : _} where
   -- the store stands for this state
   abbrev pub Holds : Store D members → State → Type 0
   Holds store s = PartsStandFor (members.state (disk_of store)).now store.parts s
+
+  -- what a call does that may mark what the entries reach, where this is its answer: it reads alone, and keeps the entries and what the store
+  -- stands for
+  pub record MarksStore {T : Type 0} (answer : Result T Refusal) (old new : Store D members) : Type 0 where
+    pub any : GoesOn (answer ≡ Err Device) old new
+    pub failed : has_failed new ≡ has_failed old
+    pub never : (answer ≢ Err Failed) × (answer ≢ Err Memory) × (answer ≢ Err Full)
+    pub late : IfErr answer (λ refusal. IsEarly refusal → ⊥)
+    pub same : entries_of new ≡ entries_of old
+    pub roots : root_of new ≡ root_of old
+    pub reads : IsHonest new → ReadsAlone old new
+    pub only : IsHonest new → (s : State) → Holds old s → IfErr answer (λ refusal. refusal ≡ Device)
+    pub state : IsHonest new → (s : State) → Holds old s → Holds new s
 
   -- Q holds for each state that a store stands for which has not failed
   abbrev pub InState : Store D members → (State → Type 0) → Type 0

@@ -4,7 +4,7 @@ use Rattle.std.proofs.lemmas.Bool.{cases_lt}
 use Rattle.std.proofs.lemmas.List.{get_or_past, length-map}
 use Rattle.std.proofs.lemmas.List.FromFn.{get_or-map-range_with_len}
 use Rattle.vm_disk.specs.declared.disk.DeviceFault.{DeviceFault}
-use Rattle.vm_disk.specs.Disk.{Contents, block, Medium, DiskState, MayLeave, LeftPast, Elapses, Reads, Writes, Forgets, Syncs, Lengthens, Enlarges}
+use Rattle.vm_disk.specs.Disk.{Contents, block, Medium, DiskState, MayLeave, LeftPast, Elapses, Reads, Writes, Syncs, Lengthens, Enlarges}
 use Rattle.vm_sums.specs.Sums.{summed}
 use Rattle.vm_sums.specs.Summed.{shown_contents, shown_length, shown, shown_state, CrashesShow}
 
@@ -60,17 +60,6 @@ writes_show n bytes given r old new inside back writes = record {
   others_dirty = writes.others_dirty;
   sure = writes.sure;
   time = elapses_show old new writes.time;
-}
-
--- a block was forgotten
-pub forgets_show : (n : ℕ) (old new : DiskState) → Forgets n old new → Forgets n (shown_state old) (shown_state new)
-forgets_show n old new forgets = record {
-  dirty = forgets.dirty;
-  count = shown_length new.now.contents ∙ forgets.count ∙ sym (shown_length old.now.contents);
-  others = λ k apart. same_shown old.now.contents new.now.contents k forgets.count (forgets.others k apart);
-  others_dirty = forgets.others_dirty;
-  sure = forgets.sure;
-  time = elapses_show old new forgets.time;
 }
 
 -- all was synced

@@ -86,10 +86,6 @@ impl<D: Disk> Disk for SummedDisk<D> {
         self.write_each(n, blocks)
     }
 
-    fn forget(&mut self, n: BlockNumber) {
-        self.inner.forget(n)
-    }
-
     fn sync(&mut self) -> Result<(), DeviceFault> {
         self.inner.sync()
     }

@@ -55,8 +55,3 @@ if_ok_is (Err e) A a = tt
 pub if_ok_so : {T E : Type 0} (result : Result T E) (A B : Type 0) → IfOk result (λ x. A) → (A → B) → IfOk result (λ x. B)
 if_ok_so (Ok x) A B h so = so h
 if_ok_so (Err e) A B h so = tt
-
--- and what follows from each answer
-pub if_ok_map : {T E : Type 0} (result : Result T E) (P Q : T → Type 0) → IfOk result P → ((x : T) → P x → Q x) → IfOk result Q
-if_ok_map (Ok x) P Q h so = so x h
-if_ok_map (Err e) P Q h so = tt

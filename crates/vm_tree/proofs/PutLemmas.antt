@@ -1,7 +1,7 @@
 -- What a Put under a block answers, from what it answers under the chosen child.
-use Rattle.std.proofs.Common.{◌≡◌, ℕ, zero, suc, nat_lt, cond, Option, ◌+◌, ◌-◌, ◌<◌, ◌≤◌, Bool, List, [], ◌∷◌, ◌++◌, length, get_or, take, drop, Result, Ok, Err, refl, sym, ap, ◌∙◌, subst, arith, length-append, length-drop, length-take-le, take-append-drop}
+use Rattle.std.proofs.Common.{◌≡◌, ◌⊎◌, inl, inr, ℕ, nat_lt, cond, Option, ◌+◌, ◌-◌, ◌<◌, ◌≤◌, Bool, List, [], ◌∷◌, ◌++◌, length, get_or, take, drop, Result, Ok, Err, refl, sym, ap, ◌∙◌, subst, arith, length-append, length-drop, length-take-le, take-append-drop}
 use Rattle.std.specs.Prelude.{◌^◌, IfSome, IsSomeAnd, slice_index_or}
-use Rattle.std.proofs.lemmas.Bool.{lt-ltb}
+use Rattle.std.proofs.lemmas.Bool.{cases_lt, le-ltb, lt-ltb}
 use Rattle.std.proofs.lemmas.List.{drop_more}
 use Rattle.vm_types.specs.Places.{place, RisesFrom, places, value_at, with_record}
 use Rattle.vm_disk.specs.Disk.{Contents, block, Medium}
@@ -14,7 +14,7 @@ use Rattle.vm_block.proofs.NodeLemmas.{node_one}
 use Rattle.vm_tree.specs.Tree.{Sizes, IsData, Subtree}
 use Rattle.vm_tree.specs.FullPath.{GrowsBy}
 use Rattle.vm_tree.specs.Insertion.{HasAsLong}
-use Rattle.vm_tree.specs.Splits.{Made, PutsBelow, children_of, extra}
+use Rattle.vm_tree.specs.Splits.{Made, PutsBelow, children_of, extra, grown}
 use Rattle.vm_tree.specs.BlockReads.{IsNodeAt}
 use Rattle.vm_tree.specs.declared.faults.TreeFault.{TreeFault}
 use Rattle.vm_tree.specs.declared.faults.TreeFault.TheVariants.{Device, Damaged}
@@ -48,10 +48,13 @@ below_so (Err (put.Tree Device)) room grows goes P Q given so then = tt
 below_so (Err (put.Tree (Damaged b))) room grows goes P Q given so then = given
 below_so (Err put.Deep) room grows goes P Q given so then = (given.0, given.1, so given.0 given.2)
 
--- what grows only where the one below grew stays as it is where that did
-pub stays_one : (n k : ℕ) (A : Type 0) → (0 < n → (0 < k) × A) → k ≡ 0 → n ≡ 0
-stays_one zero k A grows none = refl
-stays_one (suc n) k A grows none = absurd (omega (arith, (grows (omega arith)).0, none))
+-- by how many blocks an inner block grows, by a test
+pub grown_test : (most n : ℕ) → grown most n ≡ cond (nat_lt most n) 1 0
+grown_test most n = by_count (cases_lt most n)
+  where
+    by_count : (most < n) ⊎ (n ≤ most) → grown most n ≡ cond (nat_lt most n) 1 0
+    by_count (inl over) = let one : grown most n ≡ 1 = omega arith in one ∙ sym (ap (λ t. cond t 1 0) (lt-ltb most n over))
+    by_count (inr few) = let none : grown most n ≡ 0 = omega arith in none ∙ sym (ap (λ t. cond t 1 0) (le-ltb most n few))
 
 -- an inner block has no other children
 pub only_one : (x : Contents) (limit level b most : ℕ) (cs : List Child) → IsNodeAt x limit level b cs → (ds : List Child) → IsNodeAt x limit level b ds → length ds ≤ most → cs ≡ ds

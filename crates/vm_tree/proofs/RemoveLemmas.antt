@@ -1,6 +1,6 @@
 -- What a Remove under a block answers, from what it answers under the chosen child; and what lies under a root with one child.
 use Rattle.std.proofs.Common.{◌≡◌, ◌≢◌, Bool, ℕ, zero, suc, ◌+◌, ◌-◌, ◌^◌, ◌<◌, ◌≤◌, List, [], ◌∷◌, ◌++◌, length, get_or, take, drop, Option, None, Result, Ok, Err, refl, sym, ap, ◌∙◌, subst, arith, append-nil, length-drop, take-append-drop}
-use Rattle.std.specs.Prelude.{true, IfSome, IsOkAnd}
+use Rattle.std.specs.Prelude.{true, IfSome}
 use Rattle.std.specs.List.{AllByRecursion}
 use Rattle.std.proofs.lemmas.List.{nil_from_length, length-map}
 use Rattle.vm_types.specs.Places.{place, RisesFrom, places, value_at}
@@ -17,10 +17,11 @@ use Rattle.vm_tree.specs.Answers.{OkOrDevice}
 use Rattle.vm_tree.specs.Splits.{Made}
 use Rattle.vm_tree.specs.BlockReads.{IsNodeAt}
 use Rattle.vm_block.specs.Changed.{without_place}
-use Rattle.vm_tree.specs.Removal.{Narrows, IsLeft, LeavesOld, RemovesBelow, child_of}
+use Rattle.vm_tree.specs.Removal.{KeepsAll, Narrows, NeedsNone, IsLeft, RemovesBelow, child_of}
 use Rattle.vm_tree.specs.Replacement.{IsRenewed, KeepsOwn, Replaces, without_own}
 use Rattle.vm_tree.specs.declared.root.Root.{Root}
 use Rattle.vm_tree.specs.declared.faults.TreeFault.{TreeFault}
+use Rattle.vm_tree.specs.declared.faults.TreeFault.TheVariants.{Device, Damaged}
 use Rattle.vm_tree.specs.declared.removal.Left.{Left}
 use Rattle.vm_tree.specs.declared.removal.Left.TheVariants.{Same, Nothing, Rest}
 use Rattle.vm_tree.proofs.TreeLemmas.{node_opens}
@@ -97,16 +98,27 @@ pub two_children : {bytes : List ℕ} {l n k : ℕ} {cs : List Child} → take 1
 two_children {bytes} {l} {n} {k} {cs} begins low two few node =
     omega (arith, two, (node_head_only bytes 1162104654 l n 0 k (length cs) (omega arith) low few (omega arith) (begins ∙ sym (node_words l n)) (node_headed bytes k cs node)).2)
 
--- what follows from what is left
-pub ok_and_so : (result : Result Left TreeFault) (P Q : Left → Type 0) → IsOkAnd result P → ((left : Left) → P left → Q left) → IsOkAnd result Q
-ok_and_so (Ok left) P Q is so = so left is
-ok_and_so (Err e) P Q is so = absurd is
+-- where others are those, a root that was there is one of these
+pub needs_so : (P Q : ℕ → Type 0) (held later : List Bool) (result : Result Left TreeFault) → ((n : ℕ) → P n → Q n) → NeedsNone P held later result → NeedsNone Q held later result
+needs_so P Q held later (Ok Same) so is = is
+needs_so P Q held later (Ok Nothing) so is = is
+needs_so P Q held later (Ok (Rest root)) so is = (is.0, so root.block is.1)
+needs_so P Q held later (Err Device) so is = is
+needs_so P Q held later (Err (Damaged b)) so is = is
 
--- a root that was there, and is one of these others, is one of those
-pub leaves_so : (P Q : ℕ → Type 0) (held later : List Bool) → ((n : ℕ) → P n → Q n) → (left : Left) → LeavesOld P held later left → LeavesOld Q held later left
-leaves_so P Q held later so Same is = is
-leaves_so P Q held later so Nothing is = is
-leaves_so P Q held later so (Rest root) is = (is.0, so root.block is.1)
+-- nothing is to be written where no record was there, or none is left
+pub same_needs : (others : ℕ → Type 0) (held later : List Bool) (left : Left) → left ≡ Same → NeedsNone others held later (Ok left)
+same_needs others held later left is = subst (λ (l : Left). NeedsNone others held later (Ok l)) (sym is) tt
+
+pub nothing_needs : (others : ℕ → Type 0) (held later : List Bool) (left : Left) → left ≡ Nothing → NeedsNone others held later (Ok left)
+nothing_needs others held later left is = subst (λ (l : Left). NeedsNone others held later (Ok l)) (sym is) tt
+
+-- nothing is written where a key was absent, or a block is damaged
+pub none_keeps : (base : Option (List Bool)) (held later : List Bool) (result : Result (Option Root) TreeFault) → result ≡ Ok None → KeepsAll base held later result
+none_keeps base held later result is = subst (KeepsAll base held later) (sym is) tt
+
+pub damaged_keeps : (base : Option (List Bool)) (held later : List Bool) (e : TreeFault) (b : ℕ) → e ≡ Damaged b → KeepsAll base held later (Err e)
+damaged_keeps base held later e b is = subst (λ (fault : TreeFault). KeepsAll base held later (Err fault)) (sym is) tt
 
 -- what was written is answered
 pub rests_removes : (result : Result Left TreeFault) (p : ℕ) (rs : List Record) (P Q : Root → Type 0) → ((root : Root) → P root → Q root) → value_at p rs ≢ None → IsLeft result (without_place p rs) P → RemovesBelow result p rs Q

@@ -94,8 +94,3 @@ pub fault_puts : {T : Type 0} (e : PutFault) (room : ℕ) (grows : ℕ → Type 
 fault_puts (put.Tree Device) room grows deep P Q fault so = tt
 fault_puts (put.Tree (Damaged b)) room grows deep P Q fault so = fault
 fault_puts put.Deep room grows deep P Q fault so = so refl fault.0 fault.1 fault.2
-
--- the device failed
-pub device_puts : {T : Type 0} (e : TreeFault) (deep : Type 0) (P : T → Type 0) → e ≡ Device → Puts (Err (put.Tree e)) deep P
-device_puts Device deep P is = tt
-device_puts (Damaged b) deep P is = cc

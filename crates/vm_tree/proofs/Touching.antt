@@ -1,15 +1,19 @@
 -- Blocks that are held keep their bytes, and dirty ones stay dirty, over one call and over two.
-use Rattle.std.proofs.Common.{◌≡◌, ◌≢◌, ◌⊎◌, inl, inr, ℕ, Bool, true, false, not, List, [], ◌∷◌, ◌++◌, length, ◌&&◌, ◌<◌, nat_lt, Some, Result, refl, ap, sym, ◌∙◌, subst, arith, append_assoc}
-use Rattle.std.proofs.lemmas.Bool.{cases_eq, lt-ltb}
+use Rattle.std.proofs.Common.{◌≡◌, ◌≢◌, ◌⊎◌, inl, inr, ℕ, Bool, true, false, not, List, [], ◌∷◌, ◌++◌, length, ◌&&◌, ◌<◌, ◌≤◌, nat_lt, None, Some, Option, Result, refl, ap, sym, ◌∙◌, subst, arith, append_assoc}
+use Rattle.std.proofs.lemmas.Bool.{cases_eq, cases_lt, lt-ltb}
 use Rattle.vm_disk.specs.Disk.{Medium, DiskState, block, Elapses, Writes}
 use Rattle.vm_disk.specs.declared.disk.DeviceFault.{DeviceFault}
-use Rattle.vm_alloc.proofs.HeldLemmas.{free_inside, free_is, others_as_before}
-use Rattle.std.specs.Prelude.{slice_get, slice_set}
+use Rattle.vm_types.specs.declared.sizes.TheConstants.{FIRST_DATA}
+use Rattle.vm_alloc.proofs.HeldLemmas.{free_inside, free_is, holds_same, others_as_before, taken_is_held}
+use Rattle.std.specs.Prelude.{slice_get, slice_set, IfSome}
+use Rattle.std.proofs.Math.ListN.{length-set}
+use Rattle.std.proofs.lemmas.List.{get_or-set_other, get_or-set_same}
 use Rattle.vm_disk.specs.Moments.{AtEach, OnlyReads, Throughout, TouchesOnly}
 use Rattle.vm_disk.proofs.MomentLemmas.{started, touches_nothing, write_on, at_end, weaken, and_then}
 use Rattle.vm_alloc.specs.Held.{is_held, IsHeld, HoldsMore}
 use Rattle.vm_tree.specs.Unsynced.{DirtyGrows, LeavesDirty, NeverSyncs, latest}
-use Rattle.vm_tree.specs.Free.{TakesLowest, is_free}
+use Rattle.vm_tree.specs.Calls as calls
+use Rattle.vm_tree.specs.Free.{IsBeside, IsTaken, SparesOwn, TakesLowest, is_free}
 
 -- a block that is held is not free
 pub held_not_free : (held : List Bool) (n : ℕ) → IsHeld held n → is_free held n ≡ false
@@ -58,6 +62,24 @@ held_kept held old new moments n is = held_same held old.now new.now n (at_end o
 pub spared_kept : (spared held : List Bool) (old new : DiskState) → HoldsMore spared held → Throughout old new (TouchesOnly (is_free held) old.now) → Throughout old new (TouchesOnly (is_free spared) old.now)
 spared_kept spared held old new wider moments =
     touches_then spared held old old new wider (started old (TouchesOnly (is_free spared) old.now) (touches_nothing (is_free spared) old.now)) moments
+
+-- where the own block, or if there is none free blocks alone were written, each other one that was held has the same bytes at the end
+pub others_kept : {fails : Type 0} {n most : ℕ} {held later : List Bool} {old new : DiskState} (own : Option ℕ) → IfSome own (IsTaken held) → calls.Writes fails (SparesOwn own) n most held later old new
+    → new.honest ≡ true → (k : ℕ) → IsHeld held k → IsBeside own k → block new.now.contents k ≡ block old.now.contents k
+others_kept {held = held} None mine writes honest k is beside = held_kept held _ _ (writes.moments honest held (holds_same held) tt) k is
+others_kept {held = held} (Some b) mine writes honest k is beside =
+    let spared = slice_set held b false in
+    let other = λ (n : ℕ) (ne : n ≢ b). get_or-set_other held b n false false ne in
+    let none : is_held spared b ≡ false = get_or-set_same held b false false mine.inside in
+    let fewer : HoldsMore spared held = record {
+      same_length = sym (length-set held b false);
+      still = λ n has. by_place n has (cases_eq n b);
+    } in
+    held_kept spared _ _ (writes.moments honest spared fewer (counted_free spared b (omega (arith, mine.inside, length-set held b false)) none)) k (other k beside ∙ is)
+  where
+    by_place : (n : ℕ) → IsHeld (slice_set held b false) n → (n ≡ b) ⊎ (n ≢ b) → IsHeld held n
+    by_place n has (inl same) = ap (is_held held) same ∙ mine.held_now
+    by_place n has (inr ne) = sym (get_or-set_other held b n false false ne) ∙ has
 
 -- a write to a block spares those of which it is none
 pub own_written : {T : Type 0} (spared : List Bool) (n : ℕ) (bytes : List ℕ) (result : Result T DeviceFault) (old new : DiskState) → is_free spared n ≡ true → Writes n bytes result old new

@@ -1,8 +1,9 @@
 -- Blocks of a tree as they are read.
-use Rattle.std.specs.Prelude.{◌≡◌, ℕ, zero, suc, ◌+◌, ◌*◌, ◌<◌, ◌≤◌, true, List, length, take, drop, Result, IfOk}
+use Rattle.std.specs.Prelude.{◌≡◌, ℕ, zero, suc, ◌+◌, ◌*◌, ◌<◌, ◌≤◌, true, List, length, take, drop, Result, Err, IfOk}
 use Rattle.vm_types.specs.declared.key.Key.{Key}
 use Rattle.arrayvec.specs.ArrayVec.{ArrayVec}
-use Rattle.vm_disk.specs.Disk.{Contents, DiskState, block}
+use Rattle.vm_disk.specs.Disk.{Contents, DiskState, Goes, block}
+use Rattle.vm_disk.specs.Moments.{OnlyReads}
 use Rattle.vm_block.specs.declared.sizes.TheConstants.{MAX_CHILDREN}
 use Rattle.vm_block.specs.Head.{IsNodeHead}
 use Rattle.vm_block.specs.Leaf.{BeginsWith, HasRecords, Record, key_bytes}
@@ -10,6 +11,7 @@ use Rattle.vm_block.specs.Node.{IsNode, child_bytes}
 use Rattle.vm_block.specs.declared.node.Child.{Child}
 use Rattle.vm_tree.specs.declared.root.Root.{Root}
 use Rattle.vm_tree.specs.declared.faults.TreeFault.{TreeFault}
+use Rattle.vm_tree.specs.declared.faults.TreeFault.TheVariants.{Device}
 use Rattle.vm_block.specs.Way.{ChoosesAmong, Lowest, Takes}
 use Rattle.vm_block.specs.declared.way.Way.{Way}
 use Rattle.vm_tree.specs.Tree.{IsData}
@@ -20,6 +22,16 @@ pub record ReadsOne (limit b old new : ℕ) : Type 0 where
   pub most : new ≤ old + 1
   pub one : IsData limit b → new ≡ old + 1
   pub none : (IsData limit b → ⊥) → new ≡ old
+
+-- a call that answers that the device failed exactly if `fails` holds only looked at the disk, and read this block once, if it is for data
+pub record LooksOnce (limit b : ℕ) (fails : Type 0) (old new : DiskState) : Type 0 where
+  pub goes : Goes fails old new
+  pub reads : new.honest ≡ true → OnlyReads old new
+  pub once : ReadsOne limit b old.reads new.reads
+
+-- a call with this result did
+abbrev pub ReadsOnce : {T : Type 0} → Result T TreeFault → ℕ → ℕ → DiskState → DiskState → Type 0
+ReadsOnce result limit b old new = LooksOnce limit b (result ≡ Err Device) old new
 
 -- this block is for data, and has these bytes
 pub record IsDataAt (x : Contents) (limit b : ℕ) (bytes : List ℕ) : Type 0 where
@@ -92,6 +104,13 @@ IsCount most n = (0 < n) × (n ≤ most)
 -- a way in an inner block with this many children at most
 abbrev pub IsWayAmong : ℕ → Way → Type 0
 IsWayAmong most way = (way.index < way.count) × (way.count ≤ most) × (way.count ≤ MAX_CHILDREN)
+
+-- these bytes have the head of an inner block of this level, and this is a way in it
+pub record IsWayIn (most level : ℕ) (bytes : List ℕ) (way : Way) : Type 0 where
+  pub level_is : way.level ≡ level
+  pub low : level ≤ 7
+  pub within : IsWayAmong most way
+  pub head : IsNodeHead bytes way.level way.count
 
 -- # What a call found, if the disk is honest after it, of the contents before it
 

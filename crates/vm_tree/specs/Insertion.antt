@@ -15,14 +15,11 @@ use Rattle.vm_tree.specs.FullPath.{GrowsBy}
 use Rattle.vm_tree.specs.Splits.{Made, PutsBelow, extra}
 use Rattle.vm_tree.specs.Replacement.{IsRenewed, Lacks, Replaces}
 use Rattle.vm_tree.specs.Root.{IsRootedIn, IfUnder, IfWhole, sizes_of}
+use Rattle.vm_tree.specs.Spent.{ReadsAtMost}
 use Rattle.vm_tree.specs.declared.root.Root.{Root}
 use Rattle.vm_tree.specs.declared.faults.PutFault.{PutFault}
 use Rattle.vm_tree.specs.declared.faults.TreeFault.{TreeFault}
 use Rattle.vm_tree.specs.declared.block_writes.Copied.{Copied}
-
--- an inner block grows by one at most, and only if the one below grew, and it has more children than this many then
-abbrev pub GrowsOnly : {E : Type 0} → Result Copied E → Copied → ℕ → ℕ → Type 0
-GrowsOnly result copied most count = IfOk result (λ done. (extra done ≤ 1) × (0 < extra done → (0 < extra copied) × (most < count + extra copied)))
 
 -- the records have the key, with a value that is not shorter
 abbrev pub HasAsLong : Record → List Record → Type 0
@@ -71,6 +68,12 @@ PutsFrom result sizes held later old new root key value =
     IfWhole old new sizes (length held) root (λ m bs. Puts result (LacksRoom sizes old.now.contents root (key, value))
     (λ r. AllByRecursion (IsHeld held) bs
     → IsRootedIn sizes (IsHeld later) new.now.contents (length held) r (with_value m key value)))
+
+-- a Put into the empty map read nothing, took one block at most, and its root is a leaf
+pub record IsFirst {E : Type 0} (result : Result Root E) (held later : List Bool) (old new : DiskState) : Type 0 where
+  pub first_reads : ReadsAtMost 0 old new
+  pub first_taken : TakesAtMost 1 held later
+  pub first_level : IfOk result (λ root. root.level ≡ 0)
 
 -- if a value was answered, each block that was held, and is none of those under the child, has the bytes that it had
 abbrev pub KeepsBeside : {T E : Type 0} → Result T E → ℕ → List Bool → DiskState → DiskState → ℕ → Child → Type 0

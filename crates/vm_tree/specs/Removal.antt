@@ -1,5 +1,5 @@
 -- A record taken out, and what is left then.
-use Rattle.std.specs.Prelude.{◌≡◌, ◌≢◌, ◌⊎◌, ℕ, zero, suc, ◌+◌, ◌-◌, true, false, Bool, List, [], ◌∷◌, ◌++◌, length, take, drop, Option, None, IfSome, IsSomeAnd, IsOkAnd, Result, Ok, Err}
+use Rattle.std.specs.Prelude.{◌≡◌, ◌≢◌, ◌⊎◌, ℕ, zero, suc, ◌+◌, ◌-◌, ◌<◌, ◌≤◌, true, false, Bool, List, [], ◌∷◌, ◌++◌, length, take, drop, Option, None, Some, IfSome, IsSomeAnd, IsOkAnd, Result, Ok, Err}
 use Rattle.std.specs.List.{AllByRecursion}
 use Rattle.vm_types.specs.declared.key.Key.{Key}
 use Rattle.vm_types.specs.Map.{get, without}
@@ -22,7 +22,7 @@ use Rattle.vm_tree.specs.Replacement.{IsRenewed, KeepsOwn, Replaces, without_own
 use Rattle.vm_tree.specs.Root.{IsRootedIn, IfUnder, IfWhole, sizes_of}
 use Rattle.vm_tree.specs.declared.root.Root.{Root}
 use Rattle.vm_tree.specs.declared.faults.TreeFault.{TreeFault}
-use Rattle.vm_tree.specs.declared.faults.TreeFault.TheVariants.{Device}
+use Rattle.vm_tree.specs.declared.faults.TreeFault.TheVariants.{Device, Damaged}
 use Rattle.vm_tree.specs.declared.removal.Left.{Left}
 use Rattle.vm_tree.specs.declared.removal.Left.TheVariants.{Same, Nothing, Rest}
 
@@ -58,59 +58,65 @@ RemovesBelow (Ok Nothing) p rs P = (value_at p rs ≢ None) × (without_place p 
 RemovesBelow (Ok (Rest root)) p rs P = (value_at p rs ≢ None) × P root
 RemovesBelow (Err e) p rs P = e ≡ Device
 
--- if no record was there, the same blocks are held as before, and the disk was only looked at
-abbrev pub LooksIfSame : Result Left TreeFault → List Bool → List Bool → DiskState → DiskState → Type 0
-LooksIfSame result held later old new = LooksIf (result ≡ Ok Same) held later old new
-
--- and if no record is left
-abbrev pub LooksIfNothing : Result Left TreeFault → List Bool → List Bool → DiskState → DiskState → Type 0
-LooksIfNothing result held later old new = LooksIf (result ≡ Ok Nothing) held later old new
-
 -- the block of this root is held as it was before: it was not taken now; and it is one of the `others`, which are not changed in place
 abbrev pub WasThere : (ℕ → Type 0) → List Bool → List Bool → Root → Type 0
 WasThere others held later root = (is_held later root.block ≡ is_held held root.block) × others root.block
 
--- a root is left that was there
-abbrev pub LeavesOld : (ℕ → Type 0) → List Bool → List Bool → Left → Type 0
-LeavesOld others held later Same = ⊥
-LeavesOld others held later Nothing = ⊥
-LeavesOld others held later (Rest root) = WasThere others held later root
+-- there is nothing to write: no record was there, none is left, or a root is left that was there; or a block is damaged
+abbrev pub NeedsNone : (ℕ → Type 0) → List Bool → List Bool → Result Left TreeFault → Type 0
+NeedsNone others held later (Ok Same) = Unit {0}
+NeedsNone others held later (Ok Nothing) = Unit {0}
+NeedsNone others held later (Ok (Rest root)) = WasThere others held later root
+NeedsNone others held later (Err Device) = ⊥
+NeedsNone others held later (Err (Damaged b)) = Unit {0}
+
+-- then the same blocks are held as before, and the disk was only looked at
+abbrev pub LooksIfKept : Result Left TreeFault → (ℕ → Type 0) → List Bool → List Bool → DiskState → DiskState → Type 0
+LooksIfKept result others held later old new = LooksIf (NeedsNone others held later result) held later old new
 
 -- this block was not free in the baseline, if there is one
 abbrev pub IsOutside : Option (List Bool) → ℕ → Type 0
 IsOutside base n = IfSome base (λ bits. is_free bits n ≡ false)
 
--- and if a root is left that was there
-abbrev pub LooksIfOld : Result Left TreeFault → (ℕ → Type 0) → List Bool → List Bool → DiskState → DiskState → Type 0
-LooksIfOld result others held later old new = LooksIf (IsOkAnd result (LeavesOld others held later)) held later old new
-
--- the root that is left, if one is, is a leaf or has two children at least
-abbrev pub LeavesWide : DiskState → Left → Type 0
-LeavesWide new Same = Unit {0}
-LeavesWide new Nothing = Unit {0}
-LeavesWide new (Rest root) = IsWide new root
-
--- it is that of a block for data
+-- the root that is left, if one is, is that of a block for data
 abbrev pub LeavesData : ℕ → Left → Type 0
 LeavesData limit Same = Unit {0}
 LeavesData limit Nothing = Unit {0}
 LeavesData limit (Rest root) = IsData limit root.block
 
--- for what is left on a level this many blocks were taken at most: one for each level of its root
-abbrev pub TakesForLeft : ℕ → List Bool → List Bool → Left → Type 0
-TakesForLeft level held later left = TakesAtMost (level_of left level + 1) held later
+-- it is a leaf or has two children at least
+abbrev pub LeavesWide : DiskState → Left → Type 0
+LeavesWide new Same = Unit {0}
+LeavesWide new Nothing = Unit {0}
+LeavesWide new (Rest root) = IsWide new root
 
--- the root of a map in this many blocks: it has a block for data, or none
-abbrev pub IsRootAmong : ℕ → Root → Type 0
-IsRootAmong limit root = (root.block ≡ 0) ⊎ IsData limit root.block
+-- what is left of a block of this level, which may be the root
+pub record IsLeftOf (level : ℕ) (is_root : Bool) (held later : List Bool) (new : DiskState) (left : Left) : Type 0 where
+  pub level_is : level_of left level ≤ level
+  pub same_level : is_root ≡ false → level_of left level ≡ level
+  -- one block was taken at most for each level of its root
+  pub low_taken : TakesAtMost (level_of left level + 1) held later
+  pub root : LeavesData (length held) left
+  pub wide : is_root ≡ true → LeavesWide new left
+
+-- the root of what is left of a map
+pub record IsRootLeft (levels : ℕ) (held later : List Bool) (new : DiskState) (root : Root) : Type 0 where
+  pub level : root.level < levels
+  -- it has a block for data, or none
+  pub among : (root.block ≡ 0) ⊎ IsData (length held) root.block
+  pub low_taken : TakesAtMost (root.level + 1) held later
+  pub wide : IsWide new root
 
 -- the root that is answered has no block
 abbrev pub Empties : Result (Option Root) TreeFault → Type 0
 Empties result = IsOkAnd result (λ rest. IsSomeAnd rest (λ root. root.block ≡ 0))
 
--- the root that is answered was there
-abbrev pub KeepsRoot : Result (Option Root) TreeFault → Option (List Bool) → List Bool → List Bool → Type 0
-KeepsRoot result base held later = IsOkAnd result (λ rest. IsSomeAnd rest (WasThere (IsOutside base) held later))
+-- there is nothing to write: the key was absent, no record is left, or a root is left that was there; or a block is damaged
+abbrev pub KeepsAll : Option (List Bool) → List Bool → List Bool → Result (Option Root) TreeFault → Type 0
+KeepsAll base held later (Ok None) = Unit {0}
+KeepsAll base held later (Ok (Some root)) = (root.block ≡ 0) ⊎ WasThere (IsOutside base) held later root
+KeepsAll base held later (Err Device) = ⊥
+KeepsAll base held later (Err (Damaged b)) = Unit {0}
 
 -- from block b, this many levels above the leaves, down to a leaf of one record each block has one child
 unfoldable pub HasOne : Contents → ℕ → ℕ → Type 0

@@ -14,6 +14,11 @@ use Rattle.vm_tree.specs.declared.root.Root.{Root}
 abbrev pub sizes_of : ℕ → ℕ → Sizes
 sizes_of fan levels = record { fan = fan; levels = levels }
 
+-- how many children an inner block may have
+pub record IsFan (fan : ℕ) : Type 0 where
+  pub least : 3 ≤ fan
+  pub most : fan ≤ MAX_CHILDREN
+
 -- sizes that trees may have: a leaf may become three
 pub record AreSizes (fan levels : ℕ) : Type 0 where
   pub fan_least : 3 ≤ fan

@@ -1,5 +1,5 @@
 -- Blocks of a tree as they are rewritten.
-use Rattle.std.specs.Prelude.{◌≡◌, ℕ, ◌+◌, ◌-◌, ◌<◌, ◌≤◌, nat_lt, if◌then◌else◌, Bool, true, List, [], ◌∷◌, ◌++◌, length, take, drop, Option, Result, Ok, Err, IfOk}
+use Rattle.std.specs.Prelude.{◌≡◌, ℕ, ◌+◌, ◌-◌, ◌<◌, ◌≤◌, min, Bool, true, List, [], ◌∷◌, ◌++◌, length, take, drop, Option, Result, Ok, Err, IfOk}
 use Rattle.std.specs.List.{AllByRecursion}
 use Rattle.vm_types.specs.Places.{RisesFrom, places, with_record}
 use Rattle.vm_disk.specs.Disk.{Contents, DiskState, block}
@@ -11,8 +11,7 @@ use Rattle.vm_block.specs.declared.way.Way.{Way}
 use Rattle.vm_block.specs.declared.node.Child.{Child}
 use Rattle.vm_tree.specs.FullPath.{NeedsMore}
 use Rattle.vm_tree.specs.Tree.{Sizes, Children, Subtree}
-use Rattle.vm_tree.specs.Answers.{OkOrDevice}
-use Rattle.vm_tree.specs.Free.{AreTaken}
+use Rattle.vm_tree.specs.Free.{AreTaken, IsPlace, IsTaken, TakesAtMost}
 use Rattle.vm_tree.specs.Replacement.{IsRenewed, KeepsOwn, without_own}
 use Rattle.vm_tree.specs.declared.root.Root.{Root}
 use Rattle.vm_tree.specs.declared.faults.PutFault.{PutFault}
@@ -53,21 +52,26 @@ PutsBelow (Err (put.Tree Device)) room grows P = Unit {0}
 PutsBelow (Err (put.Tree (Damaged b))) room grows P = ⊥
 PutsBelow (Err put.Deep) room grows P = (more : ℕ) × (room < more) × grows more
 
--- if a block was rewritten as one, P
-abbrev pub IfOne : {E : Type 0} → Result Copied E → Type 0 → Type 0
-IfOne result P = IfOk result (λ copied. extra copied ≡ 0 → P)
+-- by how many blocks an inner block grows that would have this many children: by one, if they are more than may be in one
+abbrev pub grown : ℕ → ℕ → ℕ
+grown most n = min 1 (n - most)
 
--- the blocks that were written are held now
-abbrev pub HasTaken : {E : Type 0} → Result Copied E → List Bool → Type 0
-HasTaken result held = IfOk result (λ copied. AreTaken held (children_of copied))
+-- a block was rewritten as this many more, which are held now
+pub record Grows (held : List Bool) (more : ℕ) (copied : Copied) : Type 0 where
+  pub taken : AreTaken held (children_of copied)
+  pub grows : extra copied ≡ more
 
--- the block that is answered has these bytes, if the disk is honest
-abbrev pub HasWritten : {E : Type 0} → Result ℕ E → DiskState → List ℕ → Type 0
-HasWritten result new bytes = new.honest ≡ true → IfOk result (λ n. block new.now.contents n ≡ bytes)
+-- a block was rewritten as this many more at most, which are held now; as one, it took this many blocks at most
+pub record GrowsWithin (above most : ℕ) (held later : List Bool) (copied : Copied) : Type 0 where
+  pub taken : AreTaken later (children_of copied)
+  pub room : extra copied ≤ above
+  pub single : extra copied ≡ 0 → TakesAtMost most held later
 
--- the block of the child that is answered has these bytes, if the disk is honest
-abbrev pub WritesBytes : Result Child TreeFault → DiskState → List ℕ → Type 0
-WritesBytes result new bytes = new.honest ≡ true → IfOk result (λ child. block new.now.contents child.block ≡ bytes)
+-- block n was written: the own one, or if there is none one that was free; it is held now, and has these bytes, if the disk is honest
+pub record IsWritten (own : Option ℕ) (held later : List Bool) (new : DiskState) (bytes : List ℕ) (n : ℕ) : Type 0 where
+  pub taken : IsTaken later n
+  pub place : IsPlace own held n
+  pub bytes_are : new.honest ≡ true → block new.now.contents n ≡ bytes
 
 -- if the disk is honest, the block of a root above the leaves, if it is an inner block, has two children at least
 abbrev pub IsWide : DiskState → Root → Type 0
@@ -138,17 +142,3 @@ MakesNodesWith result own most level way bytes now held later old new =
     → RisesFrom 0 (places rs)
     → Made (IsRenewed before held (without_own own keep)) sizes old.now.contents (length held) (level - 1) (with_children cs way.index now) rs
     → IfOk result (λ done. Made (IsRenewed before later keep) sizes new.now.contents (length held) level (children_of done) rs)
-
--- # By how many blocks an inner block grows
-
--- by one, if it has more children than this many with these in place of one
-abbrev pub DividesOver : Result Copied TreeFault → ℕ → ℕ → Way → List ℕ → List Child → Type 0
-DividesOver result most level way bytes now =
-    (cs : List Child) → IsNode bytes level cs → way.count ≡ length cs
-    → OkOrDevice result (λ done. extra done ≡ (if nat_lt (most + 1) (length cs + length now) then 1 else 0))
-
--- by one, if it has more children than this many with those that replace one
-abbrev pub GrowsOver : Result Copied TreeFault → ℕ → ℕ → Way → List ℕ → Copied → Type 0
-GrowsOver result most level way bytes copied =
-    (cs : List Child) → IsNode bytes level cs → way.count ≡ length cs
-    → OkOrDevice result (λ done. extra done ≡ (if nat_lt most (length cs + extra copied) then 1 else 0))

@@ -1,13 +1,11 @@
 //! Reading the blocks of a tree from a disk, and the descent to a key.
 ghost use Rattle.std.specs.Prelude.{◌≡◌, ◌≢◌, ◌↔◌, ◌≤◌, List, length, IsTrue, IfOk};
 ghost use Rattle.vm_types.specs.Places.{place};
-ghost use Rattle.vm_block.specs.Head.{IsNodeHead};
 ghost use Rattle.vm_block.specs.Leaf.{BeginsWith, HasRecords, Record};
 ghost use Rattle.vm_block.specs.Look.{IfRecords};
 ghost use Rattle.vm_tree.specs.Tree.{IsData};
-ghost use Rattle.vm_tree.specs.Calls.{OnlyLooks};
-ghost use Rattle.vm_tree.specs.Spent.{ReadsAtMost};
-ghost use Rattle.vm_tree.specs.BlockReads.{FindsBlock, FindsData, FindsEnd, FindsLeafBytes, FindsNode, FindsStep, GivesData, GivesLeafUnder, GivesNode, GivesNodeUnder, GivesWay, IsCount, IsLeafSize, IsNodeOf, IsWayAmong, ReadsLeaf, ReadsNode, ReadsOne};
+ghost use Rattle.vm_tree.specs.Calls.{ReadsWithin};
+ghost use Rattle.vm_tree.specs.BlockReads.{FindsBlock, FindsData, FindsEnd, FindsLeafBytes, FindsNode, FindsStep, GivesData, GivesLeafUnder, GivesNode, GivesNodeUnder, GivesWay, IsCount, IsLeafSize, IsNodeOf, IsWayIn, ReadsLeaf, ReadsNode, ReadsOnce};
 
 use crate::faults::TreeFault;
 use arrayvec::ArrayVec;
@@ -33,8 +31,7 @@ pub fn data_at<D: Disk>(
     bytes: &mut Block,
 ) -> Result<(), TreeFault>
     requires { blocks ≤ (D.state disk.old).blocks }
-    ensures looks { OnlyLooks result (D.state disk.old) (D.state disk.new) }
-    ensures once { ReadsOne blocks block (D.state disk.old).reads (D.state disk.new).reads }
+    ensures looks { ReadsOnce result blocks block (D.state disk.old) (D.state disk.new) }
     ensures found { FindsData result (D.state disk.old) (D.state disk.new) blocks block bytes.new }
     ensures only { GivesData result (D.state disk.old) (D.state disk.new) blocks block bytes.new }
 {
@@ -53,8 +50,7 @@ pub fn load_data<D: Disk>(
     need: Need,
 ) -> Result<(), TreeFault>
     requires { blocks ≤ (D.state disk.old).blocks }
-    ensures looks { OnlyLooks result (D.state disk.old) (D.state disk.new) }
-    ensures once { ReadsOne blocks block (D.state disk.old).reads (D.state disk.new).reads }
+    ensures looks { ReadsOnce result blocks block (D.state disk.old) (D.state disk.new) }
     ensures found { FindsData result (D.state disk.old) (D.state disk.new)
         blocks block (D.hand disk.new) }
     ensures only { GivesData result (D.state disk.old) (D.state disk.new)
@@ -70,8 +66,7 @@ pub fn load_data<D: Disk>(
 /// Loads this child's block, which must be a data block and begin with the child's lowest key.
 pub(crate) fn load_block<D: Disk>(disk: &mut D, blocks: u32, top: Child) -> Result<(), TreeFault>
     requires { blocks ≤ (D.state disk.old).blocks }
-    ensures looks { OnlyLooks result (D.state disk.old) (D.state disk.new) }
-    ensures reads { ReadsAtMost 1 (D.state disk.old) (D.state disk.new) }
+    ensures looks { ReadsWithin 1 result (D.state disk.old) (D.state disk.new) }
     ensures found { FindsBlock result (D.state disk.old) (D.state disk.new)
         blocks top (D.hand disk.new) }
     ensures begins { IfOk result (λ _. IfRecords (D.hand disk.new) (BeginsWith top.low)) }
@@ -90,8 +85,7 @@ pub(crate) fn load_block<D: Disk>(disk: &mut D, blocks: u32, top: Child) -> Resu
 /// Loads this child's block, which must be a leaf.
 pub(crate) fn load_leaf<D: Disk>(disk: &mut D, blocks: u32, top: Child) -> Result<(), TreeFault>
     requires { blocks ≤ (D.state disk.old).blocks }
-    ensures looks { OnlyLooks result (D.state disk.old) (D.state disk.new) }
-    ensures reads { ReadsAtMost 1 (D.state disk.old) (D.state disk.new) }
+    ensures looks { ReadsWithin 1 result (D.state disk.old) (D.state disk.new) }
     ensures leaf { IfOk result (λ _. (rs : List Record) × HasRecords (D.hand disk.new) rs) }
     ensures found { FindsLeafBytes result (D.state disk.old) (D.state disk.new) top (D.hand disk.new) }
     ensures end { FindsEnd result (D.state disk.old) (D.state disk.new) blocks top }
@@ -116,13 +110,10 @@ pub(crate) fn load_way<D: Disk, const MOST: usize>(
     key: Key,
 ) -> Result<Way, TreeFault>
     requires { blocks ≤ (D.state disk.old).blocks }
-    ensures looks { OnlyLooks result (D.state disk.old) (D.state disk.new) }
-    ensures reads { ReadsAtMost 1 (D.state disk.old) (D.state disk.new) }
-    ensures level { IfOk result (λ way. (way.level ≡ level) × (level ≤ 7)) }
-    ensures within { IfOk result (IsWayAmong MOST) }
+    ensures looks { ReadsWithin 1 result (D.state disk.old) (D.state disk.new) }
+    ensures way { IfOk result (IsWayIn MOST level (D.hand disk.new)) }
     ensures found { FindsBlock result (D.state disk.old) (D.state disk.new)
         blocks top (D.hand disk.new) }
-    ensures head { IfOk result (λ way. IsNodeHead (D.hand disk.new) way.level way.count) }
     ensures step { FindsStep result (D.state disk.old) (D.state disk.new) blocks (place key) level top }
     ensures only { GivesWay result (D.state disk.old) (D.state disk.new)
         blocks level top MOST (place key) (D.hand disk.new) }
@@ -142,8 +133,7 @@ pub fn node_at<D: Disk>(
     block: BlockNumber,
 ) -> Result<ArrayVec<Child, MAX_CHILDREN>, TreeFault>
     requires { blocks ≤ (D.state disk.old).blocks }
-    ensures looks { OnlyLooks result (D.state disk.old) (D.state disk.new) }
-    ensures once { ReadsOne blocks block (D.state disk.old).reads (D.state disk.new).reads }
+    ensures looks { ReadsOnce result blocks block (D.state disk.old) (D.state disk.new) }
     ensures count { IfOk result (λ children. IsCount MAX_CHILDREN (length children.items)) }
     ensures low { IfOk result (λ children. level ≤ 7) }
     ensures found { FindsNode result (D.state disk.old) (D.state disk.new) blocks level block }
@@ -165,8 +155,7 @@ pub fn leaf_into<D: Disk>(
     bytes: &mut Block,
 ) -> Result<usize, TreeFault>
     requires { blocks ≤ (D.state disk.old).blocks }
-    ensures looks { OnlyLooks result (D.state disk.old) (D.state disk.new) }
-    ensures once { ReadsOne blocks block (D.state disk.old).reads (D.state disk.new).reads }
+    ensures looks { ReadsOnce result blocks block (D.state disk.old) (D.state disk.new) }
     ensures count { IfOk result (λ count. count ≤ MAX_RECORDS) }
     ensures leaf { IfOk result (IsLeafSize bytes.new) }
     ensures found { FindsData result (D.state disk.old) (D.state disk.new) blocks block bytes.new }
@@ -187,8 +176,7 @@ pub(crate) fn load_records<D: Disk>(
     block: BlockNumber,
 ) -> Result<usize, TreeFault>
     requires { blocks ≤ (D.state disk.old).blocks }
-    ensures looks { OnlyLooks result (D.state disk.old) (D.state disk.new) }
-    ensures once { ReadsOne blocks block (D.state disk.old).reads (D.state disk.new).reads }
+    ensures looks { ReadsOnce result blocks block (D.state disk.old) (D.state disk.new) }
     ensures count { IfOk result (λ count. count ≤ MAX_RECORDS) }
     ensures leaf { IfOk result (IsLeafSize (D.hand disk.new)) }
     ensures only { ReadsLeaf result (D.state disk.old) (D.state disk.new)
@@ -212,8 +200,7 @@ pub fn node_into<D: Disk>(
     bytes: &mut Block,
 ) -> Result<usize, TreeFault>
     requires { blocks ≤ (D.state disk.old).blocks }
-    ensures looks { OnlyLooks result (D.state disk.old) (D.state disk.new) }
-    ensures once { ReadsOne blocks block (D.state disk.old).reads (D.state disk.new).reads }
+    ensures looks { ReadsOnce result blocks block (D.state disk.old) (D.state disk.new) }
     ensures count { IfOk result (λ count. IsNodeOf bytes.new level count) }
     ensures found { FindsData result (D.state disk.old) (D.state disk.new) blocks block bytes.new }
     ensures only { ReadsNode result (D.state disk.old) (D.state disk.new)

@@ -1,12 +1,12 @@
 //! Writing blocks of a tree: in their own places, or into free blocks.
-ghost use Rattle.std.specs.Prelude.{◌≡◌, ◌≢◌, ◌+◌, ◌<◌, ◌≤◌, nat_lt, if◌then◌else◌, true, length, option_copied, IfOk, IfSome};
-ghost use Rattle.vm_alloc.specs.Held.{free_count};
+ghost use Rattle.std.specs.Prelude.{◌≡◌, ◌+◌, None, length, option_copied, IfSome};
 ghost use Rattle.vm_block.specs.Node.{node_bytes};
 ghost use Rattle.vm_tree.specs.Answers.{OkOrDevice};
-ghost use Rattle.vm_tree.specs.Calls.{KeepsOthers, WritesFree, WritesOwn};
-ghost use Rattle.vm_tree.specs.Spent.{ReadsAtMost};
-ghost use Rattle.vm_tree.specs.Free.{IsOwn, IsPlace, IsTaken, AreTaken, TakesAtMost, is_free};
-ghost use Rattle.vm_tree.specs.Splits.{HasWritten, IfOne, MakesNode, MakesNodes, WritesBytes, WritesLeaf, WritesNode, children_of, extra};
+ghost use Rattle.vm_tree.specs.BlockReads.{IsCount};
+ghost use Rattle.vm_tree.specs.Calls.{MayWrite, WritesOwn};
+ghost use Rattle.vm_tree.specs.Free.{IsOwn};
+ghost use Rattle.vm_tree.specs.Root.{IsFan};
+ghost use Rattle.vm_tree.specs.Splits.{Grows, IsWritten, MakesNode, MakesNodes, WritesLeaf, WritesNode, grown};
 
 use crate::block_reads::is_data;
 use crate::faults::TreeFault;
@@ -43,14 +43,10 @@ pub(crate) fn own_place(
 
 /// Allocates the lowest free block and writes it.
 fn write_free<D: Disk>(disk: &mut D, held: &mut Held, bytes: &Block) -> Result<u32, TreeFault>
-    requires inside { length held.old ≤ (D.state disk.old).blocks }
-    requires room { 0 < free_count held.old }
-    ensures writes { WritesFree result held.old held.new (D.state disk.old) (D.state disk.new) }
-    ensures reads { ReadsAtMost 0 (D.state disk.old) (D.state disk.new) }
-    ensures device { OkOrDevice result (IsTaken held.new) }
-    ensures taken { TakesAtMost 1 held.old held.new }
-    ensures free { IfOk result (λ n. is_free held.old n ≡ true) }
-    ensures written { HasWritten result (D.state disk.new) bytes.now }
+    requires { MayWrite 1 None held.old (D.state disk.old) }
+    ensures writes { WritesOwn result None 0 1 held.old held.new (D.state disk.old) (D.state disk.new) }
+    ensures written { OkOrDevice result
+        (IsWritten None held.old held.new (D.state disk.new) bytes.now) }
 {
     let free = held.free_count();
     prove!(free > 0);
@@ -70,16 +66,10 @@ fn write_at<D: Disk>(
     own: Option<BlockNumber>,
     bytes: &Block,
 ) -> Result<BlockNumber, TreeFault>
-    requires inside { length held.old ≤ (D.state disk.old).blocks }
-    requires own { IfSome own (IsTaken held.old) }
-    requires room { 0 < free_count held.old }
-    ensures writes { WritesOwn result own held.old held.new (D.state disk.old) (D.state disk.new) }
-    ensures others { KeepsOthers own held.old (D.state disk.old) (D.state disk.new) }
-    ensures reads { ReadsAtMost 0 (D.state disk.old) (D.state disk.new) }
-    ensures device { OkOrDevice result (IsTaken held.new) }
-    ensures taken { TakesAtMost 1 held.old held.new }
-    ensures place { IfOk result (IsPlace own held.old) }
-    ensures written { HasWritten result (D.state disk.new) bytes.now }
+    requires { MayWrite 1 own held.old (D.state disk.old) }
+    ensures writes { WritesOwn result own 0 1 held.old held.new (D.state disk.old) (D.state disk.new) }
+    ensures written { OkOrDevice result
+        (IsWritten own held.old held.new (D.state disk.new) bytes.now) }
 {
     let Some(place) = own else {
         return write_free(disk, held, bytes);
@@ -97,16 +87,10 @@ pub(crate) fn write_bytes<D: Disk>(
     own: Option<BlockNumber>,
     bytes: &Block,
 ) -> Result<Child, TreeFault>
-    requires inside { length held.old ≤ (D.state disk.old).blocks }
-    requires own { IfSome own (IsTaken held.old) }
-    requires room { 0 < free_count held.old }
-    ensures writes { WritesOwn result own held.old held.new (D.state disk.old) (D.state disk.new) }
-    ensures others { KeepsOthers own held.old (D.state disk.old) (D.state disk.new) }
-    ensures reads { ReadsAtMost 0 (D.state disk.old) (D.state disk.new) }
-    ensures device { OkOrDevice result (λ child. IsTaken held.new child.block) }
-    ensures taken { TakesAtMost 1 held.old held.new }
-    ensures place { IfOk result (λ child. IsPlace own held.old child.block) }
-    ensures written { WritesBytes result (D.state disk.new) bytes.now }
+    requires { MayWrite 1 own held.old (D.state disk.old) }
+    ensures writes { WritesOwn result own 0 1 held.old held.new (D.state disk.old) (D.state disk.new) }
+    ensures written { OkOrDevice result
+        (λ child. IsWritten own held.old held.new (D.state disk.new) bytes.now child.block) }
     ensures leaf { WritesLeaf result own held.old held.new (D.state disk.new) bytes.now }
     ensures node { WritesNode result own held.old held.new (D.state disk.old) (D.state disk.new) bytes.now }
 {
@@ -123,18 +107,11 @@ pub(crate) fn write_node_block<D: Disk>(
     level: u8,
     children: &[Child],
 ) -> Result<Child, TreeFault>
-    requires inside { length held.old ≤ (D.state disk.old).blocks }
-    requires own { IfSome own (IsTaken held.old) }
-    requires room { 0 < free_count held.old }
-    requires some { 0 < length children.now }
-    requires few { length children.now ≤ MAX_CHILDREN }
-    ensures writes { WritesOwn result own held.old held.new (D.state disk.old) (D.state disk.new) }
-    ensures others { KeepsOthers own held.old (D.state disk.old) (D.state disk.new) }
-    ensures reads { ReadsAtMost 0 (D.state disk.old) (D.state disk.new) }
-    ensures device { OkOrDevice result (λ child. IsTaken held.new child.block) }
-    ensures taken { TakesAtMost 1 held.old held.new }
-    ensures place { IfOk result (λ child. IsPlace own held.old child.block) }
-    ensures written { WritesBytes result (D.state disk.new) (node_bytes level children.now) }
+    requires may { MayWrite 1 own held.old (D.state disk.old) }
+    requires count { IsCount MAX_CHILDREN (length children.now) }
+    ensures writes { WritesOwn result own 0 1 held.old held.new (D.state disk.old) (D.state disk.new) }
+    ensures written { OkOrDevice result (λ child. IsWritten own held.old held.new
+        (D.state disk.new) (node_bytes level children.now) child.block) }
     ensures made { MakesNode result own level children.now
         held.old held.new (D.state disk.old) (D.state disk.new) }
 {
@@ -152,22 +129,12 @@ pub(crate) fn write_nodes<D: Disk, const FAN: usize>(
     level: u8,
     children: &[Child],
 ) -> Result<Copied, TreeFault>
-    requires inside { length held.old ≤ (D.state disk.old).blocks }
-    requires own { IfSome own (IsTaken held.old) }
-    requires least { 2 ≤ FAN }
-    requires most { FAN ≤ MAX_CHILDREN }
-    requires some { 0 < length children.now }
-    requires few { length children.now ≤ FAN + 2 }
-    requires room { 0 < free_count held.old }
-    requires room_two { FAN < length children.now → 2 ≤ free_count held.old }
-    ensures writes { WritesOwn result own held.old held.new (D.state disk.old) (D.state disk.new) }
-    ensures others { KeepsOthers own held.old (D.state disk.old) (D.state disk.new) }
-    ensures reads { ReadsAtMost 0 (D.state disk.old) (D.state disk.new) }
-    ensures device { OkOrDevice result (λ copied. AreTaken held.new (children_of copied)) }
-    ensures grows { IfOk result (λ copied. extra copied ≡ (if nat_lt FAN (length children.now) then 1 else 0)) }
-    ensures one { length children.now ≤ FAN → TakesAtMost 1 held.old held.new }
-    ensures single { IfOne result (TakesAtMost 1 held.old held.new) }
-    ensures taken { TakesAtMost 2 held.old held.new }
+    requires may { MayWrite (1 + grown FAN (length children.now)) own held.old (D.state disk.old) }
+    requires fan { IsFan FAN }
+    requires count { IsCount (FAN + 2) (length children.now) }
+    ensures writes { WritesOwn result own 0 (1 + grown FAN (length children.now))
+        held.old held.new (D.state disk.old) (D.state disk.new) }
+    ensures copied { OkOrDevice result (Grows held.new (grown FAN (length children.now))) }
     ensures made { MakesNodes result own FAN level children.now
         held.old held.new (D.state disk.old) (D.state disk.new) }
 {

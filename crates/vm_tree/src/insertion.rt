@@ -1,17 +1,15 @@
 //! Adding a record, or changing the value of a key.
-ghost use Rattle.std.specs.Prelude.{◌≡◌, ◌≢◌, ◌+◌, ◌*◌, ◌<◌, ◌≤◌, None, List, [], ◌∷◌, length, option_copied, IsTrue, IfOk, IfSome};
+ghost use Rattle.std.specs.Prelude.{◌≡◌, ◌≢◌, ◌+◌, ◌*◌, ◌<◌, ◌≤◌, min, None, List, [], ◌∷◌, length, option_copied, IsTrue, IfOk, IfSome};
 ghost use Rattle.vm_types.specs.Bytes.{longest};
-ghost use Rattle.vm_types.specs.Places.{KeyFits, place};
-ghost use Rattle.vm_alloc.specs.Held.{free_count};
+ghost use Rattle.vm_types.specs.Places.{place};
 ghost use Rattle.vm_block.specs.Leaf.{HasRecords, Record};
 ghost use Rattle.vm_tree.specs.Answers.{OkOrDevice};
-ghost use Rattle.vm_tree.specs.BlockReads.{FindsPath, FindsPathFrom};
-ghost use Rattle.vm_tree.specs.Calls.{KeepsOthers, PutsBeside, PutsIfDamaged, PutsIfDeep, PutsOwn, WritesFree, WritesOwn};
-ghost use Rattle.vm_tree.specs.Free.{IsTaken, AreTaken, TakesAtMost};
-ghost use Rattle.vm_tree.specs.Insertion.{GrowsOnly, KeepsBeside, PutsFirst, PutsFrom, PutsUnder, PutsUnderLeaf, ReplacesFrom, ReplacesInLeaf, ReplacesUnder};
-ghost use Rattle.vm_tree.specs.Root.{AreSizes, sizes_of};
-ghost use Rattle.vm_tree.specs.Spent.{ReadsAtMost};
-ghost use Rattle.vm_tree.specs.Splits.{DividesOver, GrowsOver, HasTaken, IfOne, IsWide, MakesNodesWith, MakesThree, MakesTwo, SplitsLeaf, children_of, extra};
+ghost use Rattle.vm_tree.specs.BlockReads.{FindsPath, FindsPathFrom, IsCount, IsWayAmong};
+ghost use Rattle.vm_tree.specs.Calls.{LooksIfRefused, MayWrite, PutsBeside, PutsOwn, WritesOwn};
+ghost use Rattle.vm_tree.specs.Free.{IsTaken, TakesAtMost};
+ghost use Rattle.vm_tree.specs.Insertion.{IsFirst, KeepsBeside, PutsFirst, PutsFrom, PutsUnder, PutsUnderLeaf, ReplacesFrom, ReplacesInLeaf, ReplacesUnder};
+ghost use Rattle.vm_tree.specs.Root.{AreSizes, IsFan, sizes_of};
+ghost use Rattle.vm_tree.specs.Splits.{Grows, GrowsWithin, IsWide, MakesNodesWith, MakesThree, MakesTwo, SplitsLeaf, children_of, extra, grown};
 
 use crate::block_reads::{load_leaf, load_way};
 use crate::block_writes::{Copied, own_place, write_bytes, write_node_block, write_nodes};
@@ -39,24 +37,13 @@ fn write_divided<D: Disk, const FAN: usize>(
     bytes: &Block,
     now: &[Child],
 ) -> Result<Copied, TreeFault>
-    requires inside { length held.old ≤ (D.state disk.old).blocks }
-    requires own { IfSome own (IsTaken held.old) }
-    requires least { 3 ≤ FAN }
-    requires most { FAN ≤ MAX_CHILDREN }
-    requires within { way.index < way.count }
-    requires few { way.count ≤ FAN }
-    requires some { 0 < length now.now }
-    requires now { length now.now ≤ 3 }
-    requires free { 0 < free_count held.old }
-    requires free_two { FAN + 1 < way.count + length now.now → 2 ≤ free_count held.old }
-    ensures writes { WritesOwn result own held.old held.new (D.state disk.old) (D.state disk.new) }
-    ensures others { KeepsOthers own held.old (D.state disk.old) (D.state disk.new) }
-    ensures reads { ReadsAtMost 0 (D.state disk.old) (D.state disk.new) }
-    ensures device { OkOrDevice result (λ done. AreTaken held.new (children_of done)) }
-    ensures grows { IfOk result (λ done. (extra done ≤ 1) × (0 < extra done → FAN + 1 < way.count + length now.now)) }
-    ensures single { IfOne result (TakesAtMost 1 held.old held.new) }
-    ensures taken { TakesAtMost 2 held.old held.new }
-    ensures fine { DividesOver result FAN level way bytes.now now.now }
+    requires may { MayWrite (1 + grown (FAN + 1) (way.count + length now.now)) own held.old (D.state disk.old) }
+    requires fan { IsFan FAN }
+    requires way { IsWayAmong FAN way }
+    requires now { IsCount 3 (length now.now) }
+    ensures writes { WritesOwn result own 0 (1 + grown (FAN + 1) (way.count + length now.now))
+        held.old held.new (D.state disk.old) (D.state disk.new) }
+    ensures copied { OkOrDevice result (Grows held.new (grown (FAN + 1) (way.count + length now.now))) }
     ensures made { MakesNodesWith result own FAN level way bytes.now now.now
         held.old held.new (D.state disk.old) (D.state disk.new) }
 {
@@ -76,23 +63,12 @@ fn write_replaced<D: Disk, const FAN: usize>(
     bytes: &mut Block,
     copied: Copied,
 ) -> Result<Copied, TreeFault>
-    requires inside { length held.old ≤ (D.state disk.old).blocks }
-    requires own { IfSome own (IsTaken held.old) }
-    requires least { 3 ≤ FAN }
-    requires most { FAN ≤ MAX_CHILDREN }
-    requires within { way.index < way.count }
-    requires few { way.count ≤ FAN }
-    requires free { 0 < free_count held.old }
-    requires free_two { FAN < way.count + extra copied → 2 ≤ free_count held.old }
-    ensures writes { WritesOwn result own held.old held.new (D.state disk.old) (D.state disk.new) }
-    ensures others { KeepsOthers own held.old (D.state disk.old) (D.state disk.new) }
-    ensures reads { ReadsAtMost 0 (D.state disk.old) (D.state disk.new) }
-    ensures device { OkOrDevice result (λ done. AreTaken held.new (children_of done)) }
-    ensures grows { GrowsOnly result copied FAN way.count }
-    ensures one { way.count + extra copied ≤ FAN → TakesAtMost 1 held.old held.new }
-    ensures single { IfOne result (TakesAtMost 1 held.old held.new) }
-    ensures taken { TakesAtMost 2 held.old held.new }
-    ensures fine { GrowsOver result FAN level way bytes.old copied }
+    requires may { MayWrite (1 + grown FAN (way.count + extra copied)) own held.old (D.state disk.old) }
+    requires fan { IsFan FAN }
+    requires way { IsWayAmong FAN way }
+    ensures writes { WritesOwn result own 0 (1 + grown FAN (way.count + extra copied))
+        held.old held.new (D.state disk.old) (D.state disk.new) }
+    ensures copied { OkOrDevice result (Grows held.new (grown FAN (way.count + extra copied))) }
     ensures made { MakesNodesWith result own FAN level way bytes.old (children_of copied)
         held.old held.new (D.state disk.old) (D.state disk.new) }
 {
@@ -134,15 +110,9 @@ fn write_two<D: Disk>(
     left: &Block,
     right: &Block,
 ) -> Result<Copied, TreeFault>
-    requires inside { length held.old ≤ (D.state disk.old).blocks }
-    requires own { IfSome own (IsTaken held.old) }
-    requires free { 2 ≤ free_count held.old }
-    ensures writes { WritesOwn result own held.old held.new (D.state disk.old) (D.state disk.new) }
-    ensures others { KeepsOthers own held.old (D.state disk.old) (D.state disk.new) }
-    ensures reads { ReadsAtMost 0 (D.state disk.old) (D.state disk.new) }
-    ensures device { OkOrDevice result (λ done. AreTaken held.new (children_of done)) }
-    ensures two { IfOk result (λ done. extra done ≡ 1) }
-    ensures taken { TakesAtMost 2 held.old held.new }
+    requires { MayWrite 2 own held.old (D.state disk.old) }
+    ensures writes { WritesOwn result own 0 2 held.old held.new (D.state disk.old) (D.state disk.new) }
+    ensures copied { OkOrDevice result (Grows held.new 1) }
     ensures made { MakesTwo result own held.old held.new (D.state disk.new) left.now right.now }
 {
     let left = write_bytes(disk, held, own, left)?;
@@ -159,15 +129,9 @@ fn write_three<D: Disk>(
     middle: &Block,
     right: &Block,
 ) -> Result<Copied, TreeFault>
-    requires inside { length held.old ≤ (D.state disk.old).blocks }
-    requires own { IfSome own (IsTaken held.old) }
-    requires free { 3 ≤ free_count held.old }
-    ensures writes { WritesOwn result own held.old held.new (D.state disk.old) (D.state disk.new) }
-    ensures others { KeepsOthers own held.old (D.state disk.old) (D.state disk.new) }
-    ensures reads { ReadsAtMost 0 (D.state disk.old) (D.state disk.new) }
-    ensures device { OkOrDevice result (λ done. AreTaken held.new (children_of done)) }
-    ensures three { IfOk result (λ done. extra done ≡ 2) }
-    ensures taken { TakesAtMost 3 held.old held.new }
+    requires { MayWrite 3 own held.old (D.state disk.old) }
+    ensures writes { WritesOwn result own 0 3 held.old held.new (D.state disk.old) (D.state disk.new) }
+    ensures copied { OkOrDevice result (Grows held.new 2) }
     ensures made { MakesThree result own held.old held.new (D.state disk.new) left.now middle.now right.now }
 {
     let left = write_bytes(disk, held, own, left)?;
@@ -187,19 +151,12 @@ fn split_leaf<D: Disk>(
     key: Key,
     value: &[u8],
 ) -> Result<Copied, PutFault>
-    requires inside { length held.old ≤ (D.state disk.old).blocks }
-    requires own { IfSome own (IsTaken held.old) }
+    requires may { MayWrite (3 * min 1 room) own held.old (D.state disk.old) }
     requires short { length value.now ≤ longest }
-    requires free { 0 < room → 3 ≤ free_count held.old }
-    ensures writes { PutsOwn result own held.old held.new (D.state disk.old) (D.state disk.new) }
-    ensures others { KeepsOthers own held.old (D.state disk.old) (D.state disk.new) }
-    ensures reads { ReadsAtMost 0 (D.state disk.old) (D.state disk.new) }
-    ensures device { HasTaken result held.new }
-    ensures room { IfOk result (λ copied. (0 < extra copied) × (extra copied ≤ room)) }
-    ensures deep { PutsIfDeep result held.old held.new (D.state disk.old) (D.state disk.new) }
-    ensures looks { PutsIfDamaged result held.old held.new (D.state disk.old) (D.state disk.new) }
-    ensures taken { TakesAtMost 3 held.old held.new }
-    ensures none { room ≡ 0 → TakesAtMost 0 held.old held.new }
+    ensures writes { PutsOwn result own 0 (3 * min 1 room)
+        held.old held.new (D.state disk.old) (D.state disk.new) }
+    ensures copied { IfOk result (GrowsWithin room 1 held.old held.new) }
+    ensures refused { LooksIfRefused result held.old held.new (D.state disk.old) (D.state disk.new) }
     ensures made { SplitsLeaf result own room held.old held.new (D.state disk.new)
         (D.hand disk.old) (key, value.now) }
 {
@@ -224,22 +181,13 @@ fn put_in_leaf<D: Disk>(
     key: Key,
     value: &[u8],
 ) -> Result<Copied, PutFault>
-    requires inside { length held.old ≤ (D.state disk.old).blocks }
-    requires own { IfSome own (IsTaken held.old) }
+    requires may { MayWrite (1 + 2 * min 1 room) own held.old (D.state disk.old) }
     requires place { IfSome own (λ n. n ≡ top.block) }
     requires short { length value.now ≤ longest }
-    requires free { 1 ≤ free_count held.old }
-    requires free_more { 0 < room → 3 ≤ free_count held.old }
-    ensures writes { PutsOwn result own held.old held.new (D.state disk.old) (D.state disk.new) }
-    ensures others { KeepsOthers own held.old (D.state disk.old) (D.state disk.new) }
-    ensures reads { ReadsAtMost 1 (D.state disk.old) (D.state disk.new) }
-    ensures device { HasTaken result held.new }
-    ensures room { IfOk result (λ copied. extra copied ≤ room) }
-    ensures deep { PutsIfDeep result held.old held.new (D.state disk.old) (D.state disk.new) }
-    ensures looks { PutsIfDamaged result held.old held.new (D.state disk.old) (D.state disk.new) }
-    ensures none { room ≡ 0 → TakesAtMost 1 held.old held.new }
-    ensures single { IfOne result (TakesAtMost 1 held.old held.new) }
-    ensures taken { TakesAtMost 3 held.old held.new }
+    ensures writes { PutsOwn result own 1 (1 + 2 * min 1 room)
+        held.old held.new (D.state disk.old) (D.state disk.new) }
+    ensures copied { IfOk result (GrowsWithin room 1 held.old held.new) }
+    ensures refused { LooksIfRefused result held.old held.new (D.state disk.old) (D.state disk.new) }
     ensures path { FindsPath result (D.state disk.old) (D.state disk.new) (length held.old) (place key) 0 top }
     ensures replaced { ReplacesInLeaf result held.old held.new
         (D.state disk.old) (D.state disk.new) top (key, value.now) }
@@ -270,25 +218,15 @@ fn put_below<D: Disk, const FAN: usize>(
     key: Key,
     value: &[u8],
 ) -> Result<Copied, PutFault>
-    requires inside { length held.old ≤ (D.state disk.old).blocks }
-    requires fan_least { 3 ≤ FAN }
-    requires fan_most { FAN ≤ MAX_CHILDREN }
+    requires may { MayWrite (2 * level + 2 + min 1 room) None held.old (D.state disk.old) }
+    requires fan { IsFan FAN }
     requires low { level ≤ 7 }
     requires short { length value.now ≤ longest }
-    requires free { 2 * level + 2 ≤ free_count held.old }
-    requires free_more { 0 < room → 2 * level + 3 ≤ free_count held.old }
-    ensures writes { PutsBeside result (option_copied base.entry) held.old held.new (D.state disk.old) (D.state disk.new) }
+    ensures writes { PutsBeside result (option_copied base.entry) (level + 1) (2 * level + 2 + min 1 room)
+        held.old held.new (D.state disk.old) (D.state disk.new) }
     ensures beside { KeepsBeside result FAN held.old (D.state disk.old) (D.state disk.new) level top }
-    ensures reads { ReadsAtMost (level + 1) (D.state disk.old) (D.state disk.new) }
-    ensures fits { KeyFits key }
-    ensures device { HasTaken result held.new }
-    ensures room { IfOk result (λ copied. extra copied ≤ room) }
-    ensures node { 0 < level → IfOk result (λ copied. extra copied ≤ 1) }
-    ensures deep { PutsIfDeep result held.old held.new (D.state disk.old) (D.state disk.new) }
-    ensures looks { PutsIfDamaged result held.old held.new (D.state disk.old) (D.state disk.new) }
-    ensures none { room ≡ 0 → TakesAtMost (2 * level + 2) held.old held.new }
-    ensures single { IfOne result (TakesAtMost (2 * level + 2) held.old held.new) }
-    ensures taken { TakesAtMost (2 * level + 3) held.old held.new }
+    ensures copied { IfOk result (GrowsWithin room (2 * level + 2) held.old held.new) }
+    ensures refused { LooksIfRefused result held.old held.new (D.state disk.old) (D.state disk.new) }
     ensures path { FindsPath result (D.state disk.old) (D.state disk.new) (length held.old) (place key) level top }
     ensures replaced { ReplacesUnder result FAN held.old held.new
         (D.state disk.old) (D.state disk.new) level top (key, value.now) }
@@ -300,7 +238,8 @@ fn put_below<D: Disk, const FAN: usize>(
         return put_in_leaf(disk, held, own, top, room, key, value);
     }
     let way = load_way::<D, FAN>(disk, held.blocks(), level, top, key)?;
-    let mut bytes = *disk.at_hand();
+    let node = disk.at_hand();
+    let mut bytes = *node;
     let below = if room > 0 { 2 } else { FAN - way.count };
     let copied = put_below::<D, FAN>(disk, held, base, level - 1, way.child, below, key, value)?;
     if own.is_some() && stays(copied, way.child) {
@@ -316,13 +255,10 @@ fn put_first<D: Disk>(
     key: Key,
     value: &[u8],
 ) -> Result<Root, TreeFault>
-    requires inside { length held.old ≤ (D.state disk.old).blocks }
-    requires room { 16 ≤ free_count held.old }
+    requires may { MayWrite 1 None held.old (D.state disk.old) }
     requires short { length value.now ≤ longest }
-    ensures writes { WritesFree result held.old held.new (D.state disk.old) (D.state disk.new) }
-    ensures reads { ReadsAtMost 0 (D.state disk.old) (D.state disk.new) }
-    ensures device { OkOrDevice result (λ r. IsTaken held.new r.block × (r.level ≡ 0)) }
-    ensures taken { TakesAtMost 1 held.old held.new }
+    ensures writes { WritesOwn result None 0 1 held.old held.new (D.state disk.old) (D.state disk.new) }
+    ensures root { OkOrDevice result (λ r. IsTaken held.new r.block × (r.level ≡ 0)) }
     ensures put { PutsFirst result held.old held.new (D.state disk.new) (key, value.now) }
 {
     let mut bytes = [0; 4096];
@@ -344,48 +280,42 @@ pub fn put<D: Disk, const FAN: usize, const LEVELS: usize>(
     value: &[u8],
 ) -> Result<Root, PutFault>
     requires sizes { AreSizes FAN LEVELS }
-    requires inside { length held.old ≤ (D.state disk.old).blocks }
-    requires room { 16 ≤ free_count held.old }
+    requires may { MayWrite 16 None held.old (D.state disk.old) }
     requires short { length value.now ≤ longest }
 
     // What is held stays held, and each block that is taken lies below each one that is still free.
     // At no moment does a block that was held, and is in the baseline if there is one, have other
-    // bytes than before.
-    ensures writes { PutsBeside result (option_copied base.entry) held.old held.new (D.state disk.old) (D.state disk.new) }
-
-    // It reads at most one block per level, whatever the answer, and none for the empty map.
-    ensures reads { ReadsAtMost (root.level + 1) (D.state disk.old) (D.state disk.new) }
-    ensures first_reads { root.block ≡ 0 → ReadsAtMost 0 (D.state disk.old) (D.state disk.new) }
+    // bytes than before. Whatever the answer, it reads at most one block per level, and takes at
+    // most 16, those of one path: at most two per level, three for the leaf, and a new root.
+    ensures writes { PutsBeside result (option_copied base.entry)
+        (root.level + 1) (min 16 (2 * root.level + 4))
+        held.old held.new (D.state disk.old) (D.state disk.new) }
 
     // The root is a data block, and it is held now.
     ensures root { IfOk result (λ r. IsTaken held.new r.block × (r.level < LEVELS)) }
 
-    // The empty map gets a leaf. Any other tree keeps its height or gains one level, and on a tree
-    // its root then has at least two children.
-    ensures first_level { root.block ≡ 0 → IfOk result (λ r. r.level ≡ 0) }
+    // For the empty map it reads no block, and takes one at most: its leaf, which is the root.
+    ensures first { root.block ≡ 0 → IsFirst result held.old held.new (D.state disk.old) (D.state disk.new) }
+
+    // Any other tree keeps its height or gains one level, and on a tree its root then has at least
+    // two children.
     ensures level { root.block ≢ 0
         → IfOk result (λ r. (root.level ≤ r.level) × (r.level ≤ root.level + 1)) }
     ensures wide { IfOk result (λ r. r.level ≢ root.level → IsWide (D.state disk.new) r) }
 
-    // At most 16 blocks are taken. If the answer is Deep, nothing was written or taken.
-    ensures taken { TakesAtMost 16 held.old held.new }
-    ensures deep { PutsIfDeep result held.old held.new (D.state disk.old) (D.state disk.new) }
-
-    // It takes only the blocks of one path: at most two per level, three for the leaf, and a new
-    // root; one less and no new root, if the tree keeps its height; and one for the empty map.
-    ensures path_taken { TakesAtMost (2 * root.level + 4) held.old held.new }
+    // If the tree keeps its height, it takes at most two blocks per level.
     ensures as_high { IfOk result
         (λ r. r.level ≡ root.level
         → TakesAtMost (2 * root.level + 2) held.old held.new) }
-    ensures first_taken { root.block ≡ 0 → TakesAtMost 1 held.old held.new }
 
     // On a tree that has the key with a value that is not shorter, it takes at most one block per
     // level if it returns a root.
     ensures replaced { ReplacesFrom result (sizes_of FAN LEVELS) held.old held.new
         (D.state disk.old) (D.state disk.new) root (key, value.now) }
 
-    // A damaged block is found before any block is taken or written.
-    ensures looks { PutsIfDamaged result held.old held.new (D.state disk.old) (D.state disk.new) }
+    // That there is no room, and that a block is damaged, is found before any block is taken or
+    // written.
+    ensures refused { LooksIfRefused result held.old held.new (D.state disk.old) (D.state disk.new) }
 
     // A root is made only if each inner block on the path has the head of its level, the last block
     // is a leaf, and each begins with the key that its parent gives it, the first one with the

@@ -1,11 +1,10 @@
 //! The value of a key, and whether it has one.
-ghost use Rattle.std.specs.Prelude.{◌≡◌, ◌≢◌, ◌+◌, ◌≤◌, length, IfOk, IfSome};
+ghost use Rattle.std.specs.Prelude.{◌≡◌, ◌+◌, ◌≤◌, min, length, IfOk, IfSome};
 ghost use Rattle.vm_types.specs.Bytes.{longest};
 ghost use Rattle.vm_types.specs.Places.{place};
-ghost use Rattle.vm_tree.specs.Calls.{OnlyLooks};
+ghost use Rattle.vm_tree.specs.Calls.{ReadsWithin};
 ghost use Rattle.vm_tree.specs.Given.{GivesLeaf, GivesValue, GivesValueUnder, TellsRecord, TellsRecordUnder};
 ghost use Rattle.vm_tree.specs.BlockReads.{FindsEnd, FindsLeaf, FindsPathFrom};
-ghost use Rattle.vm_tree.specs.Spent.{ReadsAtMost};
 
 use crate::block_reads::{load_leaf, load_way};
 use crate::faults::TreeFault;
@@ -33,9 +32,8 @@ fn get_in_leaf<'a, D: Disk>(
     bytes: &'a mut Block,
 ) -> Result<Option<&'a [u8]>, TreeFault>
     requires { blocks ≤ (D.state disk.old).blocks }
-    ensures looks { OnlyLooks result (D.state disk.old) (D.state disk.new) }
+    ensures looks { ReadsWithin 1 result (D.state disk.old) (D.state disk.new) }
     ensures short { IfOk result (λ value. IfSome value (λ found. length found.now ≤ longest)) }
-    ensures reads { ReadsAtMost 1 (D.state disk.old) (D.state disk.new) }
     ensures path { FindsEnd result (D.state disk.old) (D.state disk.new) blocks top }
     ensures value { GivesValueUnder result (D.state disk.old) (D.state disk.new) blocks top key }
 {
@@ -50,8 +48,7 @@ fn get_in_leaf<'a, D: Disk>(
 /// Whether this leaf has a record of the key.
 fn has_in_leaf<D: Disk>(disk: &mut D, blocks: u32, top: Child, key: Key) -> Result<bool, TreeFault>
     requires { blocks ≤ (D.state disk.old).blocks }
-    ensures looks { OnlyLooks result (D.state disk.old) (D.state disk.new) }
-    ensures reads { ReadsAtMost 1 (D.state disk.old) (D.state disk.new) }
+    ensures looks { ReadsWithin 1 result (D.state disk.old) (D.state disk.new) }
     ensures path { FindsEnd result (D.state disk.old) (D.state disk.new) blocks top }
     ensures found { TellsRecordUnder result (D.state disk.old) (D.state disk.new) blocks top key }
 {
@@ -71,9 +68,7 @@ fn leaf_of<D: Disk>(
     key: Key,
 ) -> Result<Child, TreeFault>
     requires { blocks ≤ (D.state disk.old).blocks }
-    ensures looks { OnlyLooks result (D.state disk.old) (D.state disk.new) }
-    ensures reads { ReadsAtMost level (D.state disk.old) (D.state disk.new) }
-    ensures most { ReadsAtMost 7 (D.state disk.old) (D.state disk.new) }
+    ensures looks { ReadsWithin (min 7 level) result (D.state disk.old) (D.state disk.new) }
     ensures path { FindsLeaf result (D.state disk.old) (D.state disk.new) blocks (place key) level top }
     ensures leaf { GivesLeaf result (D.state disk.old) (D.state disk.new) blocks level top key }
 {
@@ -94,7 +89,10 @@ pub fn get<'a, D: Disk>(
     bytes: &'a mut Block,
 ) -> Result<Option<&'a [u8]>, TreeFault>
     requires { blocks ≤ (D.state disk.old).blocks }
-    ensures looks { OnlyLooks result (D.state disk.old) (D.state disk.new) }
+
+    // It writes nothing and, whatever the answer, reads at most one block per level, and no more
+    // than eight.
+    ensures looks { ReadsWithin (min 8 (root.level + 1)) result (D.state disk.old) (D.state disk.new) }
     ensures short { IfOk result (λ value. IfSome value (λ found. length found.now ≤ longest)) }
 
     // A value, or its absence, is returned only if each inner block on the path has the head of its
@@ -105,10 +103,6 @@ pub fn get<'a, D: Disk>(
     // On a tree it is the value in its map, whatever the sizes of its blocks, unless the device
     // fails.
     ensures value { GivesValue result (D.state disk.old) (D.state disk.new) blocks root key }
-
-    // Whatever the answer, it reads at most one block per level, and no more than eight.
-    ensures reads { ReadsAtMost (root.level + 1) (D.state disk.old) (D.state disk.new) }
-    ensures most { ReadsAtMost 8 (D.state disk.old) (D.state disk.new) }
 {
     if root.block == 0 {
         return Ok(None);
@@ -124,17 +118,16 @@ pub fn get<'a, D: Disk>(
 /// Whether the map under a root has a record of the key.
 pub fn has<D: Disk>(disk: &mut D, blocks: u32, root: Root, key: Key) -> Result<bool, TreeFault>
     requires { blocks ≤ (D.state disk.old).blocks }
-    ensures looks { OnlyLooks result (D.state disk.old) (D.state disk.new) }
+
+    // It writes nothing and, whatever the answer, reads at most one block per level, and no more
+    // than eight.
+    ensures looks { ReadsWithin (min 8 (root.level + 1)) result (D.state disk.old) (D.state disk.new) }
 
     // It answers only if the blocks on the path are as `get` demands.
     ensures path { FindsPathFrom root result (D.state disk.old) (D.state disk.new) blocks (place key) }
 
     // On a tree it answers for its map, whatever the sizes of its blocks, unless the device fails.
     ensures found { TellsRecord result (D.state disk.old) (D.state disk.new) blocks root key }
-
-    // Whatever the answer, it reads at most one block per level, and no more than eight.
-    ensures reads { ReadsAtMost (root.level + 1) (D.state disk.old) (D.state disk.new) }
-    ensures most { ReadsAtMost 8 (D.state disk.old) (D.state disk.new) }
 {
     if root.block == 0 {
         return Ok(false);

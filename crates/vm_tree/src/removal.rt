@@ -1,15 +1,14 @@
 //! Removing a record.
-ghost use Rattle.std.specs.Prelude.{◌≡◌, ◌≢◌, ◌+◌, ◌-◌, ◌<◌, ◌≤◌, true, false, None, length, option_copied, IfOk, IfSome};
-ghost use Rattle.vm_types.specs.Places.{KeyFits, place};
-ghost use Rattle.vm_alloc.specs.Held.{free_count};
-ghost use Rattle.vm_tree.specs.Calls.{KeepsOthers, OnlyLooks, LooksIf, LooksIfDamaged, WritesBeside, WritesOwn};
+ghost use Rattle.std.specs.Prelude.{◌≡◌, ◌+◌, ◌-◌, ◌<◌, ◌≤◌, min, Bool, length, option_copied, IfOk, IfSome};
+ghost use Rattle.vm_types.specs.Places.{place};
+ghost use Rattle.vm_tree.specs.Calls.{LooksIf, MayWrite, ReadsWithin, WritesBeside, WritesOwn};
 ghost use Rattle.vm_tree.specs.Spent.{ReadsAtMost};
-ghost use Rattle.vm_tree.specs.Free.{IsBeside, IsTaken, TakesAtMost};
+ghost use Rattle.vm_tree.specs.Free.{IsBeside};
 ghost use Rattle.vm_tree.specs.Insertion.{KeepsBeside};
 ghost use Rattle.vm_tree.specs.Splits.{IsWide};
-ghost use Rattle.vm_tree.specs.BlockReads.{FindsPath, FindsPathFrom};
-ghost use Rattle.vm_tree.specs.Removal.{Empties, HadOneIf, IsOutside, IsRootAmong, KeepsRoot, LeavesData, LeavesOut, LeavesRest, LeavesWide, LooksIfNothing, LooksIfOld, LooksIfSame, NarrowsTo, RemovesFrom, RemovesFromLeaf, RemovesUnder, TakesForLeft, child_of, level_of};
-ghost use Rattle.vm_tree.specs.Root.{AreSizes, sizes_of};
+ghost use Rattle.vm_tree.specs.BlockReads.{FindsPath, FindsPathFrom, IsCount};
+ghost use Rattle.vm_tree.specs.Removal.{Empties, HadOneIf, IsLeftOf, IsOutside, IsRootLeft, KeepsAll, LeavesOut, LeavesRest, LooksIfKept, NarrowsTo, RemovesFrom, RemovesFromLeaf, RemovesUnder, child_of};
+ghost use Rattle.vm_tree.specs.Root.{AreSizes, IsFan, sizes_of};
 ghost use Rattle.vm_tree.specs.Tree.{IsData};
 
 use crate::block_reads::{is_data, load_leaf, load_way};
@@ -67,27 +66,19 @@ fn remove_from_leaf<D: Disk>(
     top: Child,
     key: Key,
 ) -> Result<Left, TreeFault>
-    requires inside { length held.old ≤ (D.state disk.old).blocks }
-    requires own { IfSome own (IsTaken held.old) }
+    requires may { MayWrite 1 own held.old (D.state disk.old) }
     requires place { IfSome own (λ n. n ≡ top.block) }
-    requires free { 1 ≤ free_count held.old }
-    ensures writes { WritesOwn result own held.old held.new (D.state disk.old) (D.state disk.new) }
-    ensures others { KeepsOthers own held.old (D.state disk.old) (D.state disk.new) }
-    ensures reads { ReadsAtMost 1 (D.state disk.old) (D.state disk.new) }
-    ensures level { IfOk result (λ left. level_of left 0 ≡ 0) }
-    ensures root { IfOk result (LeavesData (length held.old)) }
-    ensures taken { TakesAtMost 1 held.old held.new }
-    ensures same { LooksIfSame result held.old held.new (D.state disk.old) (D.state disk.new) }
-    ensures nothing { LooksIfNothing result held.old held.new (D.state disk.old) (D.state disk.new) }
-    ensures narrowed { LooksIfOld result (IsBeside own) held.old held.new (D.state disk.old) (D.state disk.new) }
+    ensures writes { WritesOwn result own 1 1 held.old held.new (D.state disk.old) (D.state disk.new) }
+    ensures left { (is_root : Bool) → IfOk result (IsLeftOf 0 is_root held.old held.new (D.state disk.new)) }
+    ensures kept { LooksIfKept result (IsBeside own) held.old held.new (D.state disk.old) (D.state disk.new) }
     ensures last { HadOneIf (result ≡ Ok Left.Nothing) (D.state disk.old) (D.state disk.new) 0 top.block }
-    ensures looks { LooksIfDamaged result held.old held.new (D.state disk.old) (D.state disk.new) }
     ensures path { FindsPath result (D.state disk.old) (D.state disk.new) (length held.old) (place key) 0 top }
     ensures remove { RemovesFromLeaf result held.old held.new
         (D.state disk.old) (D.state disk.new) top (place key) }
 {
     load_leaf(disk, held.blocks(), top)?;
-    let mut bytes = *disk.at_hand();
+    let leaf = disk.at_hand();
+    let mut bytes = *leaf;
     match remove_record(&mut bytes, key) {
         Taken::Out => {
             let leaf = write_bytes(disk, held, own, &bytes)?;
@@ -107,8 +98,7 @@ fn narrowed<D: Disk, const FAN: usize>(
     level: u8,
 ) -> Result<Root, TreeFault>
     requires { blocks ≤ (D.state disk.old).blocks }
-    ensures looks { OnlyLooks result (D.state disk.old) (D.state disk.new) }
-    ensures reads { ReadsAtMost level (D.state disk.old) (D.state disk.new) }
+    ensures looks { ReadsWithin level result (D.state disk.old) (D.state disk.new) }
     ensures level { IfOk result (λ root. root.level ≤ level) }
     ensures root { IfOk result (λ root. IsData blocks root.block) }
     ensures wide { IfOk result (IsWide (D.state disk.new)) }
@@ -139,27 +129,16 @@ fn write_rest<D: Disk, const FAN: usize>(
     is_root: bool,
     children: &[Child],
 ) -> Result<Left, TreeFault>
-    requires inside { length held.old ≤ (D.state disk.old).blocks }
-    requires own { IfSome own (IsTaken held.old) }
-    requires above { 0 < level }
-    requires low { level ≤ 7 }
+    requires may { MayWrite 1 own held.old (D.state disk.old) }
+    requires level { IsCount 7 level }
     requires few { length children.now ≤ FAN }
-    requires most { FAN ≤ MAX_CHILDREN }
-    requires free { 1 ≤ free_count held.old }
-    ensures writes { WritesOwn result own held.old held.new (D.state disk.old) (D.state disk.new) }
-    ensures others { KeepsOthers own held.old (D.state disk.old) (D.state disk.new) }
-    ensures reads { ReadsAtMost (level - 1) (D.state disk.old) (D.state disk.new) }
+    requires fan { IsFan FAN }
+    ensures writes { WritesOwn result own (level - 1) 1
+        held.old held.new (D.state disk.old) (D.state disk.new) }
+    ensures left { IfOk result (IsLeftOf level is_root held.old held.new (D.state disk.new)) }
+    ensures kept { LooksIfKept result (IsBeside own) held.old held.new (D.state disk.old) (D.state disk.new) }
     ensures idle { result ≡ Ok Left.Nothing → ReadsAtMost 0 (D.state disk.old) (D.state disk.new) }
-    ensures changed { result ≢ Ok Left.Same }
-    ensures level { IfOk result (λ left. level_of left level ≤ level) }
-    ensures same_level { is_root ≡ false → IfOk result (λ left. level_of left level ≡ level) }
-    ensures nothing { LooksIfNothing result held.old held.new (D.state disk.old) (D.state disk.new) }
-    ensures narrowed { LooksIfOld result (IsBeside own) held.old held.new (D.state disk.old) (D.state disk.new) }
     ensures last { result ≡ Ok Left.Nothing → length children.now ≡ 0 }
-    ensures looks { LooksIfDamaged result held.old held.new (D.state disk.old) (D.state disk.new) }
-    ensures taken { TakesAtMost 1 held.old held.new }
-    ensures root { IfOk result (LeavesData (length held.old)) }
-    ensures wide { is_root ≡ true → IfOk result (LeavesWide (D.state disk.new)) }
     ensures rest { LeavesRest result own FAN level children.now held.old held.new
         (D.state disk.old) (D.state disk.new) }
 {
@@ -186,26 +165,17 @@ fn remove_below<D: Disk, const FAN: usize>(
     is_root: bool,
     key: Key,
 ) -> Result<Left, TreeFault>
-    requires inside { length held.old ≤ (D.state disk.old).blocks }
-    requires fan_most { FAN ≤ MAX_CHILDREN }
+    requires may { MayWrite (level + 1) None held.old (D.state disk.old) }
+    requires fan { IsFan FAN }
     requires low { level ≤ 7 }
-    requires free { level + 1 ≤ free_count held.old }
-    ensures writes { WritesBeside result (option_copied base.entry) held.old held.new (D.state disk.old) (D.state disk.new) }
+    ensures writes { WritesBeside result (option_copied base.entry) (level + 1 + (level - 1)) (level + 1)
+        held.old held.new (D.state disk.old) (D.state disk.new) }
     ensures beside { KeepsBeside result FAN held.old (D.state disk.old) (D.state disk.new) level top }
-    ensures reads { ReadsAtMost (level + 1 + (level - 1)) (D.state disk.old) (D.state disk.new) }
+    ensures left { IfOk result (IsLeftOf level is_root held.old held.new (D.state disk.new)) }
+    ensures kept { LooksIfKept result (IsOutside (option_copied base.entry))
+        held.old held.new (D.state disk.old) (D.state disk.new) }
     ensures path_reads { result ≡ Ok Left.Nothing → ReadsAtMost (level + 1) (D.state disk.old) (D.state disk.new) }
-    ensures fits { KeyFits key }
-    ensures level { IfOk result (λ left. level_of left level ≤ level) }
-    ensures same_level { is_root ≡ false → IfOk result (λ left. level_of left level ≡ level) }
-    ensures taken { TakesAtMost (level + 1) held.old held.new }
-    ensures low_taken { IfOk result (TakesForLeft level held.old held.new) }
-    ensures root { IfOk result (LeavesData (length held.old)) }
-    ensures wide { is_root ≡ true → IfOk result (LeavesWide (D.state disk.new)) }
-    ensures same { LooksIfSame result held.old held.new (D.state disk.old) (D.state disk.new) }
-    ensures nothing { LooksIfNothing result held.old held.new (D.state disk.old) (D.state disk.new) }
-    ensures narrowed { LooksIfOld result (IsOutside (option_copied base.entry)) held.old held.new (D.state disk.old) (D.state disk.new) }
     ensures last { HadOneIf (result ≡ Ok Left.Nothing) (D.state disk.old) (D.state disk.new) level top.block }
-    ensures looks { LooksIfDamaged result held.old held.new (D.state disk.old) (D.state disk.new) }
     ensures path { FindsPath result (D.state disk.old) (D.state disk.new) (length held.old) (place key) level top }
     ensures remove { RemovesUnder result FAN held.old held.new
         (D.state disk.old) (D.state disk.new) level top (place key) }
@@ -215,7 +185,8 @@ fn remove_below<D: Disk, const FAN: usize>(
         return remove_from_leaf(disk, held, own, top, key);
     }
     let way = load_way::<D, FAN>(disk, held.blocks(), level, top, key)?;
-    let mut bytes = *disk.at_hand();
+    let node = disk.at_hand();
+    let mut bytes = *node;
     let alone = is_root && way.count == 1;
     let left = remove_below::<D, FAN>(disk, held, base, level - 1, way.child, alone, key)?;
     match left {
@@ -251,49 +222,32 @@ pub fn remove<D: Disk, const FAN: usize, const LEVELS: usize>(
     key: Key,
 ) -> Result<Option<Root>, TreeFault>
     requires sizes { AreSizes FAN LEVELS }
-    requires inside { length held.old ≤ (D.state disk.old).blocks }
-    requires room { 16 ≤ free_count held.old }
-    ensures level { IfOk result (λ rest. IfSome rest (λ r. r.level < LEVELS)) }
+    requires may { MayWrite 16 None held.old (D.state disk.old) }
 
-    // The new root is a data block, or that of the empty map.
-    ensures root { IfOk result (λ rest. IfSome rest (IsRootAmong (length held.old))) }
+    // The new root is a data block, or that of the empty map. It takes at most one block for each
+    // of its levels. On a tree it is a leaf, or has at least two children.
+    ensures root { IfOk result (λ rest. IfSome rest
+        (IsRootLeft LEVELS held.old held.new (D.state disk.new))) }
 
     // What is held stays held, and each block that is taken lies below each one that is still free.
     // At no moment does a block that was held, and is in the baseline if there is one, have other
-    // bytes than before.
-    ensures writes { WritesBeside result (option_copied base.entry) held.old held.new (D.state disk.old) (D.state disk.new) }
-
-    // It reads at most one block per level, and one more for each level between the root and the leaves if
-    // the root is replaced by a block below it.
-    ensures reads { ReadsAtMost (root.level + 1 + (root.level - 1)) (D.state disk.old) (D.state disk.new) }
-
-    // At most 8 blocks are taken.
-    ensures taken { TakesAtMost 8 held.old held.new }
-
-    // It takes only the blocks of one path, one per level.
-    ensures path_taken { TakesAtMost (root.level + 1) held.old held.new }
-
-    // It takes at most one for each level of the new root.
-    ensures low_taken { IfOk result (λ rest. IfSome rest
-        (λ r. TakesAtMost (r.level + 1) held.old held.new)) }
+    // bytes than before. It reads at most one block per level, and one more for each level between
+    // the root and the leaves if the root is replaced by a block below it. It takes at most 8, those
+    // of one path, one per level.
+    ensures writes { WritesBeside result (option_copied base.entry)
+        (root.level + 1 + (root.level - 1)) (min 8 (root.level + 1))
+        held.old held.new (D.state disk.old) (D.state disk.new) }
 
     // Nothing is written or taken if the answer is None, if no record is left, or if the new root
     // already existed, and was not free in the baseline: a root that would have one child is not
-    // written.
-    ensures kept { LooksIf (result ≡ Ok None) held.old held.new
-        (D.state disk.old) (D.state disk.new) }
-    ensures emptied { LooksIf (Empties result) held.old held.new
-        (D.state disk.old) (D.state disk.new) }
-    ensures narrowed { LooksIf (KeepsRoot result (option_copied base.entry) held.old held.new) held.old held.new
+    // written. Nor is it if a block is damaged.
+    ensures kept { LooksIf (KeepsAll (option_copied base.entry) held.old held.new result) held.old held.new
         (D.state disk.old) (D.state disk.new) }
 
     // It answers that no record is left only if the old root had exactly one, whatever its blocks
     // are.
     ensures last { HadOneIf (Empties result) (D.state disk.old) (D.state disk.new)
         root.level root.block }
-
-    // A damaged block is found before any block is taken or written.
-    ensures looks { LooksIfDamaged result held.old held.new (D.state disk.old) (D.state disk.new) }
 
     // What is left, or that the key is absent, is returned only if each inner block on the path has
     // the head of its level, the last block is a leaf, and each begins with the key that its parent
@@ -305,9 +259,6 @@ pub fn remove<D: Disk, const FAN: usize, const LEVELS: usize>(
     // blocks that are held now.
     ensures remove { RemovesFrom result (sizes_of FAN LEVELS) held.old held.new
         (D.state disk.old) (D.state disk.new) root key }
-
-    // On a tree the new root is a leaf, or has at least two children.
-    ensures wide { IfOk result (λ rest. IfSome rest (IsWide (D.state disk.new))) }
 {
     if root.block == 0 {
         return Ok(None);

@@ -2,10 +2,10 @@
 ghost use Rattle.std.specs.Prelude.{◌≡◌, ◌↔◌, ◌+◌, ◌≤◌, true, false, [], length, vec_capacity, IfErr, IfOk, IfSome, IsErr, IsErrAnd, OnOk};
 ghost use Rattle.vm_types.specs.declared.sizes.TheConstants.{FIRST_DATA};
 ghost use Rattle.vm_disk.specs.Moments.{OnlyReads};
-ghost use Rattle.vm_check.specs.TreeCopy.{StepsTo};
-ghost use Rattle.vm_check.specs.Renumbering.{count_of, next_of};
+ghost use Rattle.vm_check.specs.TreeCopy.{NumbersFit, StepsTo};
+ghost use Rattle.vm_check.specs.Verification.{SizeFits};
 ghost use Rattle.vm_store.specs.Copies.{ComesBefore, Copies, CopiesAtMost, CopiesEntries, CopiesVersion, CopiesVersions, Fills, FillsAtMost, FillsFromHeld, FillsSoundly, GoesOnBoth, IsOfCopy, IsOfFill, IsRefusedFirst, IsRoom, LacksBlocks, OfState, ReachedVersionCopy, ReachedVersionsCopy, ReadsFew, ReadsHeld, SoundVersionCopy, SoundVersionsCopy, refusal_of_copy};
-ghost use Rattle.vm_store.specs.NewStore.{ComesBack, HadHeader, IsBadSize, LeavesStore, given_back};
+ghost use Rattle.vm_store.specs.NewStore.{ComesBack, IsBadSize, SparesStore, given_back};
 ghost use Rattle.vm_store.specs.Store.{IsHonest, IsSameButDisk, ReadsAlone, disk_of, has_failed, kept_of};
 
 use super::Store;
@@ -56,10 +56,7 @@ fn copy_version<S: Disk, T: Disk>(
     version: &Version,
     numbers: &mut Renumbering,
 ) -> Result<Version, CopyFault>
-    requires inside { blocks ≤ (S.state source.old).blocks }
-    requires room { limit ≤ (T.state target.old).blocks }
-    requires known { count_of numbers.old ≡ blocks }
-    requires least { FIRST_DATA ≤ next_of numbers.old }
+    requires fit { NumbersFit blocks limit (S.state source.old) (T.state target.old) numbers.old }
     ensures step { StepsTo result limit (S.state source.old) (T.state target.old) numbers.old
         (S.state source.new) (T.state target.new) numbers.new }
     ensures copied { CopiesVersion result limit version.now (S.state source.old)
@@ -90,10 +87,7 @@ fn copy_versions<S: Disk, T: Disk>(
 ) -> Result<(), CopyFault>
     requires space { length versions.now ≤ vec_capacity copies.old }
     requires empty { copies.old.items ≡ [] }
-    requires inside { blocks ≤ (S.state source.old).blocks }
-    requires room { limit ≤ (T.state target.old).blocks }
-    requires known { count_of numbers.old ≡ blocks }
-    requires least { FIRST_DATA ≤ next_of numbers.old }
+    requires fit { NumbersFit blocks limit (S.state source.old) (T.state target.old) numbers.old }
     ensures step { StepsTo result limit (S.state source.old) (T.state target.old) numbers.old
         (S.state source.new) (T.state target.new) numbers.new }
     ensures many { OnOk result (length copies.new.items ≡ length versions.now) }
@@ -172,9 +166,7 @@ fn fill<S: Disk, T: Disk>(
     requires few { length versions.now ≤ MAX_VERSIONS }
     requires unused { IsRoom kept room.old }
     requires inside { kept ≤ (S.state source.old).blocks }
-    requires limit { blocks ≤ (T.state target.old).blocks }
-    requires least { MIN_BLOCKS ≤ blocks }
-    requires most { blocks ≤ MAX_BLOCKS }
+    requires fit { SizeFits blocks (T.state target.old) }
     ensures both { GoesOnBoth (result ≡ Err Refusal.Device) (S.state source.old) (T.state target.old)
         (S.state source.new) (T.state target.new) }
     ensures reads { (S.state source.new).honest ≡ true
@@ -208,9 +200,7 @@ fn copy_to<S: Disk, T: Disk>(
     room: &mut Room,
 ) -> Result<(), Refusal>
     requires unused { IsRoom (kept_of source.old) room.old }
-    requires limit { blocks ≤ (T.state target.old).blocks }
-    requires least { MIN_BLOCKS ≤ blocks }
-    requires most { blocks ≤ MAX_BLOCKS }
+    requires fit { SizeFits blocks (T.state target.old) }
     ensures both { GoesOnBoth (result ≡ Err Refusal.Device) (S.state (disk_of source.old)) (T.state target.old)
         (S.state (disk_of source.new)) (T.state target.new) }
     ensures same { IsSameButDisk source.old source.new }
@@ -221,8 +211,8 @@ fn copy_to<S: Disk, T: Disk>(
         → LacksBlocks source.old blocks) }
     ensures late { IfErr result (λ r. ComesBefore r → ⊥) }
     ensures sound { OfState source.old source.new (λ s. IfErr result IsOfCopy) }
-    ensures already { HadHeader (T.state target.old) (T.state target.new) (result ≡ Err Refusal.AlreadyAStore) }
-    ensures was_there { LeavesStore (T.state target.old) (T.state target.new) result }
+    ensures spares { SparesStore (T.state target.old) (T.state target.new)
+        (result ≡ Err Refusal.AlreadyAStore) result }
     ensures copied { Copies result source.old source.new (T.state target.new) blocks }
     ensures moments { CopiesAtMost source.old source.new (T.state target.old) (T.state target.new) blocks }
 {
@@ -304,8 +294,8 @@ pub fn copy<S: Disk, T: Disk>(
         → LacksBlocks source.old blocks) }
 
     // If there already is a store, it refuses and leaves the store as it was.
-    ensures already { HadHeader (T.state target) (T.state (given_back result)) (ComesBack result Refusal.AlreadyAStore) }
-    ensures was_there { LeavesStore (T.state target) (T.state (given_back result)) result }
+    ensures spares { SparesStore (T.state target) (T.state (given_back result))
+        (ComesBack result Refusal.AlreadyAStore) result }
 
     // On success, the target shows exactly the committed tree of the source, in `blocks` blocks. At each
     // moment before, a crash shows at most that.

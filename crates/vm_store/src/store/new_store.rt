@@ -3,8 +3,9 @@ ghost use Rattle.std.specs.Prelude.{◌≡◌, ◌⊎◌, ◌↔◌, ◌<◌, �
 ghost use Rattle.vm_types.specs.declared.sizes.TheConstants.{MAX_VERSIONS};
 ghost use Rattle.vm_disk.specs.Disk.{Goes, block};
 ghost use Rattle.vm_disk.specs.Moments.{Leaves};
+ghost use Rattle.vm_check.specs.Verification.{SizeFits};
 ghost use Rattle.vm_store.specs.Layout.{Completes, LaysOut, PutsAtMost, PutsDown, StaysReady, WithoutHeader};
-ghost use Rattle.vm_store.specs.NewStore.{ComesBack, Formats, FormatsAtMost, HadHeader, IsAnyHeader, IsOfFormat, LeavesStore, TellsHeader, IsBadSize, fresh_entry, given_back};
+ghost use Rattle.vm_store.specs.NewStore.{ComesBack, Formats, FormatsAtMost, IsAnyHeader, IsBadSize, IsOfFormat, SparesStore, TellsHeader, fresh_entry, given_back};
 ghost use Rattle.vm_store.specs.Refused.{SyncsAtMost, SyncsUnless};
 ghost use Rattle.vm_store.specs.Shown.{ShowsNothing};
 
@@ -108,13 +109,11 @@ pub(super) fn put_down<D: Disk>(
 
 /// Makes a new store on a disk that has none.
 fn make_store<D: Disk>(disk: &mut D, blocks: u32) -> Result<(), Refusal>
-    requires room { blocks ≤ (D.state disk.old).blocks }
-    requires least { MIN_BLOCKS ≤ blocks }
-    requires most { blocks ≤ MAX_BLOCKS }
+    requires { SizeFits blocks (D.state disk.old) }
     ensures any { Goes (result ≡ Err Refusal.Device) (D.state disk.old) (D.state disk.new) }
     ensures refusals { IfErr result (λ r. (r ≡ Refusal.AlreadyAStore) ⊎ (r ≡ Refusal.Device)) }
-    ensures already { HadHeader (D.state disk.old) (D.state disk.new) (result ≡ Err Refusal.AlreadyAStore) }
-    ensures was_there { LeavesStore (D.state disk.old) (D.state disk.new) result }
+    ensures spares { SparesStore (D.state disk.old) (D.state disk.new)
+        (result ≡ Err Refusal.AlreadyAStore) result }
     ensures formatted { Formats blocks result (D.state disk.new) }
     ensures moments { FormatsAtMost (D.state disk.old) (D.state disk.new) blocks }
 {
@@ -142,8 +141,8 @@ pub fn format<D: Disk>(mut disk: D, blocks: u32) -> Result<D, (D, Refusal)>
     ensures refusals { IfErr result (λ e. IsOfFormat e.1) }
 
     // If there already is a store, it refuses and leaves the store as it was.
-    ensures already { HadHeader (D.state disk) (D.state (given_back result)) (ComesBack result Refusal.AlreadyAStore) }
-    ensures was_there { LeavesStore (D.state disk) (D.state (given_back result)) result }
+    ensures spares { SparesStore (D.state disk) (D.state (given_back result))
+        (ComesBack result Refusal.AlreadyAStore) result }
 
     // On success, a new store is shown. At each moment before, a crash shows at most that.
     ensures formatted { Formats blocks result (D.state (given_back result)) }

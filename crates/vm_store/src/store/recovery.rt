@@ -8,10 +8,9 @@ ghost use Rattle.vm_store.specs.Refused.{SyncsAtMost, SyncsUnless, IsRefused};
 ghost use Rattle.vm_tree.specs.BlockReads.{Finds};
 ghost use Rattle.vm_tree.specs.Calls.{OnlyLists};
 ghost use Rattle.vm_check.specs.Trees.{AreTopped};
-ghost use Rattle.vm_check.specs.Verification.{Found, HaveTrees, TellsDamaged};
+ghost use Rattle.vm_check.specs.Verification.{AreGiven, Found, HaveTrees, SizeFits, TellsDamaged};
 ghost use Rattle.vm_store.specs.Recovery.{AreRead, FindsSlot, IsOpening, IsTwice, LacksSlot, OpensAs, OpensWhole, PartsShow, ReadsMaps, ReadsWhole, RefusesMaps, RefusesSlot, ShowsSome, TellsAll, TellsMaps, TopsRead, WhereTrees, disk_in};
 ghost use Rattle.vm_store.specs.Sizes.{sizes};
-ghost use Rattle.vm_types.specs.declared.sizes.TheConstants.{MAX_BLOCKS};
 ghost use Rattle.vm_store.specs.declared.store.recovery.Walk.TheVariants.{Inner, Survey};
 ghost use Rattle.vm_store.specs.Versions.{numbers_of, versions_of};
 
@@ -127,12 +126,9 @@ fn walk_trees<D: Disk>(
     walk: Walk,
     damaged: &mut Option<Marks>,
 ) -> Result<(Vec<Root>, Marks), ListFault>
-    requires enough { MIN_BLOCKS ≤ blocks }
-    requires few { blocks ≤ MAX_BLOCKS }
-    requires inside { blocks ≤ (D.state disk.old).blocks }
+    requires { SizeFits blocks (D.state disk.old) }
     ensures looks { OnlyLists result (D.state disk.old) (D.state disk.new) }
-    ensures count { IfOk result (λ found. length found.1 ≡ blocks) }
-    ensures roots { IfOk result (λ found. length found.0.items ≡ length numbers.now) }
+    ensures given { IfOk result (AreGiven blocks numbers.now) }
     ensures found { WhereTrees (D.state disk.old) (D.state disk.new) result blocks numbers.now
         (λ x found. Found sizes x blocks numbers.now found.0.items found.1) }
     ensures topped { walk ≡ Inner → Finds result (D.state disk.old) (D.state disk.new)

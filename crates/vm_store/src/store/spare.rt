@@ -1,11 +1,9 @@
 //! Blocks that no version needs: marking them, and whether enough of them are free.
-ghost use Rattle.std.specs.Prelude.{◌≡◌, ◌≢◌, ◌↔◌, ◌<◌, ◌≤◌, ◌*◌, true, false, ℕ, List, length, Ok, Err, OnOk, IfOk, IfErr, IsTrue};
+ghost use Rattle.std.specs.Prelude.{◌≡◌, ◌↔◌, ◌<◌, ◌≤◌, ◌*◌, true, false, ℕ, List, length, OnOk, IfOk, IsTrue};
 ghost use Rattle.vm_types.specs.State.{State, blocks_a_change};
-ghost use Rattle.vm_disk.specs.Disk.{Goes};
-ghost use Rattle.vm_disk.specs.Moments.{OnlyReads};
 ghost use Rattle.vm_tree.specs.Answers.{OkOrDevice};
+ghost use Rattle.vm_tree.specs.Calls.{OnlyLooks};
 ghost use Rattle.vm_check.specs.Marks.{IsClosed, MarksMore};
-ghost use Rattle.vm_store.specs.Answers.{IsEarly};
 ghost use Rattle.vm_store.specs.Marks.{AreReached};
 ghost use Rattle.vm_store.specs.Rest.{spare_of};
 
@@ -27,10 +25,8 @@ fn mark_versions<D: Disk>(
     marks: &mut Marks,
 ) -> Result<(), TreeFault>
     requires { length marks.old ≤ (D.state disk.old).blocks }
-    ensures any { Goes (result ≡ Err TreeFault.Device) (D.state disk.old) (D.state disk.new) }
+    ensures looks { OnlyLooks result (D.state disk.old) (D.state disk.new) }
     ensures many { length marks.new ≡ length marks.old }
-    ensures reads { (D.state disk.new).honest ≡ true
-        → OnlyReads (D.state disk.old) (D.state disk.new) }
 
     // On trees the marks grow by exactly the blocks of the versions.
     ensures marked { (D.state disk.new).honest ≡ true → (bs : List ℕ)
@@ -49,26 +45,17 @@ fn mark_versions<D: Disk>(
 }
 
 impl<D: Disk> Store<D> {
-    ghost use Rattle.vm_store.specs.Store.{has_failed, entries_of, root_of, Holds, free_of, IsHonest, GoesOn, ReadsAlone, SpareIsFree, is_marked};
+    ghost use Rattle.vm_store.specs.Store.{Holds, free_of, IsHonest, MarksStore, SpareIsFree, is_marked};
 
     /// Holds exactly the blocks that the committed or the working entries reach, together with the
     /// store's own. An open series stays open: what only its alternative's records need was not
     /// held before the series, and is not now.
     #[inline(never)]
     pub(super) fn mark_all(&mut self) -> Result<(), Refusal>
-        ensures any { GoesOn (result ≡ Err Refusal.Device) self.old self.new }
-        ensures failed { has_failed self.new ≡ has_failed self.old }
-        ensures never { (result ≢ Err Refusal.Failed) × (result ≢ Err Refusal.Memory) × (result ≢ Err Refusal.Full) }
-        ensures late { IfErr result (λ refusal. IsEarly refusal → ⊥) }
-        ensures same { entries_of self.new ≡ entries_of self.old }
-        ensures roots { root_of self.new ≡ root_of self.old }
-        ensures reads { IsHonest self.new → ReadsAlone self.old self.new }
-        ensures only { IsHonest self.new → (s : State) → Holds self.old s
-            → IfErr result (λ refusal. refusal ≡ Refusal.Device) }
+        ensures marking { MarksStore result self.old self.new }
         ensures exact { IsHonest self.new → (s : State) (holds : Holds self.old s)
             → OnOk result (free_of self.new ≡ spare_of holds.rests) }
         ensures known { OnOk result (is_marked self.new ≡ true) }
-        ensures state { IsHonest self.new → (s : State) → Holds self.old s → Holds self.new s }
     {
         self.parts.marks.clear();
         mark_versions(
@@ -97,26 +84,17 @@ impl<D: Disk> Store<D> {
     /// Whether enough blocks are spare for this many record changes. If fewer are free, it marks
     /// what the entries reach, unless it is known that exactly the spare ones are free.
     pub(super) fn has_spare(&mut self, changes: usize) -> Result<bool, Refusal>
-        ensures any { GoesOn (result ≡ Err Refusal.Device) self.old self.new }
-        ensures failed { has_failed self.new ≡ has_failed self.old }
-        ensures never { (result ≢ Err Refusal.Failed) × (result ≢ Err Refusal.Memory) × (result ≢ Err Refusal.Full) }
-        ensures late { IfErr result (λ refusal. IsEarly refusal → ⊥) }
+        ensures marking { MarksStore result self.old self.new }
         ensures enough { blocks_a_change * changes ≤ free_of self.old → self.new ≡ self.old }
         ensures once { is_marked self.old ≡ true → self.new ≡ self.old }
         ensures known { IfOk result (λ yes. yes ≡ false → is_marked self.new ≡ true) }
-        ensures same { entries_of self.new ≡ entries_of self.old }
-        ensures roots { root_of self.new ≡ root_of self.old }
         ensures free { IfOk result (λ yes. IsTrue yes → blocks_a_change * changes ≤ free_of self.new) }
-        ensures reads { IsHonest self.new → ReadsAlone self.old self.new }
-        ensures only { IsHonest self.new → (s : State) → Holds self.old s
-            → IfErr result (λ refusal. refusal ≡ Refusal.Device) }
         ensures spare { IsHonest self.new → (s : State) (holds : Holds self.old s)
             → IfOk result (λ yes. IsTrue yes ↔ (blocks_a_change * changes ≤ spare_of holds.rests)) }
         ensures marked { IsHonest self.new → (s : State) (holds : Holds self.old s)
             → IfOk result (λ yes. yes ≡ false → free_of self.new ≡ spare_of holds.rests) }
         ensures exact { IsHonest self.new → free_of self.old < blocks_a_change * changes
             → SpareIsFree result self.old self.new }
-        ensures state { IsHonest self.new → (s : State) → Holds self.old s → Holds self.new s }
     {
         if self.has_free(changes) {
             return Ok(true);

@@ -8,7 +8,7 @@ use Rattle.vm_block.specs.declared.node.Child.{Child}
 use Rattle.vm_block.proofs.NodeLemmas.{node_one}
 use Rattle.vm_tree.specs.Tree.{Subtree}
 use Rattle.vm_tree.proofs.Descent.{node_read, node_under, subtree_top}
-use Rattle.vm_tree.proofs.Looking.{passed_on}
+use Rattle.vm_tree.proofs.Looking.{looks_once, passed_on}
 use Rattle.vm_check.specs.TreeCopy.{ChildCopied, IsUpTo, NodeCopied}
 use Rattle.vm_check.specs.Renumbering.{count_of, number_at}
 use Rattle.vm_check.proofs.CopyLemmas.{child_here, child_on, child_under, children_here, copied_back, copied_in, copies_block, fresh_still, node_here, node_over, only_after, only_put, ups_then, ups_up}
@@ -93,7 +93,7 @@ copy_node-returns-then-not-is_data-clause-sound g t c source sizes rs bs tree b 
 
 pub copy_node-returns-in_err-count-clause-step : goal.copy_node-returns-in_err-count-clause-step
 copy_node-returns-in_err-count-clause-step g t c =
-    rw (passed_on _ c.from_residual.ensures.1) (step_read _ _ c.in_err-count.ensures.looks (λ is. cc) (λ is. cc) (λ is. cc) (λ is. cc))
+    rw (passed_on _ c.from_residual.ensures.1) (step_read _ _ (looks_once c.in_err-count.ensures.looks) (λ is. cc) (λ is. cc) (λ is. cc) (λ is. cc))
 
 pub copy_node-returns-in_err-count-clause-sound : goal.copy_node-returns-in_err-count-clause-sound
 copy_node-returns-in_err-count-clause-sound g t c source sizes rs bs tree b is =
@@ -103,7 +103,7 @@ copy_node-returns-in_err-count-clause-sound g t c source sizes rs bs tree b is =
 
 pub copy_node-returns-in_err-copy_children-clause-step : goal.copy_node-returns-in_err-copy_children-clause-step
 copy_node-returns-in_err-copy_children-clause-step g t c =
-    rw (passed_on _ c.from_residual-in_err-copy_children.ensures.1) (step_fails c.in_ok-count.ensures.looks c.in_err-copy_children.ensures.step (λ is. cc) (λ is. cc) (λ is. cc) (λ is. cc))
+    rw (passed_on _ c.from_residual-in_err-copy_children.ensures.1) (step_fails (looks_once c.in_ok-count.ensures.looks) c.in_err-copy_children.ensures.step (λ is. cc) (λ is. cc) (λ is. cc) (λ is. cc))
 
 pub copy_node-returns-in_err-copy_children-clause-sound : goal.copy_node-returns-in_err-copy_children-clause-sound
 copy_node-returns-in_err-copy_children-clause-sound g t c source sizes rs bs tree b is =
@@ -118,7 +118,7 @@ copy_node-returns-in_err-copy_children-clause-sound g t c source sizes rs bs tre
 
 pub copy_node-returns-clause-step : goal.copy_node-returns-clause-step
 copy_node-returns-clause-step g t c =
-    step_put c.in_ok-count.ensures.looks (c.in_ok-count.ensures.once.one (c.is_data.ensures.0 c.if-not-is_data.false)) c.in_ok-copy_children.ensures.step refl c.put_copy.ensures.puts
+    step_put (looks_once c.in_ok-count.ensures.looks) (c.in_ok-count.ensures.looks.once.one (c.is_data.ensures.0 c.if-not-is_data.false)) c.in_ok-copy_children.ensures.step refl c.put_copy.ensures.puts
     (λ is. absurd (c.put_copy.ensures.device is)) (λ is. is) (λ is. is) (λ is. is)
 
 pub copy_node-returns-clause-copied : goal.copy_node-returns-clause-copied

@@ -5,7 +5,7 @@ use Rattle.vm_alloc.specs.Marks.{IsMarked}
 use Rattle.vm_disk.specs.Disk.{block}
 use Rattle.vm_block.specs.Leaf.{HasRecords}
 use Rattle.vm_tree.proofs.Descent.{subtree_top}
-use Rattle.vm_tree.proofs.Looking.{passed_on}
+use Rattle.vm_tree.proofs.Looking.{looks_once, passed_on}
 use Rattle.vm_tree.proofs.TreeLemmas.{leaf_opens, leaf_read}
 use Rattle.vm_check.specs.TreeCopy.{IsUpTo}
 use Rattle.vm_check.specs.Renumbering.{count_of}
@@ -20,7 +20,7 @@ returns-then-not-is_data-clause-sound g c source sizes rs bs tree b is =
 
 pub returns-in_err-leaf_into-clause-step : goal.returns-in_err-leaf_into-clause-step
 returns-in_err-leaf_into-clause-step g c =
-    rw (passed_on _ c.from_residual.ensures.1) (step_read _ _ c.in_err-leaf_into.ensures.looks (λ is. cc) (λ is. cc) (λ is. cc) (λ is. cc))
+    rw (passed_on _ c.from_residual.ensures.1) (step_read _ _ (looks_once c.in_err-leaf_into.ensures.looks) (λ is. cc) (λ is. cc) (λ is. cc) (λ is. cc))
 
 pub returns-in_err-leaf_into-clause-sound : goal.returns-in_err-leaf_into-clause-sound
 returns-in_err-leaf_into-clause-sound g c source sizes rs bs tree b is =
@@ -29,7 +29,7 @@ returns-in_err-leaf_into-clause-sound g c source sizes rs bs tree b is =
 
 pub returns-clause-step : goal.returns-clause-step
 returns-clause-step g c =
-    step_leaf c.in_ok-leaf_into.ensures.looks (c.in_ok-leaf_into.ensures.once.one (c.is_data.ensures.0 c.if-not-is_data.false)) c.put_copy.ensures.puts
+    step_leaf (looks_once c.in_ok-leaf_into.ensures.looks) (c.in_ok-leaf_into.ensures.looks.once.one (c.is_data.ensures.0 c.if-not-is_data.false)) c.put_copy.ensures.puts
     (λ is. c.put_copy.ensures.device is) (λ is. is) (λ is. is) (λ is. is)
 
 pub returns-clause-copied : goal.returns-clause-copied

@@ -1,10 +1,8 @@
-use Rattle.std.proofs.Common.{map, ap, sym, subst, arith, rules}
-use Rattle.vm_disk.specs.Disk.{Medium}
+use Rattle.std.proofs.Common.{map, ap, arith, rules}
 use Rattle.vm_disk.proofs.MomentLemmas.{same_medium}
 use Rattle.vm_tree.proofs.ScanLemmas.{device_lists}
-use Rattle.vm_tree.proofs.Looking.{looks_none, looks_on, passed_on}
+use Rattle.vm_tree.proofs.Looking.{looks_none, looks_of, looks_on, passed_on}
 use Rattle.vm_tree.specs.declared.root.Root.{Root}
-use Rattle.vm_check.specs.Trees.{IsFound}
 use Rattle.vm_check.proofs.FoundLemmas.{named_more}
 use Rattle.vm_check.proofs.TopLemmas.{found_here, more_found, no_roots, none_found, root_lacking}
 use Rattle.vm_check.proofs.trees.find_roots.Goals as goal
@@ -22,8 +20,8 @@ pub loop-number-preserved : goal.loop-number-preserved
 loop-number-preserved g c =
     let so_far = c.loop-number.invariant in
     record {
-      looks = looks_on so_far.looks c.in_ok-last.ensures.looks (λ is. cc);
-      once = omega (arith, c.in_ok-last.ensures.once, so_far.once);
+      looks = looks_on so_far.looks (looks_of c.in_ok-last.ensures.looks) (λ is. cc);
+      once = omega (arith, c.in_ok-last.ensures.looks.most, so_far.once);
       named = named_more _ _ _ _ _ c.loop-number-test.true c.in-Ok.ensures.items so_far.named c.in_ok-last.ensures.named;
       found = λ honest.
           let before = c.in_ok-last.ensures.looks.goes.earlier honest in
@@ -40,7 +38,7 @@ returns-in_err-last-clause-only g c honest sizes trees =
     (root_lacking sizes _ _ _ _ _ _ (same_medium _ _ (so_far.looks.reads (c.in_err-last.ensures.looks.goes.earlier honest))) c.loop-number-test.true trees (λ m bs tree. c.in_err-last.ensures.only honest sizes m bs tree)))
 
 pub returns-in_err-last-clause-looks : goal.returns-in_err-last-clause-looks
-returns-in_err-last-clause-looks g c = looks_on c.loop-number.invariant.looks c.in_err-last.ensures.looks (search rules)
+returns-in_err-last-clause-looks g c = looks_on c.loop-number.invariant.looks (looks_of c.in_err-last.ensures.looks) (search rules)
 
 pub returns-in-Err-clause-looks : goal.returns-in-Err-clause-looks
-returns-in-Err-clause-looks g c = looks_on c.loop-number.invariant.looks c.in_ok-last.ensures.looks (λ is. cc)
+returns-in-Err-clause-looks g c = looks_on c.loop-number.invariant.looks (looks_of c.in_ok-last.ensures.looks) (λ is. cc)

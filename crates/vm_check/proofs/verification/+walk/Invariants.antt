@@ -1,15 +1,12 @@
 use Rattle.std.proofs.Common.{◌≡◌, ◌+◌, ◌*◌, ◌<◌, ℕ, None, true, List, length, take}
 use Rattle.std.specs.Prelude.{slice_index_or}
 use Rattle.vm_types.specs.Places.{RisesFrom, place, places}
-use Rattle.vm_alloc.specs.Held.{HoldsMore}
 use Rattle.vm_block.specs.Leaf.{Record}
 use Rattle.vm_block.specs.Node.{IsNode, lows}
 use Rattle.vm_block.specs.declared.node.Child.{Child}
-use Rattle.vm_tree.specs.Calls.{Looks}
 use Rattle.vm_tree.specs.Root.{sizes_of}
 use Rattle.vm_tree.specs.Tree.{Children, Subtree}
-use Rattle.vm_check.specs.Marks.{unmarked}
-use Rattle.vm_check.specs.Surveys.{ChildrenSurveyed, IsParent, KeepsNotes, Surveyed}
+use Rattle.vm_check.specs.Surveys.{ChildrenSurveyed, IsParent, Surveyed, Walks}
 use Rattle.vm_check.specs.Visits.{Known, VisitedAll}
 use Rattle.vm_check.specs.declared.notes.OnDamage.TheVariants.{GoOn}
 use Rattle.vm_check.proofs.verification.+walk.Given as goal
@@ -28,12 +25,7 @@ abbrev pub invariant-visit_children-loop-i : goal.invariant-visit_children-loop-
 invariant-visit_children-loop-i g l =
     let old = g.D.Disk.state l.fn.disk in
     let now = g.D.Disk.state l.disk in record {
-      looks : Looks ⊥ old now;
-      many : length l.marks ≡ l.blocks;
-      noted : length l.notes.damaged ≡ l.blocks;
-      once : now.reads + unmarked l.marks ≡ old.reads + unmarked l.fn.marks;
-      growing : HoldsMore l.fn.marks l.marks;
-      keeps : KeepsNotes l.fn.notes l.notes;
+      walks : Walks ⊥ old now l.fn.marks l.marks l.fn.notes l.notes;
       found : now.honest ≡ true → (levels above : ℕ) (cs : List Child) → IsNode l.bytes above cs → length cs ≡ l.count → Known (sizes_of g.row.FAN levels) old.now.contents l.blocks l.level l.fn.marks l.initial.spans
           → l.notes.first ≡ None → VisitedAll (sizes_of g.row.FAN levels) old.now.contents l.blocks l.level (take l.i cs) l.high l.fn.marks l.initial.spans l.marks l.spans
           × (0 < l.i → l.i < length cs → place l.high < slice_index_or (lows cs) l.i 0);

@@ -1,12 +1,16 @@
-use Rattle.std.proofs.Common.{◌≡◌, inl, inr, Option, None, sym, refl, ◌∙◌, subst, arith}
+use Rattle.std.proofs.Common.{Option, sym, refl, ◌∙◌, subst, arith}
 use Rattle.std.specs.Prelude.{IsSome}
 use Rattle.std.proofs.lemmas.Bool.{false≢true}
+use Rattle.vm_alloc.proofs.HeldLemmas.{holds_same}
 use Rattle.vm_tree.proofs.Descent.{subtree_top}
+use Rattle.vm_tree.proofs.Looking.{looks_none}
 use Rattle.vm_tree.proofs.TreeLemmas.{tree_opens}
-use Rattle.vm_tree.specs.Root.{sizes_of}
 use Rattle.vm_check.proofs.FoundLemmas.{bare_visited, top_visited}
-use Rattle.vm_check.proofs.SurveyLemmas.{none_found, number_exit, over_not_on, root_bare, root_exit, too_high, top_reached}
+use Rattle.vm_check.proofs.SurveyLemmas.{none_found, number_exit, number_noted, over_not_on, root_bare, root_exit, too_high, top_reached}
 use Rattle.vm_check.proofs.verification.visit_root.Goals as goal
+
+pub returns-then-not-is_data-clause-walks : goal.returns-then-not-is_data-clause-walks
+returns-then-not-is_data-clause-walks g c = record { looks = looks_none _ (λ is. cc); once = refl; growing = holds_same _; keeps = number_noted c.note_number.ensures }
 
 pub returns-then-is_over-clause-found : goal.returns-then-is_over-clause-found
 returns-then-is_over-clause-found g c honest known none = absurd (false≢true (subst (λ (z : Option _). IsSome z) none (c.is_over.ensures.0 c.if-is_over.true).1))

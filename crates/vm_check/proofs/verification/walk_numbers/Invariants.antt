@@ -1,10 +1,8 @@
-use Rattle.std.proofs.Common.{◌≡◌, ◌⊎◌, ◌+◌, ◌-◌, ◌<◌, ◌≤◌, ℕ, None, true, length, get_or, take, map}
-use Rattle.vm_alloc.specs.Marks.{IsMarked}
+use Rattle.std.proofs.Common.{◌≡◌, ◌+◌, None, true, length, take, map}
 use Rattle.vm_tree.specs.Calls.{Looks}
 use Rattle.vm_tree.specs.Root.{sizes_of}
 use Rattle.vm_tree.specs.declared.root.Root.{Root}
 use Rattle.vm_check.specs.Marks.{unmarked}
-use Rattle.vm_check.specs.Surveys.{IsTopMet, Surveyed}
 use Rattle.vm_check.specs.Verification.{HaveTrees}
 use Rattle.vm_check.specs.declared.notes.OnDamage.TheVariants.{GoOn}
 use Rattle.vm_check.proofs.FoundLemmas.{FoundSoFar}

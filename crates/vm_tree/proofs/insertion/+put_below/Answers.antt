@@ -1,4 +1,4 @@
-use Rattle.std.proofs.Common.{◌≡◌, ◌∙◌, true, cond, nat_lt, ap, ℕ, ◌+◌, ◌-◌, List, ◌++◌, Ok, Err, ◌≤◌, ◌<◌, length, option_copied, take, drop, sym, subst, refl, arith, rules}
+use Rattle.std.proofs.Common.{◌≡◌, ◌∙◌, true, cond, min, nat_lt, ap, ℕ, ◌+◌, ◌-◌, ◌*◌, List, ◌++◌, Ok, Err, ◌≤◌, ◌<◌, length, option_copied, take, drop, sym, subst, refl, arith, rules}
 use Rattle.vm_disk.proofs.MomentLemmas.{same_medium}
 use Rattle.vm_block.specs.Leaf.{Record}
 use Rattle.vm_block.specs.declared.node.Child.{Child}
@@ -7,7 +7,7 @@ use Rattle.vm_tree.specs.Free.{TakesAtMost}
 use Rattle.vm_tree.specs.FullPath.{GrowsBy}
 use Rattle.vm_tree.specs.Tree.{Subtree}
 use Rattle.vm_tree.specs.Root.{sizes_of}
-use Rattle.vm_tree.specs.Splits.{Made, PutsBelow, children_of, extra}
+use Rattle.vm_tree.specs.Splits.{GrowsWithin, Made, PutsBelow, children_of, extra, grown}
 use Rattle.vm_tree.specs.BlockReads.{IsNodeAt}
 use Rattle.vm_tree.specs.Replacement.{IsRenewed, Lacks, Replaces, without_own}
 use Rattle.vm_tree.specs.declared.block_writes.Copied.{Copied}
@@ -18,13 +18,14 @@ use Rattle.std.proofs.lemmas.Bool.{le-ltb}
 use Rattle.vm_tree.proofs.HandLemmas.{hand_node}
 use Rattle.vm_tree.proofs.Beside.{lacks_top}
 use Rattle.vm_tree.proofs.Renewing.{beside_own, own_kept, own_more, own_there, renewed_all, spares_own}
+use Rattle.vm_tree.proofs.Touching.{others_kept}
 use Rattle.vm_tree.proofs.TreeLemmas.{leaf_opens}
 use Rattle.vm_alloc.proofs.HeldLemmas.{holds_same}
-use Rattle.vm_tree.proofs.Looking.{looks_free, looks_if, looks_write, passed_on, writes_as, writes_on}
+use Rattle.vm_tree.proofs.Looking.{looks_free, looks_if, looks_never, looks_write, passed_on, writes_as, writes_on}
 use Rattle.vm_tree.proofs.Descent.{node_read}
-use Rattle.vm_tree.proofs.Leading.{leads_on, if_ok_is, if_ok_map}
+use Rattle.vm_tree.proofs.Leading.{leads_on, if_ok_is}
 use Rattle.vm_tree.proofs.Framing.{framed_beside, framed_top}
-use Rattle.vm_tree.proofs.PutLemmas.{asked_of, node_put, same_children, stands_made, there_below, node_fault, device_below, only_one, stays_one}
+use Rattle.vm_tree.proofs.PutLemmas.{asked_of, node_put, same_children, stands_made, there_below, node_fault, device_below, grown_test, only_one}
 use Rattle.vm_tree.proofs.insertion.+put_below.Goals as goal
 use Rattle.vm_tree.proofs.insertion.+put_below.Goals.{then-room-gt0, else-room-gt0}
 
@@ -43,14 +44,6 @@ returns-then-level-eq0-clause-put g t c levels honest rs bs tree begins rises =
     let Puts : ℕ → Type 0 = λ l. PutsBelow c.put_in_leaf.result c.args.room (GrowsBy sizes x r l b) (λ cs. Replaces before later bs (λ P. Made P sizes y limit l cs (with_record r rs))) in
     subst Puts (sym none) (c.put_in_leaf.ensures.put sizes honest rs bs there begins rises)
 
-pub returns-then-level-eq0-clause-replaced : goal.returns-then-level-eq0-clause-replaced
-returns-then-level-eq0-clause-replaced g t c levels honest rs bs tree begins rises there =
-    let sizes = sizes_of g.row.FAN levels in
-    let x = (g.D.Disk.state c.args.disk.now).now.contents in
-    let under = subst (λ l. Subtree sizes x (length c.args.held.now) l c.args.top.block rs bs) c.if-level-eq0.true tree in
-    if_ok_map c.put_in_leaf.result _ _ (c.put_in_leaf.ensures.replaced sizes honest rs bs under begins rises there)
-    (λ copied was. (was.0, omega (arith, was.1)))
-
 pub returns-clause-put : goal.returns-clause-put
 returns-clause-put g t c levels honest rs bs tree begins rises =
     let sizes = sizes_of g.row.FAN levels in
@@ -67,7 +60,7 @@ returns-clause-put g t c levels honest rs bs tree begins rises =
     let i = c.in_ok-way.way.index in
     let d = c.in_ok-way.way.child in
     let lent = take i cs ++ (children_of c.in_ok-copied.copied ++ drop (i + 1) cs) in
-    let fine = c.in_ok-write_replaced.ensures.fine cs (hand_node (sym c.at_hand.ensures) way.0) way.1 in
+    let fine = c.in_ok-write_replaced.ensures.copied.grows ∙ ap (λ n. grown g.row.FAN (n + extra c.in_ok-copied.copied)) way.1 ∙ grown_test g.row.FAN (length cs + extra c.in_ok-copied.copied) in
     let limit = length c.args.held.now in
     let y = (g.D.Disk.state c.put_below.new.disk).now.contents in
     node_put sizes old _ limit c.args.level c.args.top.block r rs bs cs i d still above tree rises only way.2.chosen
@@ -79,7 +72,7 @@ returns-clause-put g t c levels honest rs bs tree begins rises =
     (λ ds qs own. Replaces c.args.held.now c.put_below.new.held own (λ P. Made P sizes y limit (c.args.level - 1) ds qs)) way.2.child (c.in_ok-copied.ensures.put levels later))
     c.in_ok-copied.ensures.writes.still
     refl fine
-    (λ keep qs mine rising made. c.in_ok-write_replaced.ensures.made honest c.args.held.now keep c.in_ok-copied.ensures.writes.still mine sizes cs qs (hand_node (sym c.at_hand.ensures) way.0) way.1 (omega arith) rising made)
+    (λ keep qs mine rising made. c.in_ok-write_replaced.ensures.made honest c.args.held.now keep c.in_ok-copied.ensures.writes.still mine sizes cs qs (hand_node (sym c.at_hand-node.ensures) way.0) way.1 (omega arith) rising made)
 
 pub returns-in_err-copied-clause-put : goal.returns-in_err-copied-clause-put
 returns-in_err-copied-clause-put g t c levels honest rs bs tree begins rises =
@@ -130,55 +123,13 @@ returns-clause-replaced g t c levels honest rs bs tree begins rises there =
     let A : Type 0 = (extra c.in_ok-copied.copied ≡ 0) × TakesAtMost (c.args.level - 1 + 1) c.args.held.now c.put_below.new.held in
     let below = there_below sizes old _ limit c.args.level c.args.top.block r rs bs cs i d still above tree rises only way.2.chosen d A way.2.child there
     (c.in_ok-copied.ensures.replaced levels (c.write_replaced.ensures.writes.goes.earlier honest)) in
-    (stays_one _ _ _ c.in_ok-write_replaced.ensures.grows.1 below.0, omega (arith, below.1, c.write_replaced.ensures.one (omega (arith, below.0, c.in_ok-way.ensures.within))))
-
-pub returns-clause-writes : goal.returns-clause-writes
-returns-clause-writes g t c = looks_write c.in_ok-way.ensures.looks
-    (writes_on c.in_ok-copied.ensures.writes c.in_ok-write_replaced.ensures.writes (λ is. is) (λ spared may. (may, spares_own (option_copied c.args.base) _ c.own_place-own.result c.own_place-own.ensures.own spared may))) (λ is. cc) (λ spared may. may)
-
-pub returns-in_err-write_replaced-clause-writes : goal.returns-in_err-write_replaced-clause-writes
-returns-in_err-write_replaced-clause-writes g t c =
-    looks_write c.in_ok-way.ensures.looks
-    (writes_on c.in_ok-copied.ensures.writes c.in_err-write_replaced.ensures.writes (λ is. is) (λ spared may. (may, spares_own (option_copied c.args.base) _ c.own_place-own.result c.own_place-own.ensures.own spared may))) (search rules) (λ spared may. may)
-
-pub returns-in_err-write_replaced-clause-put : goal.returns-in_err-write_replaced-clause-put
-returns-in_err-write_replaced-clause-put g t c levels honest rs bs tree begins rises =
-    let sizes = sizes_of g.row.FAN levels in
-    let x = (g.D.Disk.state c.args.disk.now).now.contents in
-    let earlier = c.in_ok-copied.ensures.writes.goes.earlier (c.in_err-write_replaced.ensures.writes.goes.earlier honest) in
-    let read = node_read sizes x (length c.args.held.now) c.args.level c.args.top.block rs bs (omega (arith, c.if-level-eq0.false)) tree in
-    let way = c.in_ok-way.ensures.only earlier read.0 (subst (λ n. IsNodeAt x n c.args.level c.args.top.block read.0) (sym c.blocks-2.ensures.count) read.1) (read.3 c.args.top.low begins) read.2 in
-    rw (passed_on _ c.from_residual-in_err-write_replaced.ensures.1) (device_below _ _ _ _ (c.in_err-write_replaced.ensures.fine read.0 (hand_node (sym c.at_hand.ensures) way.0) way.1))
-
-pub returns-in_err-way-clause-writes : goal.returns-in_err-way-clause-writes
-returns-in_err-way-clause-writes g t c = looks_free c.in_err-way.ensures.looks (search rules)
-
-pub returns-in_err-copied-clause-writes : goal.returns-in_err-copied-clause-writes
-returns-in_err-copied-clause-writes g t c = looks_write c.in_ok-way.ensures.looks c.in_err-copied.ensures.writes (search rules) (λ spared may. may)
-
-pub returns-in_err-copied-clause-deep : goal.returns-in_err-copied-clause-deep
-returns-in_err-copied-clause-deep g t c = looks_if c.in_ok-way.ensures.looks c.in_err-copied.ensures.writes.goes.earlier c.in_err-copied.ensures.deep (search rules)
-
-pub returns-in_err-copied-clause-looks : goal.returns-in_err-copied-clause-looks
-returns-in_err-copied-clause-looks g t c b = looks_if c.in_ok-way.ensures.looks c.in_err-copied.ensures.writes.goes.earlier (c.in_err-copied.ensures.looks b) (search rules)
-
-pub returns-in_err-write_replaced-clause-none : goal.returns-in_err-write_replaced-clause-none
-returns-in_err-write_replaced-clause-none g t c none =
-    elim c.if-room-gt0.branch [
-      | then-room-gt0 w ↦ absurd (omega (arith, none, w.if-room-gt0.true))
-      | else-room-gt0 w ↦ (
-          let few : c.in_ok-way.way.count + extra c.in_ok-copied.copied ≤ g.row.FAN = omega (arith, w.below-is, c.in_ok-copied.ensures.room, c.in_ok-way.ensures.within) in
-          omega (arith, c.in_ok-copied.ensures.taken, c.in_err-write_replaced.ensures.one few))
-    ]
+    (omega (arith, c.in_ok-write_replaced.ensures.copied.grows, below.0, c.in_ok-way.ensures.way.within), omega (arith, below.1, c.write_replaced.ensures.writes.taken, below.0, c.in_ok-way.ensures.way.within))
 
 pub returns-then-level-eq0-clause-beside : goal.returns-then-level-eq0-clause-beside
 returns-then-level-eq0-clause-beside g t c levels honest rs bs tree begins rises =
     let first = (leaf_opens _ _ _ _ _ rs bs c.if-level-eq0.true tree).first in
     if_ok_is c.put_in_leaf.result _
-    (λ n is lacks. c.put_in_leaf.ensures.others honest n is (beside_own c.own_place-own.result c.args.top.block n c.own_place-own.ensures.same (subst (Lacks n) first lacks).0))
-
-pub returns-then-level-eq0-clause-writes : goal.returns-then-level-eq0-clause-writes
-returns-then-level-eq0-clause-writes g t c = writes_as c.put_in_leaf.ensures.writes (λ is. is) (spares_own (option_copied c.args.base) _ c.own_place-own.result c.own_place-own.ensures.own)
+    (λ n is lacks. others_kept c.own_place-own.result (own_more (option_copied c.args.base) _ _ c.own_place-own.result (holds_same _) c.own_place-own.ensures.own) c.put_in_leaf.ensures.writes honest n is (beside_own c.own_place-own.result c.args.top.block n c.own_place-own.ensures.same (subst (Lacks n) first lacks).0))
 
 pub returns-clause-beside : goal.returns-clause-beside
 returns-clause-beside g t c levels honest rs bs tree begins rises n is lacks =
@@ -194,19 +145,10 @@ returns-clause-beside g t c levels honest rs bs tree begins rises n is lacks =
     let cs = read.0 in
     let way = c.in_ok-way.ensures.only earlier cs (subst (λ n. IsNodeAt old.contents n c.args.level c.args.top.block cs) (sym c.blocks-2.ensures.count) read.1) (read.3 c.args.top.low begins) read.2 in
     let only = only_one old.contents limit c.args.level c.args.top.block sizes.fan cs read.1 in
-    c.write_replaced.ensures.others honest n (c.in_ok-copied.ensures.writes.still.still n is)
+    others_kept c.own_place-own.result (own_more (option_copied c.args.base) _ _ c.own_place-own.result c.in_ok-copied.ensures.writes.still c.own_place-own.ensures.own) c.write_replaced.ensures.writes honest n (c.in_ok-copied.ensures.writes.still.still n is)
     (beside_own c.own_place-own.result c.args.top.block n c.own_place-own.ensures.same (lacks_top sizes old.contents limit c.args.level c.args.top.block rs bs n tree rises lacks))
     ∙ framed_beside sizes old _ limit c.args.level c.args.top.block (place r.0) rs bs cs c.in_ok-way.way.index c.in_ok-way.way.child still above tree rises only way.2.chosen
     c.in_ok-way.way.child c.args.held.now (g.D.Disk.state c.put_below.new.disk).now.contents way.2.child (c.in_ok-copied.ensures.beside levels later) n is lacks
-
-pub write_replaced-requires-clause-own : goal.write_replaced-requires-clause-own
-write_replaced-requires-clause-own g t c = own_more (option_copied c.args.base) _ _ c.own_place-own.result c.in_ok-copied.ensures.writes.still c.own_place-own.ensures.own
-
-pub put_in_leaf-requires-clause-own : goal.put_in_leaf-requires-clause-own
-put_in_leaf-requires-clause-own g t c = own_more (option_copied c.args.base) _ _ c.own_place-own.result (holds_same _) c.own_place-own.ensures.own
-
-pub returns-then-stays-clause-writes : goal.returns-then-stays-clause-writes
-returns-then-stays-clause-writes g t c = looks_write c.in_ok-way.ensures.looks c.in_ok-copied.ensures.writes (λ is. cc) (λ spared may. may)
 
 pub returns-then-stays-clause-path : goal.returns-then-stays-clause-path
 returns-then-stays-clause-path g t c honest =
@@ -277,7 +219,7 @@ returns-then-stays-clause-put g t c levels honest rs bs tree begins rises =
     let some : is_some own ≡ true = search rules in
     let mine = own_there (option_copied c.args.base) before own b some c.own_place-own.ensures.own same in
     let frames = c.in_ok-copied.ensures.beside levels honest in
-    let lt : i < length cs = omega (arith, c.in_ok-way.ensures.within, way.1) in
+    let lt : i < length cs = omega (arith, c.in_ok-way.ensures.way.within, way.1) in
     let more = c.in_ok-copied.ensures.writes.still in
     let lent = take i cs ++ (children_of copied ++ drop (i + 1) cs) in
     let all : lent ≡ cs = ap (λ (z : Copied). take i cs ++ (children_of z ++ drop (i + 1) cs)) one ∙ same_children cs i d d lt way.2.child in
@@ -296,6 +238,40 @@ returns-then-stays-clause-put g t c levels honest rs bs tree begins rises =
     refl grows
     (λ keep qs kept rising made.
     stands_made (IsRenewed before between (without_own own keep)) (IsRenewed before between keep) sizes y (length between) c.args.level b cs c.args.top qs (renewed_all own before between keep) node read.2 (read.3 c.args.top.low begins) refl
-    (mine.taken.above, omega (arith, inside, more.same_length)) (omega (arith, inside, c.requires.inside, g.met.D.Disk.small c.args.disk.now))
+    (mine.taken.above, omega (arith, inside, more.same_length)) (omega (arith, inside, c.requires.may.inside, g.met.D.Disk.small c.args.disk.now))
     (record { now = more.still b mine.taken.held_now; kept = λ _. own_kept own before keep b some same kept }) rising
     (subst (λ (ds : List Child). Made (IsRenewed before between (without_own own keep)) sizes y (length between) (c.args.level - 1) ds qs) all made))
+
+pub returns-clause-writes : goal.returns-clause-writes
+returns-clause-writes g t c =
+    let spent : 2 * (c.args.level - 1) + 2 + min 1 c.if-room-gt0.below + (1 + grown g.row.FAN (c.in_ok-way.way.count + extra c.in_ok-copied.copied)) ≤ 2 * c.args.level + 2 + min 1 c.args.room =
+    elim c.if-room-gt0.branch [
+      | then-room-gt0 w ↦ omega (arith, w.if-room-gt0.true, c.if-level-eq0.false)
+      | else-room-gt0 w ↦ omega (arith, w.below-is, c.in_ok-copied.ensures.copied.room, c.in_ok-way.ensures.way.within, c.if-level-eq0.false)
+    ] in
+    looks_write c.in_ok-way.ensures.looks (writes_on c.in_ok-copied.ensures.writes c.in_ok-write_replaced.ensures.writes (λ is. is) (λ spared may. (may, spares_own (option_copied c.args.base) _ c.own_place-own.result c.own_place-own.ensures.own spared may))) (λ is. cc) (λ spared may. may) (omega (arith, c.if-level-eq0.false)) spent
+
+pub returns-in_err-write_replaced-clause-writes : goal.returns-in_err-write_replaced-clause-writes
+returns-in_err-write_replaced-clause-writes g t c =
+    let spent : 2 * (c.args.level - 1) + 2 + min 1 c.if-room-gt0.below + (1 + grown g.row.FAN (c.in_ok-way.way.count + extra c.in_ok-copied.copied)) ≤ 2 * c.args.level + 2 + min 1 c.args.room =
+    elim c.if-room-gt0.branch [
+      | then-room-gt0 w ↦ omega (arith, w.if-room-gt0.true, c.if-level-eq0.false)
+      | else-room-gt0 w ↦ omega (arith, w.below-is, c.in_ok-copied.ensures.copied.room, c.in_ok-way.ensures.way.within, c.if-level-eq0.false)
+    ] in
+    looks_write c.in_ok-way.ensures.looks (writes_on c.in_ok-copied.ensures.writes c.in_err-write_replaced.ensures.writes (λ is. is) (λ spared may. (may, spares_own (option_copied c.args.base) _ c.own_place-own.result c.own_place-own.ensures.own spared may))) (search rules) (λ spared may. may) (omega (arith, c.if-level-eq0.false)) spent
+
+pub returns-in_err-way-clause-writes : goal.returns-in_err-way-clause-writes
+returns-in_err-way-clause-writes g t c = looks_free c.in_err-way.ensures.looks (search rules) (omega arith)
+
+pub returns-in_err-copied-clause-writes : goal.returns-in_err-copied-clause-writes
+returns-in_err-copied-clause-writes g t c =
+    let less : min 1 c.if-room-gt0.below ≤ 1 = omega arith in looks_write c.in_ok-way.ensures.looks c.in_err-copied.ensures.writes (search rules) (λ spared may. may) (omega (arith, c.if-level-eq0.false)) (omega (arith, c.if-level-eq0.false, less))
+
+pub returns-then-level-eq0-clause-writes : goal.returns-then-level-eq0-clause-writes
+returns-then-level-eq0-clause-writes g t c = writes_as c.put_in_leaf.ensures.writes (λ is. is) (spares_own (option_copied c.args.base) _ c.own_place-own.result c.own_place-own.ensures.own) (omega arith) (omega arith)
+
+pub returns-then-stays-clause-writes : goal.returns-then-stays-clause-writes
+returns-then-stays-clause-writes g t c = looks_write c.in_ok-way.ensures.looks c.in_ok-copied.ensures.writes (λ is. cc) (λ spared may. may) (omega (arith, c.if-level-eq0.false)) (omega (arith, c.if-level-eq0.false))
+
+pub returns-in_err-copied-clause-refused : goal.returns-in_err-copied-clause-refused
+returns-in_err-copied-clause-refused g t c = rw (passed_on _ c.from_residual-in_err-copied.ensures.1) (looks_if c.in_ok-way.ensures.looks c.in_err-copied.ensures.writes.goes.earlier c.in_err-copied.ensures.refused (λ is. is))

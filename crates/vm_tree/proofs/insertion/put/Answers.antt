@@ -1,6 +1,7 @@
-use Rattle.std.proofs.Common.{◌≡◌, ℕ, Bool, true, [], ◌∷◌, ◌+◌, ◌≤◌, ◌<◌, length, take, ap, sym, subst, inl, inr, arith, rules}
+use Rattle.std.proofs.Common.{◌≡◌, ℕ, Bool, true, [], ◌∷◌, ◌+◌, ◌*◌, ◌≤◌, ◌<◌, min, length, take, ap, sym, subst, inl, inr, arith, rules}
 use Rattle.std.specs.List.{AllByRecursion}
 use Rattle.vm_types.specs.Map.{Map, with_value}
+use Rattle.vm_types.specs.Places.{KeyFits}
 use Rattle.vm_alloc.specs.Held.{IsHeld}
 use Rattle.vm_block.specs.Leaf.{Record}
 use Rattle.vm_block.specs.Node.{node_bytes, node_head}
@@ -10,12 +11,12 @@ use Rattle.vm_tree.specs.Splits.{children_of, extra}
 use Rattle.vm_tree.specs.Replacement.{IsRenewed}
 use Rattle.vm_tree.specs.declared.root.Root.{Root}
 use Rattle.vm_tree.specs.Root.{IsRootedIn, sizes_of}
-use Rattle.vm_tree.proofs.Looking.{looks_as, passed_on, writes_as, writes_on}
+use Rattle.vm_tree.proofs.Looking.{looks_never, passed_on, writes_as, writes_then}
 use Rattle.vm_tree.proofs.Descent.{subtree_top}
 use Rattle.vm_tree.proofs.FullPaths.{grows_few}
 use Rattle.vm_tree.proofs.RemoveLemmas.{two_children}
 use Rattle.vm_tree.proofs.Renewing.{all_kept, rooted_so}
-use Rattle.vm_tree.proofs.RootLemmas.{grows_lacks, root_one, root_more, device_puts, fault_puts}
+use Rattle.vm_tree.proofs.RootLemmas.{grows_lacks, root_one, root_more, fault_puts}
 use Rattle.vm_tree.proofs.insertion.put.Goals as goal
 use Rattle.vm_tree.proofs.insertion.put.Goals.{then-from-2, else-from-2}
 
@@ -37,13 +38,10 @@ returns-then-root-eq0-clause-put g c honest m bs (inl bare) =
 returns-then-root-eq0-clause-put g c honest m bs (inr top) =
     let inside = subtree_top _ _ _ _ _ m bs top.subtree in absurd (omega (arith, c.if-root-eq0.true, inside.0))
 
-pub returns-in_err-put_first-clause-put : goal.returns-in_err-put_first-clause-put
-returns-in_err-put_first-clause-put g c honest m bs rooted =
-    rw (passed_on _ c.from_residual.ensures.1) (device_puts _ _ _ c.in_err-put_first.ensures.device)
-
 pub returns-in-One-clause-put : goal.returns-in-One-clause-put
 returns-in-One-clause-put g c honest m bs (inl bare) = absurd (c.if-root-eq0.false bare.none)
 returns-in-One-clause-put g c honest m bs (inr top) =
+    let fits : KeyFits c.args.key = (omega arith, omega arith) in
     let sizes = sizes_of g.row.FAN g.row.LEVELS in
     let before = c.args.held.now in
     let held = c.put_below.new.held in
@@ -52,7 +50,7 @@ returns-in-One-clause-put g c honest m bs (inr top) =
     let every : ℕ → Bool = λ _. true in
     let got = c.in_ok-copied.ensures.put g.row.LEVELS honest m bs top.subtree top.lowest top.rising in
     let P = IsRenewed before held every in
-    let done = root_one sizes _ limit c.args.root m bs c.args.key c.args.value.now c.put_below.ensures.fits top P after c.in_ok-copied.copied 0 c.in-One.top (AllByRecursion (IsHeld before) bs)
+    let done = root_one sizes _ limit c.args.root m bs c.args.key c.args.value.now fits top P after c.in_ok-copied.copied 0 c.in-One.top (AllByRecursion (IsHeld before) bs)
     c.in-One.is (λ all. got.0 every all (all_kept bs), got.1) in (
       λ all.
           let now = rooted_so P (IsHeld held) sizes after limit _ (with_value m c.args.key c.args.value.now) (λ n is. is.now) (done.0 all) in
@@ -63,6 +61,7 @@ returns-in-One-clause-put g c honest m bs (inr top) =
 pub returns-in_ok-top-in-Two-clause-put : goal.returns-in_ok-top-in-Two-clause-put
 returns-in_ok-top-in-Two-clause-put g c honest m bs (inl bare) = absurd (c.if-root-eq0.false bare.none)
 returns-in_ok-top-in-Two-clause-put g c honest m bs (inr top) =
+    let fits : KeyFits c.args.key = (omega arith, omega arith) in
     let sizes = sizes_of g.row.FAN g.row.LEVELS in
     let before = c.args.held.now in
     let between = c.put_below.new.held in
@@ -75,12 +74,12 @@ returns-in_ok-top-in-Two-clause-put g c honest m bs (inr top) =
     let earlier = c.in_ok-top-in-Two.ensures.writes.goes.earlier honest in
     let got = c.in_ok-copied.ensures.put g.row.LEVELS earlier m bs top.subtree top.lowest top.rising in
     let more = ap extra c.in-Two.is in
-    let some : 0 < c.if-from-2.room = omega (arith, more, c.in_ok-copied.ensures.room) in
+    let some : 0 < c.if-from-2.room = omega (arith, more, c.in_ok-copied.ensures.copied.room) in
     let low : level + 1 < g.row.LEVELS = elim c.if-from-2.branch [ then-from-2 w ↦ omega (arith, w.if-from-2.true, c.from-2.ensures) | else-from-2 w ↦ absurd (omega (arith, some, w.room-is)) ] in
     let few : level + 1 ≤ 7 = omega (arith, low, c.requires.sizes.levels_most) in
     let P = IsRenewed before between every in
     let Q = IsRenewed before held every in
-    let done = root_more sizes _ limit c.args.root m bs c.args.key c.args.value.now c.put_below.ensures.fits top P Q mid after (length between)
+    let done = root_more sizes _ limit c.args.root m bs c.args.key c.args.value.now fits top P Q mid after (length between)
     c.in_ok-copied.copied 0 (c.in-Two.left ∷ c.in-Two.right ∷ []) c.in_ok-top-in-Two.top (AllByRecursion (IsHeld before) bs)
     (ap children_of c.in-Two.is) c.in_ok-copied.ensures.writes.still.same_length low
     (λ all. got.0 every all (all_kept bs), got.1)
@@ -94,6 +93,7 @@ returns-in_ok-top-in-Two-clause-put g c honest m bs (inr top) =
 pub returns-in_ok-top-in-Three-clause-put : goal.returns-in_ok-top-in-Three-clause-put
 returns-in_ok-top-in-Three-clause-put g c honest m bs (inl bare) = absurd (c.if-root-eq0.false bare.none)
 returns-in_ok-top-in-Three-clause-put g c honest m bs (inr top) =
+    let fits : KeyFits c.args.key = (omega arith, omega arith) in
     let sizes = sizes_of g.row.FAN g.row.LEVELS in
     let before = c.args.held.now in
     let between = c.put_below.new.held in
@@ -106,12 +106,12 @@ returns-in_ok-top-in-Three-clause-put g c honest m bs (inr top) =
     let earlier = c.in_ok-top-in-Three.ensures.writes.goes.earlier honest in
     let got = c.in_ok-copied.ensures.put g.row.LEVELS earlier m bs top.subtree top.lowest top.rising in
     let more = ap extra c.in-Three.is in
-    let some : 0 < c.if-from-2.room = omega (arith, more, c.in_ok-copied.ensures.room) in
+    let some : 0 < c.if-from-2.room = omega (arith, more, c.in_ok-copied.ensures.copied.room) in
     let low : level + 1 < g.row.LEVELS = elim c.if-from-2.branch [ then-from-2 w ↦ omega (arith, w.if-from-2.true, c.from-2.ensures) | else-from-2 w ↦ absurd (omega (arith, some, w.room-is)) ] in
     let few : level + 1 ≤ 7 = omega (arith, low, c.requires.sizes.levels_most) in
     let P = IsRenewed before between every in
     let Q = IsRenewed before held every in
-    let done = root_more sizes _ limit c.args.root m bs c.args.key c.args.value.now c.put_below.ensures.fits top P Q mid after (length between)
+    let done = root_more sizes _ limit c.args.root m bs c.args.key c.args.value.now fits top P Q mid after (length between)
     c.in_ok-copied.copied 0 (c.in-Three.left ∷ c.in-Three.middle ∷ c.in-Three.right ∷ []) c.in_ok-top-in-Three.top (AllByRecursion (IsHeld before) bs)
     (ap children_of c.in-Three.is) c.in_ok-copied.ensures.writes.still.same_length low
     (λ all. got.0 every all (all_kept bs), got.1)
@@ -125,6 +125,7 @@ returns-in_ok-top-in-Three-clause-put g c honest m bs (inr top) =
 pub returns-in_err-copied-clause-put : goal.returns-in_err-copied-clause-put
 returns-in_err-copied-clause-put g c honest m bs (inl bare) = absurd (c.if-root-eq0.false bare.none)
 returns-in_err-copied-clause-put g c honest m bs (inr top) =
+    let fits : KeyFits c.args.key = (omega arith, omega arith) in
     let sizes = sizes_of g.row.FAN g.row.LEVELS in
     let r : Record = (c.args.key, c.args.value.now) in
     let x = (g.D.Disk.state c.args.disk.now).now.contents in
@@ -133,13 +134,7 @@ returns-in_err-copied-clause-put g c honest m bs (inr top) =
     (λ is more over grows.
     let few = grows_few sizes x r c.args.root.level c.args.root.block more grows in
     let greatest : c.args.root.level + 1 ≡ g.row.LEVELS = elim c.if-from-2.branch [ then-from-2 w ↦ absurd (omega (arith, over, few, w.room-is)) | else-from-2 w ↦ omega (arith, w.if-from-2.false, c.from-2.ensures, top.level) ] in
-    grows_lacks sizes x (length c.args.held.now) c.args.root m bs c.args.key c.args.value.now c.put_below.ensures.fits top greatest more (omega (arith, over)) grows))
-
-pub returns-then-root-eq0-clause-path : goal.returns-then-root-eq0-clause-path
-returns-then-root-eq0-clause-path g c honest = λ some. absurd (omega (arith, some, c.if-root-eq0.true))
-
-pub returns-then-root-eq0-clause-replaced : goal.returns-then-root-eq0-clause-replaced
-returns-then-root-eq0-clause-replaced g c honest m bs rooted there = omega (arith, c.put_first.ensures.taken)
+    grows_lacks sizes x (length c.args.held.now) c.args.root m bs c.args.key c.args.value.now fits top greatest more (omega (arith, over)) grows))
 
 pub returns-in-One-clause-replaced : goal.returns-in-One-clause-replaced
 returns-in-One-clause-replaced g c honest m bs (inl bare) there = absurd (c.if-root-eq0.false bare.none)
@@ -157,42 +152,40 @@ returns-in_ok-top-in-Three-clause-replaced g c honest m bs (inr top) there =
     let one = (c.in_ok-copied.ensures.replaced g.row.LEVELS (c.in_ok-top-in-Three.ensures.writes.goes.earlier honest) m bs top.subtree top.lowest top.rising there).0 in
     absurd (omega (arith, one, ap extra c.in-Three.is))
 
-pub returns-in_ok-top-in-Two-clause-writes : goal.returns-in_ok-top-in-Two-clause-writes
-returns-in_ok-top-in-Two-clause-writes g c = writes_on c.in_ok-copied.ensures.writes c.in_ok-top-in-Two.ensures.writes (λ is. cc) (λ spared may. (may, tt))
-
-pub returns-in_err-top-in-Two-clause-writes : goal.returns-in_err-top-in-Two-clause-writes
-returns-in_err-top-in-Two-clause-writes g c = writes_on c.in_ok-copied.ensures.writes c.in_err-top-in-Two.ensures.writes (search rules) (λ spared may. (may, tt))
-
 pub returns-in_ok-top-in-Two-clause-wide : goal.returns-in_ok-top-in-Two-clause-wide
 unfolding node_bytes node_head
 returns-in_ok-top-in-Two-clause-wide g c higher honest up k cs node =
-    two_children {l = c.args.root.level + 1} {n = 2} (ap (take 16) (c.in_ok-top-in-Two.ensures.written honest)) (omega (arith, c.if-from.false, c.from.ensures, c.requires.sizes.levels_most)) (omega arith) (omega arith) (rw c.root_at-in-Two.ensures at node)
-
-pub returns-in_ok-top-in-Three-clause-writes : goal.returns-in_ok-top-in-Three-clause-writes
-returns-in_ok-top-in-Three-clause-writes g c = writes_on c.in_ok-copied.ensures.writes c.in_ok-top-in-Three.ensures.writes (λ is. cc) (λ spared may. (may, tt))
-
-pub returns-in_err-top-in-Three-clause-writes : goal.returns-in_err-top-in-Three-clause-writes
-returns-in_err-top-in-Three-clause-writes g c = writes_on c.in_ok-copied.ensures.writes c.in_err-top-in-Three.ensures.writes (search rules) (λ spared may. (may, tt))
+    two_children {l = c.args.root.level + 1} {n = 2} (ap (take 16) (c.in_ok-top-in-Two.ensures.written.bytes_are honest)) (omega (arith, c.if-from.false, c.from.ensures, c.requires.sizes.levels_most)) (omega arith) (omega arith) (rw c.root_at-in-Two.ensures at node)
 
 pub returns-in_ok-top-in-Three-clause-wide : goal.returns-in_ok-top-in-Three-clause-wide
 unfolding node_bytes node_head
 returns-in_ok-top-in-Three-clause-wide g c higher honest up k cs node =
-    two_children {l = c.args.root.level + 1} {n = 3} (ap (take 16) (c.in_ok-top-in-Three.ensures.written honest)) (omega (arith, c.if-from.false, c.from.ensures, c.requires.sizes.levels_most)) (omega arith) (omega arith) (rw c.root_at-in-Three.ensures at node)
+    two_children {l = c.args.root.level + 1} {n = 3} (ap (take 16) (c.in_ok-top-in-Three.ensures.written.bytes_are honest)) (omega (arith, c.if-from.false, c.from.ensures, c.requires.sizes.levels_most)) (omega arith) (omega arith) (rw c.root_at-in-Three.ensures at node)
 
-pub returns-in_err-copied-clause-deep : goal.returns-in_err-copied-clause-deep
-returns-in_err-copied-clause-deep g c = looks_as c.in_err-copied.ensures.deep (search rules)
+pub returns-in_ok-top-in-Two-clause-writes : goal.returns-in_ok-top-in-Two-clause-writes
+returns-in_ok-top-in-Two-clause-writes g c =
+    let some : 0 < c.if-from-2.room = omega (arith, ap extra c.in-Two.is, c.in_ok-copied.ensures.copied.room) in
+    let spent : 2 * c.args.root.level + 2 + min 1 c.if-from-2.room + 1 ≤ min 16 (2 * c.args.root.level + 4) =
+    elim c.if-from-2.branch [ then-from-2 w ↦ omega (arith, w.if-from-2.true, c.from-2.ensures, c.requires.sizes.levels_most) | else-from-2 w ↦ absurd (omega (arith, some, w.room-is)) ] in
+    writes_then c.in_ok-copied.ensures.writes c.in_ok-top-in-Two.ensures.writes (λ is. cc) (λ spared may. (may, tt)) (omega arith) spent
 
-pub returns-in_err-copied-clause-looks : goal.returns-in_err-copied-clause-looks
-returns-in_err-copied-clause-looks g c b = looks_as (c.in_err-copied.ensures.looks b) (search rules)
+pub returns-in_err-top-in-Two-clause-writes : goal.returns-in_err-top-in-Two-clause-writes
+returns-in_err-top-in-Two-clause-writes g c =
+    let some : 0 < c.if-from-2.room = omega (arith, ap extra c.in-Two.is, c.in_ok-copied.ensures.copied.room) in
+    let spent : 2 * c.args.root.level + 2 + min 1 c.if-from-2.room + 1 ≤ min 16 (2 * c.args.root.level + 4) =
+    elim c.if-from-2.branch [ then-from-2 w ↦ omega (arith, w.if-from-2.true, c.from-2.ensures, c.requires.sizes.levels_most) | else-from-2 w ↦ absurd (omega (arith, some, w.room-is)) ] in
+    writes_then c.in_ok-copied.ensures.writes c.in_err-top-in-Two.ensures.writes (search rules) (λ spared may. (may, tt)) (omega arith) spent
 
-pub put_first-requires-clause-short : goal.put_first-requires-clause-short
-put_first-requires-clause-short g c = omega (arith, c.requires.short)
+pub returns-in_ok-top-in-Three-clause-writes : goal.returns-in_ok-top-in-Three-clause-writes
+returns-in_ok-top-in-Three-clause-writes g c =
+    let some : 0 < c.if-from-2.room = omega (arith, ap extra c.in-Three.is, c.in_ok-copied.ensures.copied.room) in
+    let spent : 2 * c.args.root.level + 2 + min 1 c.if-from-2.room + 1 ≤ min 16 (2 * c.args.root.level + 4) =
+    elim c.if-from-2.branch [ then-from-2 w ↦ omega (arith, w.if-from-2.true, c.from-2.ensures, c.requires.sizes.levels_most) | else-from-2 w ↦ absurd (omega (arith, some, w.room-is)) ] in
+    writes_then c.in_ok-copied.ensures.writes c.in_ok-top-in-Three.ensures.writes (λ is. cc) (λ spared may. (may, tt)) (omega arith) spent
 
-pub put_below-requires-clause-short : goal.put_below-requires-clause-short
-put_below-requires-clause-short g c = omega (arith, c.requires.short)
-
-pub returns-then-root-eq0-clause-writes : goal.returns-then-root-eq0-clause-writes
-returns-then-root-eq0-clause-writes g c = writes_as c.in_ok-put_first.ensures.writes (λ is. cc) (λ spared may. tt)
-
-pub returns-in_err-put_first-clause-writes : goal.returns-in_err-put_first-clause-writes
-returns-in_err-put_first-clause-writes g c = writes_as c.in_err-put_first.ensures.writes (search rules) (λ spared may. tt)
+pub returns-in_err-top-in-Three-clause-writes : goal.returns-in_err-top-in-Three-clause-writes
+returns-in_err-top-in-Three-clause-writes g c =
+    let some : 0 < c.if-from-2.room = omega (arith, ap extra c.in-Three.is, c.in_ok-copied.ensures.copied.room) in
+    let spent : 2 * c.args.root.level + 2 + min 1 c.if-from-2.room + 1 ≤ min 16 (2 * c.args.root.level + 4) =
+    elim c.if-from-2.branch [ then-from-2 w ↦ omega (arith, w.if-from-2.true, c.from-2.ensures, c.requires.sizes.levels_most) | else-from-2 w ↦ absurd (omega (arith, some, w.room-is)) ] in
+    writes_then c.in_ok-copied.ensures.writes c.in_err-top-in-Three.ensures.writes (search rules) (λ spared may. (may, tt)) (omega arith) spent

@@ -1,7 +1,5 @@
-use Rattle.std.proofs.Common.{◌≡◌, ◌∙◌, true, ap, length, sym, subst, refl, arith, rules}
+use Rattle.std.proofs.Common.{◌≡◌, true, length, sym, subst, refl, arith, rules}
 use Rattle.std.specs.List.{AllByRecursion}
-use Rattle.vm_disk.specs.Disk.{Medium, block}
-use Rattle.vm_disk.proofs.MomentLemmas.{same_medium}
 use Rattle.vm_alloc.specs.Held.{IsHeld}
 use Rattle.vm_types.specs.Places.{with_record}
 use Rattle.vm_alloc.proofs.HeldLemmas.{holds_same}
@@ -82,34 +80,16 @@ returns-in-TooBig-clause-path g c honest =
     (leads_end _ _ _ (length c.args.held.now) 0 c.args.top.block c.args.top.low refl c.blocks-2.ensures.count (c.in_ok-load_leaf.ensures.end (c.split_leaf.ensures.writes.goes.earlier honest)))
 
 pub returns-in_ok-leaf-in-Put-clause-writes : goal.returns-in_ok-leaf-in-Put-clause-writes
-returns-in_ok-leaf-in-Put-clause-writes g c = looks_write c.in_ok-load_leaf.ensures.looks c.in_ok-leaf-in-Put.ensures.writes (λ is. cc) (λ spared may. may)
+returns-in_ok-leaf-in-Put-clause-writes g c = looks_write c.in_ok-load_leaf.ensures.looks c.in_ok-leaf-in-Put.ensures.writes (λ is. cc) (λ spared may. may) (omega arith) (omega arith)
 
 pub returns-in_err-leaf-in-Put-clause-writes : goal.returns-in_err-leaf-in-Put-clause-writes
-returns-in_err-leaf-in-Put-clause-writes g c = looks_write c.in_ok-load_leaf.ensures.looks c.in_err-leaf-in-Put.ensures.writes (search rules) (λ spared may. may)
+returns-in_err-leaf-in-Put-clause-writes g c = looks_write c.in_ok-load_leaf.ensures.looks c.in_err-leaf-in-Put.ensures.writes (search rules) (λ spared may. may) (omega arith) (omega arith)
 
 pub returns-in-TooBig-clause-writes : goal.returns-in-TooBig-clause-writes
-returns-in-TooBig-clause-writes g c = looks_write c.in_ok-load_leaf.ensures.looks c.split_leaf.ensures.writes (λ is. is) (λ spared may. may)
-
-pub returns-in-TooBig-clause-deep : goal.returns-in-TooBig-clause-deep
-returns-in-TooBig-clause-deep g c = looks_if c.in_ok-load_leaf.ensures.looks c.split_leaf.ensures.writes.goes.earlier c.split_leaf.ensures.deep (λ is. is)
-
-pub returns-in-TooBig-clause-looks : goal.returns-in-TooBig-clause-looks
-returns-in-TooBig-clause-looks g c b = looks_if c.in_ok-load_leaf.ensures.looks c.split_leaf.ensures.writes.goes.earlier (c.split_leaf.ensures.looks b) (λ is. is)
+returns-in-TooBig-clause-writes g c = looks_write c.in_ok-load_leaf.ensures.looks c.split_leaf.ensures.writes (λ is. is) (λ spared may. may) (omega arith) (omega arith)
 
 pub returns-in_err-load_leaf-clause-writes : goal.returns-in_err-load_leaf-clause-writes
-returns-in_err-load_leaf-clause-writes g c = looks_free c.in_err-load_leaf.ensures.looks (search rules)
+returns-in_err-load_leaf-clause-writes g c = looks_free c.in_err-load_leaf.ensures.looks (search rules) (omega arith)
 
-pub returns-in_ok-leaf-in-Put-clause-others : goal.returns-in_ok-leaf-in-Put-clause-others
-returns-in_ok-leaf-in-Put-clause-others g c honest n is beside =
-    c.write_bytes.ensures.others honest n is beside ∙ ap (λ (m : Medium). block m.contents n) (same_medium _ _ (c.in_ok-load_leaf.ensures.looks.reads (c.write_bytes.ensures.writes.goes.earlier honest)))
-
-pub returns-in_err-leaf-in-Put-clause-others : goal.returns-in_err-leaf-in-Put-clause-others
-returns-in_err-leaf-in-Put-clause-others g c honest n is beside =
-    c.write_bytes.ensures.others honest n is beside ∙ ap (λ (m : Medium). block m.contents n) (same_medium _ _ (c.in_ok-load_leaf.ensures.looks.reads (c.write_bytes.ensures.writes.goes.earlier honest)))
-
-pub returns-in-TooBig-clause-others : goal.returns-in-TooBig-clause-others
-returns-in-TooBig-clause-others g c honest n is beside =
-    c.split_leaf.ensures.others honest n is beside ∙ ap (λ (m : Medium). block m.contents n) (same_medium _ _ (c.in_ok-load_leaf.ensures.looks.reads (c.split_leaf.ensures.writes.goes.earlier honest)))
-
-pub returns-in_err-load_leaf-clause-others : goal.returns-in_err-load_leaf-clause-others
-returns-in_err-load_leaf-clause-others g c honest n is beside = ap (λ (m : Medium). block m.contents n) (same_medium _ _ (c.in_err-load_leaf.ensures.looks.reads honest))
+pub returns-in-TooBig-clause-refused : goal.returns-in-TooBig-clause-refused
+returns-in-TooBig-clause-refused g c = looks_if c.in_ok-load_leaf.ensures.looks c.split_leaf.ensures.writes.goes.earlier c.split_leaf.ensures.refused (λ is. is)

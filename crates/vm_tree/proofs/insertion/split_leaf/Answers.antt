@@ -18,7 +18,7 @@ returns-in_ok-write_two-in-Two-clause-made g c honest rs leaf over =
       λ before keep more mine sizes.
           subst (λ (qs : List Record). Made (IsRenewed before c.write_two.new.held keep) sizes x (length c.args.held.now) 0 (children_of done.field-0) qs) (take-append-drop two.cut all)
           (done.ensures.made honest before keep more mine sizes (take two.cut all) (drop two.cut all) two.before two.behind),
-      subst (NeedsMore all) (sym done.ensures.two) (needs_two r rs all _ _ over two),
+      subst (NeedsMore all) (sym done.ensures.copied.grows) (needs_two r rs all _ _ over two),
     )
 
 pub returns-in_ok-write_three-in-Three-clause-made : goal.returns-in_ok-write_three-in-Three-clause-made
@@ -31,7 +31,7 @@ returns-in_ok-write_three-in-Three-clause-made g c honest rs leaf over =
       λ before keep more mine sizes.
           subst (λ (qs : List Record). Made (IsRenewed before c.write_three.new.held keep) sizes x (length c.args.held.now) 0 (children_of done.field-0) qs) (sym three.is)
           (done.ensures.made honest before keep more mine sizes three.lower (r ∷ []) three.higher three.before three.one three.behind),
-      subst (NeedsMore all) (sym done.ensures.three) (over, three.needed),
+      subst (NeedsMore all) (sym done.ensures.copied.grows) (over, three.needed),
     )
 
 pub returns-in_default-clause-made : goal.returns-in_default-clause-made

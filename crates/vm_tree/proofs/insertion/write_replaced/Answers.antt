@@ -21,7 +21,7 @@ returns-then-way-2-clause-made g c honest before keep more mine sizes cs rs node
 pub returns-clause-made : goal.returns-clause-made
 returns-clause-made g c honest before keep more mine sizes cs rs node count fan rises made =
     let i = c.args.way.index in
-    let lt : i < length cs = omega (arith, count, c.requires.within) in
+    let lt : i < length cs = omega (arith, count, c.requires.way.0) in
     let now = with_children cs i (children_of c.args.copied) in
     let like = λ (copied : Copied). node_bytes c.args.level (with_children cs i (children_of copied)) in
     let spelled : c.match-copied.bytes ≡ node_bytes c.args.level now =
@@ -32,10 +32,10 @@ returns-clause-made g c honest before keep more mine sizes cs rs node count fan 
     ] in
     let few : length cs + extra c.args.copied ≤ g.row.FAN =
     elim c.match-copied.branch [
-      | in-One w ↦ omega (arith, ap extra w.in-One.is, count, c.requires.few)
+      | in-One w ↦ omega (arith, ap extra w.in-One.is, count, c.requires.way.1)
       | in-Two+else-way w ↦ omega (arith, ap extra w.in-Two.is, count, w.if-way.false)
       | in-Three+else-way-2 w ↦ omega (arith, ap extra w.in-Three.is, count, w.if-way-2.false)
     ] in
     let many = replaced_length cs (children_of c.args.copied) i lt in
     let all = count_of c.args.copied in
-    c.in_ok-node.ensures.node honest before keep more mine sizes c.args.level now rs spelled node.above node.low (omega (arith, many, all, lt)) (omega (arith, many, all, few, c.requires.most)) (omega (arith, many, all, few, fan)) rises made
+    c.in_ok-node.ensures.node honest before keep more mine sizes c.args.level now rs spelled node.above node.low (omega (arith, many, all, lt)) (omega (arith, many, all, few, c.requires.fan.most)) (omega (arith, many, all, few, fan)) rises made

@@ -5,7 +5,7 @@ use Rattle.vm_disk.proofs.MomentLemmas.{same_medium}
 use Rattle.vm_tree.specs.Answers.{OkOrDevice}
 use Rattle.vm_tree.specs.Given.{IsLeafWith}
 use Rattle.vm_tree.specs.Tree.{Subtree}
-use Rattle.vm_tree.proofs.Looking.{looks_on, passed_on}
+use Rattle.vm_tree.proofs.Looking.{passed_on, within_on}
 use Rattle.vm_tree.proofs.Descent.{node_read, way_value}
 use Rattle.vm_tree.proofs.Leading.{finds_leaf_on, leads_end}
 use Rattle.vm_tree.proofs.lookup.+leaf_of.Goals as goal
@@ -30,7 +30,7 @@ returns-in_err-way-clause-leaf g t c sizes honest rs bs tree begins rises =
     rw (passed_on _ c.from_residual.ensures.1) (c.in_err-way.ensures.only honest at.0 at.1 (at.3 c.args.top.low begins) at.1.node.few)
 
 pub returns-clause-looks : goal.returns-clause-looks
-returns-clause-looks g t c = looks_on c.in_ok-way.ensures.looks c.leaf_of.ensures.looks (λ is. is)
+returns-clause-looks g t c = within_on c.in_ok-way.ensures.looks c.leaf_of.ensures.looks (λ is. is) (omega (arith, c.if-level-eq0.false, c.in_ok-way.ensures.way.low))
 
 pub returns-clause-path : goal.returns-clause-path
 returns-clause-path g t c honest =

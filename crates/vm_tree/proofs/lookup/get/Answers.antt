@@ -6,7 +6,7 @@ use Rattle.vm_disk.proofs.MomentLemmas.{same_medium}
 use Rattle.vm_tree.specs.BlockReads.{EndsAt}
 use Rattle.vm_tree.proofs.Descent.{leaf_now, ok_map, subtree_top, value_whole}
 use Rattle.vm_tree.proofs.Leading.{if_ok_so}
-use Rattle.vm_tree.proofs.Looking.{looks_on, passed_on}
+use Rattle.vm_tree.proofs.Looking.{passed_on, within_on}
 use Rattle.vm_tree.proofs.lookup.get.Goals as goal
 
 pub returns-then-root-eq0-clause-value : goal.returns-then-root-eq0-clause-value
@@ -20,7 +20,7 @@ returns-in_err-leaf-clause-value g c sizes honest m bs (inr top) =
     rw (passed_on _ c.from_residual.ensures.1) (c.in_err-leaf.ensures.leaf sizes honest m bs top.subtree top.lowest top.rising)
 
 pub returns-clause-looks : goal.returns-clause-looks
-returns-clause-looks g c = looks_on c.in_ok-leaf.ensures.looks c.get_in_leaf.ensures.looks (λ is. is)
+returns-clause-looks g c = within_on c.in_ok-leaf.ensures.looks c.get_in_leaf.ensures.looks (λ is. is) (omega arith)
 
 pub returns-clause-value : goal.returns-clause-value
 returns-clause-value g c sizes honest m bs (inl bare) = absurd (c.if-root-eq0.false bare.none)

@@ -6,7 +6,7 @@ use Rattle.vm_tree.specs.Given.{AddsUnder}
 use Rattle.vm_tree.specs.Spent.{ReadsUnder}
 use Rattle.vm_tree.specs.Windows.{GivesNone, MayGive}
 use Rattle.vm_tree.proofs.ChildrenLeft.{child_bounded, child_failed, children_begin, scans_end, scans_more, scans_passed}
-use Rattle.vm_tree.proofs.Looking.{looks_none, looks_on, passed_on}
+use Rattle.vm_tree.proofs.Looking.{looks_none, looks_on, looks_once, passed_on}
 use Rattle.vm_tree.proofs.OverLemmas.{node_costs, node_over, top_costs}
 use Rattle.vm_tree.proofs.ScanLemmas.{device_lists}
 use Rattle.vm_tree.proofs.ranges.+scan_below.Goals as goal
@@ -30,7 +30,7 @@ returns-in_err-node-clause-added g t c honest sizes x same rs bs tree begins ris
 pub returns-in_err-node-clause-bound : goal.returns-in_err-node-clause-bound
 returns-in_err-node-clause-bound g t c honest sizes x same rs bs tree begins rises more reached test pass =
     top_costs sizes x c.args.blocks c.args.level c.args.top.block rs bs tree c.args.window (length c.args.into.now) c.args.top.low begins more reached test pass
-    (g.D.Disk.state c.args.disk.now).reads (g.D.Disk.state c.node_at.new.disk).reads (g.D.Disk.state c.node_at.new.disk).reads c.in_err-node.ensures.once.most (omega arith)
+    (g.D.Disk.state c.args.disk.now).reads (g.D.Disk.state c.node_at.new.disk).reads (g.D.Disk.state c.node_at.new.disk).reads c.in_err-node.ensures.looks.once.most (omega arith)
 
 pub loop-i-init : goal.loop-i-init
 loop-i-init g t c = record {
@@ -49,7 +49,7 @@ loop-i-preserved g t c =
     ]
 
 pub returns-in_err-scan_below-clause-looks : goal.returns-in_err-scan_below-clause-looks
-returns-in_err-scan_below-clause-looks g t c = looks_on (looks_on c.in_ok-node.ensures.looks c.loop-i.invariant.looks (λ is. is)) c.scan_below.ensures.looks (search rules)
+returns-in_err-scan_below-clause-looks g t c = looks_on (looks_on (looks_once c.in_ok-node.ensures.looks) c.loop-i.invariant.looks (λ is. is)) c.scan_below.ensures.looks (search rules)
 
 pub returns-in_err-scan_below-clause-added : goal.returns-in_err-scan_below-clause-added
 returns-in_err-scan_below-clause-added g t c honest sizes x same rs bs tree begins rises =
@@ -77,10 +77,10 @@ returns-in_err-scan_below-clause-bound g t c honest sizes x same rs bs tree begi
     still rs at.under at.below rises
     (record { low = record { table = 0; number = 0 }; block = 0 }) c.loop-i-test.true (g.D.Disk.state c.scan_below.new.disk) honest mid (subst (λ n. MayGive c.args.window n c.as_slice-children.result.now c.loop-i.i) c.len.ensures (c.if-enters.ensures.entered refl)) c.scan_below.ensures.bound test pass in
     node_costs sizes x c.args.blocks c.args.level c.args.top.block rs bs tree c.args.window (length c.args.into.now) c.args.top.low begins more reached test pass
-    (g.D.Disk.state c.args.disk.now).reads (g.D.Disk.state c.node_at.new.disk).reads (g.D.Disk.state c.scan_below.new.disk).reads c.in_ok-node.ensures.once.most (omega (arith, c.if-level-eq0.false)) at few
+    (g.D.Disk.state c.args.disk.now).reads (g.D.Disk.state c.node_at.new.disk).reads (g.D.Disk.state c.scan_below.new.disk).reads c.in_ok-node.ensures.looks.once.most (omega (arith, c.if-level-eq0.false)) at few
 
 pub returns-clause-looks : goal.returns-clause-looks
-returns-clause-looks g t c = looks_on c.in_ok-node.ensures.looks c.loop-i.invariant.looks (λ is. cc)
+returns-clause-looks g t c = looks_on (looks_once c.in_ok-node.ensures.looks) c.loop-i.invariant.looks (λ is. cc)
 
 pub returns-clause-added : goal.returns-clause-added
 returns-clause-added g t c honest sizes x same rs bs tree begins rises =
@@ -104,4 +104,4 @@ returns-clause-bound g t c honest sizes x same rs bs tree begins rises more reac
     let few = (scans_end sizes x (g.D.Disk.state c.node_at.new.disk) (g.D.Disk.state c.loop-i.disk) c.args.blocks (c.args.level - 1) c.args.window c.as_slice-children.result.now at.children read c.loop-i.i c.args.into.now c.loop-i.into c.loop-i.invariant
     still rs at.under at.below rises c.loop-i-test.false honest).1 test pass in
     node_costs sizes x c.args.blocks c.args.level c.args.top.block rs bs tree c.args.window (length c.args.into.now) c.args.top.low begins more reached test pass
-    (g.D.Disk.state c.args.disk.now).reads (g.D.Disk.state c.node_at.new.disk).reads (g.D.Disk.state c.loop-i.disk).reads c.in_ok-node.ensures.once.most (omega (arith, c.if-level-eq0.false)) at few
+    (g.D.Disk.state c.args.disk.now).reads (g.D.Disk.state c.node_at.new.disk).reads (g.D.Disk.state c.loop-i.disk).reads c.in_ok-node.ensures.looks.once.most (omega (arith, c.if-level-eq0.false)) at few

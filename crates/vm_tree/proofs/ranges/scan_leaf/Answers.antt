@@ -3,7 +3,7 @@ use Rattle.vm_disk.specs.Disk.{Contents, block}
 use Rattle.vm_block.specs.Leaf.{HasRecords}
 use Rattle.vm_tree.specs.declared.faults.TreeFault.TheVariants.{Device}
 use Rattle.vm_tree.proofs.HandLemmas.{hand_records}
-use Rattle.vm_tree.proofs.Looking.{looks_none, looks_on, passed_on}
+use Rattle.vm_tree.proofs.Looking.{looks_none, looks_on, looks_once, passed_on}
 use Rattle.vm_tree.proofs.OverLemmas.{leaf_costs, leaf_over, top_costs}
 use Rattle.vm_tree.proofs.ScanLemmas.{device_lists}
 use Rattle.vm_tree.proofs.ranges.scan_leaf.Goals as goal
@@ -17,10 +17,10 @@ returns-in_err-count-clause-added g c honest sizes x same rs bs tree begins rise
 pub returns-in_err-count-clause-bound : goal.returns-in_err-count-clause-bound
 returns-in_err-count-clause-bound g c honest sizes x same rs bs tree begins rises more reached test pass =
     top_costs sizes x c.args.blocks 0 c.args.top.block rs bs tree c.args.window (length c.args.into.now) c.args.top.low begins more reached test pass
-    (g.D.Disk.state c.args.disk.now).reads (g.D.Disk.state c.load_records.new.disk).reads (g.D.Disk.state c.load_records.new.disk).reads c.in_err-count.ensures.once.most (omega arith)
+    (g.D.Disk.state c.args.disk.now).reads (g.D.Disk.state c.load_records.new.disk).reads (g.D.Disk.state c.load_records.new.disk).reads c.in_err-count.ensures.looks.once.most (omega arith)
 
 pub returns-clause-looks : goal.returns-clause-looks
-returns-clause-looks g c = looks_on c.in_ok-count.ensures.looks (looks_none _ (λ failed. c.push_records.ensures.looks Device failed)) (λ is. is)
+returns-clause-looks g c = looks_on (looks_once c.in_ok-count.ensures.looks) (looks_none _ (λ failed. c.push_records.ensures.looks Device failed)) (λ is. is)
 
 pub returns-clause-added : goal.returns-clause-added
 returns-clause-added g c honest sizes x same rs bs tree begins rises =
@@ -35,4 +35,4 @@ returns-clause-bound g c honest sizes x same rs bs tree begins rises more reache
     let start = (g.D.Disk.state c.args.disk.now).reads in
     let mid = (g.D.Disk.state c.load_records.new.disk).reads in
     leaf_costs sizes x c.args.blocks 0 c.args.top.block rs bs tree c.args.window (length c.args.into.now) c.args.top.low begins more reached test pass
-    start mid mid c.in_ok-count.ensures.once.most at (omega arith)
+    start mid mid c.in_ok-count.ensures.looks.once.most at (omega arith)

@@ -4,7 +4,7 @@ use Rattle.vm_disk.specs.Disk.{Medium, block}
 use Rattle.vm_disk.proofs.MomentLemmas.{same_medium}
 use Rattle.vm_tree.specs.Tree.{Subtree}
 use Rattle.vm_tree.specs.Root.{sizes_of}
-use Rattle.vm_tree.proofs.Looking.{looks_on, passed_on}
+use Rattle.vm_tree.proofs.Looking.{passed_on, within_on}
 use Rattle.vm_tree.proofs.Descent.{node_read, subtree_top}
 use Rattle.vm_tree.proofs.RemoveLemmas.{alone_opens, two_children, sole, narrows_here, narrows_down}
 use Rattle.vm_tree.proofs.removal.+narrowed.Goals as goal
@@ -25,7 +25,7 @@ returns-then-way-eq1-clause-narrow g t c honest levels rs bs under =
     narrows_down (sizes_of g.row.FAN levels) (g.D.Disk.state c.args.disk.now).now _ _ c.args.level c.args.top c.in_ok-way.way.child rs bs c.narrowed.result
     (same_medium _ _ (c.in_ok-way.ensures.looks.reads (c.narrowed.ensures.looks.goes.earlier honest))) (omega (arith, c.if-level-eq0.false)) under
     (λ ds at lowest few. let way = c.in_ok-way.ensures.only (c.narrowed.ensures.looks.goes.earlier honest) ds at lowest few in
-    sole ds _ c.in_ok-way.way.index c.in_ok-way.way.child (omega (arith, way.1, c.if-way-eq1.true)) (omega (arith, c.in_ok-way.ensures.within.0, c.if-way-eq1.true)) way.2)
+    sole ds _ c.in_ok-way.way.index c.in_ok-way.way.child (omega (arith, way.1, c.if-way-eq1.true)) (omega (arith, c.in_ok-way.ensures.way.within.0, c.if-way-eq1.true)) way.2)
     (λ below there. c.narrowed.ensures.narrow honest levels rs below there)
 
 pub returns-else-way-eq1-clause-narrow : goal.returns-else-way-eq1-clause-narrow
@@ -40,10 +40,10 @@ returns-in_err-way-clause-narrow g t c honest levels rs bs under =
     rw (passed_on _ c.from_residual.ensures.1) (c.in_err-way.ensures.only honest at.0 at.1 (at.3 c.args.top.low alone.1) at.2)
 
 pub returns-then-way-eq1-clause-looks : goal.returns-then-way-eq1-clause-looks
-returns-then-way-eq1-clause-looks g t c = looks_on c.in_ok-way.ensures.looks c.narrowed.ensures.looks (λ is. is)
+returns-then-way-eq1-clause-looks g t c = within_on c.in_ok-way.ensures.looks c.narrowed.ensures.looks (λ is. is) (omega (arith, c.if-level-eq0.false))
 
 pub returns-else-way-eq1-clause-wide : goal.returns-else-way-eq1-clause-wide
 returns-else-way-eq1-clause-wide g t c honest up k cs node =
     let there = ap (λ (m : Medium). block m.contents c.args.top.block) (same_medium _ _ (c.in_ok-way.ensures.looks.reads honest)) ∙ sym (c.in_ok-way.ensures.found honest).bytes_are in
-    let head = c.in_ok-way.ensures.head in
-    two_children (ap (take 16) there ∙ head.begins) (omega (arith, head.low)) (omega (arith, c.in_ok-way.ensures.within.0, c.if-way-eq1.false)) (omega (arith, head.few)) (rw c.root_at-else-way-eq1.ensures at node)
+    let head = c.in_ok-way.ensures.way.head in
+    two_children (ap (take 16) there ∙ head.begins) (omega (arith, head.low)) (omega (arith, c.in_ok-way.ensures.way.within.0, c.if-way-eq1.false)) (omega (arith, head.few)) (rw c.root_at-else-way-eq1.ensures at node)

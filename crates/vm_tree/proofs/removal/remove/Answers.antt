@@ -1,15 +1,16 @@
 use Rattle.std.proofs.Common.{◌∙◌, ◌≤◌, ℕ, Ok, [], ◌∷◌, length, option_copied, Bool, true, inl, inr, ap, sym, subst, refl, arith, rules, ◌≡◌}
 use Rattle.vm_types.specs.Map.{Map, get, without}
-use Rattle.vm_types.specs.Places.{place}
+use Rattle.vm_types.specs.Places.{KeyFits, place}
 use Rattle.vm_alloc.specs.Held.{IsHeld, free_count}
 use Rattle.vm_tree.specs.Splits.{Made}
 use Rattle.vm_tree.specs.Tree.{IsData}
 use Rattle.vm_block.specs.Changed.{without_place}
-use Rattle.vm_tree.specs.Removal.{IsOutside, LeavesData, LeavesOld, RemovesBelow, TakesForLeft, child_of, level_of}
+use Rattle.vm_tree.specs.Removal.{IsLeftOf, IsOutside, LeavesData, NeedsNone, RemovesBelow, child_of, level_of}
 use Rattle.vm_tree.specs.Replacement.{IsRenewed, Replaces}
 use Rattle.vm_tree.specs.Root.{sizes_of}
 use Rattle.vm_tree.specs.declared.removal.Left.{Left}
-use Rattle.vm_tree.proofs.Looking.{looks_as, passed_on}
+use Rattle.vm_tree.proofs.Looking.{passed_on, writes_as}
+use Rattle.vm_tree.proofs.RemoveLemmas.{nothing_needs, same_needs}
 use Rattle.vm_tree.proofs.Renewing.{all_kept, rooted_so}
 use Rattle.vm_tree.proofs.RootRemoval.{rooted_top, rooted_bare, value_there, nothing_left, rest_left}
 use Rattle.vm_tree.proofs.removal.remove.Goals as goal
@@ -26,7 +27,7 @@ returns-in-Same-clause-remove g c honest m bs rooted =
     let top = rooted_top sizes x limit c.args.root m bs rooted c.if-root-eq0.false in
     let p = place c.args.key in
     let is : p ≡ place c.args.key = refl in
-    let fits = c.remove_below.ensures.fits in
+    let fits : KeyFits c.args.key = (omega arith, omega arith) in
     let before = c.args.held.now in
     let held = c.remove_below.new.held in
     let y = (g.D.Disk.state c.remove_below.new.disk).now.contents in
@@ -42,7 +43,7 @@ returns-in-Nothing-clause-remove g c honest m bs rooted =
     let top = rooted_top sizes x limit c.args.root m bs rooted c.if-root-eq0.false in
     let p = place c.args.key in
     let is : p ≡ place c.args.key = refl in
-    let fits = c.remove_below.ensures.fits in
+    let fits : KeyFits c.args.key = (omega arith, omega arith) in
     let before = c.args.held.now in
     let held = c.remove_below.new.held in
     let y = (g.D.Disk.state c.remove_below.new.disk).now.contents in
@@ -58,13 +59,13 @@ returns-in-Rest-clause-remove g c honest m bs rooted =
     let top = rooted_top sizes x limit c.args.root m bs rooted c.if-root-eq0.false in
     let p = place c.args.key in
     let is : p ≡ place c.args.key = refl in
-    let fits = c.remove_below.ensures.fits in
+    let fits : KeyFits c.args.key = (omega arith, omega arith) in
     let before = c.args.held.now in
     let held = c.remove_below.new.held in
     let y = (g.D.Disk.state c.remove_below.new.disk).now.contents in
     let got = subst (λ (left : Left). RemovesBelow (Ok left) p m (λ root. Replaces before held bs (λ P. Made P sizes y limit root.level (child_of root ∷ []) (without_place p m)))) c.in-Rest.is
     (c.in_ok-left.ensures.remove g.row.LEVELS honest m bs top.subtree top.lowest top.rising) in
-    let low : c.in-Rest.root.level ≤ c.args.root.level = subst (λ (left : Left). level_of left c.args.root.level ≤ c.args.root.level) c.in-Rest.is c.in_ok-left.ensures.level in (
+    let low : c.in-Rest.root.level ≤ c.args.root.level = subst (λ (left : Left). level_of left c.args.root.level ≤ c.args.root.level) c.in-Rest.is c.in_ok-left.ensures.left.level_is in (
       λ absent. got.0 (value_there sizes x limit c.args.root m bs c.args.key p is fits top ∙ absent),
       λ all.
           let every : ℕ → Bool = λ _. true in
@@ -81,42 +82,5 @@ returns-in_err-left-clause-remove g c honest m bs rooted =
     let top = rooted_top sizes x limit c.args.root m bs rooted c.if-root-eq0.false in
     let p = place c.args.key in
     let is : p ≡ place c.args.key = refl in
-    let fits = c.remove_below.ensures.fits in
+    let fits : KeyFits c.args.key = (omega arith, omega arith) in
     rw (passed_on _ c.from_residual.ensures.1) (c.in_err-left.ensures.remove g.row.LEVELS honest m bs top.subtree top.lowest top.rising)
-
-pub returns-in_err-left-clause-looks : goal.returns-in_err-left-clause-looks
-returns-in_err-left-clause-looks g c b = looks_as (c.in_err-left.ensures.looks b) (search rules)
-
-pub returns-in-Rest-clause-root : goal.returns-in-Rest-clause-root
-returns-in-Rest-clause-root g c = inr (subst (LeavesData (length c.args.held.now)) c.in-Rest.is c.in_ok-left.ensures.root)
-
-pub returns-in-Rest-clause-low_taken : goal.returns-in-Rest-clause-low_taken
-returns-in-Rest-clause-low_taken g c = subst (TakesForLeft c.args.root.level c.args.held.now c.remove_below.new.held) c.in-Rest.is c.in_ok-left.ensures.low_taken
-
-pub returns-in-Rest-clause-emptied : goal.returns-in-Rest-clause-emptied
-returns-in-Rest-clause-emptied g c =
-    let inside : IsData (length c.args.held.now) c.in-Rest.root.block = subst (LeavesData (length c.args.held.now)) c.in-Rest.is c.in_ok-left.ensures.root in
-    record { kept = λ none. absurd (omega (arith, none, inside.0)); reads = λ honest none. absurd (omega (arith, none, inside.0)) }
-
-pub returns-in-Nothing-clause-emptied : goal.returns-in-Nothing-clause-emptied
-returns-in-Nothing-clause-emptied g c = looks_as c.in_ok-left.ensures.nothing (λ none. ap Ok c.in-Nothing.is)
-
-pub returns-in-Nothing-clause-low_taken : goal.returns-in-Nothing-clause-low_taken
-returns-in-Nothing-clause-low_taken g c = omega (arith, ap free_count (c.in_ok-left.ensures.nothing.kept (ap Ok c.in-Nothing.is)))
-
-pub returns-in-Nothing-clause-narrowed : goal.returns-in-Nothing-clause-narrowed
-returns-in-Nothing-clause-narrowed g c = looks_as c.in_ok-left.ensures.nothing (λ is. ap Ok c.in-Nothing.is)
-
-pub returns-in-Rest-clause-narrowed : goal.returns-in-Rest-clause-narrowed
-returns-in-Rest-clause-narrowed g c = looks_as c.in_ok-left.ensures.narrowed (λ is. subst (LeavesOld (IsOutside (option_copied c.args.base)) c.args.held.now c.remove_below.new.held) (sym c.in-Rest.is) is)
-
-pub returns-in-Nothing-clause-last : goal.returns-in-Nothing-clause-last
-returns-in-Nothing-clause-last g c honest none = c.in_ok-left.ensures.last honest (ap Ok c.in-Nothing.is)
-
-pub returns-in-Rest-clause-last : goal.returns-in-Rest-clause-last
-returns-in-Rest-clause-last g c honest none =
-    let inside : IsData (length c.args.held.now) c.in-Rest.root.block = subst (LeavesData (length c.args.held.now)) c.in-Rest.is c.in_ok-left.ensures.root in
-    absurd (omega (arith, none, inside.0))
-
-pub returns-in-Nothing-clause-root : goal.returns-in-Nothing-clause-root
-returns-in-Nothing-clause-root g c = inl c.default.ensures.0

@@ -1,7 +1,5 @@
-use Rattle.std.proofs.Common.{◌≡◌, ◌∙◌, ℕ, Bool, true, List, [], ◌∷◌, length, ap, sym, subst, refl, arith, rules}
+use Rattle.std.proofs.Common.{◌≡◌, ℕ, Bool, true, List, [], ◌∷◌, length, ap, sym, subst, refl, arith, rules}
 use Rattle.std.specs.List.{AllByRecursion}
-use Rattle.vm_disk.specs.Disk.{Medium, block}
-use Rattle.vm_disk.proofs.MomentLemmas.{same_medium}
 use Rattle.vm_alloc.specs.Held.{IsHeld}
 use Rattle.vm_tree.specs.Free.{IsBeside}
 use Rattle.vm_types.specs.Places.{place}
@@ -26,13 +24,13 @@ pub returns-in-Absent-clause-remove : goal.returns-in-Absent-clause-remove
 returns-in-Absent-clause-remove g c sizes honest rs bs tree begins rises =
     let x = (g.D.Disk.state c.args.disk.now).now.contents in
     let at = subst (λ n. IsLeafAt x n c.args.top.block rs) (sym c.blocks-2.ensures.count) (leaf_read sizes x _ _ rs bs tree) in
-    c.in-Absent.ensures.only rs (hand_records (sym c.at_hand.ensures) (c.in_ok-load_leaf.ensures.only honest rs at begins))
+    c.in-Absent.ensures.only rs (hand_records (sym c.at_hand-leaf.ensures) (c.in_ok-load_leaf.ensures.only honest rs at begins))
 
 pub returns-in-Last-clause-remove : goal.returns-in-Last-clause-remove
 returns-in-Last-clause-remove g c sizes honest rs bs tree begins rises =
     let x = (g.D.Disk.state c.args.disk.now).now.contents in
     let at = subst (λ n. IsLeafAt x n c.args.top.block rs) (sym c.blocks-2.ensures.count) (leaf_read sizes x _ _ rs bs tree) in
-    c.in-Last.ensures.only rs (hand_records (sym c.at_hand.ensures) (c.in_ok-load_leaf.ensures.only honest rs at begins))
+    c.in-Last.ensures.only rs (hand_records (sym c.at_hand-leaf.ensures) (c.in_ok-load_leaf.ensures.only honest rs at begins))
 
 pub returns-in_ok-leaf-in-Out-clause-remove : goal.returns-in_ok-leaf-in-Out-clause-remove
 returns-in_ok-leaf-in-Out-clause-remove g c sizes honest rs bs tree begins rises =
@@ -41,7 +39,7 @@ returns-in_ok-leaf-in-Out-clause-remove g c sizes honest rs bs tree begins rises
     let before = c.args.held.now in
     let at = subst (λ n. IsLeafAt x n c.args.top.block rs) (sym c.blocks-2.ensures.count) (leaf_read sizes x _ _ rs bs tree) in
     let earlier = c.in_ok-leaf-in-Out.ensures.writes.goes.earlier honest in
-    let out = c.in-Out.ensures.only rs (hand_records (sym c.at_hand.ensures) (c.in_ok-load_leaf.ensures.only earlier rs at begins)) in
+    let out = c.in-Out.ensures.only rs (hand_records (sym c.at_hand-leaf.ensures) (c.in_ok-load_leaf.ensures.only earlier rs at begins)) in
     let left = without_place (place c.args.key) rs in
     let y = (g.D.Disk.state c.write_bytes.new.disk).now.contents in
     let M : (ℕ → Bool) → Root → Type 0 = λ keep r. Made (IsRenewed before c.write_bytes.new.held keep) sizes y limit r.level (child_of r ∷ []) left in (
@@ -67,50 +65,33 @@ returns-in-Last-clause-path g c honest = leads_end _ _ _ (length c.args.held.now
 pub returns-in_ok-leaf-in-Out-clause-path : goal.returns-in_ok-leaf-in-Out-clause-path
 returns-in_ok-leaf-in-Out-clause-path g c honest = leads_end _ _ _ (length c.args.held.now) 0 c.args.top.block c.args.top.low refl c.blocks-2.ensures.count (c.in_ok-load_leaf.ensures.end (c.write_bytes.ensures.writes.goes.earlier honest))
 
-pub returns-in-Absent-clause-writes : goal.returns-in-Absent-clause-writes
-returns-in-Absent-clause-writes g c = looks_free c.in_ok-load_leaf.ensures.looks (λ is. cc)
-
-pub returns-in-Last-clause-writes : goal.returns-in-Last-clause-writes
-returns-in-Last-clause-writes g c = looks_free c.in_ok-load_leaf.ensures.looks (λ is. cc)
-
-pub returns-in_ok-leaf-in-Out-clause-writes : goal.returns-in_ok-leaf-in-Out-clause-writes
-returns-in_ok-leaf-in-Out-clause-writes g c = looks_write c.in_ok-load_leaf.ensures.looks c.in_ok-leaf-in-Out.ensures.writes (λ is. cc) (λ spared may. may)
-
-pub returns-in_err-leaf-in-Out-clause-writes : goal.returns-in_err-leaf-in-Out-clause-writes
-returns-in_err-leaf-in-Out-clause-writes g c = looks_write c.in_ok-load_leaf.ensures.looks c.in_err-leaf-in-Out.ensures.writes (search rules) (λ spared may. may)
-
-pub returns-in_err-load_leaf-clause-writes : goal.returns-in_err-load_leaf-clause-writes
-returns-in_err-load_leaf-clause-writes g c = looks_free c.in_err-load_leaf.ensures.looks (search rules)
-
-pub returns-in_ok-leaf-in-Out-clause-narrowed : goal.returns-in_ok-leaf-in-Out-clause-narrowed
-returns-in_ok-leaf-in-Out-clause-narrowed g c =
+pub returns-in_ok-leaf-in-Out-clause-kept : goal.returns-in_ok-leaf-in-Out-clause-kept
+returns-in_ok-leaf-in-Out-clause-kept g c =
     let before = c.args.held.now in
     let later = c.write_bytes.new.held in
-    let written = c.in_ok-leaf-in-Out.ensures in
+    let written = c.in_ok-leaf-in-Out.ensures.written in
     looks_never (λ is.
     let there = subst (λ (root : Root). WasThere (IsBeside c.args.own) before later root) c.root_at.ensures is in
-    place_now c.args.own before before later c.in_ok-leaf-in-Out.leaf.block (holds_same before) written.place written.device.held_now there.0 there.1)
+    place_now c.args.own before before later c.in_ok-leaf-in-Out.leaf.block (holds_same before) written.place written.taken.held_now there.0 there.1)
 
 pub returns-in-Last-clause-last : goal.returns-in-Last-clause-last
 returns-in-Last-clause-last g c honest none =
     let found = c.in_ok-load_leaf.ensures.found honest in
-    let out = c.in-Last.ensures.only found.records (hand_records (sym c.at_hand.ensures) found.leaf) in
+    let out = c.in-Last.ensures.only found.records (hand_records (sym c.at_hand-leaf.ensures) found.leaf) in
     let size = without_size (place c.args.key) found.records in
     one_record _ c.args.top.block _ found.records found.bytes_are found.leaf (omega (arith, size.1, ap (λ (rs : List Record). length rs) out.1, found.leaf.some))
 
-pub returns-in-Absent-clause-others : goal.returns-in-Absent-clause-others
-returns-in-Absent-clause-others g c honest n is beside = ap (λ (m : Medium). block m.contents n) (same_medium _ _ (c.in_ok-load_leaf.ensures.looks.reads honest))
+pub returns-in-Absent-clause-writes : goal.returns-in-Absent-clause-writes
+returns-in-Absent-clause-writes g c = looks_free c.in_ok-load_leaf.ensures.looks (λ is. cc) (omega arith)
 
-pub returns-in-Last-clause-others : goal.returns-in-Last-clause-others
-returns-in-Last-clause-others g c honest n is beside = ap (λ (m : Medium). block m.contents n) (same_medium _ _ (c.in_ok-load_leaf.ensures.looks.reads honest))
+pub returns-in-Last-clause-writes : goal.returns-in-Last-clause-writes
+returns-in-Last-clause-writes g c = looks_free c.in_ok-load_leaf.ensures.looks (λ is. cc) (omega arith)
 
-pub returns-in_err-load_leaf-clause-others : goal.returns-in_err-load_leaf-clause-others
-returns-in_err-load_leaf-clause-others g c honest n is beside = ap (λ (m : Medium). block m.contents n) (same_medium _ _ (c.in_err-load_leaf.ensures.looks.reads honest))
+pub returns-in_ok-leaf-in-Out-clause-writes : goal.returns-in_ok-leaf-in-Out-clause-writes
+returns-in_ok-leaf-in-Out-clause-writes g c = looks_write c.in_ok-load_leaf.ensures.looks c.in_ok-leaf-in-Out.ensures.writes (λ is. cc) (λ spared may. may) (omega arith) (omega arith)
 
-pub returns-in_ok-leaf-in-Out-clause-others : goal.returns-in_ok-leaf-in-Out-clause-others
-returns-in_ok-leaf-in-Out-clause-others g c honest n is beside =
-    c.write_bytes.ensures.others honest n is beside ∙ ap (λ (m : Medium). block m.contents n) (same_medium _ _ (c.in_ok-load_leaf.ensures.looks.reads (c.write_bytes.ensures.writes.goes.earlier honest)))
+pub returns-in_err-leaf-in-Out-clause-writes : goal.returns-in_err-leaf-in-Out-clause-writes
+returns-in_err-leaf-in-Out-clause-writes g c = looks_write c.in_ok-load_leaf.ensures.looks c.in_err-leaf-in-Out.ensures.writes (search rules) (λ spared may. may) (omega arith) (omega arith)
 
-pub returns-in_err-leaf-in-Out-clause-others : goal.returns-in_err-leaf-in-Out-clause-others
-returns-in_err-leaf-in-Out-clause-others g c honest n is beside =
-    c.write_bytes.ensures.others honest n is beside ∙ ap (λ (m : Medium). block m.contents n) (same_medium _ _ (c.in_ok-load_leaf.ensures.looks.reads (c.write_bytes.ensures.writes.goes.earlier honest)))
+pub returns-in_err-load_leaf-clause-writes : goal.returns-in_err-load_leaf-clause-writes
+returns-in_err-load_leaf-clause-writes g c = looks_free c.in_err-load_leaf.ensures.looks (search rules) (omega arith)

@@ -1,16 +1,17 @@
 use Rattle.std.proofs.Common.{◌≡◌, ◌-◌, ◌<◌, List, [], ◌∷◌, length, get_or, take, refl, ap, sym, subst, arith, rules}
 use Rattle.std.specs.List.{AllByRecursion}
 use Rattle.vm_alloc.proofs.HeldLemmas.{holds_same}
-use Rattle.vm_disk.specs.Disk.{Medium, block}
+use Rattle.vm_disk.specs.Disk.{Medium}
 use Rattle.vm_disk.proofs.MomentLemmas.{same_medium}
 use Rattle.vm_block.specs.Node.{ChildFits, node_bytes, node_head}
 use Rattle.vm_block.specs.declared.node.Child.{Child}
 use Rattle.vm_tree.specs.Tree.{Children, Subtree}
 use Rattle.vm_tree.specs.Splits.{Made}
-use Rattle.vm_tree.specs.Removal.{Narrows, WasThere, child_of}
+use Rattle.vm_tree.specs.Removal.{IsLeftOf, Narrows, WasThere, child_of}
 use Rattle.vm_tree.specs.Free.{IsBeside}
 use Rattle.vm_tree.specs.Replacement.{IsRenewed, without_own}
 use Rattle.vm_tree.specs.Root.{sizes_of}
+use Rattle.vm_tree.specs.declared.removal.Left.TheVariants.{Rest}
 use Rattle.vm_tree.specs.declared.root.Root.{Root}
 use Rattle.vm_tree.proofs.Looking.{looks_free, looks_never, passed_on}
 use Rattle.vm_tree.proofs.Renewing.{place_now, renewed_all}
@@ -22,7 +23,7 @@ pub returns-then-not-is_root-clause-rest : goal.returns-then-not-is_root-clause-
 returns-then-not-is_root-clause-rest g c honest levels rs bs rises fits under before keep more mine all =
     let sizes = sizes_of g.row.FAN levels in
     let y = (g.D.Disk.state c.write_node_block.new.disk).now.contents in
-    let made = c.in_ok-node.ensures.made honest before keep more mine sizes rs (omega (arith, c.requires.above)) (omega (arith, c.requires.low)) (omega (arith, c.requires.few)) rises (record { blocks = bs; under = under; each = all; fit = fits }) in
+    let made = c.in_ok-node.ensures.made honest before keep more mine sizes rs (omega (arith, c.requires.level)) (omega (arith, c.requires.level)) (omega (arith, c.requires.few)) rises (record { blocks = bs; under = under; each = all; fit = fits }) in
     subst (λ (root : Root). Made (IsRenewed before c.write_node_block.new.held keep) sizes y (length c.args.held.now) root.level (child_of root ∷ []) rs) (sym c.root_at.ensures) made
 
 pub returns-clause-rest : goal.returns-clause-rest
@@ -53,33 +54,32 @@ returns-in_err-root-clause-rest g c honest levels rs bs rises fits under =
     let alone = subst (λ n. Children (Subtree sizes x n (c.args.level - 1)) (top ∷ []) rs bs) (sym c.blocks-2.ensures.count) (subst (λ (ds : List Child). Children (Subtree sizes x (length c.args.held.now) (c.args.level - 1)) ds rs bs) (one_child cs d one) under) in
     rw (passed_on _ c.from_residual-in_err-root.ensures.1) (c.in_err-root.ensures.narrow honest levels rs bs alone)
 
-pub returns-clause-writes : goal.returns-clause-writes
-returns-clause-writes g c = looks_free c.in_ok-root.ensures.looks (λ is. cc)
-
-pub returns-in_err-root-clause-writes : goal.returns-in_err-root-clause-writes
-returns-in_err-root-clause-writes g c = looks_free c.in_err-root.ensures.looks (search rules)
-
-pub returns-then-not-is_root-clause-wide : goal.returns-then-not-is_root-clause-wide
-unfolding node_bytes node_head
-returns-then-not-is_root-clause-wide g c root honest up k ds node =
-    let cs = c.args.children.now in
-    let two : 1 < length cs = elim c.then-not-is_root.branch [ then-not-is_root-via-then-not-is_root w ↦ search (rules, root, w.if-not-is_root.true) | then-not-is_root-via-else-not-is_root+then-children-gt1 w ↦ w.if-children-gt1.true ] in
-    two_children {l = c.args.level} {n = length cs} (ap (take 16) (c.in_ok-node.ensures.written honest)) (omega (arith, c.requires.low)) two (omega (arith, c.requires.few, c.requires.most)) (rw c.root_at.ensures at node)
-
-pub returns-then-not-is_root-clause-narrowed : goal.returns-then-not-is_root-clause-narrowed
-returns-then-not-is_root-clause-narrowed g c =
+pub returns-then-not-is_root-clause-kept : goal.returns-then-not-is_root-clause-kept
+returns-then-not-is_root-clause-kept g c =
     let before = c.args.held.now in
     let later = c.write_node_block.new.held in
-    let written = c.in_ok-node.ensures in
+    let written = c.in_ok-node.ensures.written in
     looks_never (λ is.
     let there = subst (λ (root : Root). WasThere (IsBeside c.args.own) before later root) c.root_at.ensures is in
-    place_now c.args.own before before later c.in_ok-node.node.block (holds_same before) written.place written.device.held_now there.0 there.1)
+    place_now c.args.own before before later c.in_ok-node.node.block (holds_same before) written.place written.taken.held_now there.0 there.1)
 
-pub returns-clause-narrowed : goal.returns-clause-narrowed
-returns-clause-narrowed g c = record { kept = λ is. refl; reads = λ honest is. c.in_ok-root.ensures.looks.reads honest }
+pub returns-clause-writes : goal.returns-clause-writes
+returns-clause-writes g c = looks_free c.in_ok-root.ensures.looks (λ is. cc) (omega arith)
 
-pub returns-clause-others : goal.returns-clause-others
-returns-clause-others g c honest n is beside = ap (λ (m : Medium). block m.contents n) (same_medium _ _ (c.in_ok-root.ensures.looks.reads honest))
+pub returns-in_err-root-clause-writes : goal.returns-in_err-root-clause-writes
+returns-in_err-root-clause-writes g c = looks_free c.in_err-root.ensures.looks (search rules) (omega arith)
 
-pub returns-in_err-root-clause-others : goal.returns-in_err-root-clause-others
-returns-in_err-root-clause-others g c honest n is beside = ap (λ (m : Medium). block m.contents n) (same_medium _ _ (c.in_err-root.ensures.looks.reads honest))
+pub returns-then-not-is_root-clause-left : goal.returns-then-not-is_root-clause-left
+unfolding node_bytes node_head
+returns-then-not-is_root-clause-left g c =
+    let cs = c.args.children.now in
+    let done = c.in_ok-node.ensures in
+    subst (λ (root : Root). IsLeftOf c.args.level c.args.is_root c.args.held.now c.write_node_block.new.held (g.D.Disk.state c.write_node_block.new.disk) (Rest root)) (sym c.root_at.ensures) record {
+      level_is = omega arith;
+      same_level = λ _. refl;
+      low_taken = omega (arith, done.writes.taken);
+      root = (omega (arith, done.written.taken.above), omega (arith, done.written.taken.inside, done.writes.still.same_length));
+      wide = λ root honest up k ds node.
+          let two : 1 < length cs = elim c.then-not-is_root.branch [ then-not-is_root-via-then-not-is_root w ↦ search (rules, root, w.if-not-is_root.true) | then-not-is_root-via-else-not-is_root+then-children-gt1 w ↦ w.if-children-gt1.true ] in
+          two_children {l = c.args.level} {n = length cs} (ap (take 16) (done.written.bytes_are honest)) (omega (arith, c.requires.level)) two (omega (arith, c.requires.few, c.requires.fan)) node;
+    }

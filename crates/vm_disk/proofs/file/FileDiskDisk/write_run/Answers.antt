@@ -8,14 +8,14 @@ use Rattle.vm_disk.proofs.file.FileDiskDisk.write_run.Goals as goal
 pub returns-clause-honest : goal.returns-clause-honest
 returns-clause-honest g c =
     let was = c.args.self.now in
-    disk_writes_run g.F.Positional.state _ _ _ _ was (record { room = was.room; file = _; blocks = _; sure = _; forgotten = was.forgotten; past = _; reads = was.reads; small = was.small; known = was.known }) _
+    disk_writes_run g.F.Positional.state _ _ _ _ was (record { room = was.room; file = _; blocks = _; sure = _; past = _; reads = was.reads; small = was.small; known = was.known }) _
     (record { is = refl; earlier = _; told = c.earlier-was.ensures; past = c.note.ensures })
     c.requires c.offset_of.ensures c.told-blocks c.write_blocks_at.ensures.honest
 
 pub returns-clause-does : goal.returns-clause-does
 returns-clause-does g c =
     let was = c.args.self.now in
-    let now : FileDisk _ = record { room = was.room; file = c.write_blocks_at.new.self; blocks = was.blocks; sure = was.sure; forgotten = was.forgotten; past = c.note.new.self; reads = was.reads; small = was.small; known = was.known } in
+    let now : FileDisk _ = record { room = was.room; file = c.write_blocks_at.new.self; blocks = was.blocks; sure = was.sure; past = c.note.new.self; reads = was.reads; small = was.small; known = was.known } in
     record {
       behind =
           write_keeps_behind g.F.Positional.state _ _ (length c.args.blocks.now) _ (joined c.args.blocks.now) was now _

@@ -1,4 +1,5 @@
 use Rattle.std.proofs.Common.{◌≡◌, ◌+◌, ◌&&◌, ℕ, List, None, Option, is_some, length, nat_le, nat_lt, if◌then◌else◌, ap, subst, ◌∙◌, arith}
+use Rattle.std.proofs.lemmas.Grind.{common_steps}
 use Rattle.vm_disk.specs.Moments.{WritesRun, in_run}
 use Rattle.vm_disk.specs.Waiting.{bytes_for, Settles}
 use Rattle.vm_disk.proofs.WaitingLemmas.{none_left}
@@ -6,22 +7,8 @@ use Rattle.vm_disk.proofs.LaidLemmas.{run_sent_same, run_unsent_same, run_touche
 use Rattle.vm_disk.proofs.WrittenLemmas.{right_run_settled, same_shown}
 use Rattle.vm_disk.proofs.layers.Layers.send.Goals as goal
 
-pub returns-in-Err-clause-honest : goal.returns-in-Err-clause-honest
-returns-in-Err-clause-honest g c honest =
-    let state = g.D.Disk.state in
-    let held = bytes_for c.args.self.now.waiting in
-    let first = c.begin_run-first.result in
-    let old = state c.args.self.now.inner in
-    let new = state c.write_run.new.self in
-    let R : List (List ℕ) → Type 0 = λ blocks. WritesRun first blocks c.write_run.result old new in
-    let writes : WritesRun first c.copy_run.new.run.items c.write_run.result old new = subst R c.deref.ensures.value (c.write_run.ensures.honest honest) in
-    record {
-      same = same_shown c.args.self.now.waiting c.forget_all_written.new.self c.forget_all_written.ensures.rooms new.now ∙ run_unsent_same held first c.copy_run.new.run.items old new c.copy_run.ensures c.write_run.result writes;
-      touches = run_touches held first c.copy_run.new.run.items old new c.copy_run.ensures c.write_run.result writes;
-    }
-
-pub returns-in-Ok-clause-honest : goal.returns-in-Ok-clause-honest
-returns-in-Ok-clause-honest g c honest =
+pub returns-in-Err-clause-sends : goal.returns-in-Err-clause-sends
+returns-in-Err-clause-sends g c =
     let state = g.D.Disk.state in
     let held = bytes_for c.args.self.now.waiting in
     let first = c.begin_run-first.result in
@@ -29,7 +16,24 @@ returns-in-Ok-clause-honest g c honest =
     let old = state c.args.self.now.inner in
     let new = state c.write_run.new.self in
     let R : List (List ℕ) → Type 0 = λ blocks. WritesRun first blocks c.write_run.result old new in
-    let writes : WritesRun first c.copy_run.new.run.items c.write_run.result old new = subst R c.deref.ensures.value (c.write_run.ensures.honest honest) in
+    record {
+      any = grind (arith, common_steps);
+      honest = λ honest. let writes : R blocks = subst R c.deref.ensures.value (c.write_run.ensures.honest honest) in record {
+        same = same_shown c.args.self.now.waiting c.forget_all_written.new.self c.forget_all_written.ensures.rooms new.now ∙ run_unsent_same held first blocks old new c.copy_run.ensures c.write_run.result writes;
+        touches = run_touches held first blocks old new c.copy_run.ensures c.write_run.result writes;
+      };
+      limit = grind (arith, common_steps);
+    }
+
+pub returns-in-Ok-clause-sends : goal.returns-in-Ok-clause-sends
+returns-in-Ok-clause-sends g c =
+    let state = g.D.Disk.state in
+    let held = bytes_for c.args.self.now.waiting in
+    let first = c.begin_run-first.result in
+    let blocks = c.copy_run.new.run.items in
+    let old = state c.args.self.now.inner in
+    let new = state c.write_run.new.self in
+    let R : List (List ℕ) → Type 0 = λ blocks. WritesRun first blocks c.write_run.result old new in
     let told = c.len.ensures in
     let shown = c.deref.ensures.len in
     let same = ap (λ (bs : List (List ℕ)). length bs) c.deref.ensures.value in
@@ -37,8 +41,12 @@ returns-in-Ok-clause-honest g c honest =
     let gone : (k : ℕ) → bytes_for c.settle_run.new.self k ≡ (if in_run first (length blocks) k then None else held k) =
     λ k. c.settle_run.ensures.gone k ∙ ap (λ (count : ℕ). if nat_le first k && nat_lt k (first + count) then None else held k) many in
     record {
-      same = run_sent_same held first blocks old new c.copy_run.ensures _ c.write_run.result (bytes_for c.settle_run.new.self) c.in-Ok.is gone writes;
-      touches = run_touches held first blocks old new c.copy_run.ensures c.write_run.result writes;
+      any = grind (arith, common_steps);
+      honest = λ honest. let writes : R blocks = subst R c.deref.ensures.value (c.write_run.ensures.honest honest) in record {
+        same = run_sent_same held first blocks old new c.copy_run.ensures _ c.write_run.result (bytes_for c.settle_run.new.self) c.in-Ok.is gone writes;
+        touches = run_touches held first blocks old new c.copy_run.ensures c.write_run.result writes;
+      };
+      limit = c.settle_run.ensures.limit;
     }
 
 pub returns-in-Ok-clause-no_more : goal.returns-in-Ok-clause-no_more

@@ -15,7 +15,7 @@ loop-n-preserved c =
       gone = search rules;
       most = search rules;
       fewer = search rules;
-      limit = c.settle.ensures.limit ∙ so_far.limit;
+      limit = c.settle.ensures.stops.limit ∙ so_far.limit;
       settles = settles_one_more c.args.first c.loop-n.n c.args.self.now c.loop-n.self c.settle.new.self c.loop-n.auto.n so_far.gone so_far.settles c.settle.ensures.settles;
     }
 

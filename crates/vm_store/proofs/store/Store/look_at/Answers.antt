@@ -4,7 +4,7 @@ use Rattle.vm_types.specs.declared.refusal.Refusal.TheVariants.{Memory}
 use Rattle.vm_types.specs.Map.{Map}
 use Rattle.vm_types.specs.Versions.{value_within}
 use Rattle.vm_tree.specs.Faults.{refusal_of}
-use Rattle.vm_tree.proofs.Looking.{passed_on}
+use Rattle.vm_tree.proofs.Looking.{looks_of, passed_on}
 use Rattle.vm_store.specs.Answers.{copied_answer}
 use Rattle.vm_store.specs.Sizes.{sizes}
 use Rattle.vm_store.proofs.AtLemmas.{at_there, not_of_versions}
@@ -30,14 +30,14 @@ returns-in_err-root-clause-no_memory g c memory =
 pub returns-in_err-get-clause-query : goal.returns-in_err-get-clause-query
 returns-in_err-get-clause-query g c =
     let is = passed_on _ c.from_residual-in_err-get.ensures.1 in
-    query_passed _ _ _ _ _ c.in_ok-ready.ensures.ok (search (rules, same_parts)) c.in_err-get.ensures.looks is
+    query_passed _ _ _ _ _ c.in_ok-ready.ensures.ok (search (rules, same_parts)) (looks_of c.in_err-get.ensures.looks) is
     (λ honest well s holds.
     let at = at_there _ _ _ _ _ _ s holds.rests c.args.at.now c.in_ok-root.root (sym c.in_ok-root.ensures.root) in
     inl (ap copied_answer is ∙ ap Err (ap refusal_of (c.in_err-get.ensures.value sizes honest at.records at.stands.stands_in at.stands.rooted))))
 
 pub returns-clause-query : goal.returns-clause-query
 returns-clause-query g c =
-    query_passed _ _ _ _ _ c.in_ok-ready.ensures.ok (search (rules, same_parts)) c.in_ok-get.ensures.looks refl
+    query_passed _ _ _ _ _ c.in_ok-ready.ensures.ok (search (rules, same_parts)) (looks_of c.in_ok-get.ensures.looks) refl
     (λ honest well s holds.
     let at = at_there _ _ _ _ _ _ s holds.rests c.args.at.now c.in_ok-root.root (sym c.in_ok-root.ensures.root) in
     inr (ap Ok (c.in_ok-get.ensures.value sizes honest at.records at.stands.stands_in at.stands.rooted) ∙ sym (ap (λ (m : Result Map Refusal). value_within m c.args.key) at.is)))

@@ -85,23 +85,23 @@ returns-then-not-branch g c =
     let plan = λ (honest : IsHonest mid) (s : State) (holds : Holds old s).
     let own = own_there _ _ _ _ _ _ s holds.rests alt pair is in
     let parent = parent_there _ _ _ _ _ _ s holds.rests alt pair is in
-    c.in_ok-plan.ensures.plan (spare.any.earlier honest) _ _ _ _ _ _ own.stands.base.rooted parent.stands.current.rooted own.stands.current.rooted in
+    c.in_ok-plan.ensures.plan (spare.marking.any.earlier honest) _ _ _ _ _ _ own.stands.base.rooted parent.stands.current.rooted own.stands.current.rooted in
     let many : IsHonest mid → (s : State) → Holds old s → changes_made s.working (Merge alt settled) ≡ c.len.result =
     λ honest s holds. merge_made _ _ _ _ _ _ s holds.rests alt pair is settled (plan honest s holds).0 ∙ sym (c.len.ensures ∙ ap (λ (cs : List Change). length cs) (plan honest s holds).1.changes) in
     performs_merge old mid _ alt settled
     (λ honest s holds.
-    let read = c.in_ok-plan.ensures.reads (spare.any.earlier honest) in
-    let holds' = spare.state honest s (read_holds _ _ _ _ _ _ _ _ _ s read holds) in
+    let read = c.in_ok-plan.ensures.reads (spare.marking.any.earlier honest) in
+    let holds' = spare.marking.state honest s (read_holds _ _ _ _ _ _ _ _ _ s read holds) in
     looked _ _ s holds (Merge alt settled) _ (merges_full s _ _ alt settled _ (merge_step _ _ _ _ _ _ s holds.rests alt pair is settled (plan honest s holds).0) c.len.result (many honest s holds)
     (full_for _ _ _ (spare_after _ _ _ _ _ _ _ _ _ s _ _ read (ok.spare honest) holds) c.if-not-branch.true))
-    (reads_then _ _ _ read (spare.reads honest)) holds'.rests (λ _. holds'))
-    (λ honest. (λ first. reads_then _ _ _ (c.in_ok-plan.ensures.reads (spare.any.earlier honest)) (spare.reads honest), λ s holds none done. absurd (false≢true done)))
+    (reads_then _ _ _ read (spare.marking.reads honest)) holds'.rests (λ _. holds'))
+    (λ honest. (λ first. reads_then _ _ _ (c.in_ok-plan.ensures.reads (spare.marking.any.earlier honest)) (spare.marking.reads honest), λ s holds none done. absurd (false≢true done)))
     (λ honest s holds none. absurd none)
     (λ honest s holds. (
       λ enough. omega (arith, ap free_of (spare.enough (omega (arith, many honest s holds, enough)))),
-      λ few late. omega (arith, spare_free _ _ _ _ _ _ _ _ _ s _ (c.in_ok-plan.ensures.reads (spare.any.earlier honest)) (ok.exact honest (omega (arith, many honest s holds, few))) holds),
+      λ few late. omega (arith, spare_free _ _ _ _ _ _ _ _ _ s _ (c.in_ok-plan.ensures.reads (spare.marking.any.earlier honest)) (ok.exact honest (omega (arith, many honest s holds, few))) holds),
     ))
-    (λ honest is s holds. spare_free _ _ _ _ _ _ _ _ _ s _ (c.in_ok-plan.ensures.reads (spare.any.earlier honest)) (λ s holds. ok.marked honest s holds c.if-not-branch.true) holds)
+    (λ honest is s holds. spare_free _ _ _ _ _ _ _ _ _ s _ (c.in_ok-plan.ensures.reads (spare.marking.any.earlier honest)) (λ s holds. ok.marked honest s holds c.if-not-branch.true) holds)
     (λ honest is s holds. (ok.known c.if-not-branch.true, λ was. rw (spare.once was) (record { alloc = refl; parts = refl; failed = refl })))
     (search rules) (search rules) (search rules) (λ early. absurd early)
 
@@ -118,20 +118,20 @@ returns-in_err-has_spare g c =
     let plan = λ (honest : IsHonest mid) (s : State) (holds : Holds old s).
     let own = own_there _ _ _ _ _ _ s holds.rests alt pair is in
     let parent = parent_there _ _ _ _ _ _ s holds.rests alt pair is in
-    c.in_ok-plan.ensures.plan (spare.any.earlier honest) _ _ _ _ _ _ own.stands.base.rooted parent.stands.current.rooted own.stands.current.rooted in
+    c.in_ok-plan.ensures.plan (spare.marking.any.earlier honest) _ _ _ _ _ _ own.stands.base.rooted parent.stands.current.rooted own.stands.current.rooted in
     let many : IsHonest mid → (s : State) → Holds old s → changes_made s.working (Merge alt settled) ≡ c.len.result =
     λ honest s holds. merge_made _ _ _ _ _ _ s holds.rests alt pair is settled (plan honest s holds).0 ∙ sym (c.len.ensures ∙ ap (λ (cs : List Change). length cs) (plan honest s holds).1.changes) in
-    let device = λ (honest : IsHonest mid) (s : State) (holds : Holds old s). failed.only honest s (read_holds _ _ _ _ _ _ _ _ _ s (c.in_ok-plan.ensures.reads (spare.any.earlier honest)) holds) in
+    let device = λ (honest : IsHonest mid) (s : State) (holds : Holds old s). failed.marking.only honest s (read_holds _ _ _ _ _ _ _ _ _ s (c.in_ok-plan.ensures.reads (spare.marking.any.earlier honest)) holds) in
     rw (passed_on _ c.from_residual-in_err-has_spare.ensures.1)
     (performs_merge old mid _ alt settled
     (λ honest s holds.
-    let read = c.in_ok-plan.ensures.reads (spare.any.earlier honest) in
-    let holds' = spare.state honest s (read_holds _ _ _ _ _ _ _ _ _ s read holds) in
-    looked _ _ s holds (Merge alt settled) _ (inl (ap Err (device honest s holds))) (reads_then _ _ _ read (spare.reads honest)) holds'.rests (λ _. holds'))
-    (λ honest. (λ first. reads_then _ _ _ (c.in_ok-plan.ensures.reads (spare.any.earlier honest)) (spare.reads honest), λ s holds none done. absurd (false≢true done)))
-    (λ honest s holds none. absurd (failed.late none))
+    let read = c.in_ok-plan.ensures.reads (spare.marking.any.earlier honest) in
+    let holds' = spare.marking.state honest s (read_holds _ _ _ _ _ _ _ _ _ s read holds) in
+    looked _ _ s holds (Merge alt settled) _ (inl (ap Err (device honest s holds))) (reads_then _ _ _ read (spare.marking.reads honest)) holds'.rests (λ _. holds'))
+    (λ honest. (λ first. reads_then _ _ _ (c.in_ok-plan.ensures.reads (spare.marking.any.earlier honest)) (spare.marking.reads honest), λ s holds none done. absurd (false≢true done)))
+    (λ honest s holds none. absurd (failed.marking.late none))
     (λ honest s holds. unmarked_takes (changes_made s.working (Merge alt settled)) _ _ _ _ (λ enough. ap free_of (spare.enough (omega (arith, many honest s holds, enough)))) (subst IsUnmarked (sym (device honest s holds)) (λ late. late)))
-    (search rules) (search rules) (search rules) (search rules) (search rules) (λ early. absurd (failed.late early)))
+    (search rules) (search rules) (search rules) (search rules) (search rules) (λ early. absurd (failed.marking.late early)))
 
 pub returns : goal.returns
 returns g c =
@@ -149,7 +149,7 @@ returns g c =
     let plan = λ (honest : IsHonest mid) (s : State) (holds : Holds old s).
     let own = own_there _ _ _ _ _ _ s holds.rests alt pair is in
     let parent = parent_there _ _ _ _ _ _ s holds.rests alt pair is in
-    c.in_ok-plan.ensures.plan (spare.any.earlier honest) _ _ _ _ _ _ own.stands.base.rooted parent.stands.current.rooted own.stands.current.rooted in
+    c.in_ok-plan.ensures.plan (spare.marking.any.earlier honest) _ _ _ _ _ _ own.stands.base.rooted parent.stands.current.rooted own.stands.current.rooted in
     let many : IsHonest mid → (s : State) → Holds old s → changes_made s.working (Merge alt settled) ≡ c.len.result =
     λ honest s holds. merge_made _ _ _ _ _ _ s holds.rests alt pair is settled (plan honest s holds).0 ∙ sym (c.len.ensures ∙ ap (λ (cs : List Change). length cs) (plan honest s holds).1.changes) in
     let untouched : IsHonest mid → (s : State) → Holds old s → changes_made s.working (Merge alt settled) ≡ 0 → c.make_changes.new.disk ≡ c.plan_of_merge.new.disk =
@@ -160,11 +160,11 @@ returns g c =
     (λ honest s holds.
     let rests = holds.rests in
     let marked = done.any.earlier honest in
-    let read = c.in_ok-plan.ensures.reads (spare.any.earlier marked) in
-    let holds' = spare.state marked s (read_holds _ _ _ _ _ _ _ _ _ s read holds) in
+    let read = c.in_ok-plan.ensures.reads (spare.marking.any.earlier marked) in
+    let holds' = spare.marking.state marked s (read_holds _ _ _ _ _ _ _ _ _ s read holds) in
     let rests' = holds'.rests in
     let room = room_for _ _ _ (spare_after _ _ _ _ _ _ _ _ _ s _ _ read (ok.spare marked) holds) c.if-not-branch.false in
-    let is' = subst (λ p. IsPair p.1 alt pair) (sym spare.same) is in
+    let is' = subst (λ p. IsPair p.1 alt pair) (sym spare.marking.same) is in
     let plan' = planned _ _ _ _ _ _ s rests _ _ _ _ _ _ rests' alt pair is is' settled _ (plan marked s holds) in
     let own' = own_there _ _ _ _ _ _ s rests' alt pair is' in
     let parent' = parent_there _ _ _ _ _ _ s rests' alt pair is' in
@@ -173,22 +173,22 @@ returns g c =
     let grown = made_of _ _ _ _ _ _ s rests' alt pair is' settled _ _ _ c.in_ok-root.root _ plan'.1.changes (grown_of _ _ _ _ c.in_ok-root.root _ mid.parts.bits made) in
     let both = c.set_base.ensures ∙ ap (change_first (is_alternative_of alt) (with_base c.in_ok-own.parent.current)) c.set_current.ensures in
     wrote _ _ s holds (Merge alt settled) _ (subst (IsMergeAnswer s _ _ alt settled) (sym (ap answer (plan marked s holds).1.edits)) (merges_done s _ _ alt settled _ (merge_step _ _ _ _ _ _ s rests alt pair is settled (plan marked s holds).0) c.len.result (many marked s holds) room))
-    _ (reads_then _ _ _ read (spare.reads marked)) rests' (done.moments honest) (done.unsynced honest) done.still
+    _ (reads_then _ _ _ read (spare.marking.reads marked)) rests' (done.moments honest) (done.unsynced honest) done.still
     (λ _. holds_alone holds'.keeps (rests_as _ _ _ _ _ _ _ _ (sym both)
     (merge_rests _ _ _ _ _ _ s rests' alt pair is' settled plan'.0 _ c.make_changes.new.held c.in_ok-root.root (grown_small _ _ _ _ _ mid.parts.most grown)
     (at_end _ _ _ (done.moments honest)) done.still grown))))
     (λ honest. (
       tt,
       λ s holds none _. subst (λ d. OnlyReads (g.D.Disk.state old.disk) (g.D.Disk.state d)) (sym (untouched (done.any.earlier honest) s holds none))
-          (c.in_ok-plan.ensures.reads (spare.any.earlier (done.any.earlier honest))),
+          (c.in_ok-plan.ensures.reads (spare.marking.any.earlier (done.any.earlier honest))),
     ))
     (λ honest s holds none.
     let marked = done.any.earlier honest in
-    omega (arith, few_on_sides (g.D.Disk.state old.disk) (g.D.Disk.state c.plan_of_merge.new.disk) _ _ _ _ _ s holds.rests alt pair is (spare.any.earlier marked) c.in_ok-plan.ensures.bound, ap (λ d. (g.D.Disk.state d).reads) (untouched marked s holds none)))
+    omega (arith, few_on_sides (g.D.Disk.state old.disk) (g.D.Disk.state c.plan_of_merge.new.disk) _ _ _ _ _ s holds.rests alt pair is (spare.marking.any.earlier marked) c.in_ok-plan.ensures.bound, ap (λ d. (g.D.Disk.state d).reads) (untouched marked s holds none)))
     (λ honest s holds.
     let marked = done.any.earlier honest in (
       λ enough. omega (arith, many marked s holds, c.len.ensures, ap free_of (spare.enough (omega (arith, many marked s holds, enough))), done.taken),
-      λ few late. omega (arith, many marked s holds, c.len.ensures, spare_free _ _ _ _ _ _ _ _ _ s _ (c.in_ok-plan.ensures.reads (spare.any.earlier marked)) (ok.exact marked (omega (arith, many marked s holds, few))) holds, done.taken),
+      λ few late. omega (arith, many marked s holds, c.len.ensures, spare_free _ _ _ _ _ _ _ _ _ s _ (c.in_ok-plan.ensures.reads (spare.marking.any.earlier marked)) (ok.exact marked (omega (arith, many marked s holds, few))) holds, done.taken),
     ))
     (search rules) (search rules) (search rules) (search rules) tt tt
 
@@ -207,11 +207,11 @@ returns-in_err-root g c =
     let plan = λ (honest : IsHonest mid) (s : State) (holds : Holds old s).
     let own = own_there _ _ _ _ _ _ s holds.rests alt pair is in
     let parent = parent_there _ _ _ _ _ _ s holds.rests alt pair is in
-    c.in_ok-plan.ensures.plan (spare.any.earlier honest) _ _ _ _ _ _ own.stands.base.rooted parent.stands.current.rooted own.stands.current.rooted in
+    c.in_ok-plan.ensures.plan (spare.marking.any.earlier honest) _ _ _ _ _ _ own.stands.base.rooted parent.stands.current.rooted own.stands.current.rooted in
     let many : IsHonest mid → (s : State) → Holds old s → changes_made s.working (Merge alt settled) ≡ c.len.result =
     λ honest s holds. merge_made _ _ _ _ _ _ s holds.rests alt pair is settled (plan honest s holds).0 ∙ sym (c.len.ensures ∙ ap (λ (cs : List Change). length cs) (plan honest s holds).1.changes) in
-    let stood = λ (honest : IsHonest mid) (s : State) (holds : Holds old s). spare.state honest s (read_holds _ _ _ _ _ _ _ _ _ s (c.in_ok-plan.ensures.reads (spare.any.earlier honest)) holds) in
-    let is' = subst (λ p. IsPair p.1 alt pair) (sym spare.same) is in
+    let stood = λ (honest : IsHonest mid) (s : State) (holds : Holds old s). spare.marking.state honest s (read_holds _ _ _ _ _ _ _ _ _ s (c.in_ok-plan.ensures.reads (spare.marking.any.earlier honest)) holds) in
+    let is' = subst (λ p. IsPair p.1 alt pair) (sym spare.marking.same) is in
     let plan' = λ (honest : IsHonest mid) (s : State) (holds : Holds old s). planned _ _ _ _ _ _ s holds.rests _ _ _ _ _ _ (stood honest s holds).rests alt pair is is' settled _ (plan honest s holds) in
     let made = λ (honest : (g.D.Disk.state c.make_changes.new.disk).honest ≡ true) (s : State) (holds : Holds old s).
     let rests' = (stood (failed.any.earlier honest) s holds).rests in
@@ -224,7 +224,7 @@ returns-in_err-root g c =
     (λ honest s holds.
     let rests = holds.rests in
     let marked = failed.any.earlier honest in
-    let read = c.in_ok-plan.ensures.reads (spare.any.earlier marked) in
+    let read = c.in_ok-plan.ensures.reads (spare.marking.any.earlier marked) in
     let holds' = stood marked s holds in
     let rests' = holds'.rests in
     let room = room_for _ _ _ (spare_after _ _ _ _ _ _ _ _ _ s _ _ read (ok.spare marked) holds) c.if-not-branch.false in
@@ -234,7 +234,7 @@ returns-in_err-root g c =
     (λ deep. merges_deep s _ _ alt settled _ (merge_step _ _ _ _ _ _ s rests alt pair is settled (plan marked s holds).0) c.len.result (many marked s holds) _ (ap refusal_of_put deep.0) room
     (meets_as _ _ _ _ _ _ _ mid.parts.bits (sym (start_is _ _ _ _ _ _ s rests' alt pair is' settled found.0))
     (found.1.changes ∙ sym (merge_is _ _ _ _ _ _ s rests' alt pair is' settled found.0)) deep.1)))
-    _ (reads_then _ _ _ read (spare.reads marked)) rests' (failed.moments honest) (failed.unsynced honest) failed.still
+    _ (reads_then _ _ _ read (spare.marking.reads marked)) rests' (failed.moments honest) (failed.unsynced honest) failed.still
     (λ _. holds_alone holds'.keeps (rests_more _ _ _ _ _ _ s rests' _ _ (at_end _ _ _ (failed.moments honest)) failed.still)))
     (λ honest. (λ first. absurd (late_put c.in_err-root.field-0.0 first), λ s holds none done. absurd (false≢true done)))
     (λ honest s holds early. absurd (put_is_late c.in_err-root.field-0.0 early))
@@ -242,6 +242,6 @@ returns-in_err-root g c =
     let marked = failed.any.earlier honest in
     let all = taken_at_fault (changes_made s.working (Merge alt settled)) c.in_err-root.field-0.0 _ (fault_of_changes c.in_err-root.field-0.0 _ _ (made honest s holds)) in (
       λ enough. omega (arith, many marked s holds, c.len.ensures, ap free_of (spare.enough (omega (arith, many marked s holds, enough))), failed.taken, all),
-      λ few late. omega (arith, many marked s holds, c.len.ensures, spare_free _ _ _ _ _ _ _ _ _ s _ (c.in_ok-plan.ensures.reads (spare.any.earlier marked)) (ok.exact marked (omega (arith, many marked s holds, few))) holds, failed.taken, all),
+      λ few late. omega (arith, many marked s holds, c.len.ensures, spare_free _ _ _ _ _ _ _ _ _ s _ (c.in_ok-plan.ensures.reads (spare.marking.any.earlier marked)) (ok.exact marked (omega (arith, many marked s holds, few))) holds, failed.taken, all),
     ))
     (search rules) (search rules) (search rules) (search rules) (search rules) (search rules))

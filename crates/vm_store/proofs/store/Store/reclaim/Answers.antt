@@ -12,9 +12,9 @@ returns g c =
     let marked = c.mark_all.ensures in
     performs_reclaim _ _ _
     (λ honest s holds.
-    let holds' = marked.state honest s holds in
-    looked _ _ s holds Reclaim _ (answers_reclaim s _ _ refl tt) (marked.reads honest) holds'.rests (λ _. holds_closed holds'))
-    c.in_ok-mark_all.ensures.exact marked.reads (search rules) (search rules) tt tt
+    let holds' = marked.marking.state honest s holds in
+    looked _ _ s holds Reclaim _ (answers_reclaim s _ _ refl tt) (marked.marking.reads honest) holds'.rests (λ _. holds_closed holds'))
+    c.in_ok-mark_all.ensures.exact marked.marking.reads (search rules) (search rules) tt tt
 
 pub returns-in_err-mark_all : goal.returns-in_err-mark_all
 returns-in_err-mark_all g c =
@@ -23,6 +23,6 @@ returns-in_err-mark_all g c =
     rw (passed_on _ c.from_residual.ensures.1)
     (performs_reclaim _ _ _
     (λ honest s holds.
-    let holds' = marked.state honest s holds in
-    looked _ _ s holds Reclaim _ (answers_reclaim s _ _ tt (failed.only honest s holds)) (marked.reads honest) holds'.rests (λ _. holds'))
-    (λ honest s holds. tt) marked.reads (search rules) (search rules, search rules) marked.same (λ early. absurd (failed.late early)))
+    let holds' = marked.marking.state honest s holds in
+    looked _ _ s holds Reclaim _ (answers_reclaim s _ _ tt (failed.marking.only honest s holds)) (marked.marking.reads honest) holds'.rests (λ _. holds'))
+    (λ honest s holds. tt) marked.marking.reads (search rules) (search rules, search rules) marked.marking.same (λ early. absurd (failed.marking.late early)))

@@ -7,6 +7,7 @@ use Rattle.vm_alloc.specs.Held.{free_count}
 use Rattle.vm_tree.specs.Faults.{refusal_of}
 use Rattle.vm_tree.specs.Free.{is_free}
 use Rattle.vm_tree.proofs.Looking.{passed_on}
+use Rattle.vm_tree.proofs.RemoveLemmas.{damaged_keeps, none_keeps}
 use Rattle.vm_store.specs.Answers.{IsAnswer}
 use Rattle.vm_store.specs.Rest.{before_of, spare_of}
 use Rattle.vm_store.proofs.CarryLemmas.{changed, wrote}
@@ -56,7 +57,7 @@ returns-in_default-clause-carried g c honest s holds reason =
     let removed = c.in_ok-removed.ensures.remove honest found.filed.current before.stands_in before.rooted in
     let missing = value_found _ _ _ _ _ _ s rests alt e is c.args.key None (sym (removed_none _ _ _ c.in_default.is removed)) in
     let kept = c.remove.ensures.kept in
-    let there = c.in_ok-removed.was ∙ ap Ok c.in_default.is in
+    let there = none_keeps (option_copied c.before_series.result) c.args.self.now.parts.held c.remove.new.held c.remove.result (c.in_ok-removed.was ∙ ap Ok c.in_default.is) in
     let moments = reads_keep _ _ _ (kept.reads honest there) (touches_nothing (is_free self.parts.held) _) in
     let answers : (r : Refusal) → r ≡ NoSuchRecord → IsAnswer s (spare_of rests) ⊥ (Remove alt c.args.key) (Err r) = λ r same.
     subst (λ (r : Refusal). IsAnswer s (spare_of rests) ⊥ (Remove alt c.args.key) (Err r)) (sym same) (removes_missing s alt c.args.key _ _ missing) in
@@ -82,24 +83,24 @@ returns-in_err-removed-clause-carried g c honest s holds reason =
     (λ fine. absurd (fine (ap Err (ap refusal_of removed)))))
 
 pub returns-in_default-clause-reads : goal.returns-in_default-clause-reads
-returns-in_default-clause-reads g c honest first = c.remove.ensures.kept.reads honest (c.in_ok-removed.was ∙ ap Ok c.in_default.is)
+returns-in_default-clause-reads g c honest first = c.remove.ensures.kept.reads honest (none_keeps (option_copied c.before_series.result) c.args.self.now.parts.held c.remove.new.held c.remove.result (c.in_ok-removed.was ∙ ap Ok c.in_default.is))
 
 pub returns-in_err-removed-clause-reads : goal.returns-in_err-removed-clause-reads
 returns-in_err-removed-clause-reads g c honest = rw (passed_on _ c.from_residual.ensures.1) (λ first. absurd (late_fault c.in_err-removed.field-0.0 first))
 
 pub returns-in_default-clause-free : goal.returns-in_default-clause-free
 returns-in_default-clause-free g c =
-    let same = c.remove.ensures.kept.kept (c.in_ok-removed.was ∙ ap Ok c.in_default.is) in
+    let same = c.remove.ensures.kept.kept (none_keeps (option_copied c.before_series.result) c.args.self.now.parts.held c.remove.new.held c.remove.result (c.in_ok-removed.was ∙ ap Ok c.in_default.is)) in
     (λ enough. omega (arith, ap free_count same), λ honest few. absurd (omega (arith, c.requires.room, few)))
 
 pub returns-in_err-removed-clause-free : goal.returns-in_err-removed-clause-free
 returns-in_err-removed-clause-free g c =
     rw (passed_on _ c.from_residual.ensures.1) (
-      λ enough. fault_takes 8 _ _ c.in_err-removed.ensures.taken c.in_err-removed.field-0.0 (λ b is. (c.in_err-removed.ensures.looks b).kept (ap Err is)),
+      λ enough. fault_takes 8 c.args.self.now.parts.held c.remove.new.held (omega (arith, c.in_err-removed.ensures.writes.taken)) c.in_err-removed.field-0.0 (λ b is. c.in_err-removed.ensures.kept.kept (damaged_keeps (option_copied c.before_series.result) c.args.self.now.parts.held c.remove.new.held c.in_err-removed.field-0.0 b is)),
       λ honest few. absurd (omega (arith, c.requires.room, few)),
     )
 
 pub returns-in_default-clause-unchanged : goal.returns-in_default-clause-unchanged
 returns-in_default-clause-unchanged g c early =
-    let same = c.remove.ensures.kept.kept (c.in_ok-removed.was ∙ ap Ok c.in_default.is) in
+    let same = c.remove.ensures.kept.kept (none_keeps (option_copied c.before_series.result) c.args.self.now.parts.held c.remove.new.held c.remove.result (c.in_ok-removed.was ∙ ap Ok c.in_default.is)) in
     record { alloc = refl; parts = same_parts _ _ refl refl refl refl refl refl same refl refl refl refl refl; failed = refl }

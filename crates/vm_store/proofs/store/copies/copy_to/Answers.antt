@@ -1,4 +1,4 @@
-use Rattle.std.proofs.Common.{List, ap, inl, inr, refl, subst, sym, arith}
+use Rattle.std.proofs.Common.{List, ap, inl, inr, refl, subst, sym, arith, rules}
 use Rattle.std.specs.Result.{is_err}
 use Rattle.vm_disk.proofs.MomentLemmas.{and_then, at_end, weaken}
 use Rattle.vm_store.specs.Store.{disk_of}
@@ -9,8 +9,11 @@ use Rattle.vm_store.proofs.FormattingLemmas.{none_synced, not_true, still_there}
 use Rattle.vm_store.proofs.PartsLemmas.{same_parts}
 use Rattle.vm_store.proofs.store.copies.copy_to.Goals as goal
 
-pub returns-in-Err-clause-was_there : goal.returns-in-Err-clause-was_there
-returns-in-Err-clause-was_there g c honest header = (refl, still_there _ _ (at_end _ _ _ (c.in-Err.ensures.moments honest)))
+pub returns-in-Err-clause-spares : goal.returns-in-Err-clause-spares
+returns-in-Err-clause-spares g c = record {
+  already = search rules;
+  was_there = λ honest header. (refl, still_there _ _ (at_end _ _ _ (c.in-Err.ensures.moments honest)));
+}
 
 pub returns-in-Err-clause-both : goal.returns-in-Err-clause-both
 returns-in-Err-clause-both g c = both_target _ c.has_header.ensures.any (λ is. ap is_err c.in-Err.is)
@@ -33,12 +36,11 @@ pub returns-clause-sound : goal.returns-clause-sound
 returns-clause-sound g c source s holds =
     refused_so _ IsOfTarget IsOfCopy (λ r is. inr (inr (inr (inr is)))) (c.fill.ensures.sound source s.committed (subst (λ (vs : List Version). HasVersions s.committed c.args.source.now.parts.kept vs (g.S.Disk.state (disk_of c.args.source.now)).now.contents) (sym c.as_slice.ensures.items) (versions_kept _ _ _ _ _ _ _ s holds.keeps holds.rests)))
 
-pub returns-clause-already : goal.returns-clause-already
-returns-clause-already g c honest is = absurd (fill_blank _ c.fill.ensures.refusals is)
-
-pub returns-clause-was_there : goal.returns-clause-was_there
-returns-clause-was_there g c honest header =
-    absurd (not_true _ c.in-Ok-false.field-0-test (c.in-Ok-false.ensures.header (c.fill.ensures.both.target.earlier honest)) header)
+pub returns-clause-spares : goal.returns-clause-spares
+returns-clause-spares g c = record {
+  already = λ honest is. absurd (fill_blank _ c.fill.ensures.refusals is);
+  was_there = λ honest header. absurd (not_true _ c.in-Ok-false.field-0-test (c.in-Ok-false.ensures.header (c.fill.ensures.both.target.earlier honest)) header);
+}
 
 pub returns-clause-copied : goal.returns-clause-copied
 returns-clause-copied g c source s holds honest =

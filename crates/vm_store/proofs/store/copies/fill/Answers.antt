@@ -52,9 +52,9 @@ returns-in-Err-put_down-clause-reads g c source = c.in-Ok.ensures.step.looks.rea
 pub returns-in-Ok-put_down-clause-filled : goal.returns-in-Ok-put_down-clause-filled
 returns-in-Ok-put_down-clause-filled g c source tree has honest =
     let before = c.put_down.ensures.any.earlier honest in
-    let unused = unused_copied _ _ c.args.kept c.args.blocks _ c.requires.unused.numbers (omega (arith, c.requires.least)) in
+    let unused = unused_copied _ _ c.args.kept c.args.blocks _ c.requires.unused.numbers (omega (arith, c.requires.fit.least)) in
     let m = (g.T.Disk.state c.copy_entries.new.target).now in
-    let there = maps_copied tree _ m c.args.kept c.args.blocks _ c.args.versions.now _ c.requires.least c.requires.most has (c.in-Ok.ensures.copied source before unused) in
+    let there = maps_copied tree _ m c.args.kept c.args.blocks _ c.args.versions.now _ c.requires.fit.least c.requires.fit.most has (c.in-Ok.ensures.copied source before unused) in
     let maps = subst (λ (es : List Entry). HasMaps tree c.args.blocks es m) (sym c.deref.ensures.value) there in
     copied_now tree c.args.blocks _ _ _ (c.put_down.ensures.down honest tree maps) _ c.in-Ok-put_down.is
 
@@ -64,9 +64,9 @@ returns-in-Ok-put_down-clause-moments g c source tree has honest clean none =
     let touched = is_for_copies (next_of c.args.room.now.numbers) (next_of c.copy_entries.new.room.numbers) c.args.blocks in
     let apart = first_of_none c.args.kept c.args.blocks c.args.room.now.numbers c.copy_entries.new.room.numbers c.requires.unused.numbers in
     let before = c.put_down.ensures.any.earlier honest in
-    let unused = unused_copied _ _ c.args.kept c.args.blocks _ c.requires.unused.numbers (omega (arith, c.requires.least)) in
+    let unused = unused_copied _ _ c.args.kept c.args.blocks _ c.requires.unused.numbers (omega (arith, c.requires.fit.least)) in
     let m = (g.T.Disk.state c.copy_entries.new.target).now in
-    let there = maps_copied tree _ m c.args.kept c.args.blocks _ c.args.versions.now _ c.requires.least c.requires.most has (c.in-Ok.ensures.copied source before unused) in
+    let there = maps_copied tree _ m c.args.kept c.args.blocks _ c.args.versions.now _ c.requires.fit.least c.requires.fit.most has (c.in-Ok.ensures.copied source before unused) in
     let maps = subst (λ (es : List Entry). HasMaps tree c.args.blocks es m) (sym c.deref.ensures.value) there in
     let wanted : Seen = record { tree = tree; blocks = c.args.blocks } in
     let keeps = weaken _ _ _ (KeepsFirst old) (λ m touches. first_untouched touched old m apart clean touches) (c.in-Ok.ensures.step.touches before) in
@@ -80,9 +80,9 @@ returns-in-Err-put_down-clause-moments g c source tree has honest clean none =
     let touched = is_for_copies (next_of c.args.room.now.numbers) (next_of c.copy_entries.new.room.numbers) c.args.blocks in
     let apart = first_of_none c.args.kept c.args.blocks c.args.room.now.numbers c.copy_entries.new.room.numbers c.requires.unused.numbers in
     let before = c.put_down.ensures.any.earlier honest in
-    let unused = unused_copied _ _ c.args.kept c.args.blocks _ c.requires.unused.numbers (omega (arith, c.requires.least)) in
+    let unused = unused_copied _ _ c.args.kept c.args.blocks _ c.requires.unused.numbers (omega (arith, c.requires.fit.least)) in
     let m = (g.T.Disk.state c.copy_entries.new.target).now in
-    let there = maps_copied tree _ m c.args.kept c.args.blocks _ c.args.versions.now _ c.requires.least c.requires.most has (c.in-Ok.ensures.copied source before unused) in
+    let there = maps_copied tree _ m c.args.kept c.args.blocks _ c.args.versions.now _ c.requires.fit.least c.requires.fit.most has (c.in-Ok.ensures.copied source before unused) in
     let maps = subst (λ (es : List Entry). HasMaps tree c.args.blocks es m) (sym c.deref.ensures.value) there in
     let wanted : Seen = record { tree = tree; blocks = c.args.blocks } in
     let keeps = weaken _ _ _ (KeepsFirst old) (λ m touches. first_untouched touched old m apart clean touches) (c.in-Ok.ensures.step.touches before) in
@@ -93,7 +93,7 @@ returns-in-Err-put_down-clause-moments g c source tree has honest clean none =
 pub returns-in-Ok-put_down-clause-bound : goal.returns-in-Ok-put_down-clause-bound
 returns-in-Ok-put_down-clause-bound g c source honest =
     let before = c.put_down.ensures.any.earlier honest in
-    let unused = unused_copied _ _ c.args.kept c.args.blocks _ c.requires.unused.numbers (omega (arith, c.requires.least)) in
+    let unused = unused_copied _ _ c.args.kept c.args.blocks _ c.requires.unused.numbers (omega (arith, c.requires.fit.least)) in
     let done = c.in-Ok.ensures.copied source before unused in
     omega (arith, c.in-Ok.ensures.step.paid refl, done.copied.within, c.requires.unused.numbers.1)
 

@@ -1,12 +1,15 @@
-use Rattle.std.proofs.Common.{◌∷◌, [], ap, inl, refl}
+use Rattle.std.proofs.Common.{◌∷◌, [], ap, inl, refl, rules}
 use Rattle.vm_disk.proofs.MomentLemmas.{weaken, and_then, at_end}
 use Rattle.vm_types.specs.Tree.{fresh}
 use Rattle.vm_store.specs.NewStore.{IsFormatting}
 use Rattle.vm_store.proofs.FormattingLemmas.{formatted_now, formatting, fresh_maps, none_synced, not_true, not_yet, still_there}
 use Rattle.vm_store.proofs.store.new_store.make_store.Goals as goal
 
-pub returns-in-Err-clause-was_there : goal.returns-in-Err-clause-was_there
-returns-in-Err-clause-was_there g c honest header = (refl, still_there _ _ (at_end _ _ _ (c.in-Err.ensures.moments honest)))
+pub returns-in-Err-clause-spares : goal.returns-in-Err-clause-spares
+returns-in-Err-clause-spares g c = record {
+  already = search rules;
+  was_there = λ honest header. (refl, still_there _ _ (at_end _ _ _ (c.in-Err.ensures.moments honest)));
+}
 
 pub returns-in-Err-clause-moments : goal.returns-in-Err-clause-moments
 returns-in-Err-clause-moments g c honest = weaken _ _ _ _ (not_yet c.args.blocks _) (c.in-Err.ensures.moments honest)

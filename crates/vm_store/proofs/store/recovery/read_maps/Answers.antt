@@ -17,7 +17,7 @@ use Rattle.vm_store.proofs.store.recovery.read_maps.Goals as goal
 
 pub versions_twice-requires-clause-roots : goal.versions_twice-requires-clause-roots
 versions_twice-requires-clause-roots g c =
-    roots_count _ _ _ _ _ _ _ c.deref-4.ensures.value c.in_ok-roots.ensures.roots c.deref-2.ensures.value c.in-Some-Ok-Ok.ensures c.deref.ensures.value c.deref-3.ensures.value
+    roots_count _ _ _ _ _ _ _ c.deref-4.ensures.value c.in_ok-roots.ensures.given.roots c.deref-2.ensures.value c.in-Some-Ok-Ok.ensures c.deref.ensures.value c.deref-3.ensures.value
 
 pub invariant_of-result : goal.invariant_of-result
 invariant_of-result g c =
@@ -28,7 +28,7 @@ invariant_of-result g c =
       kept_least = head.least;
       kept_most = omega arith;
       bits = c.replace.ensures.count ∙ c.in-Some-Ok-Ok.ensures'.count;
-      mark_bits = c.in_ok-roots.ensures.count;
+      mark_bits = c.in_ok-roots.ensures.given.count;
       before_bits = ap length c.in-Some-Ok-Ok.ensures'' ∙ length-replicate c.args.slot.blocks false;
       room_entries = c.requires.reserved;
     }

@@ -1,5 +1,5 @@
-use Rattle.std.proofs.Common.{◌≡◌, ◌≤◌, true, length}
-use Rattle.vm_disk.specs.Moments.{OnlyReads}
+use Rattle.std.proofs.Common.{◌≡◌, true, length, Ok}
+use Rattle.vm_tree.specs.Calls.{OnlyLooks}
 use Rattle.vm_store.proofs.ReachLemmas.{ReachedSoFar}
 use Rattle.vm_store.proofs.store.spare.mark_versions.Given as goal
 
@@ -7,10 +7,7 @@ abbrev pub invariant-loop-version : goal.invariant-loop-version
 invariant-loop-version g l =
     let old = g.D.Disk.state l.fn.disk in
     let now = g.D.Disk.state l.disk in record {
-      blocks : now.blocks ≡ old.blocks;
-      earlier : now.honest ≡ true → old.honest ≡ true;
-      rising : old.failures ≤ now.failures;
+      looks : OnlyLooks {T = Unit {0}} (Ok tt) old now;
       many : length l.marks ≡ length l.fn.marks;
-      reads : now.honest ≡ true → OnlyReads old now;
       marked : now.honest ≡ true → ReachedSoFar old.now.contents (length l.fn.marks) l.versions l.version-index l.fn.marks l.marks;
     }
