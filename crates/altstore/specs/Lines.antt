@@ -3,6 +3,7 @@ use Rattle.std.specs.Prelude.{◌≡◌, ℕ, Bool, false, true, List, [], Some,
 use Rattle.vm_types.specs.State.{State}
 use Rattle.vm_store.specs.Store.{has_failed, GrowsOn}
 use Rattle.vm_cli.specs.Talk.{Serves, StoreFails}
+use Rattle.vm_cli.specs.declared.talk.Grouping.TheVariants.{Lines}
 use Rattle.vm_cli.specs.declared.talk.Manner.{Manner}
 use Rattle.vm_cli.specs.declared.talk.OnCommand.TheVariants.{CarryOut}
 use Rattle.vm_cli.specs.declared.talk.OnRefusal.{OnRefusal}
@@ -12,7 +13,7 @@ use Rattle.altstore.specs.declared.session.Session.{Session}
 
 -- commands are carried out, and a refused line means this
 abbrev pub carrying_out : OnRefusal → Manner
-carrying_out on_refusal = record { on_command = CarryOut; on_refusal = on_refusal }
+carrying_out on_refusal = record { on_command = CarryOut; on_refusal = on_refusal; grouping = Lines }
 
 -- a session was asked these lines, and ended so
 pub record Asks (lines : List ℕ) (on_refusal : OnRefusal) (result : Result Bool ServeFault) (old new : Session) : Type 0 where

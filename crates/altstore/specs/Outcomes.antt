@@ -12,3 +12,4 @@ asked_code (Err fault.Refused) = LINE_REFUSED
 asked_code (Err fault.Write) = MEMORY
 asked_code (Err fault.Store) = FAILED
 asked_code (Err fault.Read) = UNREAD
+asked_code (Err fault.Unsure) = FAILED

@@ -3,7 +3,7 @@ ghost use Rattle.altstore.specs.Lines.{Asks};
 
 use crate::session::Session;
 use std::alloc::Global;
-use vm_cli::{Manner, OnCommand, OnRefusal, ServeFault, serve};
+use vm_cli::{Grouping, Manner, OnCommand, OnRefusal, ServeFault, serve};
 
 /// Answers lines, as `serve` does. The new answers replace the old ones.
 pub fn ask(
@@ -19,6 +19,7 @@ pub fn ask(
     let manner = Manner {
         on_command: OnCommand::CarryOut,
         on_refusal,
+        grouping: Grouping::Lines,
     };
     serve(
         alloc,

@@ -34,5 +34,6 @@ pub fn asked(asked: &Result<bool, ServeFault>) -> u32
         Err(ServeFault::Write) => MEMORY,
         Err(ServeFault::Store) => FAILED,
         Err(ServeFault::Read) => UNREAD,
+        Err(ServeFault::Unsure) => FAILED,
     }
 }

@@ -8,7 +8,10 @@ use crate::step::Step;
 use anyhow::{Context, Result, bail};
 use std::alloc::Global;
 use std::fmt::Write;
-use vm_cli::{InMemory, Job, Manner, OnCommand, OnRefusal, buffer_for, job, run_words, serve};
+use vm_cli::{
+    Grouping, InMemory, Job, Manner, OnCommand, OnRefusal, buffer_for, job, run_words, serve,
+    serve_batches,
+};
 use vm_disk::{FuseDisk, MemDisk};
 use vm_store::{Store, format, open};
 
@@ -88,7 +91,8 @@ fn asked(alloc: Global, words: &[String]) -> Result<Vec<u8>> {
                 manner,
             },
         ) => format!(in alloc;
-            "run {file}, cache {}, buffer {}, {:?}, {:?}\n",
+            "{} {file}, cache {}, buffer {}, {:?}, {:?}\n",
+            word_of(manner.grouping),
             in_memory.cache,
             buffers(alloc, in_memory)?,
             manner.on_refusal,
@@ -147,13 +151,26 @@ fn play_talks(alloc: Global, passes: u32, steps: &mut [Step]) -> Result<()> {
     played
 }
 
+/// The word of a session.
+fn word_of(grouping: Grouping) -> &'static str {
+    match grouping {
+        Grouping::Lines => "run",
+        Grouping::Batches => "serve",
+    }
+}
+
 /// The manner of a session that words give: `serve ignore`, `tell` or `stop`, followed by
-/// `read-only` if commands are refused.
+/// `read-only` if commands are refused, or by `batches` if lines come in batches.
 fn manner(words: &[String]) -> Result<Manner> {
-    let (meaning, on_command) = match words {
-        [verb, meaning] if verb.as_str() == "serve" => (meaning, OnCommand::CarryOut),
+    let (meaning, on_command, grouping) = match words {
+        [verb, meaning] if verb.as_str() == "serve" => {
+            (meaning, OnCommand::CarryOut, Grouping::Lines)
+        }
         [verb, meaning, more] if verb.as_str() == "serve" && more.as_str() == "read-only" => {
-            (meaning, OnCommand::Refuse)
+            (meaning, OnCommand::Refuse, Grouping::Lines)
+        }
+        [verb, meaning, more] if verb.as_str() == "serve" && more.as_str() == "batches" => {
+            (meaning, OnCommand::CarryOut, Grouping::Batches)
         }
         _ => bail!("a step over a store is a talk"),
     };
@@ -166,6 +183,7 @@ fn manner(words: &[String]) -> Result<Manner> {
     Ok(Manner {
         on_command,
         on_refusal,
+        grouping,
     })
 }
 
@@ -176,7 +194,12 @@ fn talk(alloc: Global, store: &mut Store<FuseDisk<MemDisk>>, step: &mut Step) ->
         bytes: step.input.as_bytes(),
         fails: step.input_fails,
     };
-    step.end = match serve(alloc, &mut input, &mut step.output, store, manner) {
+    let output = &mut step.output;
+    let served = match manner.grouping {
+        Grouping::Lines => serve(alloc, &mut input, output, store, manner),
+        Grouping::Batches => serve_batches(alloc, &mut input, output, store, manner),
+    };
+    step.end = match served {
         Ok(false) => String::from_str(alloc, "0")?,
         Ok(true) => String::from_str(alloc, "a line was refused")?,
         Err(fault) => format!(in alloc; "the talk ended: {fault}")?,

@@ -5,7 +5,7 @@ use crate::sight::{expect, look};
 use crate::stores::{new_store, reopen};
 use std::alloc::Global;
 use std::str;
-use vm_cli::{Manner, OnCommand, OnRefusal, serve};
+use vm_cli::{Grouping, Manner, OnCommand, OnRefusal, serve};
 use vm_disk::MemDisk;
 use vm_store::Store;
 
@@ -24,6 +24,7 @@ fn serve_lines(
     let manner = Manner {
         on_command: OnCommand::CarryOut,
         on_refusal: OnRefusal::Ignore,
+        grouping: Grouping::Lines,
     };
     match serve(alloc, &mut lines, &mut output, store, manner) {
         Ok(_) => Ok(output),

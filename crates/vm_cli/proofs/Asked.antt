@@ -22,9 +22,10 @@ use Rattle.clap.specs.Faults.{fault_of, level_fault, values_fault}
 use Rattle.clap.specs.declared.builder.value_parser.ValueParser.TheVariants as vp
 use Rattle.clap.specs.declared.builder.value_parser.ValueParser.{ValueParser}
 use Rattle.clap.proofs.ValueTestLemmas.{Accepts-accepts, accepts-Accepts}
-use Rattle.vm_cli.specs.Words.{Wanted, altctl, asked_of, blocks_rule, buffer_rule, cache_rule, check_app, command_with, copy_app, create_app, do_app, file_rule, grow_rule, grow_to_rule, buffer_by, is_set, line_rule, no_lock_rule, number_by, number_in, read_only_rule, refusal_by, run_app, strict_rule, tree_app, wait_rule}
+use Rattle.vm_cli.specs.Words.{Wanted, altctl, asked_of, blocks_rule, buffer_rule, cache_rule, check_app, command_with, copy_app, create_app, do_app, file_rule, grow_rule, grow_to_rule, buffer_by, is_set, line_rule, no_lock_rule, number_by, number_in, read_only_rule, refusal_by, run_app, serve_app, strict_rule, tree_app, wait_rule}
 use Rattle.vm_cli.specs.Given.{input_of}
 use Rattle.vm_cli.specs.Words.Wanted.{check, copy, create, do_lines, draw, run}
+use Rattle.vm_cli.specs.declared.talk.Grouping.TheVariants.{Batches, Lines}
 use Rattle.vm_cli.specs.declared.talk.OnRefusal.TheVariants.{Ignore, Tell}
 use Rattle.vm_cli.proofs.FaultFree.{Every, every-found, neither, nothing_wanting}
 use Rattle.vm_cli.proofs.Levels.{IsFilled, IsKnown, each_given, given_row, has-default, has-stays, held_row, level_rows, no-default}
@@ -103,6 +104,9 @@ create_level = built_leaf create_app.top
 abbrev run_level : Shape
 run_level = built_leaf run_app.top
 
+abbrev serve_level : Shape
+serve_level = built_leaf serve_app.top
+
 abbrev do_level : Shape
 do_level = built_leaf do_app.top
 
@@ -136,6 +140,9 @@ create_known = (valued refl (lit< tt) refl refl, (valued refl (lit< tt) refl ref
 
 run_known : Every (IsKnown run_level.rules) run_level.rules
 run_known = (valued refl (lit< tt) refl refl, (flag (codes "true") refl refl refl refl, (flag (codes "true") refl refl refl refl, (flag (codes "true") refl refl refl refl, (flag (codes "true") refl refl refl refl, (flag (codes "true") refl refl refl refl, (valued refl (lit< tt) refl refl, (valued refl (lit< tt) refl refl, (valued refl (lit< tt) refl refl, (help refl refl, tt))))))))))
+
+serve_known : Every (IsKnown serve_level.rules) serve_level.rules
+serve_known = (valued refl (lit< tt) refl refl, (flag (codes "true") refl refl refl refl, (flag (codes "true") refl refl refl refl, (flag (codes "true") refl refl refl refl, (flag (codes "true") refl refl refl refl, (flag (codes "true") refl refl refl refl, (valued refl (lit< tt) refl refl, (valued refl (lit< tt) refl refl, (valued refl (lit< tt) refl refl, (help refl refl, tt))))))))))
 
 do_known : Every (IsKnown do_level.rules) do_level.rules
 do_known = (valued refl (lit< tt) refl refl, (listed refl (lit< tt) refl refl, (flag (codes "true") refl refl refl refl, (flag (codes "true") refl refl refl refl, (flag (codes "true") refl refl refl refl, (flag (codes "true") refl refl refl refl, (flag (codes "true") refl refl refl refl, (valued refl (lit< tt) refl refl, (valued refl (lit< tt) refl refl, (valued refl (lit< tt) refl refl, (help refl refl, tt)))))))))))
@@ -203,8 +210,21 @@ run_rows rows filled file_given grow_held cache_held =
     let cache = held_row run_level run_known refl rows (codes "cache") filled cache_held in
     let stay = number_read run_level.rules cache_option 0 65536 rows cache.0 (lit< tt) refl refl refl cache.2 cache.1 cache.3 in
     let command = command_with (is_set (first_of (codes "read-only") rows)) (is_set (first_of (codes "grow") rows)) most.0 in (
-      run file.2.first (record { cache = stay.0; buffer = buffer_by rows }) (record { on_command = command; on_refusal = refusal_by Ignore rows }),
+      run file.2.first (record { cache = stay.0; buffer = buffer_by rows }) (record { on_command = command; on_refusal = refusal_by Ignore rows; grouping = Lines }),
       rw (first_text run_level.rules rows (codes "file") file.0 file.2 file.1, stay.1, most.1) refl,
+    )
+
+serve_rows : (rows : List Row) → Every (IsFilled serve_level.rules) rows → is_given (codes "file") rows ≡ true → has_row (codes "grow-to") rows ≡ true → has_row (codes "cache") rows ≡ true
+    → (w : Wanted) × (asked_of (Some (codes "serve", rows)) ≡ Some w)
+serve_rows rows filled file_given grow_held cache_held =
+    let file = given_row serve_level serve_known refl rows (codes "file") filled file_given in
+    let grow = held_row serve_level serve_known refl rows (codes "grow-to") filled grow_held in
+    let most = number_read serve_level.rules grow_option 0 67108864 rows grow.0 (lit< tt) refl refl refl grow.2 grow.1 grow.3 in
+    let cache = held_row serve_level serve_known refl rows (codes "cache") filled cache_held in
+    let stay = number_read serve_level.rules cache_option 0 65536 rows cache.0 (lit< tt) refl refl refl cache.2 cache.1 cache.3 in
+    let command = command_with (is_set (first_of (codes "read-only") rows)) (is_set (first_of (codes "grow") rows)) most.0 in (
+      run file.2.first (record { cache = stay.0; buffer = buffer_by rows }) (record { on_command = command; on_refusal = refusal_by Ignore rows; grouping = Batches }),
+      rw (first_text serve_level.rules rows (codes "file") file.0 file.2 file.1, stay.1, most.1) refl,
     )
 
 do_rows : (rows : List Row) → Every (IsFilled do_level.rules) rows → is_given (codes "file") rows ≡ true → is_given (codes "line") rows ≡ true → has_row (codes "grow-to") rows ≡ true → has_row (codes "cache") rows ≡ true
@@ -217,7 +237,7 @@ do_rows rows filled file_given line_given grow_held cache_held =
     let cache = held_row do_level do_known refl rows (codes "cache") filled cache_held in
     let stay = number_read do_level.rules cache_option 0 65536 rows cache.0 (lit< tt) refl refl refl cache.2 cache.1 cache.3 in
     let command = command_with (is_set (first_of (codes "read-only") rows)) (is_set (first_of (codes "grow") rows)) most.0 in (
-      do_lines file.2.first (input_of line.0.values) (record { cache = stay.0; buffer = buffer_by rows }) (record { on_command = command; on_refusal = refusal_by Tell rows }),
+      do_lines file.2.first (input_of line.0.values) (record { cache = stay.0; buffer = buffer_by rows }) (record { on_command = command; on_refusal = refusal_by Tell rows; grouping = Lines }),
       rw (first_text do_level.rules rows (codes "file") file.0 file.2 file.1, line.1, stay.1, most.1) refl,
     )
 
@@ -289,6 +309,14 @@ run_asks words e =
     let ends = run_ends (settled run_level.rules (walk run_level.rules [] nothing_held words).held).rows in
     run_rows rows level.0 (given.0 refl) (grow_ends ends) (cache_ends ends)
 
+serve_asks : Asks serve_level
+serve_asks words e =
+    let level = level_rows serve_level serve_known refl words e in
+    let rows = rows_after serve_level.rules [] words in
+    let given = each_given serve_level serve_known refl serve_level.rules rows (nothing_wanting false false (list_any (λ a. a.required && not (is_given a.id rows)) serve_level.rules) level.1).1 in
+    let ends = run_ends (settled serve_level.rules (walk serve_level.rules [] nothing_held words).held).rows in
+    serve_rows rows level.0 (given.0 refl) (grow_ends ends) (cache_ends ends)
+
 do_asks : Asks do_level
 do_asks words e =
     let level = level_rows do_level do_known refl words e in
@@ -330,7 +358,7 @@ helps name e = go (bytes_eq (codes "help") name) refl
     go false t = let bad : ⊥ = (let f = rw t at e in cc) in absurd bad
 
 each_asks : Every AsksOrHelps (built altctl).subs
-each_asks = (inl create_asks, (inl run_asks, (inl do_asks, (inl check_asks, (inl tree_asks, (inl copy_asks, (inr helps, tt)))))))
+each_asks = (inl create_asks, (inl run_asks, (inl serve_asks, (inl do_asks, (inl check_asks, (inl tree_asks, (inl copy_asks, (inr helps, tt))))))))
 
 -- where the parse of the words has no fault, they ask for a job
 pub asks : (words : List Text) → fault_of altctl words ≡ [] → (w : Wanted) × (asked_of (subcommand_of altctl words) ≡ Some w)

@@ -1,5 +1,5 @@
 -- When a talk ends, on any disk.
-use Rattle.std.proofs.Common.{◌≡◌, ◌∙◌, ℕ, Bool, List, Option, true, false, Result, Ok, Err, IfErr, refl, subst, sym, arith}
+use Rattle.std.proofs.Common.{◌≡◌, ◌⊎◌, inl, inr, ◌∙◌, ℕ, Bool, List, Option, true, false, Result, Ok, Err, IfErr, refl, subst, sym, arith}
 use Rattle.vm_types.specs.declared.answer.Answer.{Answer}
 use Rattle.vm_types.specs.declared.command.Command.{Command}
 use Rattle.vm_types.specs.declared.refusal.Refusal.{Refusal}
@@ -9,7 +9,7 @@ use Rattle.vm_store.specs.declared.store.Store.{Store}
 use Rattle.vm_store.proofs.LongerLemmas.{goes_grow}
 use Rattle.vm_cli.specs.Feeds.{AnswersLine, EndsIfFailed, FeedsLine, NeverEnds, ServesOn, Stays, TalkGoesOn, TalksOn}
 use Rattle.vm_cli.specs.Replies.{ends_talk}
-use Rattle.vm_cli.specs.Talk.{EndsBy, Failing, StoreFails}
+use Rattle.vm_cli.specs.Talk.{EndsBy, Failing, FailsByDevice, StoreFails}
 use Rattle.vm_cli.specs.declared.answers.output.WriteFault.{WriteFault}
 use Rattle.vm_cli.specs.declared.answers.reply.Reply.{Reply}
 use Rattle.vm_cli.specs.declared.lines.line.Line.{Line}
@@ -19,7 +19,7 @@ use Rattle.vm_cli.specs.declared.talk.Session.{Session}
 use Rattle.vm_cli.specs.declared.talk.ServeFault.TheVariants as fault
 use Rattle.vm_cli.proofs.FeedLemmas.{joined}
 use Rattle.vm_cli.proofs.HandledLemmas.{Applied, applied_fails, applied_goes}
-use Rattle.vm_cli.proofs.PassLemmas.{goes_none, grows_both, grows_none, left_again, never_both}
+use Rattle.vm_cli.proofs.PassLemmas.{failed_or, goes_none, grows_both, grows_none, left_again, never_both}
 use Rattle.vm_cli.proofs.TalkLemmas.{last-is}
 
 -- a session goes on through two calls
@@ -91,6 +91,7 @@ module _ {D : Type 0} {members : _} where
     goes = by.goes;
     ok = λ sound. sym (by.last sound) ∙ goes_on;
     err = λ sound. tt;
+    failing = by.failing;
     left = by.left;
   }
 
@@ -100,6 +101,7 @@ module _ {D : Type 0} {members : _} where
     goes = by.goes;
     ok = λ sound. tt;
     err = λ sound. let failed : has_failed new ≡ true = sym (by.last sound) ∙ ends in (failed, by.failing sound failed);
+    failing = by.failing;
     left = by.left;
   }
 
@@ -109,6 +111,7 @@ module _ {D : Type 0} {members : _} where
     goes = by.goes;
     ok = λ sound. tt;
     err = λ sound. ends;
+    failing = by.failing;
     left = by.left;
   }
 
@@ -118,8 +121,17 @@ module _ {D : Type 0} {members : _} where
     goes = grows_none _;
     ok = λ sound. sound;
     err = λ sound. tt;
+    failing = λ sound failed. absurd (never_both _ sound failed);
     left = λ failed. refl;
   }
+
+  -- a store that fails in two calls does so since the device failed in one of them
+  pub fails_then : (old mid new : Store D members) → GrowsOn ⊥ old mid → GrowsOn ⊥ mid new → FailsByDevice old mid → FailsByDevice mid new → FailsByDevice old new
+  fails_then old mid new first second fails then sound failed = by (failed_or (has_failed mid))
+    where
+      by : (has_failed mid ≡ false) ⊎ (has_failed mid ≡ true) → Failing old new
+      by (inl fine) = let more : Failing mid new = then fine failed in omega (arith, first.rising, more)
+      by (inr bad) = let more : Failing old mid = fails sound bad in omega (arith, second.rising, more)
 
   -- bytes after others
   pub talks_then : (old mid new : Store D members) (refused : Bool) → TalksOn (Ok refused) old mid → (result : Result Bool ServeFault) → TalksOn result mid new → TalksOn (joined refused result) old new
@@ -127,12 +139,14 @@ module _ {D : Type 0} {members : _} where
     goes = grows_both _ _ _ first.goes second.goes;
     ok = λ sound. second.ok (first.ok sound);
     err = λ sound. tt;
+    failing = fails_then old mid new first.goes second.goes first.failing second.failing;
     left = left_again old mid new first.left second.left;
   }
   talks_then old mid new refused first (Err why) second = record {
     goes = grows_both _ _ _ first.goes second.goes;
     ok = λ sound. tt;
     err = λ sound. ends_then why (second.err (first.ok sound));
+    failing = fails_then old mid new first.goes second.goes first.failing second.failing;
     left = left_again old mid new first.left second.left;
   }
     where
@@ -140,7 +154,16 @@ module _ {D : Type 0} {members : _} where
       ends_then fault.Read ends = absurd ends
       ends_then fault.Write ends = tt
       ends_then fault.Refused ends = tt
+      ends_then fault.Unsure ends = tt
       ends_then fault.Store (failed, rises) = (failed, omega (arith, first.goes.rising, rises))
+
+  -- whatever ended it, a line is told to have been refused
+  pub talks_refused : (old new : Store D members) (result : Result Bool ServeFault) → TalksOn result old new → TalksOn (Err fault.Refused) old new
+  talks_refused old new result talks = record { goes = talks.goes; ok = λ sound. tt; err = λ sound. tt; failing = talks.failing; left = talks.left }
+
+  -- or that none was
+  pub talks_fine : (old new : Store D members) (refused : Bool) → TalksOn (Ok refused) old new → (again : Bool) → TalksOn (Ok again) old new
+  talks_fine old new refused talks again = record { goes = talks.goes; ok = talks.ok; err = λ sound. tt; failing = talks.failing; left = talks.left }
 
   -- a whole talk
   pub serves_on : (old new : Store D members) (result : Result Bool ServeFault) → TalksOn result old new → ServesOn result old new
@@ -151,6 +174,7 @@ module _ {D : Type 0} {members : _} where
       fails (Err fault.Read) ends = absurd ends
       fails (Err fault.Write) ends = λ is. cc
       fails (Err fault.Refused) ends = λ is. cc
+      fails (Err fault.Unsure) ends = λ is. cc
       fails (Err fault.Store) ends = λ is. ends
 
   -- one after which the reader failed

@@ -200,6 +200,7 @@ module _ {D : Type 0} {members : _} where
         (text ++ second, talked-join old mid new s on lines text first all second talked, ap (λ (r : Bool). first.refused || r) same, Appends-then a b c text second written more)
     serves-after (Err fault.Read) a b c all written (second, then, others, cut, talked, more) =
         (text ++ second, lines ++ then, others, ap (λ ls. lines ++ ls) cut ∙ sym (append_assoc lines then others), talked-join old mid new s on lines text first then second talked, Appends-then a b c text second written more)
+    serves-after (Err fault.Unsure) a b c all written serves = absurd serves
     serves-after (Err fault.Store) a b c all written (second, ended, more) =
         (text ++ second, ends-after true all second ended, Appends-then a b c text second written more)
     serves-after (Err fault.Refused) a b c all written (second, ended, error, stop, more) =
@@ -230,6 +231,7 @@ module _ {D : Type 0} {members : _} where
         subst (λ ls. ServesLines old new s on (Ok refused) a b (line ∷ ls)) (sym none)
         (text, talked-line old new s on line text handled (λ stop. sym same ∙ goes_on stop), same, written)
     serves-line (Err fault.Read) a b others none writes = absurd writes
+    serves-line (Err fault.Unsure) a b others none writes = absurd writes
     serves-line (Err fault.Store) a b others none (text, handled, written) = (text, ends-line true text others handled, written)
     serves-line (Err fault.Refused) a b others none (text, handled, error, stop, written) = (text, ends-line false text others handled, error, stop, written)
     serves-line (Err fault.Write) a b others none (text, ends, handled, written) = (text, ends, ends-line ends text others handled, written)

@@ -20,7 +20,8 @@ use Rattle.vm_store.specs.Shown.{Shows}
 use Rattle.vm_cli.specs.CachedLines.{buffer_for, IsNotServed, IsServed, answers_told, commands_told}
 use Rattle.vm_cli.specs.DelayedLines.{IsRefusedLate, IsServedLate, answers_late, commands_late}
 use Rattle.vm_cli.specs.Exits.{IsJob, Tells}
-use Rattle.vm_cli.specs.Keeps.{Keeps, answers_of, commands_of}
+use Rattle.vm_cli.specs.Keeps.{Keeps}
+use Rattle.vm_cli.specs.Served.{answers_by, commands_by}
 use Rattle.vm_cli.specs.Files.{Answers, Counts, Draws, Declines, Does, Duplicates, FindsFault, KeepsAll, Makes}
 use Rattle.vm_cli.specs.Places.{KeepsOthers, PlaceState}
 use Rattle.vm_cli.specs.Runs.{AsksToWrite, Disks, IsLook, LooksOnly, ServesIn, ServesWords}
@@ -116,8 +117,8 @@ module _ {D : Type 0} (members : Ghosts D) (late : Ghosts (DelayedDisk D members
           → Keeps (members.state found) (members.state back) (opened seen) (commands_late members late served (opened seen)) (answers_late members late served (opened seen))
       go (inl served) = served.kept honest seen (clean_leaves (λ x. Shows x seen) (members.state found).now clean shows)
       go (inr over) =
-          let commands = commands_of (over.done.serves (opened seen)) in
-          let answers = answers_of (over.done.serves (opened seen)) in
+          let commands = commands_by on.grouping over.done.first over.done.last (opened seen) on over.done.served before after input (over.done.serves (opened seen)) in
+          let answers = answers_by on.grouping over.done.first over.done.last (opened seen) on over.done.served before after input (over.done.serves (opened seen)) in
           let there = honest_above over.last over.given_back in
           let now : (late.state over.first).now ≡ (members.state found).now = rw (same over.first) over.idle.now in
           let above : Keeps (late.state over.first) (late.state over.last) (opened seen) commands answers =

@@ -42,3 +42,15 @@ mod RealFilesLemmas
 mod CachingLemmas
 mod DelayingLemmas
 mod MemFilesLemmas
+pub mod BatchLemmas
+pub mod RepeatedLemmas
+pub mod ReadingLemmas
+pub mod CarryLemmas
+pub mod SettleLemmas
+pub mod StreamLemmas
+pub mod RoundLemmas
+pub mod StreamEndLemmas
+mod StreamPassLemmas
+mod LineUseLemmas
+mod StreamKeepLemmas
+mod WholeLemmas

@@ -9,6 +9,7 @@ use Rattle.vm_cli.specs.Given.{input_of}
 use Rattle.vm_cli.specs.Words.{asked_by, asked_of, memory_by, do_by, manner_by}
 use Rattle.vm_cli.specs.Words.Wanted.{do_lines}
 use Rattle.vm_cli.specs.declared.program.task.InMemory.{InMemory}
+use Rattle.vm_cli.specs.declared.talk.Grouping.TheVariants.{Lines}
 use Rattle.vm_cli.specs.declared.talk.Manner.{Manner}
 use Rattle.vm_cli.specs.declared.talk.OnRefusal.TheVariants.{Tell}
 
@@ -26,7 +27,7 @@ asked_of-entered entered name rows file e f = rw (e, f) refl
 
 -- what `do` asks for, where its lines, the numbers of blocks and the manner are there
 pub do_by-lines : (rows : List Row) (file : Text) (lines : List Text) (in_memory : InMemory) (manner : Manner) → all_of (codes "line") rows ≡ Some lines → memory_by rows ≡ Some in_memory
-    → manner_by Tell rows ≡ Some manner → do_by rows file ≡ Some (do_lines file (input_of lines) in_memory manner)
+    → manner_by Tell Lines rows ≡ Some manner → do_by rows file ≡ Some (do_lines file (input_of lines) in_memory manner)
 do_by-lines rows file lines in_memory manner given number how = rw (given, number, how) refl
 
 -- without lines it asks for nothing

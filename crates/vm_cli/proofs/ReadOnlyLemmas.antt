@@ -36,7 +36,7 @@ module _ {D : Type 0} {members : _} where
     failed = second.failed ∙ first.failed;
   }
 
-  passes_both : (old mid new : Store D members) → Passes old mid None → Passes mid new None → Passes old new None
+  pub passes_both : (old mid new : Store D members) → Passes old mid None → Passes mid new None → Passes old new None
   passes_both old mid new first second = record {
     goes = grows_both _ _ _ first.goes second.goes;
     as_long = λ none. second.as_long refl ∙ first.as_long refl;
@@ -67,7 +67,7 @@ module _ {D : Type 0} {members : _} where
     meets_none (Request.Bad mistake) text was reads meets = meets.0
     meets_none Request.Forbidden text was reads meets = meets.0
 
-    request_none : (request : Request) (text : List ℕ) (ends : Bool) (was : Done) → is_reading request ≡ true → AnsweredRequest old new s request text ends was → was ≡ None
+    pub request_none : (request : Request) (text : List ℕ) (ends : Bool) (was : Done) → is_reading request ≡ true → AnsweredRequest old new s request text ends was → was ≡ None
     request_none request text ends was reads (inl (sound, last, meets)) = meets_none request text was reads meets
     request_none request text ends was reads (inr (failed, same, none, says)) = none
 
@@ -79,7 +79,7 @@ module _ {D : Type 0} {members : _} where
           let asked = request_of (words_of (without_return line)) in
           request_none (asked_in on.on_command asked) text ends was (refused_reads on.on_command asked refuses) answered
 
-      line_passes : (line text : List ℕ) (ends : Bool) → HandlesLine old new s on line text ends → Passes old new None
+      pub line_passes : (line text : List ℕ) (ends : Bool) → HandlesLine old new s on line text ends → Passes old new None
       line_passes line text ends handled = subst (λ (was : Done). Passes old new was) (line_none line text ends handled.done handled.answers) handled.passes
 
   module _ (on : Manner) (refuses : on.on_command ≡ Refuse) where
@@ -102,6 +102,7 @@ module _ {D : Type 0} {members : _} where
         let talked = serves.served.1 in talks_pass _ old new s serves.served.0 talked.commands talked.answers talked.refused talked.talks
     serves_pass old new s (Err fault.Read) before then known serves =
         let talked = serves.served.4 in talks_pass serves.served.1 old new s serves.served.0 talked.commands talked.answers talked.refused talked.talks
+    serves_pass old new s (Err fault.Unsure) before then known serves = absurd serves.served
     serves_pass old new s (Err fault.Store) before then known serves = ended_passes old new s true _ serves.served.0 serves.served.1
     serves_pass old new s (Err fault.Refused) before then known serves = ended_passes old new s false _ serves.served.0 serves.served.1
     serves_pass old new s (Err fault.Write) before then known serves = ended_passes old new s serves.served.1 _ serves.served.0 serves.served.2

@@ -56,7 +56,7 @@ after_each-is s commands answers ((c, a) ∷ more) same =
     ∙ further ∙ ap (λ t. after_each t more) (after_more s commands answers c a same)
 
 -- the state after a line
-after_line-is : (s : State) (commands : List Command) (answers : List (Result Answer Refusal)) (done : Done)
+pub after_line-is : (s : State) (commands : List Command) (answers : List (Result Answer Refusal)) (done : Done)
     → length answers ≡ length commands
     → after s (commands ++ with_command done []) (answers ++ with_answer done []) ≡ after_line (after s commands answers) done
 after_line-is s commands answers None same = rw (append-nil commands, append-nil answers) refl
@@ -93,7 +93,7 @@ module _ {D : Type 0} {members : _} where
 
   module _ (start : DiskState) (s : State) where
     -- the lines so far, up to this store
-    abbrev SoFar : Store D members → List Command → List (Result Answer Refusal) → Type 0
+    abbrev pub SoFar : Store D members → List Command → List (Result Answer Refusal) → Type 0
     SoFar store commands answers = Keeping start (members.state (disk_of store)) s commands answers
 
     -- one line more: a command, or none
@@ -108,19 +108,19 @@ module _ {D : Type 0} {members : _} where
           (passes.reads honest refl)))
 
       -- it was a command, in which the device didn't fail
-      line_runs : (c : Command) (a : Result Answer Refusal) → CarriesOut old new c a
+      pub line_runs : (c : Command) (a : Result Answer Refusal) → CarriesOut old new c a
           → has_failed new ≡ false → SoFar new (commands ++ c ∷ []) (answers ++ a ∷ [])
       line_runs c a carries sound =
           keeping_more start (members.state (disk_of old)) s commands answers so_far (members.state (disk_of new)) c a (carries.performs.carried honest _ holds).crash
           (stands_show new _ ((carries.performs.carried honest _ holds).state (λ device. never_both _ sound (carries.failed.1 device))))
 
       -- the device failed in it
-      command_fails : (c : Command) (a : Result Answer Refusal) → CarriesOut old new c a
+      pub command_fails : (c : Command) (a : Result Answer Refusal) → CarriesOut old new c a
           → has_failed new ≡ true → Keeps start (members.state (disk_of new)) s (commands ++ c ∷ []) (answers ++ a ∷ [])
       command_fails c a carries failed = keeps_failed start (members.state (disk_of old)) s commands answers so_far (members.state (disk_of new)) c a (carries.performs.carried honest _ holds).crash (carries.failed.0 failed)
 
       -- the store stands for what it leaves
-      command_stands : (c : Command) (a : Result Answer Refusal) → CarriesOut old new c a
+      pub command_stands : (c : Command) (a : Result Answer Refusal) → CarriesOut old new c a
           → has_failed new ≡ false → Holds new (after s (commands ++ c ∷ []) (answers ++ a ∷ []))
       command_stands c a carries sound =
           subst (λ t. Holds new t) (sym (after_more s commands answers c a so_far.run.last.same))
@@ -174,7 +174,7 @@ module _ {D : Type 0} {members : _} where
           subst (λ cs. SoFar begun cs answers) (append-nil commands)
           (subst (λ rs. SoFar begun (commands ++ []) rs) (append-nil answers) (line_reads old begun commands answers so_far there holds asks))
 
-      line_keeping : (on : Manner) (line text : List ℕ) (ends : Bool) (done : Done)
+      pub line_keeping : (on : Manner) (line text : List ℕ) (ends : Bool) (done : Done)
           → Answered old new (after s commands answers) on line text ends done → Passes old new done → has_failed new ≡ false
           → SoFar new (commands ++ with_command done []) (answers ++ with_answer done [])
       line_keeping on line text ends None answered passes sound = line_reads old new commands answers so_far honest holds passes
@@ -184,7 +184,7 @@ module _ {D : Type 0} {members : _} where
           chain_keeping each led.begun new commands answers (led_so_far led.begun there led.asks) led.chain honest (led_stands old new each led honest _ holds) sound
 
       -- it may end the talk
-      line_keeps : (on : Manner) (line text : List ℕ) (ends : Bool) (done : Done)
+      pub line_keeps : (on : Manner) (line text : List ℕ) (ends : Bool) (done : Done)
           → Answered old new (after s commands answers) on line text ends done → Passes old new done
           → Keeps start (members.state (disk_of new)) s (commands ++ with_command done []) (answers ++ with_answer done [])
       line_keeps on line text ends None answered passes = keeps start (members.state (disk_of new)) s _ _ (line_reads old new commands answers so_far honest holds passes)
@@ -194,7 +194,7 @@ module _ {D : Type 0} {members : _} where
           chain_keeps each led.begun new commands answers (led_so_far led.begun there led.asks) led.chain honest (led_stands old new each led honest _ holds)
 
     -- lines that end no talk
-    talks_keeping : (on : Manner) (lines : List (List ℕ)) (old new : Store D members) (commands : List Command) (answers : List (Result Answer Refusal)) (text : List ℕ) (later : List Command) (others : List (Result Answer Refusal)) (refused : Bool)
+    pub talks_keeping : (on : Manner) (lines : List (List ℕ)) (old new : Store D members) (commands : List Command) (answers : List (Result Answer Refusal)) (text : List ℕ) (later : List Command) (others : List (Result Answer Refusal)) (refused : Bool)
         → Talks old new (after s commands answers) on lines text later others refused → SoFar old commands answers
         → (members.state (disk_of new)).honest ≡ true → has_failed old ≡ false → Holds old (after s commands answers)
         → SoFar new (commands ++ later) (answers ++ others)
@@ -241,6 +241,7 @@ module _ {D : Type 0} {members : _} where
         → Keeps start (members.state (disk_of new)) s (commands_of serves) (answers_of serves)
     serves_keeps old new so_far honest sound holds on (Ok refused) before then known serves = keeps start (members.state (disk_of new)) s _ _ (talked_keeping old new so_far honest sound holds on _ serves.served.0 serves.served.1)
     serves_keeps old new so_far honest sound holds on (Err fault.Read) before then known serves = keeps start (members.state (disk_of new)) s _ _ (talked_keeping old new so_far honest sound holds on serves.served.1 serves.served.0 serves.served.4)
+    serves_keeps old new so_far honest sound holds on (Err fault.Unsure) before then known serves = absurd serves.served
     serves_keeps old new so_far honest sound holds on (Err fault.Store) before then known serves = ended_keeps old new so_far honest sound holds on true _ serves.served.0 serves.served.1
     serves_keeps old new so_far honest sound holds on (Err fault.Refused) before then known serves = ended_keeps old new so_far honest sound holds on false _ serves.served.0 serves.served.1
     serves_keeps old new so_far honest sound holds on (Err fault.Write) before then known serves = ended_keeps old new so_far honest sound holds on serves.served.1 _ serves.served.0 serves.served.2

@@ -8,7 +8,7 @@ use Rattle.vm_types.specs.State.{State}
 use Rattle.vm_disk.specs.Delayed.{FollowsBelow, IsIdleOver, delayed_state, inner_of}
 use Rattle.vm_disk.specs.declared.delayed.DelayedDisk.{DelayedDisk}
 use Rattle.vm_disk.specs.declared.disk.Disk.{Ghosts}
-use Rattle.vm_cli.specs.Keeps.{answers_of, commands_of}
+use Rattle.vm_cli.specs.Served.{answers_by, commands_by}
 use Rattle.vm_cli.specs.Openings.{HasRefused}
 use Rattle.vm_cli.specs.Sessions.{HasServed}
 use Rattle.vm_cli.specs.declared.program.Exit.{Exit}
@@ -43,11 +43,11 @@ module _ {D : Type 0} (members : Ghosts D) (late : Ghosts (DelayedDisk D members
   -- the commands among these lines, if the store stood for this state at first
   abbrev pub commands_late : {buffer : ℕ} {on : Manner} {old new : D} {exit : Exit} {input before after : Option (List ℕ)}
       → IsServedLate buffer on old new exit input before after → State → List Command
-  commands_late (inl served) s = commands_of (served.serves s)
-  commands_late (inr over) s = commands_of (over.done.serves s)
+  commands_late {on = on} {input = input} {before = before} {after = after} (inl served) s = commands_by on.grouping served.first served.last s on served.served before after input (served.serves s)
+  commands_late {on = on} {input = input} {before = before} {after = after} (inr over) s = commands_by on.grouping over.done.first over.done.last s on over.done.served before after input (over.done.serves s)
 
   -- the answers to them
   abbrev pub answers_late : {buffer : ℕ} {on : Manner} {old new : D} {exit : Exit} {input before after : Option (List ℕ)}
       → IsServedLate buffer on old new exit input before after → State → List (Result Answer Refusal)
-  answers_late (inl served) s = answers_of (served.serves s)
-  answers_late (inr over) s = answers_of (over.done.serves s)
+  answers_late {on = on} {input = input} {before = before} {after = after} (inl served) s = answers_by on.grouping served.first served.last s on served.served before after input (served.serves s)
+  answers_late {on = on} {input = input} {before = before} {after = after} (inr over) s = answers_by on.grouping over.done.first over.done.last s on over.done.served before after input (over.done.serves s)

@@ -68,6 +68,7 @@ abbrev pub Writes : Manner → (List ℕ → Bool → Type 0) → Result Bool Se
 Writes on IsAnswer (Ok refused) before after =
     (text : List ℕ) × IsAnswer text false × (refused ≡ is_error text) × (on.on_refusal ≡ Stop → refused ≡ false) × Appends before after text
 Writes on IsAnswer (Err fault.Read) before after = ⊥
+Writes on IsAnswer (Err fault.Unsure) before after = ⊥
 Writes on IsAnswer (Err fault.Store) before after = (text : List ℕ) × IsAnswer text true × Appends before after text
 Writes on IsAnswer (Err fault.Refused) before after =
     (text : List ℕ) × IsAnswer text false × (is_error text ≡ true) × (on.on_refusal ≡ Stop) × Appends before after text
@@ -153,6 +154,7 @@ module _ {D : Type 0} {members : _} where
     pub goes : GrowsOn ⊥ old new
     pub ok : has_failed old ≡ false → OnOk result (has_failed new ≡ false)
     pub err : has_failed old ≡ false → IfErr result (EndsBy old new)
+    pub failing : FailsByDevice old new
     pub left : has_failed old ≡ true → new ≡ old
 
   -- so does a whole talk, which may also end since the reader failed

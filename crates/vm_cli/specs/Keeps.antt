@@ -43,6 +43,7 @@ module _ {D : Type 0} {members : _} where
       {before after known : Option (List ℕ)} → Serves old new s on result before after known → List Command
   commands_of {result = Ok refused} serves = serves.served.1.commands
   commands_of {result = Err fault.Read} serves = serves.served.4.commands
+  commands_of {result = Err fault.Unsure} serves = []
   commands_of {result = Err fault.Store} serves = commands_ended serves.served.1
   commands_of {result = Err fault.Refused} serves = commands_ended serves.served.1
   commands_of {result = Err fault.Write} serves = commands_ended serves.served.2
@@ -52,6 +53,7 @@ module _ {D : Type 0} {members : _} where
       {before after known : Option (List ℕ)} → Serves old new s on result before after known → List (Result Answer Refusal)
   answers_of {result = Ok refused} serves = serves.served.1.answers
   answers_of {result = Err fault.Read} serves = serves.served.4.answers
+  answers_of {result = Err fault.Unsure} serves = []
   answers_of {result = Err fault.Store} serves = answers_ended serves.served.1
   answers_of {result = Err fault.Refused} serves = answers_ended serves.served.1
   answers_of {result = Err fault.Write} serves = answers_ended serves.served.2

@@ -36,3 +36,11 @@ pub mod Runs
 pub mod Selector
 pub mod RealFiles
 pub mod MemFiles
+pub mod LineUses
+pub mod Rounds
+pub mod Streams
+pub mod LineReading
+pub mod LineEndings
+pub mod StreamCalls
+pub mod StreamKeeps
+pub mod Served

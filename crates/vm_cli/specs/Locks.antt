@@ -23,10 +23,11 @@ access_with read_only = if read_only then Read else Write
 abbrev pub access_by : Text → List Row → Option Access
 access_by name rows =
     if bytes_eq name (codes "run") then Some (access_with (is_set (first_of (codes "read-only") rows)))
+    else (if bytes_eq name (codes "serve") then Some (access_with (is_set (first_of (codes "read-only") rows)))
     else (if bytes_eq name (codes "do") then Some (access_with (is_set (first_of (codes "read-only") rows)))
     else (if bytes_eq name (codes "check") then Some Read
     else (if bytes_eq name (codes "tree") then Some Read
-    else (if bytes_eq name (codes "copy") then Some Read else None))))
+    else (if bytes_eq name (codes "copy") then Some Read else None)))))
 
 -- the lock that a task takes on this file: none with `--no-lock`
 abbrev pub lock_by : Text → List Row → Text → Option Lock

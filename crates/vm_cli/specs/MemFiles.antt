@@ -1,10 +1,12 @@
 -- What files in memory hold.
-use Rattle.std.specs.Prelude.{◌≡◌, ℕ, List, Option, Some, None, if◌then◌else◌, IsSome, IsSomeAnd, length, option_and_then, option_map}
+use Rattle.std.specs.Prelude.{◌≡◌, ℕ, Bool, true, not, List, Option, Some, None, if◌then◌else◌, IsSome, IsSomeAnd, is_some, length, option_and_then, option_map}
 use Rattle.std.specs.BTreeMap.{get_by_text}
 use Rattle.vm_disk.specs.Disk.{Contents, DiskState}
 use Rattle.vm_disk.specs.Memory.{memory_state}
+use Rattle.vm_disk.specs.Between.{Between}
 use Rattle.vm_disk.specs.Past.{noted}
-use Rattle.vm_cli.specs.Places.{PlaceState, names_in}
+use Rattle.vm_disk.specs.declared.memory.MemDisk.{MemDisk}
+use Rattle.vm_cli.specs.Places.{PlaceCall, Create, Find, Look, GiveBack, Lack, Link, Remove, PlaceState, IsAsked, StaysHonest, names_in}
 use Rattle.vm_cli.specs.declared.program.mem_files.MemFiles.{MemFiles}
 use Rattle.vm_cli.specs.declared.program.mem_files.Slot.{Slot}
 
@@ -59,3 +61,46 @@ pub record IsSameState (old new : PlaceState) : Type 0 where
 pub record IsLast (name : List ℕ) (s : DiskState) (place : PlaceState) : Type 0 where
   pub held : place.files name ≡ Some s.now.contents
   pub came : place.came name ≡ Some s
+
+-- what each call of files in memory keeps: they were asked about this name
+abbrev pub IsAskedFiles : (ℕ → ℕ → Type 0) → List ℕ → Bool → MemFiles → MemFiles → Type 0
+IsAskedFiles Writes name gives old new = IsAsked files_state names_denied asked_to_write Writes name gives old new
+
+-- files that were honest are so after it
+abbrev pub FilesStay : MemFiles → MemFiles → Type 0
+FilesStay old new = Between files_state StaysHonest old new
+
+-- what finding a disk does
+pub record FindsThere (name : List ℕ) (found : Option MemDisk) (old new : MemFiles) : Type 0 where
+  pub stays : FilesStay old new
+  -- If the disk is in, it is found.
+  pub there : IsIn name old → IsSome found
+
+-- what taking back a disk does
+pub record TakesThere (name : List ℕ) (old new : MemFiles) : Type 0 where
+  -- It stays honest if a file of this name was made.
+  pub stays : HasFile name old → FilesStay old new
+  -- Afterwards the disk is in.
+  pub back : (files_state new).honest ≡ true → IsIn name new
+
+-- what telling that there is no such file does
+pub record LacksThere (name : List ℕ) (lacks : Bool) (old new : MemFiles) : Type 0 where
+  pub stays : FilesStay old new
+  -- It is said exactly if there is no such file.
+  pub said : lacks ≡ not (is_some ((files_state old).files name))
+
+-- what removing a file does
+pub record RemovesThere (name : List ℕ) (old new : MemFiles) : Type 0 where
+  pub stays : FilesStay old new
+  -- Afterwards there is no such file.
+  pub gone : (files_state new).files name ≡ None
+
+-- what is promised of each call beside the trait's clauses
+abbrev pub files_does : PlaceCall MemDisk → MemFiles → MemFiles → Type 0
+files_does (Create name blocks made) old new = FilesStay old new
+files_does (Find name found) old new = FindsThere name found old new
+files_does (Look name found) old new = FindsThere name found old new
+files_does (GiveBack name disk) old new = TakesThere name old new
+files_does (Lack name lacks) old new = LacksThere name lacks old new
+files_does (Link from to linked) old new = FilesStay old new
+files_does (Remove name) old new = RemovesThere name old new

@@ -1,10 +1,10 @@
 -- What becomes of a disk that is opened, and why it is refused.
-use Rattle.std.specs.Prelude.{◌≡◌, ◌≢◌, ◌⊎◌, ◌↔◌, ◌<◌, ℕ, Bool, List, length, Option, None, Some, IsSomeAnd, true, false}
+use Rattle.std.specs.Prelude.{◌≡◌, ◌≢◌, ◌⊎◌, ◌↔◌, ◌<◌, ℕ, Bool, List, length, Option, None, Some, IsSomeAnd, Result, IfErr, IfOk, true, false}
 use Rattle.vm_types.specs.declared.refusal.Refusal.{Refusal}
 use Rattle.vm_types.specs.declared.refusal.Refusal.TheVariants.{Damaged, Device, NotAStore}
 use Rattle.vm_types.specs.declared.sizes.TheConstants.{FIRST_DATA}
 use Rattle.vm_disk.specs.Disk.{Contents, DiskState, Goes, block}
-use Rattle.vm_disk.specs.Moments.{Throughout}
+use Rattle.vm_disk.specs.Moments.{OnlyReads, Throughout}
 use Rattle.vm_block.specs.Header.{IsEarlierHeader}
 use Rattle.vm_store.specs.Recovery.{AllDamaged}
 use Rattle.vm_store.specs.Refused.{HasNoSlot, IsAtMostSynced, IsRefused, IsSynced}
@@ -45,6 +45,13 @@ IsLookedAt refusal = (refusal ≡ NotAStore) ⊎ ((n : ℕ) × (refusal ≡ Dama
 abbrev pub KeepsRefusal : Refusal → NoStore → Type 0
 KeepsRefusal refusal why = (refusal_of why ≡ refusal) ⊎ (IsLookedAt refusal × (refusal_of why ≡ Device))
 
+-- why a disk is refused whose opening gave this refusal: it may be looked at again to tell that, and is only read
+pub record FindsWhy (refusal : Refusal) (old new : DiskState) (why : NoStore) : Type 0 where
+  pub any : Goes (IsLookedAt refusal × (refusal_of why ≡ Device)) old new
+  pub reads : new.honest ≡ true → OnlyReads old new
+  pub only : KeepsRefusal refusal why
+  pub told : new.honest ≡ true → TellsEarlier old.now.contents why
+
 -- the disk was refused for this reason, Device only if a call of this disk failed, and at each moment nothing has changed, or all is
 -- synced
 pub record HasRefused (old new : DiskState) (told : NoStore) : Type 0 where
@@ -61,6 +68,12 @@ module _ {D : Type 0} {members : _} where
     pub opens : (members.state (disk_of store)).honest ≡ true → Opens old.now.contents store
     pub synced : (members.state (disk_of store)).honest ≡ true → IsSynced old.now (members.state (disk_of store)).now
     pub moments : (members.state (disk_of store)).honest ≡ true → Throughout old (members.state (disk_of store)) (IsAtMostSynced old.now)
+
+module _ {D : Type 0} (members : _) where
+  -- the store on a disk was opened, as `Opens` tells, or the disk was refused
+  pub record IsOpening (Opens : Contents → Store D members → Type 0) (disk : D) (result : Result (Store D members) (D × NoStore)) : Type 0 where
+    pub opened : IfOk result (HasOpened Opens (members.state disk))
+    pub refused : IfErr result (λ e. HasRefused (members.state disk) (members.state e.0) e.1)
 
 -- with a refusal as damaged each damaged block of the trees is named, unless it tells of the slot; with another none is, except that those
 -- found by then may be if the device failed

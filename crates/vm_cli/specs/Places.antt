@@ -1,5 +1,5 @@
 -- What is known of a place where disks are found by name, and what its calls do to it.
-use Rattle.std.specs.Prelude.{◌≡◌, ◌≢◌, ◌⊎◌, ◌<◌, ℕ, Bool, true, false, List, [], Option, Some, None, IfSome, length, map, option_map, replicate, reverse}
+use Rattle.std.specs.Prelude.{◌≡◌, ◌≢◌, ◌⊎◌, ◌<◌, ◌+◌, ℕ, Bool, true, false, List, [], ◌∷◌, Option, Some, None, IfSome, length, map, option_map, replicate, reverse}
 use Rattle.vm_types.specs.declared.sizes.TheConstants.{BLOCK_SIZE}
 use Rattle.vm_disk.specs.Disk.{Contents, DiskState, IsClean, block}
 use Rattle.vm_disk.specs.Past.{noted}
@@ -129,3 +129,32 @@ module _ {P : Type 0} (state : P → PlaceState) where
   -- if the place is honest after it, the file of this name is gone, or as it was
   abbrev pub RemovesIn : List ℕ → P → P → Type 0
   RemovesIn name old new = (state new).honest ≡ true → Removes name (state old) (state new)
+
+-- how often a place was asked for a disk that may be written: once more, or as often as before
+abbrev pub AsksOnce : ℕ → ℕ → Type 0
+AsksOnce asked asked' = asked' ≡ asked + 1
+
+abbrev pub AsksNever : ℕ → ℕ → Type 0
+AsksNever asked asked' = asked' ≡ asked
+
+module _ {P : Type 0} (state : P → PlaceState) (denied : P → List (List ℕ)) (to_write : P → ℕ) where
+  -- what each call keeps beside its own meaning: it was asked about this name, `Writes` tells of the disks that may be written, and it gave
+  -- what was asked for, or said yes, or else it denied the name. A call that can deny nothing always gives
+  pub record IsAsked (Writes : ℕ → ℕ → Type 0) (name : List ℕ) (gives : Bool) (old new : P) : Type 0 where
+    pub none : gives ≡ false → denied new ≡ name ∷ denied old
+    pub some : gives ≡ true → denied new ≡ denied old
+    pub writes : Writes (to_write old) (to_write new)
+    pub earlier : WasHonest (state old) (state new)
+
+-- a call of a place whose disks are these, with what it was given and what it gave back
+pub data PlaceCall (D : Type 0) : Type 0 where
+  -- a disk of this name, of this many blocks
+  Create : List ℕ → ℕ → Option D → PlaceCall D
+  Find : List ℕ → Option D → PlaceCall D
+  Look : List ℕ → Option D → PlaceCall D
+  GiveBack : List ℕ → D → PlaceCall D
+  -- whether there is nothing of this name
+  Lack : List ℕ → Bool → PlaceCall D
+  -- whether the file of the first name got the second
+  Link : List ℕ → List ℕ → Bool → PlaceCall D
+  Remove : List ℕ → PlaceCall D

@@ -11,7 +11,7 @@ use Rattle.vm_disk.specs.declared.history.History.{History}
 use Rattle.vm_disk.specs.declared.system.SystemFile.{SystemFile}
 use Rattle.vm_sums.specs.Summed.{inner_of, shown_contents, summed_state}
 use Rattle.vm_sums.specs.declared.summed.SummedDisk.{SummedDisk}
-use Rattle.vm_cli.specs.Places.{PlaceState, CreatesIn, FindsIn, StaysHonest, names_in}
+use Rattle.vm_cli.specs.Places.{PlaceCall, Create, Find, Look, GiveBack, Lack, Link, Remove, PlaceState, CreatesIn, FindsIn, IsAsked, StaysHonest, names_in}
 use Rattle.vm_cli.specs.Progress.{file_below}
 use Rattle.vm_cli.specs.declared.program.place.Event.{Event}
 use Rattle.vm_cli.specs.declared.program.place.Event.TheVariants.{Found, Made, Missed, Given, Lacking, Linked, Removed}
@@ -196,3 +196,22 @@ module _ {W : Type 0} (held : ℕ → List ℕ → Option (List ℕ)) (torn : �
   -- files of the system that were honest are so after a disk came back that kept the disk model, under its own name
   abbrev pub StaysReal : {R : Type 0} → List ℕ → RealDisk W → RealFiles R W → RealFiles R W → Type 0
   StaysReal name disk old new = disk_name disk ≡ name → (real_disk disk).honest ≡ true → StaysHonest (real_state old) (real_state new)
+
+  -- what each call of files of the system keeps: it was asked about this name
+  abbrev pub IsAskedReal : {R : Type 0} → (ℕ → ℕ → Type 0) → List ℕ → Bool → RealFiles R W → RealFiles R W → Type 0
+  IsAskedReal Writes name gives old new = IsAsked real_state names_denied asked_to_write Writes name gives old new
+
+  -- what taking back a disk does
+  pub record TakesReal {R : Type 0} (name : List ℕ) (disk : RealDisk W) (old new : RealFiles R W) : Type 0 where
+    pub notes : NotesGiven name disk old new
+    pub stays : StaysReal name disk old new
+
+  -- what is promised of each call beside the trait's clauses
+  abbrev pub real_does : {R : Type 0} → PlaceCall (RealDisk W) → RealFiles R W → RealFiles R W → Type 0
+  real_does (Create name blocks made) old new = NotesMade name old new
+  real_does (Find name found) old new = NotesFound name old new
+  real_does (Look name found) old new = NotesLooked name old new
+  real_does (GiveBack name disk) old new = TakesReal name disk old new
+  real_does (Lack name lacks) old new = NotesLacking name lacks old new
+  real_does (Link from to linked) old new = NotesLinked from to linked old new
+  real_does (Remove name) old new = NotesRemoved name old new

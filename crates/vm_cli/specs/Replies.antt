@@ -12,7 +12,7 @@ use Rattle.vm_cli.specs.declared.lines.mistake.Mistake.{Mistake}
 use Rattle.vm_cli.specs.declared.lines.mistake.Mistake.TheVariants.{NoSuchLine, Takes, Wrong}
 use Rattle.vm_cli.specs.declared.lines.mistake.WordKind.{WordKind}
 use Rattle.vm_cli.specs.declared.lines.mistake.WordKind.TheVariants as kind
-use Rattle.vm_cli.specs.declared.answers.reply.Reply.TheVariants.{Nothing, Done, Merged, Free, Blocks, Tally, End, Refused, Last, BadLine, LongLine, ReadOnly}
+use Rattle.vm_cli.specs.declared.answers.reply.Reply.TheVariants.{Nothing, Done, Merged, Free, Blocks, Tally, End, Refused, Last, BadLine, LongLine, ReadOnly, NotDone, Aborted, NotInBatch, TooLarge, HalfLine, Unsure}
 
 -- a yes or a no
 abbrev pub yes_or_no : Bool → List ℕ
@@ -76,6 +76,12 @@ reply_text (Last refusal) = codes "error " ++ (refusal_text refusal ++ 10 ∷ []
 reply_text (BadLine mistake) = codes "error 22 BadLine " ++ (mistake_text mistake ++ 10 ∷ [])
 reply_text LongLine = codes "error 23 LongLine" ++ 10 ∷ []
 reply_text ReadOnly = codes "error 24 ReadOnly" ++ 10 ∷ []
+reply_text (NotDone line) = codes "error 91 NotDone " ++ (decimal line ++ 10 ∷ [])
+reply_text Aborted = codes "error 92 Aborted" ++ 10 ∷ []
+reply_text NotInBatch = codes "error 93 NotInBatch" ++ 10 ∷ []
+reply_text TooLarge = codes "error 94 TooLarge" ++ 10 ∷ []
+reply_text HalfLine = codes "error 96 HalfLine" ++ 10 ∷ []
+reply_text Unsure = codes "error 101 Unsure" ++ 10 ∷ []
 
 -- the line of a record's value, or that there is none
 abbrev pub found_text : Option (List ℕ) → List ℕ

@@ -15,8 +15,9 @@ use Rattle.vm_store.specs.Shown.{Shows}
 use Rattle.vm_store.specs.Store.{Holds, disk_of, has_failed}
 use Rattle.vm_store.specs.declared.store.Store.{Store}
 use Rattle.vm_cli.specs.StoreCounts.{IsCounted}
-use Rattle.vm_cli.specs.Keeps.{Keeps, answers_of, commands_of}
-use Rattle.vm_cli.specs.Talk.{Passes, Serves}
+use Rattle.vm_cli.specs.Keeps.{Keeps}
+use Rattle.vm_cli.specs.Served.{IsWholeBy, ServesBy, answers_by, commands_by}
+use Rattle.vm_cli.specs.Talk.{Passes}
 use Rattle.vm_cli.specs.declared.program.Exit.{Exit}
 use Rattle.vm_cli.specs.declared.program.Exit.TheVariants.{Done, LineRefused, Stopped}
 use Rattle.vm_cli.specs.declared.talk.Manner.{Manner}
@@ -83,7 +84,8 @@ module _ {D : Type 0} (members : Ghosts D) where
     pub goes : Grows ⊥ (members.state (disk_of first)) (members.state new)
     pub well : has_failed first ≡ false
     pub opens : (members.state (disk_of first)).honest ≡ true → OpensAs (members.state old).now.contents first
-    pub serves : (s : State) → Serves first last s on served before after input
+    pub serves : (s : State) → ServesBy on.grouping first last s on served before after input
+    pub whole : (s : State) → IsWholeBy on.grouping first last s on served before after input (serves s)
     -- if commands are refused the disk is only read
     pub reads : on.on_command ≡ Refuse → Passes first last None
     pub ends : exit ≡ end_of on.on_refusal served
@@ -96,4 +98,5 @@ module _ {D : Type 0} (members : Ghosts D) where
     -- if a crash before the opening leaves something shown, one at any moment since leaves what the commands so far keep
     pub kept : (members.state new).honest ≡ true → (seen : Seen) → Leaves (λ x. Shows x seen) (members.state old).now
         → Keeps (members.state old) (members.state new) (opened seen)
-        (commands_of (serves (opened seen))) (answers_of (serves (opened seen)))
+        (commands_by on.grouping first last (opened seen) on served before after input (serves (opened seen)))
+        (answers_by on.grouping first last (opened seen) on served before after input (serves (opened seen)))

@@ -138,6 +138,7 @@ module _ {D : Type 0} {members : _} where
   EndsBy old new fault.Read = ⊥
   EndsBy old new fault.Write = Unit {0}
   EndsBy old new fault.Refused = Unit {0}
+  EndsBy old new fault.Unsure = Unit {0}
   EndsBy old new fault.Store = (has_failed new ≡ true) × Failing old new
 
   -- a talk that ends with Store does so since the store failed, as a device call did
@@ -376,6 +377,7 @@ module _ {D : Type 0} {members : _} where
       (text : List ℕ) × (talked : HasTalked old new s on all text) × (refused ≡ talked.refused) × Appends before after text
   ServesLines old new s on (Err fault.Read) before after all =
       (text : List ℕ) × (lines : List (List ℕ)) × (others : List (List ℕ)) × (all ≡ lines ++ others) × HasTalked old new s on lines text × Appends before after text
+  ServesLines old new s on (Err fault.Unsure) before after all = ⊥
   ServesLines old new s on (Err fault.Store) before after all = (text : List ℕ) × EndsTalk old new s on true all text × Appends before after text
   ServesLines old new s on (Err fault.Refused) before after all =
       (text : List ℕ) × (ended : EndsTalk old new s on false all text) × (is_error ended.last ≡ true) × (on.on_refusal ≡ Stop) × Appends before after text

@@ -3,8 +3,9 @@ use Rattle.std.specs.Prelude.{◌≡◌, ℕ, Bool, true, false, pos, List, [], 
 use Rattle.std.specs.Str.{bytes_eq}
 use Rattle.std.specs.Str.Parse.{digits_value, without_leading_plus}
 use Rattle.clap.specs.ValueTests.{is_unsigned_in}
-use Rattle.clap.specs.Words.{App, Row, Rule, Text, all_of, app_of, first_of, one_of, new_app, new_rule, shape_of, subcommand_of, with_rule, with_subcommand}
+use Rattle.clap.specs.Words.{App, Row, Rule, Text, all_of, app_of, first_of, one_of, new_app, new_rule, rule_of, shape_of, subcommand_of, with_rule, with_subcommand}
 use Rattle.clap.specs.Simple.{on_top}
+use Rattle.clap.specs.declared.builder.arg.Arg.{Arg}
 use Rattle.clap.specs.declared.builder.command.Command.{Command}
 use Rattle.clap.specs.declared.builder.command.Command.TheViews.{out-Command}
 use Rattle.clap.specs.declared.builder.action.ArgAction.TheVariants.{Append, SetTrue}
@@ -12,6 +13,8 @@ use Rattle.clap.specs.declared.builder.value_parser.ValueParser.TheVariants as v
 use Rattle.vm_types.specs.declared.sizes.TheConstants.{MIN_BLOCKS, MAX_BLOCKS}
 use Rattle.vm_cli.specs.declared.program.task.TheConstants.{MAX_BUFFER}
 use Rattle.vm_cli.specs.declared.program.words.TheConstants.{MAX_CACHE}
+use Rattle.vm_cli.specs.declared.talk.Grouping.{Grouping}
+use Rattle.vm_cli.specs.declared.talk.Grouping.TheVariants.{Batches, Lines}
 use Rattle.vm_cli.specs.declared.talk.Manner.{Manner}
 use Rattle.vm_cli.specs.declared.talk.OnCommand.{OnCommand}
 use Rattle.vm_cli.specs.declared.talk.OnCommand.TheVariants.{CarryOut, GrowIfFull, Refuse}
@@ -96,6 +99,10 @@ with_options app =
 abbrev pub run_app : App
 run_app = with_options (with_rule (new_app (codes "run")) file_rule)
 
+-- `serve [OPTIONS] FILE`
+abbrev pub serve_app : App
+serve_app = with_options (with_rule (new_app (codes "serve")) file_rule)
+
 -- lines, one at least
 abbrev pub line_rule : Rule
 line_rule = record (new_rule (codes "line")) {
@@ -128,11 +135,11 @@ copy_app = with_lock (with_rule (with_rule (with_rule (new_app (codes "copy")) f
 abbrev pub top_app : App
 top_app = on_top (λ s. record s { subcommand_required = true; has_version = true }) (new_app (codes "altctl"))
 
--- `altctl create FILE BLOCKS`, `altctl run [OPTIONS] FILE`, `altctl do [OPTIONS] FILE LINE..`, `altctl check [--no-lock] [--wait] FILE`,
--- `altctl tree [--no-lock] [--wait] FILE` and `altctl copy [--no-lock] [--wait] FROM TO [BLOCKS]`
+-- `altctl create FILE BLOCKS`, `altctl run [OPTIONS] FILE`, `altctl serve [OPTIONS] FILE`, `altctl do [OPTIONS] FILE LINE..`,
+-- `altctl check [--no-lock] [--wait] FILE`, `altctl tree [--no-lock] [--wait] FILE` and `altctl copy [--no-lock] [--wait] FROM TO [BLOCKS]`
 abbrev pub altctl : App
 altctl =
-    with_subcommand (with_subcommand (with_subcommand (with_subcommand (with_subcommand (with_subcommand top_app create_app.top) run_app.top) do_app.top) check_app.top) tree_app.top) copy_app.top
+    with_subcommand (with_subcommand (with_subcommand (with_subcommand (with_subcommand (with_subcommand (with_subcommand top_app create_app.top) run_app.top) serve_app.top) do_app.top) check_app.top) tree_app.top) copy_app.top
 
 -- a job, with the file's name itself in place of a reference to it, and the input of the lines that were given
 pub data Wanted : Type 0 where
@@ -175,10 +182,10 @@ command_with read_only grow most =
     if read_only then Refuse else (if nat_lt 0 most then GrowIfFull most else (if grow then GrowIfFull MAX_BLOCKS else CarryOut))
 
 -- how lines are answered
-abbrev pub manner_by : OnRefusal → List Row → Option Manner
-manner_by on rows =
+abbrev pub manner_by : OnRefusal → Grouping → List Row → Option Manner
+manner_by on grouping rows =
     option_map
-    (λ most. record { on_command = command_with (is_set (first_of (codes "read-only") rows)) (is_set (first_of (codes "grow") rows)) most; on_refusal = refusal_by on rows })
+    (λ most. record { on_command = command_with (is_set (first_of (codes "read-only") rows)) (is_set (first_of (codes "grow") rows)) most; on_refusal = refusal_by on rows; grouping = grouping })
     (number_by 0 MAX_BLOCKS (codes "grow-to") rows)
 
 -- how many blocks are kept in memory
@@ -193,11 +200,15 @@ buffer_by rows = number_by 0 MAX_BUFFER (codes "buffer") rows
 abbrev pub memory_by : List Row → Option InMemory
 memory_by rows = option_map (λ cache. record { cache = cache; buffer = buffer_by rows }) (cache_by rows)
 
+-- what `run` or `serve` with these matches wants of this file
+abbrev pub run_by : Grouping → List Row → Text → Option Wanted
+run_by grouping rows file = option_and_then (λ in_memory. option_map (λ manner. run file in_memory manner) (manner_by Ignore grouping rows)) (memory_by rows)
+
 -- what `do` with these matches wants of this file
 abbrev pub do_by : List Row → Text → Option Wanted
 do_by rows file =
     option_and_then
-    (λ lines. option_and_then (λ in_memory. option_map (λ manner. do_lines file (input_of lines) in_memory manner) (manner_by Tell rows)) (memory_by rows))
+    (λ lines. option_and_then (λ in_memory. option_map (λ manner. do_lines file (input_of lines) in_memory manner) (manner_by Tell Lines rows)) (memory_by rows))
     (all_of (codes "line") rows)
 
 -- what `copy` with these matches wants of this file
@@ -208,11 +219,12 @@ copy_by rows file = option_map (λ to. copy file to (number_by MIN_BLOCKS MAX_BL
 abbrev pub asked_by : Text → List Row → Text → Option Wanted
 asked_by name rows file =
     if bytes_eq name (codes "create") then option_map (create file) (number_by MIN_BLOCKS MAX_BLOCKS (codes "blocks") rows)
-    else (if bytes_eq name (codes "run") then option_and_then (λ in_memory. option_map (λ manner. run file in_memory manner) (manner_by Ignore rows)) (memory_by rows)
+    else (if bytes_eq name (codes "run") then run_by Lines rows file
+    else (if bytes_eq name (codes "serve") then run_by Batches rows file
     else (if bytes_eq name (codes "do") then do_by rows file
     else (if bytes_eq name (codes "check") then Some (check file)
     else (if bytes_eq name (codes "tree") then Some (draw file)
-    else (if bytes_eq name (codes "copy") then copy_by rows file else None)))))
+    else (if bytes_eq name (codes "copy") then copy_by rows file else None))))))
 
 -- the job that the matches of a subcommand ask for
 abbrev pub asked_of : Option (Text × List Row) → Option Wanted
@@ -234,6 +246,16 @@ IsAskedOf matched job = option_map wanted_of job ≡ asked_of matched
 -- a command has no argument that its subcommands take too
 abbrev pub IsLocal : Command → Type 0
 IsLocal command = (out-Command command).has_globals ≡ false
+
+-- an argument of this rule, which no subcommand takes too
+pub record IsArgOf (due : Rule) (arg : Arg) : Type 0 where
+  pub rule : rule_of arg ≡ due
+  pub local : arg.global ≡ false
+
+-- a command of this form, of which no argument is taken by its subcommands
+pub record IsCommandOf (due : App) (command : Command) : Type 0 where
+  pub app : app_of command ≡ due
+  pub local : IsLocal command
 
 -- this is the program with this task as one more subcommand, and both were made
 abbrev pub AddsTask : {E : Type 0} → Result Command E → Result Command E → Command → Type 0

@@ -4,5 +4,6 @@ pub mod listing;
 pub mod lists;
 pub mod mistakes;
 pub mod output;
+pub mod repeated;
 pub mod reply;
 pub mod text;

@@ -24,7 +24,8 @@ pub mod words;
 use crate::answers::output::{WriteFault, flush, put_all};
 use crate::answers::reply::push_refusal;
 use crate::answers::text::Text;
-use crate::talk::{Manner, OnCommand, OnRefusal, ServeFault, serve};
+use crate::talk::batches::serve_batches;
+use crate::talk::{Grouping, Manner, OnCommand, OnRefusal, ServeFault, serve};
 use cached_lines::answer_lines_in_memory;
 use clap::Error;
 use clap::error::ErrorKind;
@@ -39,7 +40,7 @@ use store_counts::{Counts, count};
 use task::{InMemory, Job};
 use tree_view::tree;
 use vm_disk::{CachedDisk, DelayedDisk, Disk};
-use vm_store::format;
+use vm_store::{Store, format};
 use vm_types::Refusal;
 use words::job;
 
@@ -74,16 +75,20 @@ impl Exit {
     }
 }
 
-ghost use Rattle.std.specs.Prelude.{◌≡◌, ◌≢◌, ◌+◌, ◌≤◌, ◌⊎◌, ◌++◌, ◌∷◌, ℕ, List, [], true, None, IfSome, OnErr, OnOk, codes, map};
+ghost use Rattle.std.specs.Prelude.{◌≡◌, ◌≢◌, ◌+◌, ◌≤◌, ◌⊎◌, ◌++◌, ℕ, List, [], true, OnErr, OnOk, codes, is_some, map};
 ghost use Rattle.std.specs.Io.KnownBytes.{Appends};
 ghost use Rattle.std.specs.String.{string_bytes};
 ghost use Rattle.vm_cli.specs.Carried.{Begins, Gains};
 ghost use Rattle.vm_types.specs.declared.refusal.Refusal.{Refusal as RefusalValue};
 ghost use Rattle.vm_disk.specs.Between.{IfHonest};
 ghost use Rattle.vm_cli.specs.Told.{AnswersOver, FormatsOnly, MakesStore, TellsCount, TellsDamage, TellsRefusal};
-ghost use Rattle.vm_cli.specs.Places.{FindsIn, WasHonest};
+ghost use Rattle.vm_cli.specs.Places.{FindsIn, IsAsked};
 ghost use Rattle.vm_cli.specs.Runs.{AnswersIn, AsksToWrite, CountsIn, DoesIn, LooksOnly, MakesIn, RunsIn, ServesIn, ServesRun, ServesWords, disks};
+ghost use Rattle.vm_types.specs.State.{State};
+ghost use Rattle.vm_store.specs.Store.{GrowsOn};
+ghost use Rattle.vm_cli.specs.Served.{ServesBy};
 ghost use Rattle.vm_cli.specs.Sessions.{end_of as end_of_talk};
+ghost use Rattle.vm_cli.specs.Talk.{Passes};
 ghost use Rattle.vm_cli.specs.Exits.{Blames, Checks, Ends, EndsSaying, Helps, IsDone, IsLineRefused, IsRefused, IsStopped, IsWrong, JobEnds, RefusesLock, RefusesOn, RefusesWords, StopsUnsaid, TalkEnds, TellsOn, counts_text, created_text, file_text, named_text, refused_text, status_of, stopped_text};
 ghost use Rattle.vm_cli.specs.Words.Wanted.{check as check_wanted, create as create_wanted, run as run_wanted};
 
@@ -290,10 +295,7 @@ fn run<P: Place, R: Read, W: Write, F: Write>(
 
 /// Opens a file: read only, if commands are refused.
 fn opened<P: Place>(file: &str, on_command: OnCommand, place: &mut P) -> Option<P::D>
-    ensures none { result ≡ None → P.denied place.new ≡ file.now ∷ P.denied place.old }
-    ensures some { IfSome result (λ disk. P.denied place.new ≡ P.denied place.old) }
-    ensures writes { AsksToWrite on_command (P.to_write place.old) (P.to_write place.new) }
-    ensures earlier { WasHonest (P.state place.old) (P.state place.new) }
+    ensures asked { IsAsked P.state P.denied P.to_write (AsksToWrite on_command) file.now (is_some result) place.old place.new }
     ensures honest { FindsIn P.state P.D.Disk.state file.now result place.old place.new }
 {
     match on_command {
@@ -321,10 +323,29 @@ pub(crate) fn answer_lines<D: Disk, R: Read, W: Write, F: Write>(
 {
     match open_store(alloc, disk) {
         Ok(mut store) => {
-            let served = serve(alloc, input, output, &mut store, manner);
+            let served = serve_by(alloc, input, output, &mut store, manner);
             (end_of(manner.on_refusal, &served), store.close())
         }
         Err((disk, why)) => (unopened(&why, errors), disk),
+    }
+}
+
+/// Answers the lines of the input, each by itself or in batches.
+fn serve_by<D: Disk, R: Read, W: Write>(
+    alloc: Global,
+    input: &mut R,
+    output: &mut W,
+    store: &mut Store<D>,
+    manner: Manner,
+) -> Result<bool, ServeFault>
+    ensures goes { GrowsOn ⊥ store.old store.new }
+    ensures answers { (s : State) → ServesBy manner.grouping store.old store.new s manner result
+        (W.contents output.old) (W.contents output.new) (R.remaining input.old) }
+    ensures reads { manner.on_command ≡ OnCommand.Refuse → Passes store.old store.new None }
+{
+    match manner.grouping {
+        Grouping::Lines => serve(alloc, input, output, store, manner),
+        Grouping::Batches => serve_batches(alloc, input, output, store, manner),
     }
 }
 

@@ -1,7 +1,12 @@
 //! A session: lines in, answers out.
 
+pub mod batch;
+pub mod batches;
+pub mod carrying;
 pub mod commands;
 pub mod growth;
+pub mod line_reader;
+pub mod line_use;
 pub mod queries;
 
 ghost use Rattle.std.specs.Prelude.{◌≡◌, ◌+◌, ◌≤◌, ◌++◌, ◌∷◌, [], length, true, false, None, IfErr, OnErr, OnOk};
@@ -53,11 +58,22 @@ pub enum OnCommand {
     Refuse,
 }
 
+/// What takes effect together.
+#[derive(Clone, Copy, Debug, PartialEq, Eq)]
+pub enum Grouping {
+    /// Each line by itself. A line `commit` commits what was done so far.
+    Lines,
+    /// Each batch from `begin` to `commit`, and each change outside of one: as a whole or not at
+    /// all. It is committed before it is answered.
+    Batches,
+}
+
 /// How a session is run.
 #[derive(Clone, Copy, Debug, PartialEq, Eq)]
 pub struct Manner {
     pub on_command: OnCommand,
     pub on_refusal: OnRefusal,
+    pub grouping: Grouping,
 }
 
 /// Why a session ended before the end of its input.
@@ -75,6 +91,9 @@ pub enum ServeFault {
     /// A line was refused, and that ends the session.
     #[error("a line was refused")]
     Refused,
+    /// The commit of a batch was not acknowledged.
+    #[error("a commit was not acknowledged")]
+    Unsure,
 }
 
 /// Reads lines to the end of the input, and answers each in order. An `Ok` says whether any was

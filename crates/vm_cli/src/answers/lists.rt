@@ -53,7 +53,7 @@ fn write_list<L: Listing, W: Write>(
 }
 
 /// Makes room in the text for one more line. If it has too much, that is written.
-fn make_room<W: Write>(text: &mut Text, writer: &mut W) -> Result<(), WriteFault>
+pub(crate) fn make_room<W: Write>(text: &mut Text, writer: &mut W) -> Result<(), WriteFault>
     ensures room { OnOk result (length text.new + LONGEST_LINE ≤ Text.MAX_LEN) }
     ensures ok { OnOk result (GainsBut W.contents text.new text.old writer.old writer.new) }
     ensures err { OnErr result (Begins W.contents text.old writer.old writer.new) }

@@ -32,6 +32,18 @@ pub enum Reply {
     LongLine,
     /// A command, if the store is only read.
     ReadOnly,
+    /// Another line of the batch was refused, the one of this number.
+    NotDone(usize),
+    /// The batch of this line was forgotten.
+    Aborted,
+    /// The line is no change, and stands in a batch.
+    NotInBatch,
+    /// The batch has as many lines or bytes as it may have.
+    TooLarge,
+    /// The input ended within this line.
+    HalfLine,
+    /// The commit of the batch was not acknowledged. The session ends with it.
+    Unsure,
 }
 
 impl Reply {
@@ -76,6 +88,16 @@ impl Reply {
             }
             Reply::LongLine => text.push_bytes(b"error 23 LongLine\n"),
             Reply::ReadOnly => text.push_bytes(b"error 24 ReadOnly\n"),
+            Reply::NotDone(line) => {
+                text.push_bytes(b"error 91 NotDone ");
+                text.push_number(*line as u64);
+                text.push(b'\n');
+            }
+            Reply::Aborted => text.push_bytes(b"error 92 Aborted\n"),
+            Reply::NotInBatch => text.push_bytes(b"error 93 NotInBatch\n"),
+            Reply::TooLarge => text.push_bytes(b"error 94 TooLarge\n"),
+            Reply::HalfLine => text.push_bytes(b"error 96 HalfLine\n"),
+            Reply::Unsure => text.push_bytes(b"error 101 Unsure\n"),
         }
     }
 
@@ -118,6 +140,12 @@ impl Reply {
             Reply::BadLine(_) => true,
             Reply::LongLine => true,
             Reply::ReadOnly => true,
+            Reply::NotDone(_) => true,
+            Reply::Aborted => true,
+            Reply::NotInBatch => true,
+            Reply::TooLarge => true,
+            Reply::HalfLine => true,
+            Reply::Unsure => true,
         }
     }
 }

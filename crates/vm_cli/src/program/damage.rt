@@ -50,7 +50,7 @@ fn told_in(why: &NoStore) -> Option<BlockNumber>
     }
 }
 
-/// Names the damaged blocks but for the one that is told already.
+/// Names the damaged blocks except the one that is told already.
 fn name_others<F: Write>(
     told: Option<BlockNumber>,
     damaged: &Marks,

@@ -311,7 +311,7 @@ name:
   No room           12 TooMany, 13 Full, 14 Deep
   Not a larger size 21 BadSize
   Device, memory    15 Device, 16 Memory, 18 Damaged BLOCK
-  The line itself   22 BadLine WHY, 23 LongLine
+  The line itself   22 BadLine WHY, 23 LongLine, 24 ReadOnly
 
 With --strict the first line that is refused is the last, and the status is 4.
 Where 15 Device answers a change, or a grow for which the disk has no room, the
@@ -339,4 +339,43 @@ A session, where each line after > is typed, and its answer stands below it:
   > get top 7 1
   value cable%20A
   > commit
+  ok";
+
+/// What `serve` does.
+pub const SERVE: &str = "\
+Opens a store and answers the lines of the standard input, one after another,
+until it ends. Each change, and each batch of lines from begin to commit, takes
+effect as a whole or not at all, and is durable before it is answered.";
+
+/// The lines that `serve` answers.
+pub const SERVE_AFTER: &str = "\
+The lines of altctl run, and:
+
+  begin   begins a batch: ok
+  commit  carries out the lines since begin and commits them: an answer to each
+          of them, and to the commit ok
+  abort   forgets them, as rollback does: error 92 Aborted to each of them, ok
+
+A change outside of a batch is a batch of its own. If a line of a batch is
+refused, nothing of the batch is done: that line is answered so, and each other
+one, the commit too, error 91 NotDone N, with the number of that line. A batch
+has changes only: 93 NotInBatch answers a query. It has up to 100,000 lines and
+64 MiB: 94 TooLarge answers more. If the input ends within a line, that line is
+answered 96 HalfLine; if it ends within a batch, the batch is forgotten.
+
+Where 101 Unsure answers a commit, its sync failed, and the run ends: the next
+one shows whether the batch was committed.
+
+A session, where each line after > is typed, and its answer stands below it:
+
+  $ altctl serve map.alt
+  > begin
+  ok
+  > put top 7 1 duct
+  > remove top 7 9
+  > commit
+  error 91 NotDone 2
+  error 5 NoSuchRecord
+  error 91 NotDone 2
+  > put top 7 1 pipe
   ok";

@@ -1,8 +1,7 @@
 //! Files in memory, found by name.
-ghost use Rattle.std.specs.Prelude.{◌≡◌, ◌+◌, ◌∷◌, ℕ, true, false, not, List, None, IfSome, IsSome, is_some, max};
+ghost use Rattle.std.specs.Prelude.{◌≡◌, ℕ, true, List, None, IfSome, IsSome, is_some, max};
 ghost use Rattle.std.specs.Option.{ForSome};
 ghost use Rattle.vm_disk.specs.Memory.{memory_state, room_of};
-ghost use Rattle.vm_disk.specs.Past.{noted};
 
 use crate::program::place::{Place, note_name};
 use std::alloc::Global;
@@ -33,8 +32,8 @@ pub struct MemFiles {
 }
 
 impl MemFiles {
-    ghost use Rattle.vm_cli.specs.MemFiles.{IsIn, IsLast, IsSameState, files_state, room_given};
-    ghost use Rattle.vm_cli.specs.Places.{CreatesIn, FindsIn, LinksIn, StaysHonest, WasHonest};
+    ghost use Rattle.vm_cli.specs.MemFiles.{FilesStay, IsAskedFiles, IsIn, IsLast, IsSameState, files_state, room_given};
+    ghost use Rattle.vm_cli.specs.Places.{AsksNever, CreatesIn, FindsIn, LinksIn};
 
     /// No files. Disks that are made cannot grow.
     pub fn new(alloc: Global) -> MemFiles
@@ -80,10 +79,8 @@ impl MemFiles {
 
     /// Makes a disk under a name that does not exist yet.
     fn made(&mut self, file: &str, blocks: u32) -> Option<MemDisk>
-        ensures denied { noted self.new.denied ≡ noted self.old.denied }
-        ensures to_write { noted self.new.to_write ≡ noted self.old.to_write }
-        ensures earlier { WasHonest (files_state self.old) (files_state self.new) }
-        ensures stays { StaysHonest (files_state self.old) (files_state self.new) }
+        ensures asked { IsAskedFiles AsksNever file.now true self.old self.new }
+        ensures stays { FilesStay self.old self.new }
         ensures honest { CreatesIn files_state memory_state file.now blocks result self.old self.new }
         ensures room { IfSome result (λ disk. room_of disk ≡ max (room_given self.old) blocks) }
     {
@@ -104,8 +101,7 @@ impl MemFiles {
 
     /// Takes out a disk that is in, as it came back.
     fn taken(&mut self, file: &str) -> Option<MemDisk>
-        ensures denied { noted self.new.denied ≡ noted self.old.denied }
-        ensures to_write { noted self.new.to_write ≡ noted self.old.to_write }
+        ensures asked { IsAskedFiles AsksNever file.now true self.old self.new }
         ensures stays { IsSameState (files_state self.old) (files_state self.new) }
         ensures taken { IfSome result (λ disk. IsLast file.now (memory_state disk) (files_state self.old)) }
         ensures there { IsIn file.now self.old → IsSome result }
@@ -116,10 +112,8 @@ impl MemFiles {
 
     /// Takes out a disk that is in.
     fn found(&mut self, file: &str) -> Option<MemDisk>
-        ensures denied { noted self.new.denied ≡ noted self.old.denied }
-        ensures to_write { noted self.new.to_write ≡ noted self.old.to_write }
-        ensures earlier { WasHonest (files_state self.old) (files_state self.new) }
-        ensures stays { StaysHonest (files_state self.old) (files_state self.new) }
+        ensures asked { IsAskedFiles AsksNever file.now true self.old self.new }
+        ensures stays { FilesStay self.old self.new }
         ensures honest { FindsIn files_state memory_state file.now result self.old self.new }
         ensures there { IsIn file.now self.old → IsSome result }
     {
@@ -130,10 +124,8 @@ impl MemFiles {
 
     /// Gives the file of a disk that is in another name, under which the disk is in then.
     fn linked(&mut self, from: &str, to: &str) -> Option<()>
-        ensures denied { noted self.new.denied ≡ noted self.old.denied }
-        ensures to_write { noted self.new.to_write ≡ noted self.old.to_write }
-        ensures earlier { WasHonest (files_state self.old) (files_state self.new) }
-        ensures stays { StaysHonest (files_state self.old) (files_state self.new) }
+        ensures asked { IsAskedFiles AsksNever to.now true self.old self.new }
+        ensures stays { FilesStay self.old self.new }
         ensures honest { LinksIn files_state from.now to.now (is_some result) self.old self.new }
     {
         if self.has(to) {
@@ -155,8 +147,7 @@ impl MemFiles {
 impl Place for MemFiles {
     type D = MemDisk;
 
-    ghost use Rattle.vm_cli.specs.MemFiles.{HasFile, IsIn, asked_to_write, files_state, names_denied};
-    ghost use Rattle.vm_cli.specs.Places.{CreatesIn, FindsIn, LacksIn, LinksIn, RemovesIn, StaysHonest, TakesBackIn, WasHonest};
+    ghost use Rattle.vm_cli.specs.MemFiles.{asked_to_write, files_does, files_state, names_denied};
 
     ghost state = { files_state };
 
@@ -164,14 +155,9 @@ impl Place for MemFiles {
 
     ghost to_write = { asked_to_write };
 
-    fn create(&mut self, file: &str, blocks: u32) -> Option<MemDisk>
-        ensures none { result ≡ None → names_denied self.new ≡ file.now ∷ names_denied self.old }
-        ensures some { IfSome result (λ disk. names_denied self.new ≡ names_denied self.old) }
-        ensures writes { asked_to_write self.new ≡ asked_to_write self.old + 1 }
-        ensures earlier { WasHonest (files_state self.old) (files_state self.new) }
-        ensures stays { StaysHonest (files_state self.old) (files_state self.new) }
-        ensures honest { CreatesIn files_state memory_state file.now blocks result self.old self.new }
-    {
+    ghost does = { files_does };
+
+    fn create(&mut self, file: &str, blocks: u32) -> Option<MemDisk> {
         self.to_write.note(&());
         let made = self.made(file, blocks);
         if made.is_none() {
@@ -180,32 +166,12 @@ impl Place for MemFiles {
         made
     }
 
-    fn find(&mut self, file: &str) -> Option<MemDisk>
-        ensures none { result ≡ None → names_denied self.new ≡ file.now ∷ names_denied self.old }
-        ensures some { IfSome result (λ disk. names_denied self.new ≡ names_denied self.old) }
-        ensures writes { asked_to_write self.new ≡ asked_to_write self.old + 1 }
-        ensures earlier { WasHonest (files_state self.old) (files_state self.new) }
-        ensures stays { StaysHonest (files_state self.old) (files_state self.new) }
-        ensures honest { FindsIn files_state memory_state file.now result self.old self.new }
-
-        // If the disk is in, it is found.
-        ensures there { IsIn file.now self.old → IsSome result }
-    {
+    fn find(&mut self, file: &str) -> Option<MemDisk> {
         self.to_write.note(&());
         self.look(file)
     }
 
-    fn look(&mut self, file: &str) -> Option<MemDisk>
-        ensures none { result ≡ None → names_denied self.new ≡ file.now ∷ names_denied self.old }
-        ensures some { IfSome result (λ disk. names_denied self.new ≡ names_denied self.old) }
-        ensures reads { asked_to_write self.new ≡ asked_to_write self.old }
-        ensures earlier { WasHonest (files_state self.old) (files_state self.new) }
-        ensures stays { StaysHonest (files_state self.old) (files_state self.new) }
-        ensures honest { FindsIn files_state memory_state file.now result self.old self.new }
-
-        // If the disk is in, it is found.
-        ensures there { IsIn file.now self.old → IsSome result }
-    {
+    fn look(&mut self, file: &str) -> Option<MemDisk> {
         let found = self.found(file);
         if found.is_none() {
             note_name(&mut self.denied, file);
@@ -213,18 +179,7 @@ impl Place for MemFiles {
         found
     }
 
-    fn give_back(&mut self, file: &str, disk: MemDisk)
-        ensures denied { names_denied self.new ≡ names_denied self.old }
-        ensures reads { asked_to_write self.new ≡ asked_to_write self.old }
-        ensures earlier { WasHonest (files_state self.old) (files_state self.new) }
-        ensures honest { TakesBackIn files_state memory_state file.now disk self.old self.new }
-
-        // It stays honest if a file of this name was made.
-        ensures stays { HasFile file.now self.old → StaysHonest (files_state self.old) (files_state self.new) }
-
-        // Afterwards the disk is in.
-        ensures back { (files_state self.new).honest ≡ true → IsIn file.now self.new }
-    {
+    fn give_back(&mut self, file: &str, disk: MemDisk) {
         match self.slots.get_mut(file) {
             Some(slot) => {
                 let held = Snapshot::of(&disk);
@@ -238,17 +193,7 @@ impl Place for MemFiles {
         }
     }
 
-    fn lacks(&mut self, file: &str) -> bool
-        ensures taken { result ≡ false → names_denied self.new ≡ file.now ∷ names_denied self.old }
-        ensures free { result ≡ true → names_denied self.new ≡ names_denied self.old }
-        ensures reads { asked_to_write self.new ≡ asked_to_write self.old }
-        ensures earlier { WasHonest (files_state self.old) (files_state self.new) }
-        ensures stays { StaysHonest (files_state self.old) (files_state self.new) }
-        ensures honest { LacksIn files_state file.now result self.old self.new }
-
-        // It is said exactly if there is no such file.
-        ensures said { result ≡ not (is_some ((files_state self.old).files file.now)) }
-    {
+    fn lacks(&mut self, file: &str) -> bool {
         let is_taken = self.has(file);
         if is_taken {
             note_name(&mut self.denied, file);
@@ -256,14 +201,7 @@ impl Place for MemFiles {
         !is_taken
     }
 
-    fn link(&mut self, from: &str, to: &str) -> bool
-        ensures taken { result ≡ false → names_denied self.new ≡ to.now ∷ names_denied self.old }
-        ensures free { result ≡ true → names_denied self.new ≡ names_denied self.old }
-        ensures reads { asked_to_write self.new ≡ asked_to_write self.old }
-        ensures earlier { WasHonest (files_state self.old) (files_state self.new) }
-        ensures stays { StaysHonest (files_state self.old) (files_state self.new) }
-        ensures honest { LinksIn files_state from.now to.now result self.old self.new }
-    {
+    fn link(&mut self, from: &str, to: &str) -> bool {
         let is_linked = self.linked(from, to).is_some();
         if !is_linked {
             note_name(&mut self.denied, to);
@@ -271,16 +209,7 @@ impl Place for MemFiles {
         is_linked
     }
 
-    fn remove(&mut self, file: &str)
-        ensures denied { names_denied self.new ≡ names_denied self.old }
-        ensures reads { asked_to_write self.new ≡ asked_to_write self.old }
-        ensures earlier { WasHonest (files_state self.old) (files_state self.new) }
-        ensures stays { StaysHonest (files_state self.old) (files_state self.new) }
-        ensures honest { RemovesIn files_state file.now self.old self.new }
-
-        // Afterwards there is no such file.
-        ensures gone { (files_state self.new).files file.now ≡ None }
-    {
+    fn remove(&mut self, file: &str) {
         if let Some(slot) = self.slots.get_mut(file) {
             slot.disk = None;
             slot.is_there = false;

@@ -1,10 +1,8 @@
 //! Opening the store on a disk, and why that is refused.
-ghost use Rattle.std.specs.Prelude.{◌≡◌, true, None, IfErr, IfOk};
-ghost use Rattle.vm_disk.specs.Disk.{Goes};
-ghost use Rattle.vm_disk.specs.Moments.{OnlyReads};
+ghost use Rattle.std.specs.Prelude.{◌≡◌, None, IfErr};
 ghost use Rattle.vm_store.specs.Recovery.{OpensAs, OpensWhole};
 ghost use Rattle.vm_cli.specs.Exits.{RefusesOn, earlier_text, no_store_text, without_sums_text};
-ghost use Rattle.vm_cli.specs.Openings.{HasOpened, HasRefused, IsLookedAt, KeepsRefusal, NamesAll, TellsEarlier, refusal_of};
+ghost use Rattle.vm_cli.specs.Openings.{FindsWhy, IsOpening, NamesAll};
 
 use crate::answers::reply::push_refusal;
 use crate::answers::text::Text;
@@ -34,8 +32,7 @@ pub enum NoStore {
 /// has one of an earlier format; if a slot is damaged, its first block, to tell whether that has a
 /// checksum.
 pub(crate) fn open_store<D: Disk>(alloc: Global, disk: D) -> Result<Store<D>, (D, NoStore)>
-    ensures opened { IfOk result (HasOpened OpensAs (D.state disk)) }
-    ensures refused { IfErr result (λ e. HasRefused (D.state disk) (D.state e.0) e.1) }
+    ensures { IsOpening D.Disk OpensAs disk result }
 {
     match open(alloc, disk) {
         Ok(store) => Ok(store),
@@ -48,8 +45,7 @@ pub(crate) fn open_store<D: Disk>(alloc: Global, disk: D) -> Result<Store<D>, (D
 
 /// Opens the store on a disk as `open_store` does, and reads every block of it.
 pub(crate) fn open_whole_store<D: Disk>(alloc: Global, disk: D) -> Result<Store<D>, (D, NoStore)>
-    ensures opened { IfOk result (HasOpened OpensWhole (D.state disk)) }
-    ensures refused { IfErr result (λ e. HasRefused (D.state disk) (D.state e.0) e.1) }
+    ensures { IsOpening D.Disk OpensWhole disk result }
 {
     match open_whole(alloc, disk) {
         Ok(store) => Ok(store),
@@ -68,8 +64,7 @@ pub(crate) fn open_surveyed_store<D: Disk>(
     damaged: &mut Option<Marks>,
 ) -> Result<Store<D>, (D, NoStore)>
     requires { damaged.old ≡ None }
-    ensures opened { IfOk result (HasOpened OpensWhole (D.state disk)) }
-    ensures refused { IfErr result (λ e. HasRefused (D.state disk) (D.state e.0) e.1) }
+    ensures opening { IsOpening D.Disk OpensWhole disk result }
     ensures names { IfErr result (λ e. NamesAll (D.state disk) (D.state e.0) e.1 damaged.new) }
 {
     match open_surveyed(alloc, disk, damaged) {
@@ -83,13 +78,7 @@ pub(crate) fn open_surveyed_store<D: Disk>(
 
 /// Why a disk is refused whose opening gave this refusal.
 fn why_refused<D: Disk>(disk: &mut D, refusal: Refusal) -> NoStore
-    ensures any { Goes (IsLookedAt refusal × (refusal_of result ≡ Refusal.Device))
-        (D.state disk.old) (D.state disk.new) }
-    ensures reads { (D.state disk.new).honest ≡ true
-        → OnlyReads (D.state disk.old) (D.state disk.new) }
-    ensures only { KeepsRefusal refusal result }
-    ensures told { (D.state disk.new).honest ≡ true
-        → TellsEarlier (D.state disk.old).now.contents result }
+    ensures { FindsWhy refusal (D.state disk.old) (D.state disk.new) result }
 {
     match refusal {
         Refusal::NotAStore => no_store(disk),
@@ -100,12 +89,7 @@ fn why_refused<D: Disk>(disk: &mut D, refusal: Refusal) -> NoStore
 
 /// Why a disk is no store of this format.
 fn no_store<D: Disk>(disk: &mut D) -> NoStore
-    ensures any { Goes (refusal_of result ≡ Refusal.Device) (D.state disk.old) (D.state disk.new) }
-    ensures reads { (D.state disk.new).honest ≡ true
-        → OnlyReads (D.state disk.old) (D.state disk.new) }
-    ensures only { KeepsRefusal Refusal.NotAStore result }
-    ensures told { (D.state disk.new).honest ≡ true
-        → TellsEarlier (D.state disk.old).now.contents result }
+    ensures { FindsWhy Refusal.NotAStore (D.state disk.old) (D.state disk.new) result }
 {
     if disk.blocks() == 0 {
         return NoStore::Refused(Refusal::NotAStore);
@@ -123,12 +107,7 @@ fn no_store<D: Disk>(disk: &mut D) -> NoStore
 
 /// Why a disk is refused of which this block is damaged.
 fn damaged<D: Disk>(disk: &mut D, n: BlockNumber) -> NoStore
-    ensures any { Goes (refusal_of result ≡ Refusal.Device) (D.state disk.old) (D.state disk.new) }
-    ensures reads { (D.state disk.new).honest ≡ true
-        → OnlyReads (D.state disk.old) (D.state disk.new) }
-    ensures only { KeepsRefusal (Refusal.Damaged n) result }
-    ensures told { (D.state disk.new).honest ≡ true
-        → TellsEarlier (D.state disk.old).now.contents result }
+    ensures { FindsWhy (Refusal.Damaged n) (D.state disk.old) (D.state disk.new) result }
 {
     if n >= FIRST_DATA || n >= disk.blocks() {
         return NoStore::Refused(Refusal::Damaged(n));

@@ -1,8 +1,7 @@
 //! Finding disks by name.
-ghost use Rattle.std.specs.Prelude.{◌≡◌, ◌+◌, ◌∷◌, ℕ, List, [], true, false, None, IfSome, option_map};
-ghost use Rattle.vm_disk.specs.Between.{Between};
+ghost use Rattle.std.specs.Prelude.{◌≡◌, ◌∷◌, ℕ, List, [], true, is_some, option_map, ⊤};
 ghost use Rattle.vm_sums.specs.Summed.{inner_of};
-ghost use Rattle.vm_cli.specs.Places.{PlaceState, CreatesIn, FindsIn, LacksIn, LinksIn, RemovesIn, TakesBackIn, WasHonest, names_in};
+ghost use Rattle.vm_cli.specs.Places.{AsksNever, AsksOnce, IsAsked, PlaceCall, PlaceState, CreatesIn, FindsIn, LacksIn, LinksIn, RemovesIn, TakesBackIn, names_in};
 
 use crate::program::progress::{Progress, Watched};
 use crate::program::selector::rewrite_selector;
@@ -16,6 +15,9 @@ use vm_disk::{Disk, FileDisk, History, LAST_STANDARD, SystemFile, World, noted_b
 use vm_sums::SummedDisk;
 
 /// A file system, in which disks are found by name.
+///
+/// The laws of a place stand here, and no impl repeats them: its calls have no clauses of their
+/// own. What one kind of place promises beside them is its `does`.
 ///
 /// If it is not honest, the clauses `honest` say nothing: the contents of its files are unknown.
 pub trait Place {
@@ -31,60 +33,51 @@ pub trait Place {
     /// How often it was asked for a writable disk, for contracts alone.
     ghost to_write: { Self → ℕ };
 
+    /// What each call does beside its other clauses, in this kind of place: by default no more.
+    ghost does: { PlaceCall Self.D → Self → Self → Type 0 } = { λ _ _ _. ⊤ };
+
     /// Makes a disk that does not exist yet, of this many blocks. The first is zero.
     fn create(&mut self, file: &str, blocks: u32) -> Option<Self::D>
-        ensures none { result ≡ None → denied self.new ≡ file.now ∷ denied self.old }
-        ensures some { IfSome result (λ disk. denied self.new ≡ denied self.old) }
-        ensures writes { to_write self.new ≡ to_write self.old + 1 }
-        ensures earlier { WasHonest (state self.old) (state self.new) }
-        ensures honest { CreatesIn state Self.D.state file.now blocks result self.old self.new };
+        ensures asked { IsAsked state denied to_write AsksOnce file.now (is_some result) self.old self.new }
+        ensures honest { CreatesIn state Self.D.state file.now blocks result self.old self.new }
+        ensures does { does (PlaceCall.Create file.now blocks result) self.old self.new };
 
     /// An existing disk.
     fn find(&mut self, file: &str) -> Option<Self::D>
-        ensures none { result ≡ None → denied self.new ≡ file.now ∷ denied self.old }
-        ensures some { IfSome result (λ disk. denied self.new ≡ denied self.old) }
-        ensures writes { to_write self.new ≡ to_write self.old + 1 }
-        ensures earlier { WasHonest (state self.old) (state self.new) }
-        ensures honest { FindsIn state Self.D.state file.now result self.old self.new };
+        ensures asked { IsAsked state denied to_write AsksOnce file.now (is_some result) self.old self.new }
+        ensures honest { FindsIn state Self.D.state file.now result self.old self.new }
+        ensures does { does (PlaceCall.Find file.now result) self.old self.new };
 
     /// An existing disk, for reading only. It need not be writable.
     fn look(&mut self, file: &str) -> Option<Self::D>
-        ensures none { result ≡ None → denied self.new ≡ file.now ∷ denied self.old }
-        ensures some { IfSome result (λ disk. denied self.new ≡ denied self.old) }
-        ensures reads { to_write self.new ≡ to_write self.old }
-        ensures earlier { WasHonest (state self.old) (state self.new) }
-        ensures honest { FindsIn state Self.D.state file.now result self.old self.new };
+        ensures asked { IsAsked state denied to_write AsksNever file.now (is_some result) self.old self.new }
+        ensures honest { FindsIn state Self.D.state file.now result self.old self.new }
+        ensures does { does (PlaceCall.Look file.now result) self.old self.new };
 
     /// Takes back a disk that it gave.
     fn give_back(&mut self, file: &str, disk: Self::D)
-        ensures denied { denied self.new ≡ denied self.old }
-        ensures reads { to_write self.new ≡ to_write self.old }
-        ensures earlier { WasHonest (state self.old) (state self.new) }
-        ensures honest { TakesBackIn state Self.D.state file.now disk self.old self.new };
+        ensures asked { IsAsked state denied to_write AsksNever file.now true self.old self.new }
+        ensures honest { TakesBackIn state Self.D.state file.now disk self.old self.new }
+        ensures does { does (PlaceCall.GiveBack file.now disk) self.old self.new };
 
     /// Whether there is nothing of this name.
     fn lacks(&mut self, file: &str) -> bool
-        ensures taken { result ≡ false → denied self.new ≡ file.now ∷ denied self.old }
-        ensures free { result ≡ true → denied self.new ≡ denied self.old }
-        ensures reads { to_write self.new ≡ to_write self.old }
-        ensures earlier { WasHonest (state self.old) (state self.new) }
-        ensures honest { LacksIn state file.now result self.old self.new };
+        ensures asked { IsAsked state denied to_write AsksNever file.now result self.old self.new }
+        ensures honest { LacksIn state file.now result self.old self.new }
+        ensures does { does (PlaceCall.Lack file.now result) self.old self.new };
 
     /// Gives an existing file another name, beside its own or in its place. If something has that
     /// name, or it cannot be done, nothing changes.
     fn link(&mut self, from: &str, to: &str) -> bool
-        ensures taken { result ≡ false → denied self.new ≡ to.now ∷ denied self.old }
-        ensures free { result ≡ true → denied self.new ≡ denied self.old }
-        ensures reads { to_write self.new ≡ to_write self.old }
-        ensures earlier { WasHonest (state self.old) (state self.new) }
-        ensures honest { LinksIn state from.now to.now result self.old self.new };
+        ensures asked { IsAsked state denied to_write AsksNever to.now result self.old self.new }
+        ensures honest { LinksIn state from.now to.now result self.old self.new }
+        ensures does { does (PlaceCall.Link from.now to.now result) self.old self.new };
 
     /// Removes a file, if that is possible.
     fn remove(&mut self, file: &str)
-        ensures denied { denied self.new ≡ denied self.old }
-        ensures reads { to_write self.new ≡ to_write self.old }
-        ensures earlier { WasHonest (state self.old) (state self.new) }
-        ensures honest { RemovesIn state file.now self.old self.new };
+        ensures asked { IsAsked state denied to_write AsksNever file.now true self.old self.new }
+        ensures honest { RemovesIn state file.now self.old self.new }
+        ensures does { does (PlaceCall.Remove file.now) self.old self.new };
 }
 
 /// Notes a name.
@@ -182,13 +175,11 @@ impl<'a, R: Files<File = File>, W: World> RealFiles<'a, R, W> {
 }
 
 impl<'a, R: Files<File = File>, W: World> RealFiles<'a, R, W> {
-    ghost use Rattle.vm_cli.specs.RealFiles.{asked_to_write, real_state, names_denied, CreatesReal, FindsReal, NotesFound, NotesLooked, NotesMade};
+    ghost use Rattle.vm_cli.specs.RealFiles.{CreatesReal, FindsReal, IsAskedReal, NotesFound, NotesLooked, NotesMade};
 
     /// Makes a file that does not exist yet, and a disk of it.
     fn made(&mut self, file: &str, blocks: u32) -> Option<RealDisk<'a, W>>
-        ensures denied { names_denied self.new ≡ names_denied self.old }
-        ensures to_write { asked_to_write self.new ≡ asked_to_write self.old + 1 }
-        ensures earlier { Between (real_state W.held W.torn) WasHonest self.old self.new }
+        ensures asked { IsAskedReal W.held W.torn AsksOnce file.now true self.old self.new }
         ensures notes { NotesMade file.now self.old self.new }
         ensures honest { CreatesReal W.held W.torn file.now blocks result self.old self.new }
     {
@@ -204,9 +195,7 @@ impl<'a, R: Files<File = File>, W: World> RealFiles<'a, R, W> {
 
     /// Opens an existing file as a disk, once its selector was written again.
     fn found(&mut self, file: &str) -> Option<RealDisk<'a, W>>
-        ensures denied { names_denied self.new ≡ names_denied self.old }
-        ensures to_write { asked_to_write self.new ≡ asked_to_write self.old + 1 }
-        ensures earlier { Between (real_state W.held W.torn) WasHonest self.old self.new }
+        ensures asked { IsAskedReal W.held W.torn AsksOnce file.now true self.old self.new }
         ensures notes { NotesFound file.now self.old self.new }
         ensures honest { FindsReal W.held W.torn file.now result self.old self.new }
     {
@@ -224,9 +213,7 @@ impl<'a, R: Files<File = File>, W: World> RealFiles<'a, R, W> {
 
     /// Opens an existing file read only, as a disk.
     fn looked(&mut self, file: &str) -> Option<RealDisk<'a, W>>
-        ensures denied { names_denied self.new ≡ names_denied self.old }
-        ensures to_write { asked_to_write self.new ≡ asked_to_write self.old }
-        ensures earlier { Between (real_state W.held W.torn) WasHonest self.old self.new }
+        ensures asked { IsAskedReal W.held W.torn AsksNever file.now true self.old self.new }
         ensures notes { NotesLooked file.now self.old self.new }
         ensures honest { FindsReal W.held W.torn file.now result self.old self.new }
     {
@@ -271,7 +258,7 @@ fn is_lacking(rt: &impl Files, file: &str) -> bool {
 impl<'a, R: Files<File = File>, W: World> Place for RealFiles<'a, R, W> {
     type D = RealDisk<'a, W>;
 
-    ghost use Rattle.vm_cli.specs.RealFiles.{asked_to_write, real_disk, real_state, names_denied, CreatesReal, FindsReal, NotesFound, NotesGiven, NotesLacking, NotesLinked, NotesLooked, NotesMade, NotesRemoved, StaysReal};
+    ghost use Rattle.vm_cli.specs.RealFiles.{asked_to_write, real_does, real_state, names_denied};
 
     ghost state = { real_state W.held W.torn };
 
@@ -279,14 +266,9 @@ impl<'a, R: Files<File = File>, W: World> Place for RealFiles<'a, R, W> {
 
     ghost to_write = { asked_to_write };
 
-    fn create(&mut self, file: &str, blocks: u32) -> Option<RealDisk<'a, W>>
-        ensures none { result ≡ None → names_denied self.new ≡ file.now ∷ names_denied self.old }
-        ensures some { IfSome result (λ disk. names_denied self.new ≡ names_denied self.old) }
-        ensures writes { asked_to_write self.new ≡ asked_to_write self.old + 1 }
-        ensures earlier { Between (real_state W.held W.torn) WasHonest self.old self.new }
-        ensures notes { NotesMade file.now self.old self.new }
-        ensures honest { CreatesReal W.held W.torn file.now blocks result self.old self.new }
-    {
+    ghost does = { real_does W.held W.torn };
+
+    fn create(&mut self, file: &str, blocks: u32) -> Option<RealDisk<'a, W>> {
         let made = self.made(file, blocks);
         if made.is_none() {
             note_name(&mut self.denied, file);
@@ -294,14 +276,7 @@ impl<'a, R: Files<File = File>, W: World> Place for RealFiles<'a, R, W> {
         made
     }
 
-    fn find(&mut self, file: &str) -> Option<RealDisk<'a, W>>
-        ensures none { result ≡ None → names_denied self.new ≡ file.now ∷ names_denied self.old }
-        ensures some { IfSome result (λ disk. names_denied self.new ≡ names_denied self.old) }
-        ensures writes { asked_to_write self.new ≡ asked_to_write self.old + 1 }
-        ensures earlier { Between (real_state W.held W.torn) WasHonest self.old self.new }
-        ensures notes { NotesFound file.now self.old self.new }
-        ensures honest { FindsReal W.held W.torn file.now result self.old self.new }
-    {
+    fn find(&mut self, file: &str) -> Option<RealDisk<'a, W>> {
         let found = self.found(file);
         if found.is_none() {
             note_name(&mut self.denied, file);
@@ -309,14 +284,7 @@ impl<'a, R: Files<File = File>, W: World> Place for RealFiles<'a, R, W> {
         found
     }
 
-    fn look(&mut self, file: &str) -> Option<RealDisk<'a, W>>
-        ensures none { result ≡ None → names_denied self.new ≡ file.now ∷ names_denied self.old }
-        ensures some { IfSome result (λ disk. names_denied self.new ≡ names_denied self.old) }
-        ensures reads { asked_to_write self.new ≡ asked_to_write self.old }
-        ensures earlier { Between (real_state W.held W.torn) WasHonest self.old self.new }
-        ensures notes { NotesLooked file.now self.old self.new }
-        ensures honest { FindsReal W.held W.torn file.now result self.old self.new }
-    {
+    fn look(&mut self, file: &str) -> Option<RealDisk<'a, W>> {
         let found = self.looked(file);
         if found.is_none() {
             note_name(&mut self.denied, file);
@@ -324,26 +292,12 @@ impl<'a, R: Files<File = File>, W: World> Place for RealFiles<'a, R, W> {
         found
     }
 
-    fn give_back(&mut self, file: &str, disk: RealDisk<'a, W>)
-        ensures denied { names_denied self.new ≡ names_denied self.old }
-        ensures reads { asked_to_write self.new ≡ asked_to_write self.old }
-        ensures earlier { Between (real_state W.held W.torn) WasHonest self.old self.new }
-        ensures notes { NotesGiven file.now disk.entry self.old self.new }
-        ensures stays { StaysReal W.held W.torn file.now disk.entry self.old self.new }
-        ensures honest { TakesBackIn (real_state W.held W.torn) (real_disk W.held W.torn) file.now disk.entry self.old self.new }
-    {
+    fn give_back(&mut self, file: &str, disk: RealDisk<'a, W>) {
         let name = noted_bytes(file.as_bytes());
         self.events.note(&Event::Given(name, Snapshot::of(&disk)));
     }
 
-    fn lacks(&mut self, file: &str) -> bool
-        ensures taken { result ≡ false → names_denied self.new ≡ file.now ∷ names_denied self.old }
-        ensures free { result ≡ true → names_denied self.new ≡ names_denied self.old }
-        ensures reads { asked_to_write self.new ≡ asked_to_write self.old }
-        ensures earlier { Between (real_state W.held W.torn) WasHonest self.old self.new }
-        ensures notes { NotesLacking file.now result self.old self.new }
-        ensures honest { LacksIn (real_state W.held W.torn) file.now result self.old self.new }
-    {
+    fn lacks(&mut self, file: &str) -> bool {
         if !is_lacking(self.rt, file) {
             note_name(&mut self.denied, file);
             return false;
@@ -353,14 +307,7 @@ impl<'a, R: Files<File = File>, W: World> Place for RealFiles<'a, R, W> {
         true
     }
 
-    fn link(&mut self, from: &str, to: &str) -> bool
-        ensures taken { result ≡ false → names_denied self.new ≡ to.now ∷ names_denied self.old }
-        ensures free { result ≡ true → names_denied self.new ≡ names_denied self.old }
-        ensures reads { asked_to_write self.new ≡ asked_to_write self.old }
-        ensures earlier { Between (real_state W.held W.torn) WasHonest self.old self.new }
-        ensures notes { NotesLinked from.now to.now result self.old self.new }
-        ensures honest { LinksIn (real_state W.held W.torn) from.now to.now result self.old self.new }
-    {
+    fn link(&mut self, from: &str, to: &str) -> bool {
         if fs::hard_link(self.rt, from, to).is_ok() {
             self.note_link(from, to);
             return true;
@@ -375,13 +322,7 @@ impl<'a, R: Files<File = File>, W: World> Place for RealFiles<'a, R, W> {
         false
     }
 
-    fn remove(&mut self, file: &str)
-        ensures denied { names_denied self.new ≡ names_denied self.old }
-        ensures reads { asked_to_write self.new ≡ asked_to_write self.old }
-        ensures earlier { Between (real_state W.held W.torn) WasHonest self.old self.new }
-        ensures notes { NotesRemoved file.now self.old self.new }
-        ensures honest { RemovesIn (real_state W.held W.torn) file.now self.old self.new }
-    {
+    fn remove(&mut self, file: &str) {
         if fs::remove_file(self.rt, file).is_ok() {
             self.note_removal(file);
         }

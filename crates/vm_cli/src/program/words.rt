@@ -1,15 +1,15 @@
 //! The words that the program is started with, read by `clap`.
-ghost use Rattle.clap.specs.Words.{FailsBy, app_of, fault_of, found_of, first_of, new_app, rows_of, rule_of, subcommand_rows_of};
+ghost use Rattle.clap.specs.Words.{FailsBy, app_of, fault_of, found_of, first_of, new_app, rows_of, subcommand_rows_of};
 ghost use Rattle.std.specs.Prelude.{◌≡◌, ◌⊎◌, if◌then◌else◌, IfErr, IfOk, None, Some, false, map, ℕ, List, option_map, option_and_then, codes};
 ghost use Rattle.std.specs.String.{string_bytes};
 ghost use Rattle.vm_cli.specs.Locks.{IsLockOf, WordsLock, access_by, access_with, lock_by, lock_of_wanted};
-ghost use Rattle.vm_cli.specs.Words.{AddsTask, IsAsked, IsAskedOf, IsLocal, WordsAsk, altctl, amount_rule, blocks_rule, check_app, command_with, copy_app, create_app, do_app, file_rule, flag_rule, grow_to_rule, line_rule, is_set, manner_by, number_by, memory_by, run_app, to_rule, top_app, tree_app, wanted_of, with_lock, with_options};
+ghost use Rattle.vm_cli.specs.Words.{AddsTask, IsAsked, IsArgOf, IsAskedOf, IsCommandOf, IsLocal, WordsAsk, altctl, amount_rule, blocks_rule, check_app, command_with, copy_app, create_app, do_app, file_rule, flag_rule, grow_to_rule, line_rule, is_set, manner_by, number_by, memory_by, run_app, run_by, serve_app, to_rule, top_app, tree_app, wanted_of, with_lock, with_options};
 
 use crate::program::file_lock::{Access, LockWanted};
 use crate::program::given::input_of;
 use crate::program::help;
 use crate::program::task::{InMemory, Job, MAX_BUFFER};
-use crate::talk::{Manner, OnCommand, OnRefusal};
+use crate::talk::{Grouping, Manner, OnCommand, OnRefusal};
 use clap::{Arg, ArgAction, ArgMatches, Command, Error, value_parser};
 use std::alloc::{AllocError, Global};
 use vm_types::{MAX_BLOCKS, MIN_BLOCKS};
@@ -81,6 +81,7 @@ fn access_of_task(name: &str, matches: &ArgMatches<'_>) -> Option<Access>
 {
     match name {
         "run" => Some(session_access(is_given(matches, "read-only"))),
+        "serve" => Some(session_access(is_given(matches, "read-only"))),
         "do" => Some(session_access(is_given(matches, "read-only"))),
         "check" => Some(Access::Read),
         "tree" => Some(Access::Read),
@@ -111,7 +112,8 @@ fn asked<'a>(alloc: Global, matches: &ArgMatches<'a>) -> Result<Option<Job<'a>>,
     };
     match name {
         "create" => Ok(asked_create(matches, file)),
-        "run" => Ok(asked_run(matches, file)),
+        "run" => Ok(asked_run(matches, file, Grouping::Lines)),
+        "serve" => Ok(asked_run(matches, file, Grouping::Batches)),
         "do" => asked_do(alloc, matches, file),
         "check" => Ok(Some(Job::Check { file })),
         "tree" => Ok(Some(Job::Tree { file })),
@@ -128,12 +130,12 @@ fn asked_create<'a>(matches: &ArgMatches<'a>, file: &'a str) -> Option<Job<'a>>
     Some(Job::Create { file, blocks })
 }
 
-/// The job of `run` with these matches.
-fn asked_run<'a>(matches: &ArgMatches<'a>, file: &'a str) -> Option<Job<'a>>
-    ensures { IsAsked (codes "run") (rows_of (found_of matches.now)) file.now result }
+/// The job of `run` or `serve` with these matches.
+fn asked_run<'a>(matches: &ArgMatches<'a>, file: &'a str, grouping: Grouping) -> Option<Job<'a>>
+    ensures { option_map wanted_of result ≡ run_by grouping (rows_of (found_of matches.now)) file.now }
 {
     let in_memory = in_memory(matches)?;
-    let manner = manner(matches, OnRefusal::Ignore)?;
+    let manner = manner(matches, OnRefusal::Ignore, grouping)?;
     Some(Job::Run {
         file,
         in_memory,
@@ -155,7 +157,7 @@ fn asked_do<'a>(
     let Some(in_memory) = in_memory(matches) else {
         return Ok(None);
     };
-    let Some(manner) = manner(matches, OnRefusal::Tell) else {
+    let Some(manner) = manner(matches, OnRefusal::Tell, Grouping::Lines) else {
         return Ok(None);
     };
     let input = input_of(alloc, lines)?;
@@ -186,8 +188,8 @@ fn in_memory(matches: &ArgMatches<'_>) -> Option<InMemory>
 }
 
 /// How lines are answered.
-fn manner(matches: &ArgMatches<'_>, otherwise: OnRefusal) -> Option<Manner>
-    ensures { result ≡ manner_by otherwise (rows_of (found_of matches.now)) }
+fn manner(matches: &ArgMatches<'_>, otherwise: OnRefusal, grouping: Grouping) -> Option<Manner>
+    ensures { result ≡ manner_by otherwise grouping (rows_of (found_of matches.now)) }
 {
     let most = number_of(matches, "grow-to", 0, MAX_BLOCKS)?;
     let on_command = on_command(
@@ -199,6 +201,7 @@ fn manner(matches: &ArgMatches<'_>, otherwise: OnRefusal) -> Option<Manner>
     Some(Manner {
         on_command,
         on_refusal,
+        grouping,
     })
 }
 
@@ -259,6 +262,7 @@ fn command<'a>(alloc: Global) -> Result<Command<'a>, AllocError>
 {
     let program = with_task(top(alloc), create(alloc));
     let program = with_task(program, run(alloc));
+    let program = with_task(program, serve_lines(alloc));
     let program = with_task(program, do_lines(alloc));
     let program = with_task(program, check(alloc));
     let program = with_task(program, tree(alloc));
@@ -299,8 +303,7 @@ fn described<'a>(
     long_about: &'a str,
     after: &'a str,
 ) -> Command<'a>
-    ensures app { app_of result ≡ new_app name.entry.now }
-    ensures local { IsLocal result }
+    ensures { IsCommandOf (new_app name.entry.now) result }
 {
     Command::new(alloc, name)
         .about(about)
@@ -324,6 +327,19 @@ fn run<'a>(alloc: Global) -> Result<Command<'a>, AllocError>
 {
     let about = "Opens a store and answers the lines of the standard input";
     let command = described(alloc, "run", about, help::RUN, help::RUN_AFTER).arg(file(
+        alloc,
+        "FILE",
+        help::RUN_FILE,
+    ))?;
+    with_options(alloc, command)
+}
+
+fn serve_lines<'a>(alloc: Global) -> Result<Command<'a>, AllocError>
+    ensures app { IfOk result (λ c. app_of c ≡ serve_app) }
+    ensures local { IfOk result (λ c. IsLocal c) }
+{
+    let about = "Opens a store and carries out batches of lines of the standard input";
+    let command = described(alloc, "serve", about, help::SERVE, help::SERVE_AFTER).arg(file(
         alloc,
         "FILE",
         help::RUN_FILE,
@@ -405,8 +421,7 @@ fn copy<'a>(alloc: Global) -> Result<Command<'a>, AllocError>
 }
 
 fn to<'a>(alloc: Global) -> Arg<'a>
-    ensures rule { rule_of result ≡ to_rule }
-    ensures local { result.global ≡ false }
+    ensures { IsArgOf to_rule result }
 {
     Arg::new(alloc, "to")
         .value_name("TO")
@@ -415,8 +430,7 @@ fn to<'a>(alloc: Global) -> Arg<'a>
 }
 
 fn file<'a>(alloc: Global, shown: &'a str, about: &'a str) -> Arg<'a>
-    ensures rule { rule_of result ≡ file_rule }
-    ensures local { result.global ≡ false }
+    ensures { IsArgOf file_rule result }
 {
     Arg::new(alloc, "file")
         .value_name(shown)
@@ -425,8 +439,7 @@ fn file<'a>(alloc: Global, shown: &'a str, about: &'a str) -> Arg<'a>
 }
 
 fn line<'a>(alloc: Global) -> Arg<'a>
-    ensures rule { rule_of result ≡ line_rule }
-    ensures local { result.global ≡ false }
+    ensures { IsArgOf line_rule result }
 {
     Arg::new(alloc, "line")
         .value_name("LINE")
@@ -436,8 +449,7 @@ fn line<'a>(alloc: Global) -> Arg<'a>
 }
 
 fn blocks<'a>(alloc: Global, about: &'a str, required: bool) -> Arg<'a>
-    ensures rule { rule_of result ≡ blocks_rule required }
-    ensures local { result.global ≡ false }
+    ensures { IsArgOf (blocks_rule required) result }
 {
     Arg::new(alloc, "blocks")
         .value_name("BLOCKS")
@@ -448,8 +460,7 @@ fn blocks<'a>(alloc: Global, about: &'a str, required: bool) -> Arg<'a>
 
 /// The option for a number of blocks in memory.
 fn amount<'a>(alloc: Global, name: &'a str, about: &'a str) -> Arg<'a>
-    ensures rule { rule_of result ≡ amount_rule name.entry.now 65536 }
-    ensures local { result.global ≡ false }
+    ensures { IsArgOf (amount_rule name.entry.now 65536) result }
 {
     Arg::new(alloc, name)
         .long(name)
@@ -460,8 +471,7 @@ fn amount<'a>(alloc: Global, name: &'a str, about: &'a str) -> Arg<'a>
 
 /// The option for the number of blocks that a store may grow to.
 fn grow_to<'a>(alloc: Global) -> Arg<'a>
-    ensures rule { rule_of result ≡ grow_to_rule }
-    ensures local { result.global ≡ false }
+    ensures { IsArgOf grow_to_rule result }
 {
     Arg::new(alloc, "grow-to")
         .long("grow-to")
@@ -472,8 +482,7 @@ fn grow_to<'a>(alloc: Global) -> Arg<'a>
 }
 
 fn flag<'a>(alloc: Global, name: &'a str, about: &'a str) -> Arg<'a>
-    ensures rule { rule_of result ≡ flag_rule name.entry.now }
-    ensures local { result.global ≡ false }
+    ensures { IsArgOf (flag_rule name.entry.now) result }
 {
     Arg::new(alloc, name)
         .long(name)

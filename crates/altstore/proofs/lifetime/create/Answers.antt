@@ -14,4 +14,4 @@ returns c =
     let least : MIN_BLOCKS ≤ c.args.blocks = omega arith in
     creates_refused c.args.blocks c.in-Err.refusal (good_size c.args.blocks least (omega arith)) c.in-Err.ensures.refusals
     (λ size. rw c.in-Ok.ensures.blank.blocks at (c.in-Err.ensures.bad_size.0 size))
-    (λ already. blank_header c.args.blocks _ least c.in-Ok.ensures.blank.zero (c.in-Err.ensures.already refl already))
+    (λ already. blank_header c.args.blocks _ least c.in-Ok.ensures.blank.zero (c.in-Err.ensures.spares.already refl already))

@@ -1,4 +1,4 @@
-use Rattle.std.proofs.Common.{◌∙◌, ap, inl, inr, refl, sym, Some}
+use Rattle.std.proofs.Common.{◌∙◌, ap, inl, inr, is_some, refl, sym, Some}
 use Rattle.vm_cli.specs.Exits.{survey_text}
 use Rattle.vm_cli.specs.Places.{KeepsOthers, WasLent}
 use Rattle.vm_cli.proofs.FilesLemmas.{keeps_all, synced_alone}
@@ -9,7 +9,7 @@ returns-clause-files g c honest =
     let before = g.P.Place.state c.args.place.now in
     let after = g.P.Place.state c.give_back.new.self in
     let back = c.give_back.ensures.honest honest in
-    let found = c.in-Some.ensures.honest (c.give_back.ensures.earlier honest) in
+    let found = c.in-Some.ensures.honest (c.give_back.ensures.asked.earlier honest) in
     let lent : WasLent c.args.file.now (g.P.D.Disk.state c.in-Some.disk) (g.P.D.Disk.state c.check_disk-exit.result.1) after = record { fresh = found.fresh; honest = back.honest; holds = back.holds; came = back.came } in
     let others : KeepsOthers c.args.file.now before after = λ other apart. back.others other apart ∙ found.same other in
     elim c.check_disk-exit.ensures.told [
@@ -48,7 +48,7 @@ returns-clause-files g c honest =
     ]
 
 pub returns-in_default-clause-files : goal.returns-in_default-clause-files
-returns-in_default-clause-files g c honest = inr (record { same = (c.look.ensures.honest honest).same; told = inl (c.look.ensures.none c.in_default.is, (c.look.ensures.honest honest).same_came, c.no_file.ensures) })
+returns-in_default-clause-files g c honest = inr (record { same = (c.look.ensures.honest honest).same; told = inl (c.look.ensures.asked.none (ap is_some c.in_default.is), (c.look.ensures.honest honest).same_came, c.no_file.ensures) })
 
 pub returns-clause-says : goal.returns-clause-says
 returns-clause-says g c = elim c.check_disk-exit.ensures.ends [

@@ -21,13 +21,13 @@ returns-in-Ok-counts-clause-told g c =
       counts.checkpoints,
       counts.free,
       record {
-        goes = subst (λ d. Goes ⊥ old (g.D.Disk.state d)) (sym c.close-disk.ensures.disk) c.in-Ok.ensures.opened.goes;
+        goes = subst (λ d. Goes ⊥ old (g.D.Disk.state d)) (sym c.close-disk.ensures.disk) c.in-Ok.ensures.opening.opened.goes;
         counted = λ honest.
-            let opens = c.in-Ok.ensures.opened.opens (there honest) in
-            let synced = c.in-Ok.ensures.opened.synced (there honest) in
-            let said = is_ok _ c.count-counts.result _ c.in-Ok-counts.is (c.count-counts.ensures.counted c.in-Ok.ensures.opened.well (opened opens.seen) opens.stands.holds) in
+            let opens = c.in-Ok.ensures.opening.opened.opens (there honest) in
+            let synced = c.in-Ok.ensures.opening.opened.synced (there honest) in
+            let said = is_ok _ c.count-counts.result _ c.in-Ok-counts.is (c.count-counts.ensures.counted c.in-Ok.ensures.opening.opened.well (opened opens.seen) opens.stands.holds) in
             counted_shown g.D.Disk _ store synced.same opens counts said;
-        moments = λ honest. subst (λ d. Throughout old (g.D.Disk.state d) (IsAtMostSynced old.now)) (sym c.close-disk.ensures.disk) (c.in-Ok.ensures.opened.moments (there honest));
+        moments = λ honest. subst (λ d. Throughout old (g.D.Disk.state d) (IsAtMostSynced old.now)) (sym c.close-disk.ensures.disk) (c.in-Ok.ensures.opening.opened.moments (there honest));
       },
       c.counted.ensures,
     )
@@ -37,25 +37,25 @@ returns-in-Ok-clause-told g c =
     let old = g.D.Disk.state c.args.disk in
     let refusal = c.in-Err-counts.refusal in
     let there = λ (honest : (g.D.Disk.state c.close-disk.result).honest ≡ true). subst (λ d. (g.D.Disk.state d).honest ≡ true) c.close-disk.ensures.disk honest in
-    let never : refusal ≢ Device = λ is. c.count-counts.ensures.never c.in-Ok.ensures.opened.well (c.in-Err-counts.is ∙ ap Err is) in
+    let never : refusal ≢ Device = λ is. c.count-counts.ensures.never c.in-Ok.ensures.opening.opened.well (c.in-Err-counts.is ∙ ap Err is) in
     inr (
       Refused refusal,
       None,
       record {
-        goes = subst (λ d. Goes (refusal ≡ Device) old (g.D.Disk.state d)) (sym c.close-disk.ensures.disk) (goes_at _ _ _ _ c.in-Ok.ensures.opened.goes (λ is. absurd (never is)));
+        goes = subst (λ d. Goes (refusal ≡ Device) old (g.D.Disk.state d)) (sym c.close-disk.ensures.disk) (goes_at _ _ _ _ c.in-Ok.ensures.opening.opened.goes (λ is. absurd (never is)));
         why = λ honest.
-            let opens = c.in-Ok.ensures.opened.opens (there honest) in
-            let memory = is_err _ c.count-counts.result _ c.in-Err-counts.is (c.count-counts.ensures.refused c.in-Ok.ensures.opened.well (opened opens.seen) opens.stands.holds) in
+            let opens = c.in-Ok.ensures.opening.opened.opens (there honest) in
+            let memory = is_err _ c.count-counts.result _ c.in-Err-counts.is (c.count-counts.ensures.refused c.in-Ok.ensures.opening.opened.well (opened opens.seen) opens.stands.holds) in
             subst (IsRefused old.now.contents) (sym memory) tt;
         earlier = λ honest.
-            let opens = c.in-Ok.ensures.opened.opens (there honest) in
-            let memory = is_err _ c.count-counts.result _ c.in-Err-counts.is (c.count-counts.ensures.refused c.in-Ok.ensures.opened.well (opened opens.seen) opens.stands.holds) in
+            let opens = c.in-Ok.ensures.opening.opened.opens (there honest) in
+            let memory = is_err _ c.count-counts.result _ c.in-Err-counts.is (c.count-counts.ensures.refused c.in-Ok.ensures.opening.opened.well (opened opens.seen) opens.stands.holds) in
             memory_untold old.now.contents refusal memory;
-        moments = λ honest. subst (λ d. Throughout old (g.D.Disk.state d) (IsAtMostSynced old.now)) (sym c.close-disk.ensures.disk) (c.in-Ok.ensures.opened.moments (there honest));
+        moments = λ honest. subst (λ d. Throughout old (g.D.Disk.state d) (IsAtMostSynced old.now)) (sym c.close-disk.ensures.disk) (c.in-Ok.ensures.opening.opened.moments (there honest));
       },
       memory_unnamed old (g.D.Disk.state c.close-disk.result) refusal (λ honest.
-          let opens = c.in-Ok.ensures.opened.opens (there honest) in
-          is_err _ c.count-counts.result _ c.in-Err-counts.is (c.count-counts.ensures.refused c.in-Ok.ensures.opened.well (opened opens.seen) opens.stands.holds)),
+          let opens = c.in-Ok.ensures.opening.opened.opens (there honest) in
+          is_err _ c.count-counts.result _ c.in-Err-counts.is (c.count-counts.ensures.refused c.in-Ok.ensures.opening.opened.well (opened opens.seen) opens.stands.holds)),
       c.refused.ensures,
     )
 

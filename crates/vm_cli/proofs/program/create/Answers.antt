@@ -1,11 +1,11 @@
-use Rattle.std.proofs.Common.{◌≡◌, ◌∙◌, ap, inl, inr, option_map, sym, true, Some, None}
+use Rattle.std.proofs.Common.{◌≡◌, ◌∙◌, ap, inl, inr, is_some, option_map, sym, true, Some, None}
 use Rattle.vm_cli.proofs.FilesLemmas.{not_done}
 use Rattle.vm_cli.proofs.program.create.Goals as goal
 
 pub returns-clause-files : goal.returns-clause-files
 returns-clause-files g c honest =
     let back = c.give_back.ensures.honest honest in
-    let made = c.in-Some.ensures.honest (c.give_back.ensures.earlier honest) in
+    let made = c.in-Some.ensures.honest (c.give_back.ensures.asked.earlier honest) in
     let start = g.P.D.Disk.state c.in-Some.disk in
     let was : start.honest ≡ true = elim c.make_store-exit.ensures.made [
       | inl shown ↦ shown.1.goes.earlier back.honest
@@ -40,7 +40,7 @@ returns-in_default-clause-files g c honest =
     let denied = c.create.ensures.honest honest in
     record {
       made = λ done. absurd (not_done _ _ _ _ c.no_file.ensures done);
-      lays = inr (c.create.ensures.none c.in_default.is, denied.none_came (ap (option_map g.P.D.Disk.state) c.in_default.is), c.no_file.ensures);
+      lays = inr (c.create.ensures.asked.none (ap is_some c.in_default.is), denied.none_came (ap (option_map g.P.D.Disk.state) c.in_default.is), c.no_file.ensures);
       stays = denied.stays;
       others = denied.others;
     }

@@ -19,9 +19,9 @@ returns-in-Err-clause-made g c =
           there = λ honest is. record {
             least = enough_blocks c.args.blocks old.blocks (length old.now.contents)
                 (λ bad. let no : AlreadyAStore ≡ BadSize = sym is ∙ said.bad_size.1 bad in absurd cc) (g.met.D.Disk.whole c.args.disk (said.any.earlier honest));
-            header = said.already honest is;
+            header = said.spares.already honest is;
           };
-          stands = λ honest store. (said.was_there honest store.header).1;
+          stands = λ honest store. (said.spares.was_there honest store.header).1;
         },
         c.refused.ensures,
       ),

@@ -1,4 +1,4 @@
-use Rattle.std.proofs.Common.{◌∙◌, ap, inl, inr, refl, sym, Some}
+use Rattle.std.proofs.Common.{◌∙◌, ap, inl, inr, is_some, refl, sym, Some}
 use Rattle.vm_disk.specs.Cached.{cached_does, cached_hand, cached_state}
 use Rattle.vm_disk.specs.Delayed.{delayed_does, delayed_hand, delayed_state}
 use Rattle.vm_disk.specs.declared.cached.CachedDisk.{CachedDisk}
@@ -13,7 +13,7 @@ returns-clause-files g c honest =
     let before = g.P.Place.state c.args.place.now in
     let after = g.P.Place.state c.give_back.new.self in
     let back = c.give_back.ensures.honest honest in
-    let found = c.in-Some.ensures.honest (c.give_back.ensures.earlier honest) in
+    let found = c.in-Some.ensures.honest (c.give_back.ensures.asked.earlier honest) in
     let lent : WasLent c.args.file.now (g.P.D.Disk.state c.in-Some.disk) (g.P.D.Disk.state c.answer_lines_in_memory-exit.result.1) after = record { fresh = found.fresh; honest = back.honest; holds = back.holds; came = back.came } in
     let others : KeepsOthers c.args.file.now before after = λ other apart. back.others other apart ∙ found.same other in
     elim c.answer_lines_in_memory-exit.ensures.served [
@@ -51,7 +51,7 @@ returns-clause-files g c honest =
     ]
 
 pub returns-in_default-clause-files : goal.returns-in_default-clause-files
-returns-in_default-clause-files g c honest = inr (record { same = (c.opened.ensures.honest honest).same; told = inl (c.opened.ensures.none c.in_default.is, (c.opened.ensures.honest honest).same_came, c.no_file.ensures) })
+returns-in_default-clause-files g c honest = inr (record { same = (c.opened.ensures.honest honest).same; told = inl (c.opened.ensures.asked.none (ap is_some c.in_default.is), (c.opened.ensures.honest honest).same_came, c.no_file.ensures) })
 
 pub returns-clause-served : goal.returns-clause-served
 returns-clause-served g c = elim c.answer_lines_in_memory-exit.ensures.served [
@@ -60,4 +60,4 @@ returns-clause-served g c = elim c.answer_lines_in_memory-exit.ensures.served [
 ]
 
 pub returns-in_default-clause-served : goal.returns-in_default-clause-served
-returns-in_default-clause-served g c = inr (inr (c.opened.ensures.none c.in_default.is, c.no_file.ensures))
+returns-in_default-clause-served g c = inr (inr (c.opened.ensures.asked.none (ap is_some c.in_default.is), c.no_file.ensures))

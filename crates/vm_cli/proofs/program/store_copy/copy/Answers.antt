@@ -1,4 +1,4 @@
-use Rattle.std.proofs.Common.{◌+◌, ◌∷◌, ◌∙◌, ap, inl, inr, sym, Some}
+use Rattle.std.proofs.Common.{◌+◌, ◌∷◌, ◌∙◌, ap, inl, inr, is_some, refl, sym, Some}
 use Rattle.vm_cli.specs.Places.{WasLent}
 use Rattle.vm_cli.proofs.CopyingLemmas.{copied_between}
 use Rattle.vm_cli.proofs.FilesLemmas.{keeps_all, synced_alone}
@@ -9,7 +9,7 @@ returns-clause-files g c honest =
     let before = g.P.Place.state c.args.place.now in
     let after = g.P.Place.state c.give_back.new.self in
     let back = c.give_back.ensures.honest honest in
-    let mid = c.give_back.ensures.earlier honest in
+    let mid = c.give_back.ensures.asked.earlier honest in
     let found = c.in-Some.ensures.honest (c.copy_disk-exit.ensures.earlier mid) in
     let lent : WasLent c.args.file.now (g.P.D.Disk.state c.in-Some.disk) (g.P.D.Disk.state c.copy_disk-exit.result.1) after = record { fresh = found.fresh; honest = back.honest; holds = back.holds; came = back.came } in
     elim (c.copy_disk-exit.ensures.copied mid back.honest) [
@@ -26,16 +26,16 @@ returns-clause-files g c honest =
             shown = shown;
             in_use = in_use;
             makes = copied_between _ _ _ _ _ _ c.args.file.now c.args.to.now _ used _ _ _ before _ _ after _ _ _ _ _
-                (λ reads. c.give_back.ensures.reads ∙ reads ∙ c.in-Some.ensures.reads)
-                (λ opens. c.give_back.ensures.reads ∙ opens ∙ ap (λ n. n + 1) c.in-Some.ensures.reads)
-                (λ n denied. c.give_back.ensures.denied ∙ denied ∙ ap (λ ns. n ∷ ns) c.in-Some.ensures.some)
+                (λ reads. c.give_back.ensures.asked.writes ∙ reads ∙ c.in-Some.ensures.asked.writes)
+                (λ opens. c.give_back.ensures.asked.writes ∙ opens ∙ ap (λ n. n + 1) c.in-Some.ensures.asked.writes)
+                (λ n denied. c.give_back.ensures.asked.some refl ∙ denied ∙ ap (λ ns. n ∷ ns) (c.in-Some.ensures.asked.some refl))
                 found.same back held.0 same makes;
           })
       | inr (why, refused, left, told) ↦
           let held = found.held (refused.goes.earlier back.honest) in
           let same = back.holds ∙ ap Some (synced_alone _ _ (refused.moments back.honest)) ∙ sym held.0 in
           inr (
-            c.give_back.ensures.reads ∙ ap g.P.Place.to_write left ∙ c.in-Some.ensures.reads,
+            c.give_back.ensures.asked.writes ∙ ap g.P.Place.to_write left ∙ c.in-Some.ensures.asked.writes,
             record {
               same = keeps_all c.args.file.now before after (λ other apart. back.others other apart ∙ ap (λ p. (g.P.Place.state p).files other) left ∙ found.same other) same;
               told = inr (record {
@@ -53,4 +53,4 @@ returns-clause-files g c honest =
 
 pub returns-in_default-clause-files : goal.returns-in_default-clause-files
 returns-in_default-clause-files g c honest =
-    inr (c.look.ensures.reads, record { same = (c.look.ensures.honest honest).same; told = inl (c.look.ensures.none c.in_default.is, (c.look.ensures.honest honest).same_came, c.no_file.ensures) })
+    inr (c.look.ensures.asked.writes, record { same = (c.look.ensures.honest honest).same; told = inl (c.look.ensures.asked.none (ap is_some c.in_default.is), (c.look.ensures.honest honest).same_came, c.no_file.ensures) })

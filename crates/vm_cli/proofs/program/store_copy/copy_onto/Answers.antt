@@ -33,7 +33,7 @@ returns-in-Err-clause-told g c enough apart place honest well s holds =
     (λ is. record {
       least = enough_blocks c.args.size.blocks start.blocks (length start.now.contents)
           (λ bad. let no : AlreadyAStore ≡ BadSize = sym is ∙ size.1 bad in absurd cc) (g.met.P.D.Disk.whole c.args.disk (said.both.target.earlier dropped.honest));
-      header = said.already dropped.honest is;
+      header = said.spares.already dropped.honest is;
     })
     device (λ is. let lacks = said.full honest s holds is in absurd (omega arith)) in
     record {

@@ -1,7 +1,6 @@
 use Rattle.std.proofs.Common.{◌≡◌, ◌+◌, ◌∷◌, ◌∙◌, true, false, ap, arith, inr, refl, rules, subst, sym}
 use Rattle.vm_types.specs.declared.refusal.Refusal.TheVariants.{Memory}
 use Rattle.vm_cli.specs.Copies.{blocks_for}
-use Rattle.vm_cli.specs.Exits.{part_of}
 use Rattle.vm_cli.specs.Places.{Lacks}
 use Rattle.vm_cli.specs.declared.program.opening.NoStore.TheVariants.{Refused}
 use Rattle.vm_cli.proofs.CopyingLemmas.{as_asked, makes_laid, makes_taken, makes_unmade, part_apart}
@@ -18,31 +17,31 @@ returns-then-not-lacks-clause-files g c honest there well s holds =
     let size = c.in-Ok.ensures well in
     let taken : c.lacks.result ≡ false = search rules in
     as_asked _ _ _ c.args.to.now s _ _ _ _ _ _ _ _ _ _ _ _ _ (size.0.0 ∙ ap (blocks_for c.args.blocks) holds.rests.blocks) size.0.1
-    (makes_taken _ _ _ c.args.to.now _ _ _ _ _ _ _ _ _ _ _ c.lacks.ensures.reads (omega (arith, size.0.1, size.0.2))
-    (c.lacks.ensures.honest honest).same (c.lacks.ensures.taken taken) (search rules))
+    (makes_taken _ _ _ c.args.to.now _ _ _ _ _ _ _ _ _ _ _ c.lacks.ensures.asked.writes (omega (arith, size.0.1, size.0.2))
+    (c.lacks.ensures.honest honest).same (c.lacks.ensures.asked.none taken) (search rules))
 
 pub returns-in_default-create-clause-files : goal.returns-in_default-create-clause-files
 returns-in_default-create-clause-files g c honest there well s holds =
     let size = c.in-Ok.ensures well in
-    let looked = c.create.ensures.earlier honest in
+    let looked = c.create.ensures.asked.earlier honest in
     let free : c.lacks.result ≡ true = search rules in
     let lacks = subst (λ b. Lacks c.args.to.now b (g.P.Place.state c.args.place.now) (g.P.Place.state c.lacks.new.self)) free (c.lacks.ensures.honest looked) in
     let named = c.as_str-part.ensures.value ∙ c.in-Ok-part_name.ensures in
     as_asked _ _ _ c.args.to.now s _ _ _ _ _ _ _ _ _ _ _ _ _ (size.0.0 ∙ ap (blocks_for c.args.blocks) holds.rests.blocks) size.0.1
     (makes_unmade _ _ _ c.args.to.now _ _ _ _ _ _ _ _ _ _ _ _ named _ lacks
-    (c.create.ensures.writes ∙ ap (λ n. n + 1) c.lacks.ensures.reads) (omega (arith, size.0.1, size.0.2))
+    (c.create.ensures.asked.writes ∙ ap (λ n. n + 1) c.lacks.ensures.asked.writes) (omega (arith, size.0.1, size.0.2))
     (search rules) (search rules) (search rules))
 
 pub returns-clause-files : goal.returns-clause-files
 returns-clause-files g c honest there well s holds =
     let size = c.in-Ok.ensures well in
     let made = c.copy_onto.ensures.earlier honest in
-    let looked = c.in-Some.ensures.earlier made in
+    let looked = c.in-Some.ensures.asked.earlier made in
     let free : c.lacks.result ≡ true = search rules in
     let lacks = subst (λ b. Lacks c.args.to.now b (g.P.Place.state c.args.place.now) (g.P.Place.state c.lacks.new.self)) free (c.lacks.ensures.honest looked) in
     let named = c.as_str-part.ensures.value ∙ c.in-Ok-part_name.ensures in
     as_asked _ _ _ c.args.to.now s _ _ _ _ _ _ _ _ _ _ _ _ _ (size.0.0 ∙ ap (blocks_for c.args.blocks) holds.rests.blocks) size.0.1
     (makes_laid _ _ _ c.args.to.now _ _ _ _ _ _ _ _ _ _ _ _ named _ lacks _ _ _
-    (λ denied. denied ∙ ap (λ ns. c.args.to.now ∷ ns) (c.in-Some.ensures.some ∙ c.lacks.ensures.free free))
-    (c.copy_onto.ensures.writes ∙ c.in-Some.ensures.writes ∙ ap (λ n. n + 1) c.lacks.ensures.reads) (omega (arith, size.0.1, size.0.2)) (c.in-Some.ensures.honest made)
+    (λ denied. denied ∙ ap (λ ns. c.args.to.now ∷ ns) (c.in-Some.ensures.asked.some refl ∙ c.lacks.ensures.asked.some free))
+    (c.copy_onto.ensures.writes ∙ c.in-Some.ensures.asked.writes ∙ ap (λ n. n + 1) c.lacks.ensures.asked.writes) (omega (arith, size.0.1, size.0.2)) (c.in-Some.ensures.honest made)
     (c.copy_onto.ensures.told size.0.2 (λ is. part_apart c.args.to.now (sym is ∙ named)) honest there well s holds))

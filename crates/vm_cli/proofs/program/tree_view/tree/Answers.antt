@@ -1,4 +1,4 @@
-use Rattle.std.proofs.Common.{◌∙◌, ap, inl, inr, sym, Some}
+use Rattle.std.proofs.Common.{◌∙◌, ap, inl, inr, is_some, sym, Some}
 use Rattle.vm_cli.specs.Places.{KeepsOthers, WasLent}
 use Rattle.vm_cli.proofs.FilesLemmas.{keeps_all, synced_alone}
 use Rattle.vm_cli.proofs.program.tree_view.tree.Goals as goal
@@ -8,7 +8,7 @@ returns-clause-files g c honest =
     let before = g.P.Place.state c.args.place.now in
     let after = g.P.Place.state c.give_back.new.self in
     let back = c.give_back.ensures.honest honest in
-    let found = c.in-Some.ensures.honest (c.give_back.ensures.earlier honest) in
+    let found = c.in-Some.ensures.honest (c.give_back.ensures.asked.earlier honest) in
     let lent : WasLent c.args.file.now (g.P.D.Disk.state c.in-Some.disk) (g.P.D.Disk.state c.show_disk-exit.result.1) after = record { fresh = found.fresh; honest = back.honest; holds = back.holds; came = back.came } in
     let others : KeepsOthers c.args.file.now before after = λ other apart. back.others other apart ∙ found.same other in
     elim (c.show_disk-exit.ensures.told back.honest) [
@@ -43,4 +43,4 @@ returns-clause-files g c honest =
     ]
 
 pub returns-in_default-clause-files : goal.returns-in_default-clause-files
-returns-in_default-clause-files g c honest = inr (record { same = (c.look.ensures.honest honest).same; told = inl (c.look.ensures.none c.in_default.is, (c.look.ensures.honest honest).same_came, c.no_file.ensures) })
+returns-in_default-clause-files g c honest = inr (record { same = (c.look.ensures.honest honest).same; told = inl (c.look.ensures.asked.none (ap is_some c.in_default.is), (c.look.ensures.honest honest).same_came, c.no_file.ensures) })

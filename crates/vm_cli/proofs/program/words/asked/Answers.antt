@@ -37,6 +37,17 @@ returns-in-run c =
     asked_of-entered _ _ rows _ entered file ∙ ap (λ (name : Text). asked_by name rows c.in-Some-get_str.file.now) c.in-run.is in
     c.asked_run.ensures ∙ sym asks
 
+pub returns-in-serve : goal.returns-in-serve
+returns-in-serve c =
+    let rows = rows_of (found_of c.in-Some.matches.now) in
+    let entered : subcommand_rows_of c.args.matches.now ≡ Some (c.in-Some.name.now, rows) =
+    subcommand_rows-parts _ _ _ _ c.in-Some.ensures.name c.in-Some.ensures.rows in
+    let given = rw c.in-Some-get_str.is at c.get_str.ensures in
+    let file : first_of (codes "file") rows ≡ Some c.in-Some-get_str.file.now = sym (first_value-rows (found_of c.in-Some.matches.now) (codes "file")) ∙ sym given in
+    let asks : asked_of (subcommand_rows_of c.args.matches.now) ≡ asked_by (codes "serve") rows c.in-Some-get_str.file.now =
+    asked_of-entered _ _ rows _ entered file ∙ ap (λ (name : Text). asked_by name rows c.in-Some-get_str.file.now) c.in-serve.is in
+    c.asked_run-in-serve.ensures ∙ sym asks
+
 pub returns-in-do : goal.returns-in-do
 returns-in-do c =
     let rows = rows_of (found_of c.in-Some.matches.now) in

@@ -6,4 +6,4 @@ pub returns-clause-honest : goal.returns-clause-honest
 returns-clause-honest c honest =
     let disk = c.in_ok-disk.disk in
     finds c.args.file.now _ _ c.in_ok-disk.ensures.stays (memory_state disk) c.in_ok-disk.ensures.taken (memory_state c.crash.result)
-    (crash_keeps (memory_state disk).now (memory_state c.crash.result).now c.crash.ensures.blocks c.crash.ensures.filled) c.crash.ensures.clean c.crash.ensures.past
+    (crash_keeps (memory_state disk).now (memory_state c.crash.result).now c.crash.ensures.blocks c.crash.ensures.filled) c.crash.ensures.left.clean c.crash.ensures.left.past

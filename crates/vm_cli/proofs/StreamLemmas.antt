@@ -1,0 +1,212 @@
+-- What a session with batches answers.
+use Rattle.std.proofs.Common.{◌≡◌, ◌⊎◌, inl, inr, ◌||◌, ◌+◌, ◌++◌, ◌∙◌, ℕ, zero, suc, Bool, true, false, List, [], ◌∷◌, Option, None, Some, Result, Ok, Err, OnErr, OnOk, ap, sym, refl, subst, append-nil, append_assoc, take}
+use Rattle.std.specs.Io.KnownBytes.{Appends}
+use Rattle.vm_types.specs.State.{State}
+use Rattle.vm_store.specs.declared.store.Store.{Store}
+use Rattle.vm_cli.specs.Carried.{WritesStart}
+use Rattle.vm_cli.specs.Feeds.{TalksOn, Writes}
+use Rattle.vm_cli.specs.LineUses.{IsUse}
+use Rattle.vm_cli.specs.Replies.{is_error}
+use Rattle.vm_cli.specs.Rounds.{Round, after_round, after_rounds}
+use Rattle.vm_cli.specs.Streams.{AnswersThen, Course, Held, HasTaken, IsStage, Puts, Takes, TakesAs, TakesEach, TakesInside, TakesOutside, Tells, Verdict, after_refusal, batch_course, counted_result, course_of, refused_result, repeated, result_of, said_result, some_lines, verdict_result}
+use Rattle.vm_cli.specs.Streams.Course.{over, proceeds}
+use Rattle.vm_cli.specs.Streams.Verdict.{fails, succeeds}
+use Rattle.vm_cli.specs.declared.answers.output.WriteFault.{WriteFault}
+use Rattle.vm_cli.specs.declared.talk.Manner.{Manner}
+use Rattle.vm_cli.specs.declared.talk.batch.Batch.{Batch}
+use Rattle.vm_cli.specs.declared.talk.OnRefusal.{OnRefusal}
+use Rattle.vm_cli.specs.declared.talk.OnRefusal.TheVariants.{Ignore, Stop, Tell}
+use Rattle.vm_cli.specs.declared.talk.ServeFault.{ServeFault}
+use Rattle.vm_cli.specs.declared.talk.ServeFault.TheVariants as fault
+use Rattle.vm_cli.specs.declared.talk.carrying.Then.{Then}
+use Rattle.vm_cli.specs.declared.talk.line_use.LineUse.{LineUse}
+use Rattle.vm_cli.specs.declared.talk.carrying.Then.TheVariants.{GoOn, Failed as AsFailed, Unsure as AsUnsure}
+use Rattle.vm_cli.proofs.CarriedLemmas.{begins-cut, begins-more, begins-then}
+use Rattle.vm_cli.proofs.EndLemmas.{talks_none}
+use Rattle.vm_cli.proofs.PassLemmas.{never_both}
+use Rattle.vm_cli.specs.Talk.{EndsBy}
+use Rattle.vm_cli.proofs.Known.{Appends-nil, Appends-then}
+
+or-assoc : (a b c : Bool) → ((a || b) || c) ≡ (a || (b || c))
+or-assoc true b c = refl
+or-assoc false b c = refl
+
+or-false : (a : Bool) → (a || false) ≡ a
+or-false true = refl
+or-false false = refl
+
+neither : (a b : Bool) → a ≡ false → b ≡ false → (a || b) ≡ false
+neither a b e f = rw (e, f) refl
+
+-- or its first bytes
+pub puts_put : {T : Type 0} (text : List ℕ) (written : Result T WriteFault) (a b : Option (List ℕ)) → OnOk written (Appends a b text) → OnErr written ((k : ℕ) × Appends a b (take k text)) → Puts text (said_result written) a b
+puts_put text (Ok u) a b ok err = ok
+puts_put text (Err failed) a b ok err = (refl, begins-cut a b text err.0 err.1)
+
+-- once
+pub repeated-one : (text : List ℕ) → repeated 1 text ≡ text
+repeated-one text = append-nil text
+
+-- the writer failed in the first of two texts
+pub cut_short : (a b : Option (List ℕ)) (first second : List ℕ) (then : Result Bool ServeFault) (why : ServeFault) → (why ≡ fault.Write) × WritesStart a b first → AnswersThen (first ++ second) then (Err why) a b
+cut_short a b first second then why h = inr (ap Err h.0, begins-more a b first second h.1)
+
+-- the second is written behind the first
+pub written_behind : (a b c : Option (List ℕ)) (first second : List ℕ) (then result : Result Bool ServeFault) → Appends a b first → AnswersThen second then result b c → AnswersThen (first ++ second) then result a c
+written_behind a b c first second then result all (inl h) = inl (h.0, Appends-then a b c first second all h.1)
+written_behind a b c first second then result all (inr h) = inr (h.0, begins-then a b c second (first ++ second) (record { sent = first; split = refl; written = all }) h.1)
+
+-- what an answer of the store is to a session with batches
+pub tells_writes : (how : Manner) (P : List ℕ → Bool → Type 0) (Q : List ℕ → Course → Type 0) → ((text : List ℕ) (ends : Bool) → P text ends → Q text (course_of ends text))
+    → (result : Result Bool ServeFault) (a b : Option (List ℕ)) → Writes how P result a b → Tells how Q result a b
+tells_writes how P Q of (Ok refused) a b (text, says, same, goes_on, written) = (text, subst (λ r. Q text (proceeds r)) (sym same) (of text false says), goes_on, written)
+tells_writes how P Q of (Err fault.Read) a b writes = writes
+tells_writes how P Q of (Err fault.Unsure) a b writes = absurd writes
+tells_writes how P Q of (Err fault.Store) a b (text, says, written) = (text, of text true says, written)
+tells_writes how P Q of (Err fault.Refused) a b (text, says, error, stop, written) = (text, subst (λ r. Q text (proceeds r)) error (of text false says), stop, written)
+tells_writes how P Q of (Err fault.Write) a b (text, ends, says, begun) = (text, course_of ends text, of text ends says, begun)
+
+-- an answer that was written
+module _ (how : Manner) (P : List ℕ → Course → Type 0) (text : List ℕ) (a b : Option (List ℕ)) where
+  refused_by : (on_refusal : OnRefusal) → how.on_refusal ≡ on_refusal → P text (proceeds true) → Appends a b text → Tells how P (refused_result on_refusal) a b
+  refused_by Stop is says written = (text, says, is, written)
+  refused_by Ignore is says written = (text, says, (λ stop. let bad : Ignore ≡ Stop = sym is ∙ stop in cc), written)
+  refused_by Tell is says written = (text, says, (λ stop. let bad : Tell ≡ Stop = sym is ∙ stop in cc), written)
+
+  -- by which some lines were refused, or none
+  pub tells_counted : (count : ℕ) (result : Result Bool ServeFault) → P text (proceeds (some_lines count)) → AnswersThen text (counted_result how.on_refusal count) result a b → Tells how P result a b
+  tells_counted count result says (inr h) = subst (λ r. Tells how P r a b) (sym h.0) (text, proceeds (some_lines count), says, h.1)
+  tells_counted zero result says (inl h) = subst (λ r. Tells how P r a b) (sym h.0) (text, says, (λ stop. refl), h.1)
+  tells_counted (suc n) result says (inl h) = subst (λ r. Tells how P r a b) (sym h.0) (refused_by how.on_refusal refl says h.1)
+
+  -- the answer to a batch
+  pub tells_verdict : (verdict : Verdict) (result : Result Bool ServeFault) → P text (batch_course verdict) → AnswersThen text (verdict_result how verdict) result a b → Tells how P result a b
+  tells_verdict verdict result says (inr h) = subst (λ r. Tells how P r a b) (sym h.0) (text, batch_course verdict, says, h.1)
+  tells_verdict (succeeds answers) result says (inl h) = subst (λ r. Tells how P r a b) (sym h.0) (text, says, (λ stop. refl), h.1)
+  tells_verdict (fails place answer GoOn) result says (inl h) = subst (λ r. Tells how P r a b) (sym h.0) (refused_by how.on_refusal refl says h.1)
+  tells_verdict (fails place answer AsFailed) result says (inl h) = subst (λ r. Tells how P r a b) (sym h.0) (text, says, h.1)
+  tells_verdict (fails place answer AsUnsure) result says (inl h) = subst (λ r. Tells how P r a b) (sym h.0) (text, says, h.1)
+
+-- what is told is told of more
+pub tells_as : (how : Manner) (P Q : List ℕ → Course → Type 0) → ((text : List ℕ) (course : Course) → P text course → Q text course)
+    → (result : Result Bool ServeFault) (a b : Option (List ℕ)) → Tells how P result a b → Tells how Q result a b
+tells_as how P Q of (Ok refused) a b (text, says, goes_on, written) = (text, of text (proceeds refused) says, goes_on, written)
+tells_as how P Q of (Err fault.Read) a b tells = tells
+tells_as how P Q of (Err fault.Store) a b (text, says, written) = (text, of text over says, written)
+tells_as how P Q of (Err fault.Unsure) a b (text, says, written) = (text, of text over says, written)
+tells_as how P Q of (Err fault.Refused) a b (text, says, stop, written) = (text, of text (proceeds true) says, stop, written)
+tells_as how P Q of (Err fault.Write) a b (text, course, says, begun) = (text, course, of text course says, begun)
+
+-- a line is taken for what it is
+module _ {D : Type 0} {members : _} (old new : Store D members) (s : State) (how : Manner) (used : LineUse) (part : List ℕ) (is : IsUse how.on_command part used) (P : Option Held → Type 0) (result : Result Bool ServeFault) (a b : Option (List ℕ)) where
+  taken_as : (stage : Option Held) (text : List ℕ) (course : Course) (stage' : Option Held) (round : Round) → TakesAs old new s how used stage part text course stage' round → Takes old new s how stage part text course stage' round
+  taken_as stage text course stage' round takes = by is
+    where
+      by : IsUse how.on_command part used → Takes old new s how stage part text course stage' round
+      by (inl wanting) = inl (subst (λ u. TakesAs old new s how u stage part text course stage' round) wanting takes)
+      by (inr found) = inr (subst (λ u. TakesAs old new s how u stage part text course stage' round) found takes)
+
+  tells_taken : (stage : Option Held) → Tells how (λ text course. (stage' : Option Held) × (round : Round) × P stage' × TakesAs old new s how used stage part text course stage' round) result a b
+      → Tells how (λ text course. (stage' : Option Held) × (round : Round) × P stage' × Takes old new s how stage part text course stage' round) result a b
+  tells_taken stage =
+      tells_as how
+      (λ text course. (stage' : Option Held) × (round : Round) × P stage' × TakesAs old new s how used stage part text course stage' round)
+      (λ text course. (stage' : Option Held) × (round : Round) × P stage' × Takes old new s how stage part text course stage' round)
+      (λ text course said. (said.0, said.1, said.2, taken_as stage text course said.0 said.1 said.3)) result a b
+
+  -- within a batch
+  pub inside_taken : (batch : Batch) → batch.is_open ≡ true → (stage : Option Held) → IsStage batch stage
+      → ((held : Held) → IsStage batch (Some held) → Tells how (λ text course. (stage' : Option Held) × (round : Round) × P stage' × TakesInside old new s how used held part text course stage' round) result a b)
+      → Tells how (λ text course. (stage' : Option Held) × (round : Round) × P stage' × Takes old new s how stage part text course stage' round) result a b
+  inside_taken batch begun None held told = absurd (never_both _ held.0 begun)
+  inside_taken batch begun (Some h) held told = tells_taken (Some h) (told h held)
+
+  -- or outside of one
+  pub outside_taken : (batch : Batch) → batch.is_open ≡ false → (stage : Option Held) → IsStage batch stage
+      → (IsStage batch None → Tells how (λ text course. (stage' : Option Held) × (round : Round) × P stage' × TakesOutside old new s how used part text course stage' round) result a b)
+      → Tells how (λ text course. (stage' : Option Held) × (round : Round) × P stage' × Takes old new s how stage part text course stage' round) result a b
+  outside_taken batch closed None held told = tells_taken None (told held)
+  outside_taken batch closed (Some h) held told = absurd (never_both _ closed held.0)
+
+module _ {D : Type 0} {members : _} where
+  -- the store after a batch that was answered
+  pub verdict_talks : (how : Manner) (old new : Store D members) (text : List ℕ) (a b : Option (List ℕ)) (verdict : Verdict) (result : Result Bool ServeFault) → AnswersThen text (verdict_result how verdict) result a b
+      → TalksOn (result_of verdict) old new → TalksOn result old new
+  verdict_talks how old new text a b verdict result (inr h) talks =
+      subst (λ r. TalksOn r old new) (sym h.0) (record { goes = talks.goes; ok = λ sound. tt; err = λ sound. tt; failing = talks.failing; left = talks.left })
+  verdict_talks how old new text a b (succeeds answers) result (inl h) talks = subst (λ r. TalksOn r old new) (sym h.0) talks
+  verdict_talks how old new text a b (fails place answer AsFailed) result (inl h) talks = subst (λ r. TalksOn r old new) (sym h.0) talks
+  verdict_talks how old new text a b (fails place answer AsUnsure) result (inl h) talks = subst (λ r. TalksOn r old new) (sym h.0) talks
+  verdict_talks how old new text a b (fails place answer GoOn) result (inl h) talks = subst (λ r. TalksOn r old new) (sym h.0) (by how.on_refusal)
+    where
+      by : (on_refusal : OnRefusal) → TalksOn (refused_result on_refusal) old new
+      by Stop = record { goes = talks.goes; ok = λ sound. tt; err = λ sound. tt; failing = talks.failing; left = talks.left }
+      by Ignore = talks
+      by Tell = talks
+
+  -- the store was asked nothing
+  pub counted_talks : (store : Store D members) (text : List ℕ) (a b : Option (List ℕ)) (on_refusal : OnRefusal) (count : ℕ) (result : Result Bool ServeFault) → AnswersThen text (counted_result on_refusal count) result a b → TalksOn result store store
+  counted_talks store text a b on_refusal count result (inr h) = subst (λ r. TalksOn r store store) (sym h.0) (stopped fault.Write tt)
+    where
+      stopped : (why : ServeFault) → EndsBy store store why → TalksOn (Err why) store store
+      stopped why ends = let none = talks_none store false in record { goes = none.goes; ok = λ sound. tt; err = λ sound. ends; failing = none.failing; left = none.left }
+  counted_talks store text a b on_refusal zero result (inl h) = subst (λ r. TalksOn r store store) (sym h.0) (talks_none store false)
+  counted_talks store text a b Stop (suc n) result (inl h) =
+      let none = talks_none store false in
+      subst (λ r. TalksOn r store store) (sym h.0) (record { goes = none.goes; ok = λ sound. tt; err = λ sound. tt; failing = none.failing; left = none.left })
+  counted_talks store text a b Ignore (suc n) result (inl h) = subst (λ r. TalksOn r store store) (sym h.0) (talks_none store true)
+  counted_talks store text a b Tell (suc n) result (inl h) = subst (λ r. TalksOn r store store) (sym h.0) (talks_none store true)
+
+  -- one more line was taken
+  pub each_more : (old mid new : Store D members) (s : State) (how : Manner) (stage : Option Held) (parts : List (List ℕ)) (text : List ℕ) (next : Option Held) (rounds : List Round) (again : Bool)
+      → TakesEach old mid s how stage parts text next rounds again
+      → (part said : List ℕ) (refused : Bool) (stage' : Option Held) (round : Round) → Takes mid new (after_rounds s rounds) how next part said (proceeds refused) stage' round
+      → TakesEach old new s how stage (parts ++ part ∷ []) (text ++ said) stage' (rounds ++ round ∷ []) (again || refused)
+  each_more old mid new s how stage [] text next rounds again (same, none, stage_is, no_rounds, no_refusal) part said refused stage' round takes =
+      let from_old = subst (λ (t : Store D members). Takes t new (after_rounds s rounds) how next part said (proceeds refused) stage' round) same takes in
+      let from_here = subst (λ rs. Takes old new (after_rounds s rs) how next part said (proceeds refused) stage' round) no_rounds from_old in
+      let here = subst (λ st. Takes old new s how st part said (proceeds refused) stage' round) stage_is from_here in (
+        new,
+        stage',
+        said,
+        [],
+        round,
+        [],
+        refused,
+        false,
+        here,
+        ap (λ t. t ++ said) none ∙ sym (append-nil said),
+        ap (λ rs. rs ++ round ∷ []) no_rounds,
+        ap (λ b. b || refused) no_refusal ∙ sym (or-false refused),
+        (refl, refl, refl, refl, refl),
+      )
+  each_more old mid new s how stage (p ∷ parts) text next rounds again (to, st, first, rest, came, later, bad, others, step, texts, came_so, again_is, streams) part said refused stage' round takes = (
+    to,
+    st,
+    first,
+    rest ++ said,
+    came,
+    later ++ round ∷ [],
+    bad,
+    others || refused,
+    step,
+    ap (λ t. t ++ said) texts ∙ append_assoc first rest said,
+    ap (λ rs. rs ++ round ∷ []) came_so,
+    ap (λ b. b || refused) again_is ∙ or-assoc bad others refused,
+    each_more to mid new (after_round s came) how st parts rest next later others streams part said refused stage' round
+        (subst (λ rs. Takes mid new (after_rounds s rs) how next part said (proceeds refused) stage' round) came_so takes),
+  )
+
+  -- all lines so far, and one more
+  pub taken_more : (old mid new : Store D members) (s : State) (how : Manner) (parts : List (List ℕ)) (text : List ℕ) (stage : Option Held) (again : Bool) (so_far : HasTaken old mid s how parts text stage again)
+      → (part said : List ℕ) (refused : Bool) (stage' : Option Held) (round : Round) → Takes mid new (after_rounds s so_far.rounds) how stage part said (proceeds refused) stage' round
+      → (how.on_refusal ≡ Stop → refused ≡ false) → HasTaken old new s how (parts ++ part ∷ []) (text ++ said) stage' (again || refused)
+  taken_more old mid new s how parts text stage again so_far part said refused stage' round takes goes_on = record {
+    rounds = so_far.rounds ++ round ∷ [];
+    each = each_more old mid new s how None parts text stage so_far.rounds again so_far.each part said refused stage' round takes;
+    goes_on = λ stop. neither again refused (so_far.goes_on stop) (goes_on stop);
+  }
+
+  -- no line
+  pub taken_none : (store : Store D members) (s : State) (how : Manner) → HasTaken store store s how [] [] None false
+  taken_none store s how = record { rounds = []; each = (refl, refl, refl, refl, refl); goes_on = λ stop. refl }

@@ -1,0 +1,140 @@
+-- A session with batches in which commands are refused only reads.
+use Rattle.std.proofs.Common.{◌≡◌, ◌⊎◌, inl, inr, ℕ, Bool, true, false, List, [], ◌∷◌, codes, length, nat_lt, if◌then◌else◌, Option, None, Some, Result, Ok, Err, refl, sym, subst}
+use Rattle.vm_types.specs.State.{State}
+use Rattle.vm_types.specs.declared.command.Command.{Command}
+use Rattle.vm_types.specs.declared.command.Command.TheVariants.{Commit, Rollback}
+use Rattle.vm_store.specs.declared.store.Store.{Store}
+use Rattle.vm_cli.specs.Asking.{Request}
+use Rattle.vm_cli.specs.Input.{without_return}
+use Rattle.vm_cli.specs.LineUses.{is_alone, no_memory, use_of, use_of_command, use_of_request, use_of_words}
+use Rattle.vm_cli.specs.Requests.{request_of}
+use Rattle.vm_cli.specs.Rounds.{Round, after_round}
+use Rattle.vm_cli.specs.Spaces.{words_of}
+use Rattle.vm_cli.specs.Streams.{Course, EndsWithLine, EndsInput, Held, ServesBatches, SessionStreams, Takes, TakesAs, TakesEach}
+use Rattle.vm_cli.specs.Streams.Course.{proceeds}
+use Rattle.vm_cli.specs.Streams.Held.{holds, lost}
+use Rattle.vm_cli.specs.Talk.{Passes}
+use Rattle.vm_cli.specs.declared.lines.line.TheConstants.{MAX_BYTES}
+use Rattle.vm_cli.specs.declared.talk.Manner.{Manner}
+use Rattle.vm_cli.specs.declared.talk.OnCommand.{OnCommand}
+use Rattle.vm_cli.specs.declared.talk.OnCommand.TheVariants.{Refuse}
+use Rattle.vm_cli.specs.declared.talk.ServeFault.{ServeFault}
+use Rattle.vm_cli.specs.declared.talk.ServeFault.TheVariants as fault
+use Rattle.vm_cli.specs.declared.talk.line_use.LineUse.{LineUse}
+use Rattle.vm_cli.specs.declared.talk.line_use.LineUse.TheVariants as line
+use Rattle.vm_cli.proofs.PassLemmas.{passes_left}
+use Rattle.vm_cli.proofs.ReadOnlyLemmas.{line_passes, passes_both}
+
+-- a line that is no change
+abbrev IsOther : LineUse → Type 0
+IsOther line.Nothing = Unit {0}
+IsOther line.Begin = Unit {0}
+IsOther line.Commit = Unit {0}
+IsOther line.Abort = Unit {0}
+IsOther line.Change = ⊥
+IsOther line.Query = Unit {0}
+IsOther (line.Refused said) = Unit {0}
+
+either_other : (b : Bool) (first second : LineUse) → IsOther first → IsOther second → IsOther (if b then first else second)
+either_other true first second p q = p
+either_other false first second p q = q
+
+command_other : (command : Command) → IsOther (use_of_command Refuse command)
+command_other Commit = tt
+command_other Rollback = tt
+command_other command = tt
+
+request_other : (request : Request) → IsOther (use_of_request Refuse request)
+request_other (Request.Command command) = command_other command
+request_other (Request.Growing most command) = command_other command
+request_other request = tt
+
+words_other : (words : List (List ℕ)) → IsOther (use_of_words Refuse words)
+words_other words =
+    either_other (is_alone (codes "begin") words) line.Begin (if is_alone (codes "abort") words then line.Abort else use_of_request Refuse (request_of words)) tt
+    (either_other (is_alone (codes "abort") words) line.Abort (use_of_request Refuse (request_of words)) tt (request_other (request_of words)))
+
+-- none is a change, where commands are refused
+use_other : (part : List ℕ) → IsOther (use_of Refuse part)
+use_other part = either_other (nat_lt MAX_BYTES (length part)) _ (use_of_words Refuse (words_of (without_return part))) tt (words_other (words_of (without_return part)))
+
+-- no line is held
+abbrev IsReading : Option Held → Type 0
+IsReading None = Unit {0}
+IsReading (Some (holds [])) = Unit {0}
+IsReading (Some (holds (part ∷ parts))) = ⊥
+IsReading (Some (lost place answer count)) = Unit {0}
+
+module _ {D : Type 0} {members : _} (how : Manner) (refuses : how.on_command ≡ Refuse) where
+  -- the store was asked nothing
+  left_so : (old new : Store D members) → new ≡ old → (stage stage' : Option Held) → stage' ≡ stage → IsReading stage → Passes old new None × IsReading stage'
+  left_so old new same stage stage' is reading = (passes_left old new same, subst IsReading (sym is) reading)
+
+  -- a line that is no change
+  as_passes : (old new : Store D members) (s : State) (used : LineUse) → IsOther used → (stage : Option Held) → IsReading stage → (part text : List ℕ) (course : Course) (stage' : Option Held) (round : Round)
+      → TakesAs old new s how used stage part text course stage' round → Passes old new None × IsReading stage'
+  as_passes old new s line.Change other stage reading part text course stage' round takes = absurd other
+  as_passes old new s line.Nothing other None reading part text course stage' round takes = left_so old new takes.0 None stage' takes.3 tt
+  as_passes old new s line.Begin other None reading part text course stage' round takes = left_so old new takes.0 (Some (holds [])) stage' takes.3 tt
+  as_passes old new s line.Commit other None reading part text course stage' round takes = left_so old new takes.0 None stage' takes.3 tt
+  as_passes old new s line.Abort other None reading part text course stage' round takes = left_so old new takes.0 None stage' takes.3 tt
+  as_passes old new s (line.Refused said) other None reading part text course stage' round takes = left_so old new takes.0 None stage' takes.3 tt
+  as_passes old new s line.Query other None reading part text course stage' round takes =
+      (line_passes old new s how refuses part text takes.0 takes.1, subst IsReading (sym takes.3) tt)
+  as_passes old new s used other (Some (holds (p ∷ parts))) reading part text course stage' round takes = absurd reading
+  as_passes old new s line.Nothing other (Some (holds [])) reading part text course stage' round takes = left_so old new takes.0 (Some (holds [])) stage' takes.3 tt
+  as_passes old new s line.Begin other (Some (holds [])) reading part text course stage' round takes = left_so old new takes.0 _ stage' takes.3 tt
+  as_passes old new s line.Query other (Some (holds [])) reading part text course stage' round takes = left_so old new takes.0 _ stage' takes.3 tt
+  as_passes old new s (line.Refused said) other (Some (holds [])) reading part text course stage' round takes = left_so old new takes.0 _ stage' takes.3 tt
+  as_passes old new s line.Abort other (Some (holds [])) reading part text course stage' round takes = left_so old new takes.0 None stage' takes.3 tt
+  as_passes old new s line.Commit other (Some (holds [])) reading part text course stage' round takes = left_so old new takes.settles.0 None stage' takes.outside tt
+  as_passes old new s line.Nothing other (Some (lost place answer count)) reading part text course stage' round takes = left_so old new takes.0 _ stage' takes.3 tt
+  as_passes old new s line.Begin other (Some (lost place answer count)) reading part text course stage' round takes = left_so old new takes.0 _ stage' takes.3 tt
+  as_passes old new s line.Query other (Some (lost place answer count)) reading part text course stage' round takes = left_so old new takes.0 _ stage' takes.3 tt
+  as_passes old new s (line.Refused said) other (Some (lost place answer count)) reading part text course stage' round takes = left_so old new takes.0 _ stage' takes.3 tt
+  as_passes old new s line.Abort other (Some (lost place answer count)) reading part text course stage' round takes = left_so old new takes.0 None stage' takes.3 tt
+  as_passes old new s line.Commit other (Some (lost place answer count)) reading part text course stage' round takes = left_so old new takes.settles.0 None stage' takes.outside tt
+
+  -- a line
+  takes_passes : (old new : Store D members) (s : State) (stage : Option Held) → IsReading stage → (part text : List ℕ) (course : Course) (stage' : Option Held) (round : Round)
+      → Takes old new s how stage part text course stage' round → Passes old new None × IsReading stage'
+  takes_passes old new s stage reading part text course stage' round (inl wanting) = as_passes old new s no_memory tt stage reading part text course stage' round wanting
+  takes_passes old new s stage reading part text course stage' round (inr found) =
+      as_passes old new s (use_of how.on_command part) (subst (λ on. IsOther (use_of on part)) (sym refuses) (use_other part)) stage reading part text course stage' round found
+
+  -- lines one after another
+  each_passes : (parts : List (List ℕ)) (old new : Store D members) (s : State) (stage : Option Held) → IsReading stage → (text : List ℕ) (stage' : Option Held) (rounds : List Round) (again : Bool)
+      → TakesEach old new s how stage parts text stage' rounds again → Passes old new None × IsReading stage'
+  each_passes [] old new s stage reading text stage' rounds again each = left_so old new each.0 stage stage' each.2 reading
+  each_passes (part ∷ parts) old new s stage reading text stage' rounds again (mid, next, first, rest, round, later, refused, others, takes, e, f, g, each) =
+      let one = takes_passes old mid s stage reading part first (proceeds refused) next round takes in
+      let more = each_passes parts mid new (after_round s round) next one.1 rest stage' later others each in
+      (passes_both old mid new one.0 more.0, more.1)
+
+  line_ends : (old new : Store D members) (s : State) (course : Course) (input text : List ℕ) → EndsWithLine old new s how course input text → Passes old new None
+  line_ends old new s course input text ended =
+      let before = each_passes ended.parts old ended.mid s None tt ended.earlier ended.stage ended.taken.rounds ended.again ended.taken.each in
+      passes_both old ended.mid new before.0 (takes_passes ended.mid new _ ended.stage before.1 ended.part ended.last course ended.stage' ended.round ended.takes).0
+
+  input_ends : (old new : Store D members) (s : State) (input text : List ℕ) (again last : Bool) → EndsInput old new s how input text again last → Passes old new None
+  input_ends old new s input text again last ended = (each_passes ended.parts old new s None tt ended.earlier ended.stage ended.taken.rounds again ended.taken.each).0
+
+  -- a whole session
+  pub batches_pass : (old new : Store D members) (s : State) (result : Result Bool ServeFault) (known : SessionStreams) → ServesBatches old new s how result known → Passes old new None
+  batches_pass old new s (Ok refused) known serves = let served = serves.served in input_ends old new s serves.input served.0 served.1 served.2 served.3
+  batches_pass old new s (Err fault.Read) known serves =
+      let served = serves.served in (each_passes served.1 old new s None tt served.0 served.3 served.6.rounds served.4 served.6.each).0
+  batches_pass old new s (Err fault.Store) known serves = let served = serves.served in line_ends old new s _ serves.input served.0 served.1
+  batches_pass old new s (Err fault.Unsure) known serves = let served = serves.served in line_ends old new s _ serves.input served.0 served.1
+  batches_pass old new s (Err fault.Refused) known serves =
+      let served = serves.served in
+      elim served.2 [
+        | inl ended ↦ line_ends old new s (proceeds true) serves.input served.0 ended
+        | inr all ↦ input_ends old new s serves.input served.0 all.0 true all.1
+      ]
+  batches_pass old new s (Err fault.Write) known serves =
+      let served = serves.served in
+      elim served.1 [
+        | inl ended ↦ line_ends old new s ended.0 serves.input served.0 ended.1
+        | inr all ↦ input_ends old new s serves.input served.0 all.0 all.1 all.2
+      ]

@@ -1,0 +1,303 @@
+-- What a batch carries out: its lines alone, of which none commits.
+use Rattle.std.proofs.Common.{◌≡◌, ◌⊎◌, inl, inr, ◌+◌, ◌++◌, ◌∙◌, ℕ, zero, suc, Bool, true, false, List, [], ◌∷◌, codes, length, nat_lt, if◌then◌else◌, Option, None, Some, Result, Ok, Err, ap, sym, subst, refl, arith}
+use Rattle.std.proofs.lemmas.List.{length-append}
+use Rattle.vm_types.specs.declared.answer.Answer.{Answer}
+use Rattle.vm_types.specs.declared.command.Command.{Command}
+use Rattle.vm_types.specs.declared.command.Command.TheVariants.{Commit, Merge, Rollback}
+use Rattle.vm_types.specs.declared.command.Side.{Side}
+use Rattle.vm_types.specs.declared.key.Key.{Key}
+use Rattle.vm_types.specs.declared.refusal.Refusal.{Refusal}
+use Rattle.vm_types.specs.State.{State, is_commit}
+use Rattle.vm_store.specs.declared.store.Store.{Store}
+use Rattle.vm_cli.specs.Asking.{Request}
+use Rattle.vm_cli.specs.Input.{without_return}
+use Rattle.vm_cli.specs.LineUses.{change_use, is_alone, no_memory, use_of, use_of_command, use_of_request, use_of_words}
+use Rattle.vm_cli.specs.Requests.{asked_in, request_of}
+use Rattle.vm_cli.specs.Rounds.{AllWhole, AreWholeBatches, Batch as Commanded, CommitNothing, IsWhole, IsWholeRound, Round, after_round}
+use Rattle.vm_cli.specs.Rounds.Round.{committed, idle, undone}
+use Rattle.vm_cli.specs.Settlements.{for_all}
+use Rattle.vm_cli.specs.Spaces.{words_of}
+use Rattle.vm_cli.specs.StreamKeeps.{rounds_ended, rounds_of, rounds_taken}
+use Rattle.vm_cli.specs.Streams.{Adds, Course, EndsInput, EndsWithLine, Held, ServesBatches, SessionStreams, Settles, SettlesHeld, StopsIn, Takes, TakesAs, TakesEach, Undoes, Verdict, carried_by, losing, trying}
+use Rattle.vm_cli.specs.Streams.Course.{proceeds}
+use Rattle.vm_cli.specs.Streams.Held.{holds, lost}
+use Rattle.vm_cli.specs.Streams.Verdict.{fails, succeeds}
+use Rattle.vm_cli.specs.Talk.{Answered, AnsweredRequest, AnswersCommand, AnswersMerge, AnswersWithin, Done, HasTalked, Meets, Talks, Tries, after_line, each_answer, each_command, with_answer, with_command}
+use Rattle.vm_cli.specs.declared.lines.line.TheConstants.{MAX_BYTES}
+use Rattle.vm_cli.specs.declared.talk.Manner.{Manner}
+use Rattle.vm_cli.specs.declared.talk.OnCommand.{OnCommand}
+use Rattle.vm_cli.specs.declared.talk.OnCommand.TheVariants.{CarryOut, GrowIfFull, Refuse}
+use Rattle.vm_cli.specs.declared.talk.ServeFault.{ServeFault}
+use Rattle.vm_cli.specs.declared.talk.ServeFault.TheVariants as fault
+use Rattle.vm_cli.specs.declared.talk.carrying.Then.{Then}
+use Rattle.vm_cli.specs.declared.talk.carrying.Then.TheVariants.{GoOn, Failed as AsFailed, Unsure as AsUnsure}
+use Rattle.vm_cli.specs.declared.talk.line_use.LineUse.{LineUse}
+use Rattle.vm_cli.specs.declared.talk.line_use.LineUse.TheVariants as line
+use Rattle.vm_cli.proofs.LineUseLemmas.{other_use}
+use Rattle.vm_cli.proofs.RoundLemmas.{rounds_are}
+
+-- ---- what is asked for by a change
+
+-- a command that commits nothing
+abbrev Changes : Request → Type 0
+Changes (Request.Command command) = is_commit command ≡ false
+Changes (Request.Growing most command) = is_commit command ≡ false
+Changes (Request.MergeAll limit alt side settled) = Unit {0}
+Changes request = ⊥
+
+command_changes : (on : OnCommand) (command : Command) → use_of_command on command ≡ line.Change → is_commit command ≡ false
+command_changes on Commit is = cc
+command_changes on command is = refl
+
+request_changes : (on : OnCommand) (request : Request) → use_of_request on request ≡ line.Change → Changes request
+request_changes on (Request.Command command) is = command_changes on command is
+request_changes on (Request.Growing most command) is = command_changes on command is
+request_changes on (Request.MergeAll limit alt side settled) is = tt
+request_changes on request is = let bad : ⊥ = cc in absurd bad
+
+-- so it does in each session
+changes_in : (on : OnCommand) (request : Request) → Changes request → (use_of_request on request ≡ line.Change) → Changes (asked_in on request)
+changes_in CarryOut request changes is = changes
+changes_in (GrowIfFull most) (Request.Command command) changes is = changes
+changes_in (GrowIfFull most) (Request.MergeAll limit alt side settled) changes is = tt
+changes_in (GrowIfFull most) request changes is = changes
+changes_in Refuse (Request.Command Commit) changes is = cc
+changes_in Refuse (Request.Command Rollback) changes is = cc
+changes_in Refuse (Request.Command command) changes is = cc
+changes_in Refuse (Request.Growing most Commit) changes is = cc
+changes_in Refuse (Request.Growing most Rollback) changes is = cc
+changes_in Refuse (Request.Growing most command) changes is = cc
+changes_in Refuse (Request.MergeAll limit alt side settled) changes is = cc
+changes_in Refuse request changes is = absurd changes
+
+change_request : (on : OnCommand) (part : List ℕ) → use_of on part ≡ line.Change → use_of_request on (request_of (words_of (without_return part))) ≡ line.Change
+change_request on part is =
+    let words = words_of (without_return part) in
+    let asked = use_of_request on (request_of words) in
+    let spoken = if is_alone (codes "abort") words then line.Abort else asked in
+    let short : use_of_words on words ≡ line.Change = other_use (nat_lt MAX_BYTES (length part)) _ (use_of_words on words) line.Change is (λ e. cc) in
+    let begun : spoken ≡ line.Change = other_use (is_alone (codes "begin") words) line.Begin spoken line.Change short (λ e. cc) in
+    other_use (is_alone (codes "abort") words) line.Abort asked line.Change begun (λ e. cc)
+
+-- ---- what it carries out
+
+-- both
+both_nothing : (first second : List Command) → CommitNothing first → CommitNothing second → CommitNothing (first ++ second)
+both_nothing [] second none more = more
+both_nothing (command ∷ first) second none more = (none.0, both_nothing first second none.1 more)
+
+each_nothing : (each : List (Command × Result Answer Refusal)) (later : List Command) → CommitNothing (each_command each []) → CommitNothing later → CommitNothing (each_command each later)
+each_nothing [] later none more = more
+each_nothing ((command, answer) ∷ each) later none more = (none.0, each_nothing each later none.1 more)
+
+with_nothing : (done : Done) (later : List Command) → CommitNothing (with_command done []) → CommitNothing later → CommitNothing (with_command done later)
+with_nothing None later none more = more
+with_nothing (Some each) later none more = each_nothing each later none more
+
+-- each has its answer
+each_even : (each : List (Command × Result Answer Refusal)) (later : List Command) (others : List (Result Answer Refusal)) → length others ≡ length later → length (each_answer each others) ≡ length (each_command each later)
+each_even [] later others same = same
+each_even ((command, answer) ∷ each) later others same = ap suc (each_even each later others same)
+
+with_even : (done : Done) (later : List Command) (others : List (Result Answer Refusal)) → length others ≡ length later → length (with_answer done others) ≡ length (with_command done later)
+with_even None later others same = same
+with_even (Some each) later others same = each_even each later others same
+
+no_command : (done : Done) → done ≡ None → CommitNothing (with_command done [])
+no_command done none = subst (λ (d : Done). CommitNothing (with_command d [])) (sym none) tt
+
+idle_whole : (round : Round) → round ≡ idle → IsWholeRound round
+idle_whole round came_so = subst IsWholeRound (sym came_so) tt
+
+whole_more : (rounds : List Round) (round : Round) → AllWhole rounds → IsWholeRound round → AllWhole (rounds ++ round ∷ [])
+whole_more [] round all one = (one, tt)
+whole_more (first ∷ rounds) round all one = (all.0, whole_more rounds round all.1 one)
+
+module _ {D : Type 0} {members : _} where
+  tries_nothing : (left most : ℕ) (command : Command) (old new : Store D members) (text : List ℕ) (each : List (Command × Result Answer Refusal)) → is_commit command ≡ false → Tries left most command old new text each → CommitNothing (each_command each [])
+  tries_nothing left most command old new text [] never tries = absurd tries
+  tries_nothing left most command old new text ((asked, answer) ∷ []) never tries = (ap is_commit tries.0 ∙ never, tt)
+  tries_nothing zero most command old new text (first ∷ (second ∷ more)) never tries = absurd tries
+  tries_nothing (suc left) most command old new text ((asked, answer) ∷ ((grow, Err refusal) ∷ [])) never tries = (ap is_commit tries.0.same ∙ never, (ap is_commit tries.0.size, tt))
+  tries_nothing (suc left) most command old new text ((asked, answer) ∷ ((grow, Err refusal) ∷ (other ∷ more))) never tries = absurd tries
+  tries_nothing (suc left) most command old new text ((asked, answer) ∷ ((grow, Ok done) ∷ more)) never tries =
+      (ap is_commit tries.1.same ∙ never, (ap is_commit tries.1.size, tries_nothing left most command tries.0 new text more never tries.2))
+
+  command_nothing : (old new : Store D members) (command : Command) (text : List ℕ) (done : Done) → is_commit command ≡ false → AnswersCommand old new command text done → CommitNothing (with_command done [])
+  command_nothing old new command text None never answers = absurd answers
+  command_nothing old new command text (Some []) never answers = absurd answers
+  command_nothing old new command text (Some ((asked, answer) ∷ [])) never answers = (ap is_commit answers.0 ∙ never, tt)
+  command_nothing old new command text (Some (first ∷ (second ∷ more))) never answers = absurd answers
+
+  within_nothing : (limit : Option ℕ) (old new : Store D members) (command : Command) (text : List ℕ) (each : List (Command × Result Answer Refusal)) → is_commit command ≡ false → AnswersWithin limit old new command text (Some each) → CommitNothing (each_command each [])
+  within_nothing None old new command text each never answers = command_nothing old new command text (Some each) never answers
+  within_nothing (Some most) old new command text each never answers = tries_nothing _ most command old new text each never answers
+
+  merge_nothing : (limit : Option ℕ) (old new : Store D members) (s : State) (alt : List ℕ) (side : Side) (settled : List (Key × Side)) (text : List ℕ) (done : Done) → AnswersMerge limit old new s alt side settled text done → CommitNothing (with_command done [])
+  merge_nothing limit old new s alt side settled text None answers = tt
+  merge_nothing limit old new s alt side settled text (Some each) answers = within_nothing limit answers.mid new (Merge alt (for_all side settled answers.conflicts)) text each refl answers.merges
+
+  meets_nothing : (old new : Store D members) (s : State) (request : Request) (text : List ℕ) (done : Done) → Changes request → Meets old new s request text done → CommitNothing (with_command done [])
+  meets_nothing old new s (Request.Command command) text done changes meets = command_nothing old new command text done changes meets
+  meets_nothing old new s (Request.Growing most command) text None changes meets = absurd meets
+  meets_nothing old new s (Request.Growing most command) text (Some each) changes meets = tries_nothing _ most command old new text each changes meets
+  meets_nothing old new s (Request.MergeAll limit alt side settled) text done changes meets = merge_nothing limit old new s alt side settled text done meets
+  meets_nothing old new s request text done changes meets = absurd changes
+
+  request_nothing : (old new : Store D members) (s : State) (request : Request) (text : List ℕ) (ends : Bool) (done : Done) → Changes request → AnsweredRequest old new s request text ends done → CommitNothing (with_command done [])
+  request_nothing old new s request text ends done changes (inl (sound, last, meets)) = meets_nothing old new s request text done changes meets
+  request_nothing old new s request text ends done changes (inr (failed, same, none, says)) = no_command done none
+
+  -- a line that is a change
+  line_nothing : (old new : Store D members) (s : State) (on : Manner) (part text : List ℕ) (ends : Bool) (done : Done) → use_of on.on_command part ≡ line.Change → Answered old new s on part text ends done → CommitNothing (with_command done [])
+  line_nothing old new s on part text ends done is (inl (same, none, goes_on, says)) = no_command done none
+  line_nothing old new s on part text ends done is (inr (inl (long, same, none, goes_on, says))) = no_command done none
+  line_nothing old new s on part text ends done is (inr (inr (short, answered))) =
+      let asked = request_of (words_of (without_return part)) in
+      let change = change_request on.on_command part is in
+      request_nothing old new s (asked_in on.on_command asked) text ends done (changes_in on.on_command asked (request_changes on.on_command asked change) change) answered
+
+-- ---- lines that are held
+
+abbrev AllChanges : OnCommand → List (List ℕ) → Type 0
+AllChanges on [] = Unit {0}
+AllChanges on (part ∷ parts) = (use_of on part ≡ line.Change) × AllChanges on parts
+
+abbrev AreChanges : OnCommand → Held → Type 0
+AreChanges on (holds parts) = AllChanges on parts
+AreChanges on (lost place answer count) = Unit {0}
+
+abbrev StageChanges : OnCommand → Option Held → Type 0
+StageChanges on None = Unit {0}
+StageChanges on (Some held) = AreChanges on held
+
+changes_more : (on : OnCommand) (parts : List (List ℕ)) (part : List ℕ) → AllChanges on parts → use_of on part ≡ line.Change → AllChanges on (parts ++ part ∷ [])
+changes_more on [] part all is = (is, tt)
+changes_more on (first ∷ parts) part all is = (all.0, changes_more on parts part all.1 is)
+
+-- those before one of them, and that one
+changes_cut : (on : OnCommand) (before : List (List ℕ)) (part : List ℕ) (behind : List (List ℕ)) → AllChanges on (before ++ part ∷ behind) → AllChanges on before × (use_of on part ≡ line.Change)
+changes_cut on [] part behind all = (tt, all.0)
+changes_cut on (first ∷ before) part behind all = let rest = changes_cut on before part behind all.1 in ((all.0, rest.0), rest.1)
+
+changes_added : (on : OnCommand) (part : List ℕ) → use_of on part ≡ line.Change → (held held' : Held) → Adds part held held' → AreChanges on held → AreChanges on held'
+changes_added on part is (holds parts) held' (inl more) all = subst (AreChanges on) (sym more) (changes_more on parts part all is)
+changes_added on part is (holds parts) held' (inr (inl wanting)) all = subst (AreChanges on) (sym wanting) tt
+changes_added on part is (holds parts) held' (inr (inr (large, so))) all = subst (AreChanges on) (sym large) tt
+changes_added on part is (lost place answer count) held' adds all = subst (AreChanges on) (sym adds) tt
+
+changes_lost : (on : OnCommand) (answer : List ℕ) (held : Held) → AreChanges on (losing answer held)
+changes_lost on answer (holds parts) = tt
+changes_lost on answer (lost place first count) = tt
+
+module _ {D : Type 0} {members : _} where
+  -- lines that were carried out
+  talks_nothing : (on : Manner) (lines : List (List ℕ)) (old new : Store D members) (s : State) (text : List ℕ) (commands : List Command) (answers : List (Result Answer Refusal)) (refused : Bool)
+      → AllChanges on.on_command lines → Talks old new s on lines text commands answers refused → CommitNothing commands × (length answers ≡ length commands)
+  talks_nothing on [] old new s text commands answers refused all (same, none, no_commands, no_answers, no_refusal) = (subst CommitNothing (sym no_commands) tt, ap length no_answers ∙ sym (ap length no_commands))
+  talks_nothing on (first ∷ lines) old new s text commands answers refused all (mid, said, rest, later, others, step, e, these, those, again, h, talks) =
+      let more = talks_nothing on lines mid new (after_line s step.done) rest later others again all.1 talks in (
+        subst CommitNothing (sym these) (with_nothing step.done later (line_nothing old mid s on first said false step.done all.0 step.answers) more.0),
+        ap length those ∙ with_even step.done later others more.1 ∙ sym (ap length these),
+      )
+
+  talked_whole : (on : Manner) (lines : List (List ℕ)) (old new : Store D members) (s : State) (text : List ℕ) (talked : HasTalked old new s on lines text) → AllChanges on.on_command lines → IsWhole (record { commands = talked.commands; answers = talked.answers })
+  talked_whole on lines old new s text talked all =
+      let both = talks_nothing on lines old new s text talked.commands talked.answers talked.refused all talked.talks in
+      record { even = both.1; changes = both.0 }
+
+  stops_whole : (how : Manner) (lines : List (List ℕ)) (old last : Store D members) (s : State) (place : ℕ) (text : List ℕ) (stops : StopsIn old last s how lines place text) → AllChanges how.on_command lines → IsWhole (carried_by stops)
+  stops_whole how lines old last s place text stops all =
+      let cut = changes_cut how.on_command stops.before stops.line stops.behind (subst (AllChanges how.on_command) stops.cut all) in
+      let before = talked_whole (trying how) stops.before old stops.mid s stops.earlier stops.carried cut.0 in
+      let one = line_nothing stops.mid last _ (trying how) stops.line stops.said stops.ends stops.handled.done cut.1 stops.handled.answers in
+      let even = with_even stops.handled.done [] [] refl in
+      record {
+        even = length-append stops.carried.answers (with_answer stops.handled.done []) ∙ omega (arith, before.even, even) ∙ sym (length-append stops.carried.commands (with_command stops.handled.done []));
+        changes = both_nothing stops.carried.commands (with_command stops.handled.done []) before.changes one;
+      }
+
+  undoes_whole : (old new : Store D members) (batch : Commanded) (ending : Then) (round : Round) → Undoes old new batch ending round → IsWhole batch → IsWholeRound round
+  undoes_whole old new batch GoOn round (answer, applies, came_so) whole = subst IsWholeRound (sym came_so) whole
+  undoes_whole old new batch AsFailed round (refusal, applies, came_so) whole = subst IsWholeRound (sym came_so) whole
+  undoes_whole old new batch AsUnsure round undoes whole = absurd undoes
+
+  settles_whole : (how : Manner) (lines : List (List ℕ)) (old new : Store D members) (s : State) (verdict : Verdict) (round : Round) → Settles old new s how lines verdict round → AllChanges how.on_command lines → IsWholeRound round
+  settles_whole how lines old new s (succeeds text) round settles all = subst IsWholeRound (sym settles.came_so) (talked_whole (trying how) lines old settles.mid s text settles.carried all)
+  settles_whole how lines old new s (fails place text AsUnsure) round settles all = subst IsWholeRound (sym settles.came_so) (talked_whole (trying how) lines old settles.mid s settles.answers settles.carried all)
+  settles_whole how lines old new s (fails place text GoOn) round settles all = undoes_whole settles.last new (carried_by settles.stops) GoOn round settles.undoes (stops_whole how lines old settles.last s place text settles.stops all)
+  settles_whole how lines old new s (fails place text AsFailed) round settles all = undoes_whole settles.last new (carried_by settles.stops) AsFailed round settles.undoes (stops_whole how lines old settles.last s place text settles.stops all)
+
+  held_whole : (how : Manner) (held : Held) (old new : Store D members) (s : State) (verdict : Verdict) (round : Round) → SettlesHeld old new s how held verdict round → AreChanges how.on_command held → IsWholeRound round
+  held_whole how (holds []) old new s verdict round settles all = idle_whole round settles.2
+  held_whole how (holds (part ∷ parts)) old new s verdict round settles all = settles_whole how (part ∷ parts) old new s verdict round settles all
+  held_whole how (lost place answer count) old new s verdict round settles all = idle_whole round settles.2
+
+  module _ (how : Manner) (old new : Store D members) (s : State) (part text : List ℕ) (course : Course) (stage' : Option Held) (round : Round) where
+    said_whole : (stage : Option Held) → round ≡ idle → stage' ≡ stage → StageChanges how.on_command stage → IsWholeRound round × StageChanges how.on_command stage'
+    said_whole stage came_so is all = (idle_whole round came_so, subst (StageChanges how.on_command) (sym is) all)
+
+    as_whole : (used : LineUse) (stage : Option Held) → (used ≡ line.Change → use_of how.on_command part ≡ line.Change) → StageChanges how.on_command stage → TakesAs old new s how used stage part text course stage' round
+        → IsWholeRound round × StageChanges how.on_command stage'
+    as_whole line.Nothing None found all takes = said_whole None takes.4 takes.3 tt
+    as_whole line.Begin None found all takes = said_whole (Some (holds [])) takes.4 takes.3 tt
+    as_whole line.Commit None found all takes = said_whole None takes.4 takes.3 tt
+    as_whole line.Abort None found all takes = said_whole None takes.4 takes.3 tt
+    as_whole (line.Refused said) None found all takes = said_whole None takes.4 takes.3 tt
+    as_whole line.Query None found all takes = said_whole None takes.4 takes.3 tt
+    as_whole line.Change None found all takes =
+        let added = changes_added how.on_command part (found refl) (holds []) takes.held takes.adds tt in
+        (held_whole how takes.held old new s takes.verdict round takes.settles added, subst (StageChanges how.on_command) (sym takes.outside) tt)
+    as_whole line.Nothing (Some held) found all takes = said_whole (Some held) takes.4 takes.3 all
+    as_whole line.Begin (Some held) found all takes = said_whole _ takes.4 takes.3 (changes_lost how.on_command _ held)
+    as_whole line.Query (Some held) found all takes = said_whole _ takes.4 takes.3 (changes_lost how.on_command _ held)
+    as_whole (line.Refused said) (Some held) found all takes = said_whole _ takes.4 takes.3 (changes_lost how.on_command _ held)
+    as_whole line.Change (Some held) found all takes = said_whole (Some takes.0) takes.2.4 takes.2.3 (changes_added how.on_command part (found refl) held takes.0 takes.1 all)
+    as_whole line.Abort (Some held) found all takes = said_whole None takes.4 takes.3 tt
+    as_whole line.Commit (Some held) found all takes = (held_whole how held old new s takes.verdict round takes.settles all, subst (StageChanges how.on_command) (sym takes.outside) tt)
+
+    takes_whole : (stage : Option Held) → StageChanges how.on_command stage → Takes old new s how stage part text course stage' round → IsWholeRound round × StageChanges how.on_command stage'
+    takes_whole stage all (inl wanting) = as_whole no_memory stage (λ e. cc) all wanting
+    takes_whole stage all (inr found) = as_whole (use_of how.on_command part) stage (λ e. e) all found
+
+  each_whole : (how : Manner) (parts : List (List ℕ)) (old new : Store D members) (s : State) (stage : Option Held) (text : List ℕ) (stage' : Option Held) (rounds : List Round) (again : Bool) → StageChanges how.on_command stage
+      → TakesEach old new s how stage parts text stage' rounds again → AllWhole rounds × StageChanges how.on_command stage'
+  each_whole how [] old new s stage text stage' rounds again all (same, none, stage_is, no_rounds, no_refusal) = (subst AllWhole (sym no_rounds) tt, subst (StageChanges how.on_command) (sym stage_is) all)
+  each_whole how (part ∷ parts) old new s stage text stage' rounds again all (mid, next, first, rest, round, later, refused, others, takes, texts, came_so, again_is, each) =
+      let one = takes_whole how old mid s part first (proceeds refused) next round stage all takes in
+      let more = each_whole how parts mid new (after_round s round) next rest stage' later others one.1 each in
+      (subst AllWhole (sym came_so) (one.0, more.0), more.1)
+
+  ended_whole : (how : Manner) (old new : Store D members) (s : State) (course : Course) (input text : List ℕ) (ended : EndsWithLine old new s how course input text) → AllWhole (rounds_ended ended)
+  ended_whole how old new s course input text ended =
+      let before = each_whole how ended.parts old ended.mid s None ended.earlier ended.stage ended.taken.rounds ended.again tt ended.taken.each in
+      let last = takes_whole how ended.mid new _ ended.part ended.last course ended.stage' ended.round ended.stage before.1 ended.takes in
+      whole_more ended.taken.rounds ended.round before.0 last.0
+
+  input_whole : (how : Manner) (old new : Store D members) (s : State) (input text : List ℕ) (again last : Bool) (ended : EndsInput old new s how input text again last) → AllWhole (rounds_taken ended)
+  input_whole how old new s input text again last ended = (each_whole how ended.parts old new s None ended.earlier ended.stage ended.taken.rounds again tt ended.taken.each).0
+
+  -- the batches of a session
+  batches_whole : (how : Manner) (old new : Store D members) (s : State) (result : Result Bool ServeFault) (known : SessionStreams) (serves : ServesBatches old new s how result known) → AllWhole (rounds_of serves)
+  batches_whole how old new s (Ok refused) known serves = input_whole how old new s serves.input serves.served.0 serves.served.1 serves.served.2 serves.served.3
+  batches_whole how old new s (Err fault.Read) known serves =
+      (each_whole how serves.served.1 old new s None serves.served.0 serves.served.3 serves.served.6.rounds serves.served.4 tt serves.served.6.each).0
+  batches_whole how old new s (Err fault.Store) known serves = ended_whole how old new s _ serves.input serves.served.0 serves.served.1
+  batches_whole how old new s (Err fault.Unsure) known serves = ended_whole how old new s _ serves.input serves.served.0 serves.served.1
+  batches_whole how old new s (Err fault.Refused) known serves = by serves.served.2
+    where
+      by : (all : EndsWithLine old new s how (proceeds true) serves.input serves.served.0 ⊎ ((again : Bool) × EndsInput old new s how serves.input serves.served.0 again true))
+          → AllWhole (elim all [ inl ended ↦ rounds_ended ended | inr taken ↦ rounds_taken taken.1 ])
+      by (inl ended) = ended_whole how old new s (proceeds true) serves.input serves.served.0 ended
+      by (inr taken) = input_whole how old new s serves.input serves.served.0 taken.0 true taken.1
+  batches_whole how old new s (Err fault.Write) known serves = by serves.served.1
+    where
+      by : (all : ((course : Course) × EndsWithLine old new s how course serves.input serves.served.0) ⊎ ((again : Bool) × (last : Bool) × EndsInput old new s how serves.input serves.served.0 again last))
+          → AllWhole (elim all [ inl ended ↦ rounds_ended ended.1 | inr taken ↦ rounds_taken taken.2 ])
+      by (inl ended) = ended_whole how old new s ended.0 serves.input serves.served.0 ended.1
+      by (inr taken) = input_whole how old new s serves.input serves.served.0 taken.0 taken.1 taken.2
+
+  pub batches_are_whole : (how : Manner) (old new : Store D members) (s : State) (result : Result Bool ServeFault) (known : SessionStreams) (serves : ServesBatches old new s how result known) → AreWholeBatches s (rounds_of serves)
+  batches_are_whole how old new s result known serves =
+      let all = batches_whole how old new s result known serves in
+      record { whole = all; state = rounds_are s (rounds_of serves) all }

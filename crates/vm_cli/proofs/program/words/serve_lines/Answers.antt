@@ -1,0 +1,14 @@
+use Rattle.std.proofs.Common.{◌∙◌, ap}
+use Rattle.std.proofs.lemmas.Result.{IfOk-weaker}
+use Rattle.vm_cli.specs.Words.{with_options}
+use Rattle.vm_cli.proofs.Commands.{local_arg, with_arg}
+use Rattle.vm_cli.proofs.program.words.serve_lines.Goals as goal
+
+pub returns-clause-app : goal.returns-clause-app
+returns-clause-app c =
+    let first = with_arg _ _ _ _ _ c.in_ok-command.ensures c.described.ensures.app c.file.ensures.rule c.file.ensures.local in
+    IfOk-weaker c.with_options.result _ _ (λ whole is. is ∙ ap with_options first) c.with_options.ensures.app
+
+pub returns-clause-local : goal.returns-clause-local
+returns-clause-local c =
+    c.with_options.ensures.local (local_arg _ _ _ c.in_ok-command.ensures c.described.ensures.local c.file.ensures.local)

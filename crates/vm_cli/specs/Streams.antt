@@ -1,0 +1,474 @@
+-- What a session with batches promises: what each line is answered, and what each batch does.
+use Rattle.std.specs.Prelude.{◌≡◌, ◌≢◌, ◌⊎◌, ◌||◌, ◌+◌, ◌-◌, ◌<◌, ◌≤◌, ℕ, zero, suc, Bool, true, false, List, [], ◌∷◌, ◌++◌, Option, None, Some, Result, Ok, Err, IfSome, drop, length, map, sum_by, codes}
+use Rattle.std.specs.Io.KnownBytes.{Appends}
+use Rattle.vm_types.specs.declared.answer.Answer.{Answer}
+use Rattle.vm_types.specs.declared.command.Command.{Command}
+use Rattle.vm_types.specs.declared.command.Command.TheVariants.{Commit, Rollback}
+use Rattle.vm_types.specs.declared.refusal.Refusal.{Refusal}
+use Rattle.vm_types.specs.declared.refusal.Refusal.TheVariants.{Failed, Memory}
+use Rattle.vm_types.specs.State.{State, after}
+use Rattle.vm_store.specs.Commands.{CarriesOut}
+use Rattle.vm_store.specs.Store.{has_failed}
+use Rattle.vm_store.specs.declared.store.Store.{Store}
+use Rattle.vm_cli.specs.Carried.{WritesStart}
+use Rattle.vm_cli.specs.Input.{HoldsLine}
+use Rattle.vm_cli.specs.LineUses.{no_memory, use_of}
+use Rattle.vm_cli.specs.Lines.{IsPart}
+use Rattle.vm_cli.specs.Replies.{is_error, reply_text}
+use Rattle.vm_cli.specs.Rounds.{Batch as Commanded, Round, after_round, after_rounds}
+use Rattle.vm_cli.specs.Rounds.Round.{broken, committed, idle, undone, unsure}
+use Rattle.vm_cli.specs.Talk.{HandlesLine, HasTalked, error_text, with_answer, with_command}
+use Rattle.vm_cli.specs.declared.answers.output.WriteFault.{WriteFault}
+use Rattle.vm_cli.specs.declared.answers.reply.Reply.TheVariants as reply
+use Rattle.vm_cli.specs.declared.lines.line.Line.{Line}
+use Rattle.vm_cli.specs.declared.talk.Grouping.TheVariants.{Lines}
+use Rattle.vm_cli.specs.declared.talk.Manner.{Manner}
+use Rattle.vm_cli.specs.declared.talk.OnRefusal.{OnRefusal}
+use Rattle.vm_cli.specs.declared.talk.OnRefusal.TheVariants.{Stop}
+use Rattle.vm_cli.specs.declared.talk.ServeFault.{ServeFault}
+use Rattle.vm_cli.specs.declared.talk.ServeFault.TheVariants as fault
+use Rattle.vm_cli.specs.declared.talk.batch.TheConstants.{MAX_LINES, MAX_BATCH_BYTES}
+use Rattle.vm_cli.specs.declared.talk.batch.Batch.{Batch}
+use Rattle.vm_cli.specs.declared.talk.batch.Lost.{Lost}
+use Rattle.vm_cli.specs.declared.talk.carrying.Stop.{Stop as LastLine}
+use Rattle.vm_cli.specs.declared.talk.carrying.Then.{Then}
+use Rattle.vm_cli.specs.declared.talk.carrying.Then.TheVariants.{GoOn, Failed as AsFailed, Unsure as AsUnsure}
+use Rattle.vm_cli.specs.declared.talk.carrying.Why.{Why}
+use Rattle.vm_cli.specs.declared.talk.carrying.Why.TheVariants as why
+use Rattle.vm_cli.specs.declared.talk.line_use.LineUse.{LineUse}
+use Rattle.vm_cli.specs.declared.talk.line_use.LineUse.TheVariants as line
+
+-- ---- what is held
+
+-- a batch that was begun: its lines; or, once one of them is lost, how many stand before that one, how it is answered, and how many
+-- there are in all
+pub data Held : Type 0 where
+  holds : List (List ℕ) → Held
+  lost : ℕ → List ℕ → ℕ → Held
+
+-- how many lines it has
+abbrev pub count_of : Held → ℕ
+count_of (holds parts) = length parts
+count_of (lost place answer count) = count
+
+-- a line is lost: the batch has no effect then, and a line that is lost later is only counted
+abbrev pub losing : List ℕ → Held → Held
+losing answer (holds parts) = lost (length parts) answer (length parts + 1)
+losing answer (lost place first count) = lost place first (count + 1)
+
+-- the batch has as many lines as it may have, or more bytes with this line than it may have
+abbrev pub IsTooLarge : List (List ℕ) → List ℕ → Type 0
+IsTooLarge parts part = (MAX_LINES ≤ length parts) ⊎ (MAX_BATCH_BYTES < sum_by length parts + length part)
+
+-- a change is added to a batch, or lost since the batch is too large, or since memory ran out
+abbrev pub Adds : List ℕ → Held → Held → Type 0
+Adds part (holds parts) held =
+    (held ≡ holds (parts ++ part ∷ []))
+    ⊎ ((held ≡ losing (error_text Memory) (holds parts)) ⊎ ((held ≡ losing (reply_text reply.TooLarge) (holds parts)) × IsTooLarge parts part))
+Adds part (lost place answer count) held = held ≡ losing [] (lost place answer count)
+
+-- lines as they are held
+abbrev pub HoldsLines : List Line → List (List ℕ) → Type 0
+HoldsLines [] [] = Unit {0}
+HoldsLines [] (part ∷ parts) = ⊥
+HoldsLines (line ∷ lines) [] = ⊥
+HoldsLines (line ∷ lines) (part ∷ parts) = HoldsLine line part × HoldsLines lines parts
+
+-- a batch as it is held: which line is lost, its lines, how many they are, and how many bytes they have
+abbrev pub IsHeldBy : Option Lost → List Line → ℕ → ℕ → Held → Type 0
+IsHeldBy lost_line lines count bytes (holds parts) = (lost_line ≡ None) × HoldsLines lines parts × (count ≡ length parts) × (bytes ≡ sum_by length parts)
+IsHeldBy lost_line lines count bytes (lost place answer all) =
+    (was : Lost) × (lost_line ≡ Some was) × (was.place ≡ place) × (reply_text was.reply ≡ answer) × (count ≡ all) × (place < all)
+
+abbrev pub IsHeld : Batch → Held → Type 0
+IsHeld batch held = IsHeldBy batch.lost batch.lines.items batch.count batch.bytes held
+
+-- whether a batch was begun, and what is held of it
+abbrev pub IsStage : Batch → Option Held → Type 0
+IsStage batch None = (batch.is_open ≡ false) × IsHeld batch (holds [])
+IsStage batch (Some held) = (batch.is_open ≡ true) × IsHeld batch held
+
+-- ---- what is answered
+
+-- a text, several times
+abbrev pub repeated : ℕ → List ℕ → List ℕ
+repeated zero text = []
+repeated (suc n) text = text ++ repeated n text
+
+abbrev pub ok_text : List ℕ
+ok_text = reply_text reply.Done
+
+-- the answers to the lines of a batch, and to its commit, if this one of them was refused so
+abbrev pub refused_text : ℕ → ℕ → List ℕ → List ℕ
+refused_text count place answer =
+    let other = reply_text (reply.NotDone (place + 1)) in repeated place other ++ (answer ++ repeated (count - place) other)
+
+-- the answers to a batch that was forgotten
+abbrev pub forgotten_text : ℕ → List ℕ
+forgotten_text count = repeated count (reply_text reply.Aborted)
+
+-- how a batch came out: with these answers to its lines, or this place of it was refused so, that behind its lines being its commit
+pub data Verdict : Type 0 where
+  succeeds : List ℕ → Verdict
+  fails : ℕ → List ℕ → Then → Verdict
+
+-- an answer among answers
+abbrev pub why_text : Why → List ℕ → List ℕ
+why_text (why.Answer at) answers = drop at answers
+why_text (why.Reply said) answers = reply_text said
+
+-- where the answer to a line stands that ended a talk with this fault: it is the last of the answers, or memory for it ran out
+abbrev pub answer_after : ServeFault → ℕ → Why
+answer_after fault.Refused at = why.Answer at
+answer_after fault.Store at = why.Answer at
+answer_after other at = why.Reply (reply.Refused Memory)
+
+-- how it came out, as `settle` says it
+abbrev pub verdict_of : {T : Type 0} → Result T LastLine → List ℕ → Verdict
+verdict_of (Ok u) answers = succeeds answers
+verdict_of (Err stop) answers = fails stop.place (why_text stop.why answers) stop.then
+
+-- the answers to a batch of so many lines that a line began
+abbrev pub batch_text : ℕ → Verdict → List ℕ
+batch_text count (succeeds answers) = answers ++ ok_text
+batch_text count (fails place answer then) = refused_text count place answer
+
+-- the answer to a change outside of a batch
+abbrev pub change_text : Verdict → List ℕ
+change_text (succeeds answers) = answers
+change_text (fails place answer then) = answer
+
+-- how a session goes on after an answer: with a line refused or none; or it is over
+pub data Course : Type 0 where
+  proceeds : Bool → Course
+  over : Course
+
+-- by an answer of the store
+abbrev pub course_of : Bool → List ℕ → Course
+course_of true text = over
+course_of false text = proceeds (is_error text)
+
+-- by a batch
+abbrev pub batch_course : Verdict → Course
+batch_course (succeeds answers) = proceeds false
+batch_course (fails place answer GoOn) = proceeds true
+batch_course (fails place answer then) = over
+
+-- some lines were refused
+abbrev pub some_lines : ℕ → Bool
+some_lines zero = false
+some_lines (suc n) = true
+
+-- ---- what is done
+
+-- how the lines of a batch are carried out: as by `serve`, up to the first that is refused
+abbrev pub trying : Manner → Manner
+trying on = record { on_command = on.on_command; on_refusal = Stop; grouping = Lines }
+
+-- the session goes on after it, or ends
+abbrev pub result_of : Verdict → Result Bool ServeFault
+result_of (succeeds answers) = Ok false
+result_of (fails place answer GoOn) = Ok true
+result_of (fails place answer AsFailed) = Err fault.Store
+result_of (fails place answer AsUnsure) = Err fault.Unsure
+
+module _ {D : Type 0} {members : _} where
+  -- a command was carried out, or the store had failed before
+  pub record Applies (old new : Store D members) (command : Command) (answer : Result Answer Refusal) : Type 0 where
+    pub refused : has_failed old ≡ true → (answer ≡ Err Failed) × (new ≡ old)
+    pub done : has_failed old ≡ false → CarriesOut old new command answer
+
+  -- lines were carried out as a talk carries them out, and none of them was refused; then they were committed
+  pub record Commits (old new : Store D members) (s : State) (on : Manner) (lines : List (List ℕ)) (text : List ℕ) (round : Round) : Type 0 where
+    pub mid : Store D members
+    pub answer : Answer
+    pub carried : HasTalked old mid s (trying on) lines text
+    pub applies : Applies mid new Commit (Ok answer)
+    pub came_so : round ≡ committed (record { commands = carried.commands; answers = carried.answers }) answer
+
+  -- the same, but the commit was not acknowledged
+  pub record LeavesUnsure (old new : Store D members) (s : State) (on : Manner) (lines : List (List ℕ)) (place : ℕ) (text : List ℕ) (round : Round) : Type 0 where
+    pub mid : Store D members
+    pub refusal : Refusal
+    pub answers : List ℕ
+    pub carried : HasTalked old mid s (trying on) lines answers
+    pub applies : Applies mid new Commit (Err refusal)
+    pub at : place ≡ length lines
+    pub says : text ≡ reply_text reply.Unsure
+    pub came_so : round ≡ unsure (record { commands = carried.commands; answers = carried.answers }) refusal
+
+  -- the lines before one were carried out, then it was, and it was refused, or memory for its answer ran out, or the store failed in it
+  pub record StopsIn (old new : Store D members) (s : State) (on : Manner) (lines : List (List ℕ)) (place : ℕ) (text : List ℕ) : Type 0 where
+    pub mid : Store D members
+    pub before : List (List ℕ)
+    pub line : List ℕ
+    pub behind : List (List ℕ)
+    pub earlier : List ℕ
+    pub said : List ℕ
+    pub ends : Bool
+    pub cut : lines ≡ before ++ line ∷ behind
+    pub at : place ≡ length before
+    pub carried : HasTalked old mid s (trying on) before earlier
+    pub handled : HandlesLine mid new (after s carried.commands carried.answers) (trying on) line said ends
+    pub says : ((text ≡ said) × ((is_error said ≡ true) ⊎ (ends ≡ true))) ⊎ (text ≡ error_text Memory)
+
+  -- what was carried out by then
+  abbrev pub carried_by : {old new : Store D members} {s : State} {on : Manner} {lines : List (List ℕ)} {place : ℕ} {text : List ℕ}
+      → StopsIn old new s on lines place text → Commanded
+  carried_by stops = record {
+    commands = stops.carried.commands ++ with_command stops.handled.done [];
+    answers = stops.carried.answers ++ with_answer stops.handled.done [];
+  }
+
+  -- that was undone, or the store had failed
+  abbrev pub Undoes : Store D members → Store D members → Commanded → Then → Round → Type 0
+  Undoes old new batch GoOn round = (answer : Answer) × Applies old new Rollback (Ok answer) × (round ≡ undone batch answer)
+  Undoes old new batch AsFailed round = (refusal : Refusal) × Applies old new Rollback (Err refusal) × (round ≡ broken batch)
+  Undoes old new batch AsUnsure round = ⊥
+
+  -- a line was refused so, and all is undone
+  pub record RefusesLine (old new : Store D members) (s : State) (on : Manner) (lines : List (List ℕ)) (place : ℕ) (text : List ℕ) (then : Then) (round : Round) : Type 0 where
+    pub last : Store D members
+    pub stops : StopsIn old last s on lines place text
+    pub undoes : Undoes last new (carried_by stops) then round
+
+  -- how the lines of a batch came out
+  abbrev pub Settles : Store D members → Store D members → State → Manner → List (List ℕ) → Verdict → Round → Type 0
+  Settles old new s on lines (succeeds text) round = Commits old new s on lines text round
+  Settles old new s on lines (fails place text AsUnsure) round = LeavesUnsure old new s on lines place text round
+  Settles old new s on lines (fails place text then) round = RefusesLine old new s on lines place text then round
+
+  -- how a batch that is held came out: one without lines, or of which a line is lost, has no effect
+  abbrev pub SettlesHeld : Store D members → Store D members → State → Manner → Held → Verdict → Round → Type 0
+  SettlesHeld old new s on (holds []) verdict round = (new ≡ old) × (verdict ≡ succeeds []) × (round ≡ idle)
+  SettlesHeld old new s on (holds (line ∷ lines)) verdict round = Settles old new s on (line ∷ lines) verdict round
+  SettlesHeld old new s on (lost place answer count) verdict round = (new ≡ old) × (verdict ≡ fails place answer GoOn) × (round ≡ idle)
+
+  -- a line is only answered so, and this is held then
+  abbrev pub IsSaid : Store D members → Store D members → List ℕ → Bool → List ℕ → Course → Option Held → Option Held → Round → Type 0
+  IsSaid old new said refused text course stage stage' round = (new ≡ old) × (text ≡ said) × (course ≡ proceeds refused) × (stage' ≡ stage) × (round ≡ idle)
+
+  -- a change outside of a batch is a batch of its own
+  pub record MakesChange (old new : Store D members) (s : State) (how : Manner) (part text : List ℕ) (course : Course) (stage : Option Held) (round : Round) : Type 0 where
+    pub held : Held
+    pub adds : Adds part (holds []) held
+    pub verdict : Verdict
+    pub settles : SettlesHeld old new s how held verdict round
+    pub says : text ≡ change_text verdict
+    pub goes : course ≡ batch_course verdict
+    pub outside : stage ≡ None
+
+  -- a batch ends
+  pub record EndsBatch (old new : Store D members) (s : State) (how : Manner) (held : Held) (text : List ℕ) (course : Course) (stage : Option Held) (round : Round) : Type 0 where
+    pub verdict : Verdict
+    pub settles : SettlesHeld old new s how held verdict round
+    pub says : text ≡ batch_text (count_of held) verdict
+    pub goes : course ≡ batch_course verdict
+    pub outside : stage ≡ None
+
+  -- a query is answered by the store
+  abbrev pub IsAsked : Store D members → Store D members → State → Manner → List ℕ → List ℕ → Course → Option Held → Round → Type 0
+  IsAsked old new s how part text course stage round =
+      (ends : Bool) × HandlesLine old new s how part text ends × (course ≡ course_of ends text) × (stage ≡ None) × (round ≡ idle)
+
+  -- a line outside of a batch
+  abbrev pub TakesOutside : Store D members → Store D members → State → Manner → LineUse → List ℕ → List ℕ → Course → Option Held → Round → Type 0
+  TakesOutside old new s how line.Nothing part text course stage round = IsSaid old new [] false text course None stage round
+  TakesOutside old new s how line.Begin part text course stage round = IsSaid old new ok_text false text course (Some (holds [])) stage round
+  TakesOutside old new s how line.Commit part text course stage round = IsSaid old new ok_text false text course None stage round
+  TakesOutside old new s how line.Abort part text course stage round = IsSaid old new ok_text false text course None stage round
+  TakesOutside old new s how line.Query part text course stage round = IsAsked old new s how part text course stage round
+  TakesOutside old new s how (line.Refused said) part text course stage round = IsSaid old new (reply_text said) true text course None stage round
+  TakesOutside old new s how line.Change part text course stage round = MakesChange old new s how part text course stage round
+
+  -- a line within a batch
+  abbrev pub TakesInside : Store D members → Store D members → State → Manner → LineUse → Held → List ℕ → List ℕ → Course → Option Held → Round → Type 0
+  TakesInside old new s how line.Nothing held part text course stage round = IsSaid old new [] false text course (Some held) stage round
+  TakesInside old new s how line.Begin held part text course stage round = IsSaid old new [] false text course (Some (losing (reply_text reply.NotInBatch) held)) stage round
+  TakesInside old new s how line.Query held part text course stage round = IsSaid old new [] false text course (Some (losing (reply_text reply.NotInBatch) held)) stage round
+  TakesInside old new s how (line.Refused said) held part text course stage round = IsSaid old new [] false text course (Some (losing (reply_text said) held)) stage round
+  TakesInside old new s how line.Change held part text course stage round = (held' : Held) × Adds part held held' × IsSaid old new [] false text course (Some held') stage round
+  TakesInside old new s how line.Abort held part text course stage round =
+      IsSaid old new (forgotten_text (count_of held) ++ ok_text) (some_lines (count_of held)) text course None stage round
+  TakesInside old new s how line.Commit held part text course stage round = EndsBatch old new s how held text course stage round
+
+  -- a line that is taken for this
+  abbrev pub TakesAs : Store D members → Store D members → State → Manner → LineUse → Option Held → List ℕ → List ℕ → Course → Option Held → Round → Type 0
+  TakesAs old new s how used None part text course stage' round = TakesOutside old new s how used part text course stage' round
+  TakesAs old new s how used (Some held) part text course stage' round = TakesInside old new s how used held part text course stage' round
+
+  -- a line is taken for what it is, or memory ran out
+  abbrev pub Takes : Store D members → Store D members → State → Manner → Option Held → List ℕ → List ℕ → Course → Option Held → Round → Type 0
+  Takes old new s how stage part text course stage' round =
+      TakesAs old new s how no_memory stage part text course stage' round ⊎ TakesAs old new s how (use_of how.on_command part) stage part text course stage' round
+
+  -- lines are taken one after another, each by the store that the line before left: the texts joined, what came of them, and whether one was
+  -- refused
+  abbrev pub TakesEach : Store D members → Store D members → State → Manner → Option Held → List (List ℕ) → List ℕ → Option Held → List Round → Bool → Type 0
+  TakesEach old new s how stage [] text stage' rounds again = (new ≡ old) × (text ≡ []) × (stage' ≡ stage) × (rounds ≡ []) × (again ≡ false)
+  TakesEach old new s how stage (part ∷ parts) text stage' rounds again =
+      (mid : Store D members) × (next : Option Held) × (first : List ℕ) × (rest : List ℕ) × (round : Round) × (later : List Round)
+      × (refused : Bool) × (others : Bool) × Takes old mid s how stage part first (proceeds refused) next round
+      × (text ≡ first ++ rest) × (rounds ≡ round ∷ later) × (again ≡ (refused || others))
+      × TakesEach mid new (after_round s round) how next parts rest stage' later others
+
+-- ---- the whole input
+
+-- what is known of the streams of a session: what the reader had to give, and what the writer held before the session and holds after it
+pub record SessionStreams : Type 0 where
+  pub input : Option (List ℕ)
+  pub before : Option (List ℕ)
+  pub after : Option (List ℕ)
+
+abbrev pub streams_of : Option (List ℕ) → Option (List ℕ) → Option (List ℕ) → SessionStreams
+streams_of input before after = record { input = input; before = before; after = after }
+
+-- lines, each with the line feed (10) at its end
+abbrev pub ended_lines : List (List ℕ) → List ℕ
+ended_lines [] = []
+ended_lines (part ∷ parts) = part ++ (10 ∷ ended_lines parts)
+
+-- how many lines end with the input and not with a line feed
+abbrev pub half_lines : List ℕ → ℕ
+half_lines [] = 0
+half_lines bytes = 1
+
+-- how many lines are refused at the end of the input
+abbrev pub end_count : Option Held → ℕ → ℕ
+end_count None half = half
+end_count (Some held) half = count_of held + half
+
+-- what is answered at the end of the input, by what is held then and how many lines it ends in
+abbrev pub end_text : Option Held → ℕ → List ℕ
+end_text None half = repeated half (reply_text reply.HalfLine)
+end_text (Some held) half = forgotten_text (count_of held + half)
+
+module _ {D : Type 0} {members : _} where
+  -- the first lines of an input were taken
+  pub record HasTaken (old new : Store D members) (s : State) (how : Manner) (parts : List (List ℕ)) (text : List ℕ) (stage : Option Held) (again : Bool) : Type 0 where
+    pub rounds : List Round
+    pub each : TakesEach old new s how None parts text stage rounds again
+    pub goes_on : how.on_refusal ≡ Stop → again ≡ false
+
+  -- then one more was, with which the session ends
+  pub record EndsWithLine (old new : Store D members) (s : State) (how : Manner) (course : Course) (input text : List ℕ) : Type 0 where
+    pub mid : Store D members
+    pub parts : List (List ℕ)
+    pub part : List ℕ
+    pub more : List ℕ
+    pub earlier : List ℕ
+    pub last : List ℕ
+    pub stage : Option Held
+    pub stage' : Option Held
+    pub round : Round
+    pub again : Bool
+    pub cut : input ≡ ended_lines parts ++ (part ++ (10 ∷ more))
+    pub texts : text ≡ earlier ++ last
+    pub taken : HasTaken old mid s how parts earlier stage again
+    pub takes : Takes mid new (after_rounds s taken.rounds) how stage part last course stage' round
+
+  -- all lines were taken, and the end of the input was answered, which refuses some lines or none
+  pub record EndsInput (old new : Store D members) (s : State) (how : Manner) (input text : List ℕ) (again last : Bool) : Type 0 where
+    pub parts : List (List ℕ)
+    pub half : List ℕ
+    pub unbroken : IsPart half
+    pub earlier : List ℕ
+    pub stage : Option Held
+    pub cut : input ≡ ended_lines parts ++ half
+    pub texts : text ≡ earlier ++ end_text stage (half_lines half)
+    pub refuses : last ≡ some_lines (end_count stage (half_lines half))
+    pub taken : HasTaken old new s how parts earlier stage again
+
+  -- a session with batches over all this input. At Ok each line was answered, and it is said whether one was refused; at Read the first of
+  -- them were; at Store the store failed in one of them; at Unsure a commit was not acknowledged; at Refused one of them was refused, which
+  -- was to end the session; and at Write the writer failed in the answers to one of them, of which only a beginning was written
+  abbrev pub ServesInput : Store D members → Store D members → State → Manner → Result Bool ServeFault → Option (List ℕ) → Option (List ℕ) → List ℕ → Type 0
+  ServesInput old new s how (Ok refused) before after input =
+      (text : List ℕ) × (again : Bool) × (last : Bool) × EndsInput old new s how input text again last × (refused ≡ (again || last)) × Appends before after text
+  ServesInput old new s how (Err fault.Read) before after input =
+      (text : List ℕ) × (parts : List (List ℕ)) × (more : List ℕ) × (stage : Option Held) × (again : Bool) × (input ≡ ended_lines parts ++ more)
+      × HasTaken old new s how parts text stage again × Appends before after text
+  ServesInput old new s how (Err fault.Store) before after input = (text : List ℕ) × EndsWithLine old new s how over input text × Appends before after text
+  ServesInput old new s how (Err fault.Unsure) before after input = (text : List ℕ) × EndsWithLine old new s how over input text × Appends before after text
+  ServesInput old new s how (Err fault.Refused) before after input =
+      (text : List ℕ) × (how.on_refusal ≡ Stop)
+      × (EndsWithLine old new s how (proceeds true) input text ⊎ ((again : Bool) × EndsInput old new s how input text again true))
+      × Appends before after text
+  ServesInput old new s how (Err fault.Write) before after input =
+      (text : List ℕ)
+      × (((course : Course) × EndsWithLine old new s how course input text) ⊎ ((again : Bool) × (last : Bool) × EndsInput old new s how input text again last))
+      × WritesStart before after text
+
+  -- a session with batches over some input, which is what the reader had to give, if that is known
+  pub record ServesBatches (old new : Store D members) (s : State) (how : Manner) (result : Result Bool ServeFault) (known : SessionStreams) : Type 0 where
+    pub input : List ℕ
+    pub own : IfSome known.input (λ bytes. bytes ≡ input)
+    pub served : ServesInput old new s how result known.before known.after input
+
+-- what is found of lines: all are carried out, or one of them is the last
+abbrev pub CarriesLines : {D T : Type 0} {members : _} → Store D members → Store D members → State → Manner → List (List ℕ) → Result T LastLine → List ℕ → Type 0
+CarriesLines old new s on lines (Ok u) answers = HasTalked old new s (trying on) lines answers
+CarriesLines old new s on lines (Err stop) answers = StopsIn old new s on lines stop.place (why_text stop.why answers)
+
+-- a commit was acknowledged, or not
+abbrev pub CommitsOrNot : {D T : Type 0} {members : _} → Store D members → Store D members → ℕ → Result T LastLine → Type 0
+CommitsOrNot old new place (Ok u) = (answer : Answer) × Applies old new Commit (Ok answer)
+CommitsOrNot old new place (Err stop) =
+    (refusal : Refusal) × Applies old new Commit (Err refusal) × (stop.place ≡ place) × (stop.why ≡ why.Reply reply.Unsure) × (stop.then ≡ AsUnsure)
+
+-- the same, as a talk
+abbrev pub tried_result : {T : Type 0} → Result T LastLine → Result Bool ServeFault
+tried_result (Ok u) = Ok false
+tried_result (Err stop) = Err fault.Refused
+
+-- ---- what a call of a session does
+
+-- a refused line ends the session, or does not
+abbrev pub refused_result : OnRefusal → Result Bool ServeFault
+refused_result Stop = Err fault.Refused
+refused_result on_refusal = Ok true
+
+-- what follows of an answer by which lines were refused
+abbrev pub after_refusal : Manner → Then → Result Bool ServeFault
+after_refusal how AsFailed = Err fault.Store
+after_refusal how AsUnsure = Err fault.Unsure
+after_refusal how GoOn = refused_result how.on_refusal
+
+-- an answer was written whole, and the session goes on or ends with it; or a beginning of it, if the writer failed
+abbrev pub Tells : Manner → (List ℕ → Course → Type 0) → Result Bool ServeFault → Option (List ℕ) → Option (List ℕ) → Type 0
+Tells how IsAnswer (Ok refused) before after =
+    (text : List ℕ) × IsAnswer text (proceeds refused) × (how.on_refusal ≡ Stop → refused ≡ false) × Appends before after text
+Tells how IsAnswer (Err fault.Read) before after = ⊥
+Tells how IsAnswer (Err fault.Store) before after = (text : List ℕ) × IsAnswer text over × Appends before after text
+Tells how IsAnswer (Err fault.Unsure) before after = (text : List ℕ) × IsAnswer text over × Appends before after text
+Tells how IsAnswer (Err fault.Refused) before after = (text : List ℕ) × IsAnswer text (proceeds true) × (how.on_refusal ≡ Stop) × Appends before after text
+Tells how IsAnswer (Err fault.Write) before after = (text : List ℕ) × (course : Course) × IsAnswer text course × WritesStart before after text
+
+-- so far a text was written, or a beginning of it
+abbrev pub Puts : {T : Type 0} → List ℕ → Result T ServeFault → Option (List ℕ) → Option (List ℕ) → Type 0
+Puts text (Ok u) before after = Appends before after text
+Puts text (Err why) before after = (why ≡ fault.Write) × WritesStart before after text
+
+-- a text was written whole, and this was the result; or a beginning of it
+abbrev pub AnswersThen : List ℕ → Result Bool ServeFault → Result Bool ServeFault → Option (List ℕ) → Option (List ℕ) → Type 0
+AnswersThen text then result before after = ((result ≡ then) × Appends before after text) ⊎ ((result ≡ Err fault.Write) × WritesStart before after text)
+
+-- how a session goes on after that many lines were refused
+abbrev pub counted_result : OnRefusal → ℕ → Result Bool ServeFault
+counted_result on_refusal zero = Ok false
+counted_result on_refusal (suc n) = refused_result on_refusal
+
+-- after a batch
+abbrev pub verdict_result : Manner → Verdict → Result Bool ServeFault
+verdict_result how (succeeds answers) = Ok false
+verdict_result how (fails place answer then) = after_refusal how then
+
+-- the answers to a batch that a line began, or to a change that is one of its own
+abbrev pub settled_text : Bool → ℕ → Verdict → List ℕ
+settled_text true count verdict = batch_text count verdict
+settled_text false count verdict = change_text verdict
+
+-- a call that wrote, as a session takes it
+abbrev pub said_result : {T : Type 0} → Result T WriteFault → Result T ServeFault
+said_result (Ok u) = Ok u
+said_result (Err failed) = Err fault.Write
