@@ -1,7 +1,7 @@
 //! A disk in memory that remembers what was done to it: what its blocks held at the last successful
 //! sync and what was last written to them, which block was written last, and how often each one was
 //! read.
-ghost use Rattle.std.specs.Prelude.{◌≡◌, ◌<◌, ℕ, length, replicate, slice_index_or, true, IfOk};
+ghost use Rattle.std.specs.Prelude.{◌≡◌, ◌<◌, ℕ, length, replicate, slice_index_or};
 
 use crate::wrong::Wrong;
 use std::alloc::Global;
@@ -15,7 +15,6 @@ pub struct RecordingDisk {
     synced: Vec<Block>,
     reads: Vec<u32>,
     last: u32,
-    keeps: bool,
 }
 
 /// What a crash leaves in a block that is not synced: what it held at the last successful sync,
@@ -60,17 +59,7 @@ impl RecordingDisk {
             inner,
             written,
             last: 0,
-            keeps: false,
         })
-    }
-
-    /// The same, except that a forgotten block keeps its bytes.
-    pub fn keeping(alloc: Global, inner: MemDisk) -> Result<RecordingDisk, Wrong>
-        ensures { IfOk result (λ disk. disk.keeps ≡ true) }
-    {
-        let mut disk = RecordingDisk::new(alloc, inner)?;
-        disk.keeps = true;
-        Ok(disk)
     }
 
     /// The disk itself, given back.
@@ -197,16 +186,6 @@ impl Disk for RecordingDisk {
 
     fn write_run(&mut self, n: BlockNumber, blocks: &[Block]) -> Result<(), DeviceFault> {
         self.write_each(n, blocks)
-    }
-
-    /// Writing the same bytes once more is one way to forget them.
-    fn forget(&mut self, n: BlockNumber) {
-        let at = n as usize;
-        if self.keeps && at < self.written.len() {
-            let _ = self.inner.write(n, &self.written[at]);
-        } else {
-            self.inner.forget(n);
-        }
     }
 
     fn sync(&mut self) -> Result<(), DeviceFault> {

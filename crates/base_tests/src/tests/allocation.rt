@@ -1,212 +1,341 @@
 //! Held blocks and marks, with one word of flags and with more.
-use std::alloc::{AllocError, Global};
-use std::process::Abort;
+//!
+//! | Step | Answer |
+//! |---|---|
+//! | `new 130` | `ok`: a store of this many blocks, no mark and an empty baseline |
+//! | `new marks 66` | `ok`: no mark, in as many blocks |
+//! | `take` | `34`: the lowest free block is held; `none` if there is no free one |
+//! | `take 34 64` | `ok`: all blocks from 34 to 63 are taken one by one |
+//! | `longer 71`, `back` | `ok`: the held blocks are extended to this many; they are as before that |
+//! | `mark 35 48`, `unmark 35`, `clear` | `ok` |
+//! | `longer marks 130` | `ok`: the marks are extended to this many blocks |
+//! | `hold` | `ok`: exactly what is marked is held |
+//! | `note`, `keep` | `ok`: the baseline is of what is held; it is only of what is still held |
+//! | `free` | `30`: how many blocks are free |
+//! | `blocks` | `130 66 130`: how many blocks there are, held or free, marked or not, and of the baseline |
+//! | `held 33 34`, `marked 33 34`, `noted 33 34` | `yes no`: which of these are held, marked, or of the baseline |
+use std::alloc::Global;
+use std::mem;
 use std::test::Fail;
+use testkit::{Playable, Wrong, number, plays};
 use vm_alloc::{Baseline, Held, Marks};
 
-/// Takes all data blocks of `blocks` blocks in all.
-fn take_all(rt: &impl Abort, held: &mut Held, blocks: u32) {
-    take_all_from(rt, held, 34, blocks);
+/// What the rows are played on.
+#[derive(Drop)]
+struct Bench {
+    held: Held,
+    /// The blocks that were held when they were extended last.
+    shorter: Held,
+    marks: Marks,
+    baseline: Baseline,
 }
 
-/// Takes all free blocks, which are those from `first` on, of `blocks` blocks in all.
-fn take_all_from(rt: &impl Abort, held: &mut Held, first: u32, blocks: u32) {
-    for n in first..blocks {
-        assert_eq!(rt; held.take(), Some(n), "of {blocks}");
+impl Bench {
+    fn new(alloc: Global, blocks: u32) -> Result<Bench, Wrong> {
+        if blocks < 64 || blocks > 67_108_864 {
+            return Err(Wrong::Unreadable);
+        }
+        Ok(Bench {
+            held: Held::new(alloc, blocks)?,
+            shorter: Held::new(alloc, 64)?,
+            marks: Marks::new(alloc, blocks)?,
+            baseline: Baseline::new(alloc, blocks)?,
+        })
     }
-    assert_eq!(rt; held.take(), None, "of {blocks}");
-    assert_eq!(rt; held.free_count(), 0, "of {blocks}");
 }
 
-#[test]
-fn takes_every_block_of_one_word_and_past_it(rt: HostRuntime) -> Result<(), Fail> {
-    for (blocks, free) in [(64, 30), (65, 31)] {
-        let mut held = Held::new(rt.alloc(), blocks)?;
-        assert_eq!(rt; held.blocks(), blocks);
-        assert_eq!(rt; held.free_count(), free, "of {blocks}");
-        take_all(&rt, &mut held, blocks);
+/// Takes the blocks from `first` up to `end`, each of which must be the lowest free one.
+fn take_all(held: &mut Held, first: u32, end: u32) -> Result<(), Wrong> {
+    for n in first..end {
+        if held.take() != Some(n) {
+            return Err(Wrong::Differs(n));
+        }
     }
     Ok(())
 }
 
-/// Takes the lowest free block, which must be this one.
-fn take(rt: &impl Abort, held: &mut Held, due: u32) {
-    assert_eq!(rt; held.take(), Some(due));
+/// Extends the held blocks to this many.
+fn extend(alloc: Global, bench: &mut Bench, blocks: u32) -> Result<(), Wrong> {
+    if blocks < bench.held.blocks() || blocks > 67_108_864 {
+        return Err(Wrong::Unreadable);
+    }
+    let longer = bench.held.extended(alloc, blocks)?;
+    bench.shorter = mem::replace(&mut bench.held, longer);
+    Ok(())
 }
 
-/// Marks these blocks.
-fn mark_all(rt: &impl Abort, marks: &mut Marks, blocks: &[u32]) {
-    for n in blocks {
-        assert!(rt; *n < marks.blocks());
-        marks.set(*n);
+/// Marks of a store of this many blocks.
+fn marks_of(alloc: Global, blocks: u32) -> Result<Marks, Wrong> {
+    if blocks < 64 || blocks > 67_108_864 {
+        return Err(Wrong::Unreadable);
     }
+    Ok(Marks::new(alloc, blocks)?)
+}
+
+/// The same marks, extended to this many blocks.
+fn extended(alloc: Global, marks: &Marks, blocks: u32) -> Result<Marks, Wrong> {
+    if blocks < marks.blocks() || blocks > 67_108_864 {
+        return Err(Wrong::Unreadable);
+    }
+    Ok(marks.extended(alloc, blocks)?)
+}
+
+/// Marks these blocks, or takes their marks away.
+fn set_marks(marks: &mut Marks, blocks: &[&str], is_set: bool) -> Result<(), Wrong> {
+    for word in blocks {
+        let n = number(word)?;
+        if n >= marks.blocks() {
+            return Err(Wrong::Unreadable);
+        }
+        if is_set {
+            marks.set(n);
+        } else {
+            marks.unset(n);
+        }
+    }
+    Ok(())
 }
 
 /// Holds what is marked.
-fn hold(rt: &impl Abort, held: &mut Held, marks: &Marks) {
-    assert_eq!(rt; marks.blocks(), held.blocks());
+fn hold(held: &mut Held, marks: &Marks) -> Result<(), Wrong> {
+    if marks.blocks() != held.blocks() {
+        return Err(Wrong::Unreadable);
+    }
     held.replace(marks);
+    Ok(())
 }
 
-fn is_held(rt: &impl Abort, held: &Held, n: u32) -> bool {
-    assert!(rt; n < held.blocks());
-    held.is_held(n)
+/// The baseline is of what is held, or only of what is still held.
+fn note(baseline: &mut Baseline, held: &Held, is_new: bool) -> Result<(), Wrong> {
+    if baseline.blocks() != held.blocks() {
+        return Err(Wrong::Unreadable);
+    }
+    if is_new {
+        baseline.take(held);
+    } else {
+        baseline.keep_held(held);
+    }
+    Ok(())
 }
 
-#[test]
-fn holds_what_is_marked(rt: HostRuntime) -> Result<(), Fail> {
-    let mut held = Held::new(rt.alloc(), 130)?;
-    take(&rt, &mut held, 34);
-    take(&rt, &mut held, 35);
+/// Carries out a step that changes something. Tells whether these words are one.
+fn change(alloc: Global, bench: &mut Bench, words: &[&str]) -> Result<bool, Wrong> {
+    match words {
+        ["new", blocks] => *bench = Bench::new(alloc, number(blocks)?)?,
+        ["new", "marks", blocks] => bench.marks = marks_of(alloc, number(blocks)?)?,
+        ["take", first, end] => take_all(&mut bench.held, number(first)?, number(end)?)?,
+        ["longer", blocks] => extend(alloc, bench, number(blocks)?)?,
+        ["longer", "marks", blocks] => {
+            bench.marks = extended(alloc, &bench.marks, number(blocks)?)?;
+        }
+        ["back"] => mem::swap(&mut bench.held, &mut bench.shorter),
+        ["mark", blocks @ ..] => set_marks(&mut bench.marks, blocks, true)?,
+        ["unmark", blocks @ ..] => set_marks(&mut bench.marks, blocks, false)?,
+        ["clear"] => bench.marks.clear(),
+        ["hold"] => hold(&mut bench.held, &bench.marks)?,
+        ["note"] => note(&mut bench.baseline, &bench.held, true)?,
+        ["keep"] => note(&mut bench.baseline, &bench.held, false)?,
+        _ => return Ok(false),
+    }
+    Ok(true)
+}
 
+/// Whether a block is held, or marked, or one of the baseline.
+fn is_so(bench: &Bench, what: &str, n: u32) -> Option<bool> {
+    match what {
+        "held" if n < bench.held.blocks() => Some(bench.held.is_held(n)),
+        "marked" if n < bench.marks.blocks() => Some(bench.marks.is_set(n)),
+        "noted" if n < bench.baseline.blocks() => Some(bench.baseline.has(n)),
+        _ => None,
+    }
+}
+
+/// The answer to a step that asks for something.
+fn asked(bench: &mut Bench, words: &[&str], text: &mut String) -> Result<(), Wrong> {
+    match words {
+        ["take"] => match bench.held.take() {
+            Some(n) => write!(text, "{n}")?,
+            None => {}
+        },
+        ["free"] => write!(text, "{}", bench.held.free_count())?,
+        ["blocks"] => {
+            let (marks, baseline) = (bench.marks.blocks(), bench.baseline.blocks());
+            write!(text, "{} {marks} {baseline}", bench.held.blocks())?;
+        }
+        [what, blocks @ ..] => {
+            for word in blocks {
+                let is_so = is_so(bench, what, number(word)?).ok_or(Wrong::Unreadable)?;
+                text.push_str(if is_so { " yes" } else { " no" })?;
+            }
+        }
+        [] => return Err(Wrong::Unreadable),
+    }
+    Ok(())
+}
+
+impl Playable for Bench {
+    fn play(mut self, alloc: Global, words: &[&str]) -> Result<(Bench, String), Wrong> {
+        let mut text = String::new(alloc);
+        if change(alloc, &mut self, words)? {
+            text.push_str("ok")?;
+        } else {
+            asked(&mut self, words, &mut text)?;
+        }
+        Ok((self, text))
+    }
+
+    fn end(self) {}
+}
+
+/// A name and steps.
+const ROWS: [(&str, &str); 7] = [
+    (
+        "every block of one word is taken, and past it",
+        "
+        new 64
+        blocks -> 64 64 64
+        free -> 30
+        take 34 64
+        take -> none
+        free -> 0
+        new 65
+        blocks -> 65 65 65
+        free -> 31
+        take 34 65
+        take -> none
+        free -> 0",
+    ),
     // A mark of one of the store's own blocks changes nothing, nor does a second mark.
-    let mut marks = Marks::new(rt.alloc(), 130)?;
-    mark_all(&rt, &mut marks, &[7, 35, 48, 48, 129]);
-    hold(&rt, &mut held, &marks);
-
-    assert_eq!(rt; held.free_count(), 93);
-    assert!(rt; is_held(&rt, &held, 33));
-    assert!(rt; is_held(&rt, &held, 129));
-    assert!(rt; !is_held(&rt, &held, 128));
-    take(&rt, &mut held, 34);
-    take(&rt, &mut held, 36);
-    assert_eq!(rt; held.free_count(), 91);
-    Ok(())
-}
-
-#[test]
-fn takes_a_mark_away_and_copies_marks_with_more_blocks(rt: HostRuntime) -> Result<(), Fail> {
-    let mut held = Held::new(rt.alloc(), 130)?;
-    let mut marks = Marks::new(rt.alloc(), 66)?;
-    mark_all(&rt, &mut marks, &[34, 35, 65]);
-
+    (
+        "what is marked is held",
+        "
+        new 130
+        take -> 34
+        take -> 35
+        mark 7 35 48 48 129
+        hold
+        free -> 93
+        held 33 129 128 -> yes yes no
+        take -> 34
+        take -> 36
+        free -> 91",
+    ),
     // A second time changes nothing.
-    for _ in 0..2 {
-        assert!(rt; 35 < marks.blocks());
-        marks.unset(35);
+    (
+        "a mark is taken away, and marks are copied with more blocks",
+        "
+        new 130
+        new marks 66
+        mark 34 35 65
+        unmark 35
+        unmark 35
+        blocks -> 130 66 130
+        longer marks 130
+        mark 129
+        hold
+        free -> 93
+        held 34 35 65 129 -> yes no yes yes",
+    ),
+    (
+        "the most blocks are held",
+        "
+        new 67108864
+        free -> 67108830
+        take -> 34
+        blocks -> 67108864 67108864 67108864
+        held 67108863 -> no",
+    ),
+    // The blocks that were extended are as they were.
+    (
+        "held blocks are extended within a word and past it",
+        "
+        new 70
+        take -> 34
+        take -> 35
+        longer 70
+        blocks -> 70 70 70
+        free -> 34
+        held 35 36 69 -> yes no no
+        take -> 36
+        back
+        longer 71
+        blocks -> 71 70 70
+        free -> 35
+        held 35 36 70 -> yes no no
+        take -> 36
+        back
+        longer 128
+        blocks -> 128 70 70
+        free -> 92
+        held 35 36 127 -> yes no no
+        take -> 36
+        back
+        longer 129
+        blocks -> 129 70 70
+        free -> 93
+        held 35 36 128 -> yes no no
+        take -> 36
+        back
+        longer 1000
+        blocks -> 1000 70 70
+        free -> 964
+        held 35 36 999 -> yes no no
+        take -> 36
+        back
+        blocks -> 70 70 70
+        free -> 34
+        take 36 70
+        take -> none
+        free -> 0
+        # All are held.
+        new 64
+        take 34 64
+        take -> none
+        longer 66
+        take -> 64
+        take -> 65
+        take -> none
+        free -> 0",
+    ),
+    (
+        "marks are set and cleared",
+        "
+        new 65
+        blocks -> 65 65 65
+        mark 33 64 64
+        marked 33 64 63 -> yes yes no
+        clear
+        marked 33 64 -> no no",
+    ),
+    (
+        "a baseline keeps what is still held",
+        "
+        new 130
+        mark 34 40 129
+        hold
+        blocks -> 130 130 130
+        noted 0 -> no
+        keep
+        noted 40 -> no
+        note
+        noted 33 129 35 -> yes yes no
+        # Block 40 is let go, and 35 is also held.
+        clear
+        mark 34 35 129
+        hold
+        keep
+        noted 34 129 35 40 -> yes yes no no",
+    ),
+];
+
+#[test]
+fn blocks_are_taken_held_and_marked(rt: HostRuntime) -> Result<(), Fail> {
+    for (name, steps) in &ROWS {
+        let bench = Bench::new(rt.alloc(), 64)?;
+        match plays(rt.alloc(), bench, steps) {
+            Ok(_) => {}
+            Err(mismatch) => panic!(&rt; "{name}, {mismatch}"),
+        }
     }
-    assert_eq!(rt; marks.blocks(), 66);
-    let mut longer = marks.extended(rt.alloc(), 130)?;
-    mark_all(&rt, &mut longer, &[129]);
-    hold(&rt, &mut held, &longer);
-
-    assert_eq!(rt; held.free_count(), 93);
-    assert!(rt; is_held(&rt, &held, 34));
-    assert!(rt; !is_held(&rt, &held, 35));
-    assert!(rt; is_held(&rt, &held, 65));
-    assert!(rt; is_held(&rt, &held, 129));
     Ok(())
-}
-
-#[test]
-fn holds_the_most_blocks(rt: HostRuntime) -> Result<(), Fail> {
-    let mut held = Held::new(rt.alloc(), 67_108_864)?;
-    assert_eq!(rt; held.free_count(), 67_108_830);
-    assert_eq!(rt; held.take(), Some(34));
-    assert!(rt; held.blocks() == 67_108_864);
-    assert!(rt; !held.is_held(67_108_863));
-    Ok(())
-}
-
-/// A copy extended to this many blocks.
-fn extended(rt: &impl Abort, held: &Held, alloc: Global, blocks: u32) -> Result<Held, AllocError> {
-    assert!(rt; held.blocks() <= blocks);
-    assert!(rt; blocks <= 67_108_864);
-    held.extended(alloc, blocks)
-}
-
-/// Of this many blocks, those from 36 on must be free.
-fn expect_free_from_36(rt: &impl Abort, held: &mut Held, blocks: u32) {
-    assert_eq!(rt; held.blocks(), blocks, "of {blocks}");
-    assert_eq!(rt; held.free_count(), blocks.saturating_sub(36), "of {blocks}");
-    assert!(rt; is_held(rt, held, 35), "of {blocks}");
-    assert!(rt; !is_held(rt, held, 36), "of {blocks}");
-    assert!(rt; !is_held(rt, held, blocks.saturating_sub(1)), "of {blocks}");
-    take(rt, held, 36);
-}
-
-#[test]
-fn extends_within_a_word_and_past_it(rt: HostRuntime) -> Result<(), Fail> {
-    let mut held = Held::new(rt.alloc(), 70)?;
-    take(&rt, &mut held, 34);
-    take(&rt, &mut held, 35);
-    for blocks in [70, 71, 128, 129, 1000] {
-        let mut longer = extended(&rt, &held, rt.alloc(), blocks)?;
-        expect_free_from_36(&rt, &mut longer, blocks);
-    }
-    assert_eq!(rt; held.blocks(), 70);
-    assert_eq!(rt; held.free_count(), 34);
-    take_all_from(&rt, &mut held, 36, 70);
-    Ok(())
-}
-
-#[test]
-fn extends_full_blocks(rt: HostRuntime) -> Result<(), Fail> {
-    let mut held = Held::new(rt.alloc(), 64)?;
-    take_all(&rt, &mut held, 64);
-    let mut longer = extended(&rt, &held, rt.alloc(), 66)?;
-    take_all_from(&rt, &mut longer, 64, 66);
-    Ok(())
-}
-
-#[test]
-fn marks_and_clears(rt: HostRuntime) -> Result<(), Fail> {
-    let mut marks = Marks::new(rt.alloc(), 65)?;
-    assert_eq!(rt; marks.blocks(), 65);
-    marks.set(33);
-    marks.set(64);
-    marks.set(64);
-    assert!(rt; marks.is_set(33));
-    assert!(rt; marks.is_set(64));
-    assert!(rt; !marks.is_set(63));
-    marks.clear();
-    assert!(rt; !marks.is_set(33));
-    assert!(rt; !marks.is_set(64));
-    Ok(())
-}
-
-/// A store of 130 blocks in which blocks 34 and 129 are held, and what was held before.
-#[test]
-fn keeps_of_a_baseline_what_is_held(rt: HostRuntime) -> Result<(), Fail> {
-    let mut held = Held::new(rt.alloc(), 130)?;
-    let mut marks = Marks::new(rt.alloc(), 130)?;
-    mark_all(&rt, &mut marks, &[34, 40, 129]);
-    hold(&rt, &mut held, &marks);
-    let mut before = Baseline::new(rt.alloc(), 130)?;
-    assert_eq!(rt; before.blocks(), 130);
-    assert!(rt; !before.has(0));
-    keep(&rt, &mut before, &held);
-    assert!(rt; !has(&rt, &before, 40));
-    baseline_of(&rt, &mut before, &held);
-    assert!(rt; has(&rt, &before, 33));
-    assert!(rt; has(&rt, &before, 129));
-    assert!(rt; !has(&rt, &before, 35));
-
-    // Block 40 is let go, and 35 is also held.
-    marks.clear();
-    mark_all(&rt, &mut marks, &[34, 35, 129]);
-    hold(&rt, &mut held, &marks);
-    keep(&rt, &mut before, &held);
-    assert!(rt; has(&rt, &before, 34));
-    assert!(rt; has(&rt, &before, 129));
-    assert!(rt; !has(&rt, &before, 35));
-    assert!(rt; !has(&rt, &before, 40));
-    Ok(())
-}
-
-/// Takes a baseline of what is held.
-fn baseline_of(rt: &impl Abort, baseline: &mut Baseline, held: &Held) {
-    assert_eq!(rt; baseline.blocks(), held.blocks());
-    baseline.take(held);
-}
-
-/// Keeps the part of it that is still held.
-fn keep(rt: &impl Abort, baseline: &mut Baseline, held: &Held) {
-    assert_eq!(rt; baseline.blocks(), held.blocks());
-    baseline.keep_held(held);
-}
-
-fn has(rt: &impl Abort, baseline: &Baseline, n: u32) -> bool {
-    assert!(rt; n < baseline.blocks());
-    baseline.has(n)
 }

@@ -1,28 +1,13 @@
 //! What a cache of a disk asks the disk for, and what both hold.
-use super::script::{NEVER, Row, on_a_cache};
-use super::seen::{fused, memory_with_room};
-use std::test::Fail;
+use super::script::{Fails, NEVER, Over, Row, plays_rows};
 
-const ROWS: [Row; 9] = [
-    Row {
-        name: "drops a forgotten block",
-        blocks: 4,
-        room: 4,
-        fails: None,
-        capacity: 2,
-        steps: "
-            fill 2 7
-            forget 2
-            is 2 7 -> no
-            dirty 2 -> yes",
-        below: "",
-    },
+const ROWS: [Row; 8] = [
     Row {
         name: "asks for what it does not keep",
         blocks: 64,
         room: 64,
-        fails: Some(5),
-        capacity: 2,
+        fails: Fails::Once(5),
+        over: Over::Cache(2),
         steps: "
             holds 34 -> 0
             calls -> 1
@@ -50,8 +35,8 @@ const ROWS: [Row; 9] = [
         name: "lends what it keeps",
         blocks: 64,
         room: 64,
-        fails: Some(3),
-        capacity: 2,
+        fails: Fails::Once(3),
+        over: Over::Cache(2),
         steps: "
             fill 34 7
             calls -> 1
@@ -77,8 +62,8 @@ const ROWS: [Row; 9] = [
         name: "keeps no block that is needed once",
         blocks: 64,
         room: 64,
-        fails: Some(6),
-        capacity: 2,
+        fails: Fails::Once(6),
+        over: Over::Cache(2),
         steps: "
             holds 34 35 -> 0 0
             calls -> 2
@@ -104,8 +89,8 @@ const ROWS: [Row; 9] = [
         name: "lends each block where it keeps one",
         blocks: 8,
         room: 8,
-        fails: Some(NEVER),
-        capacity: 1,
+        fails: Fails::Once(NEVER),
+        over: Over::Cache(1),
         steps: "
             fill 1 1
             fill 2 2
@@ -121,8 +106,8 @@ const ROWS: [Row; 9] = [
         name: "keeps the blocks of a run",
         blocks: 8,
         room: 8,
-        fails: Some(NEVER),
-        capacity: 3,
+        fails: Fails::Once(NEVER),
+        over: Over::Cache(3),
         steps: "
             fill 2 5
             calls -> 1
@@ -142,8 +127,8 @@ const ROWS: [Row; 9] = [
         name: "keeps no block of a run that failed",
         blocks: 8,
         room: 8,
-        fails: Some(4),
-        capacity: 4,
+        fails: Fails::Once(4),
+        over: Over::Cache(4),
         steps: "
             fill 1 1
             fill 2 2
@@ -159,8 +144,8 @@ const ROWS: [Row; 9] = [
         name: "gets longer",
         blocks: 2,
         room: 4,
-        fails: None,
-        capacity: 4,
+        fails: Fails::Uncounted,
+        over: Over::Cache(4),
         steps: "
             fill 1 7
             grow 4
@@ -174,8 +159,8 @@ const ROWS: [Row; 9] = [
         name: "writes through",
         blocks: 4,
         room: 4,
-        fails: None,
-        capacity: 1,
+        fails: Fails::Uncounted,
+        over: Over::Cache(1),
         steps: "
             blocks -> 4
             fill 2 7
@@ -190,13 +175,6 @@ const ROWS: [Row; 9] = [
 ];
 
 #[test]
-fn cache_holds_what_the_disk_below_does(rt: HostRuntime) -> Result<(), Fail> {
-    for row in &ROWS {
-        let memory = memory_with_room(rt.alloc(), row.blocks, row.room)?;
-        match row.fails {
-            Some(call) => on_a_cache(&rt, fused(memory, call, [9; 4096])?, row),
-            None => on_a_cache(&rt, memory, row),
-        }
-    }
-    Ok(())
+fn cache_holds_what_the_disk_below_does(rt: HostRuntime) {
+    plays_rows(&rt, &ROWS);
 }

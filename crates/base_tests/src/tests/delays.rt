@@ -1,27 +1,34 @@
-//! Which blocks a disk that delays writes has written, by hand.
-use super::script::{NEVER, Row, on_a_late_disk, plays};
-use super::seen::{cached, fused, late, memory, memory_with_room};
-use std::process::Abort;
-use std::test::Fail;
-use vm_disk::FuseDisk;
+//! Which blocks a disk that delays writes has written, what waits after a failure, and what it
+//! leaves in a cache.
+use super::script::{Fails, NEVER, Over, Row, plays_rows};
 
-/// Plays a row on a delayed disk over a disk in memory.
-fn plays_row<R: AllocGlobal + Abort>(rt: &R, row: &Row) -> Result<(), Fail> {
-    let memory = memory_with_room(rt.alloc(), row.blocks, row.room)?;
-    match row.fails {
-        Some(call) => on_a_late_disk(rt, fused(memory, call, [99; 4096])?, row),
-        None => on_a_late_disk(rt, memory, row),
-    }
-    Ok(())
-}
+const IN_A_WRITE: &str = "
+    fill 0 1
+    fill 1 2
+    fill 2 3 -> fault
+    fill 2 3
+    holds 0 1 2 -> 1 2 3
+    sync";
 
-const ROWS: [Row; 8] = [
+const IN_THE_SYNC: &str = "
+    fill 0 1
+    fill 1 2
+    fill 2 3
+    holds 0 1 2 -> 1 2 3
+    sync -> fault
+    sync";
+
+const ALL_WRITTEN: &str = "
+    dirty 0 1 2 -> no no no
+    holds 0 1 2 -> 1 2 3";
+
+const ROWS: [Row; 14] = [
     Row {
         name: "a read sees the blocks that wait",
         blocks: 4,
         room: 4,
-        fails: None,
-        capacity: 2,
+        fails: Fails::Uncounted,
+        over: Over::Late(2),
         steps: "
             fill 1 7
             fill 1 8
@@ -29,7 +36,6 @@ const ROWS: [Row; 8] = [
             dirty 0 1 2 3 -> no no no no
             holds 0 1 2 3 -> 0 8 0 9
             hand 0 1 2 3 -> 0 8 0 9
-            forget 1
             fill 0 5
             hand 3 0 2 -> 9 5 0
             sync
@@ -40,8 +46,8 @@ const ROWS: [Row; 8] = [
         name: "the oldest goes out where too many would wait",
         blocks: 8,
         room: 8,
-        fails: None,
-        capacity: 2,
+        fails: Fails::Uncounted,
+        over: Over::Late(2),
         steps: "
             fill 5 1
             fill 2 2
@@ -57,8 +63,8 @@ const ROWS: [Row; 8] = [
         name: "neighbours go out with the oldest",
         blocks: 9,
         room: 9,
-        fails: None,
-        capacity: 4,
+        fails: Fails::Uncounted,
+        over: Over::Late(4),
         steps: "
             fill 5 1
             fill 1 2
@@ -73,8 +79,8 @@ const ROWS: [Row; 8] = [
         name: "a sync writes all, and then syncs",
         blocks: 4,
         room: 4,
-        fails: Some(NEVER),
-        capacity: 3,
+        fails: Fails::Once(NEVER),
+        over: Over::Late(3),
         steps: "
             fill 3 1
             fill 0 2
@@ -89,30 +95,11 @@ const ROWS: [Row; 8] = [
             holds 0 1 2 3 -> 2 0 3 1",
     },
     Row {
-        name: "a forgotten block is never written",
-        blocks: 4,
-        room: 4,
-        fails: Some(NEVER),
-        capacity: 2,
-        steps: "
-            fill 0 1
-            fill 1 2
-            forget 0
-            # Its place is free for another block.
-            fill 2 3
-            calls -> 0
-            sync
-            calls -> 3
-            is 0 1 -> no
-            holds 1 2 3 -> 2 3 0",
-        below: "",
-    },
-    Row {
         name: "what was written out stays while its room is not needed",
         blocks: 8,
         room: 8,
-        fails: Some(NEVER),
-        capacity: 2,
+        fails: Fails::Once(NEVER),
+        over: Over::Late(2),
         steps: "
             fill 3 4
             fill 2 3
@@ -143,28 +130,11 @@ const ROWS: [Row; 8] = [
             holds 2 3 5 -> 5 7 6",
     },
     Row {
-        name: "a forgotten block is not kept after it was written",
-        blocks: 8,
-        room: 8,
-        fails: Some(NEVER),
-        capacity: 2,
-        steps: "
-            fill 2 3
-            sync
-            calls -> 2
-            holds 2 -> 3
-            calls -> 2
-            forget 2
-            is 2 3 -> no
-            calls -> 3",
-        below: "",
-    },
-    Row {
         name: "a late disk grows with the one below",
         blocks: 2,
         room: 4,
-        fails: None,
-        capacity: 2,
+        fails: Fails::Uncounted,
+        over: Over::Late(2),
         steps: "
             fill 1 7
             grow 4
@@ -177,47 +147,13 @@ const ROWS: [Row; 8] = [
             sure -> 4",
         below: "",
     },
-];
-
-#[test]
-fn late_disk_holds_and_writes_out_what_waits(rt: HostRuntime) -> Result<(), Fail> {
-    for row in &ROWS {
-        plays_row(&rt, row)?;
-    }
-    Ok(())
-}
-
-/// Rows over a cache of two blocks.
-const OVER_A_CACHE: [Row; 2] = [
-    Row {
-        name: "a forgotten block takes no place in a cache below",
-        blocks: 8,
-        room: 8,
-        fails: Some(NEVER),
-        capacity: 2,
-        steps: "
-            holds 5 6 -> 0 0
-            calls -> 2
-            fill 0 1
-            fill 1 2
-            forget 0
-            holds 5 6 -> 0 0
-            calls -> 2
-            # Block 1 goes out, and takes the place of block 5.
-            sync
-            calls -> 4
-            holds 1 6 -> 2 0
-            calls -> 4
-            holds 5 -> 0
-            calls -> 5",
-        below: "",
-    },
+    // Over a cache of two blocks.
     Row {
         name: "a row goes through a cache, and stays in it",
         blocks: 8,
         room: 8,
-        fails: Some(NEVER),
-        capacity: 2,
+        fails: Fails::Once(NEVER),
+        over: Over::LateOnCache(2, 2),
         steps: "
             fill 2 3
             fill 3 4
@@ -232,48 +168,14 @@ const OVER_A_CACHE: [Row; 2] = [
             dirty 2 3 5 7 -> no no no no
             holds 2 3 5 7 -> 3 4 0 0",
     },
-];
-
-#[test]
-fn late_disk_writes_out_through_a_cache(rt: HostRuntime) -> Result<(), Fail> {
-    for row in &OVER_A_CACHE {
-        let call = row.fails.unwrap_or(NEVER);
-        let memory = memory_with_room(rt.alloc(), row.blocks, row.room)?;
-        let fuse = fused(memory, call, [0; 4096])?;
-        on_a_late_disk(&rt, cached(rt.alloc(), fuse, 2)?, row);
-    }
-    Ok(())
-}
-
-const IN_A_WRITE: &str = "
-    fill 0 1
-    fill 1 2
-    fill 2 3 -> fault
-    fill 2 3
-    holds 0 1 2 -> 1 2 3
-    sync";
-
-const IN_THE_SYNC: &str = "
-    fill 0 1
-    fill 1 2
-    fill 2 3
-    holds 0 1 2 -> 1 2 3
-    sync -> fault
-    sync";
-
-const ALL_WRITTEN: &str = "
-    dirty 0 1 2 -> no no no
-    holds 0 1 2 -> 1 2 3";
-
-/// What fails once: the write of block 0 or 1, which go out to make room for block 2; the write of
-/// block 2 at the sync; or the sync. Call 2 is the read of block 0, whose frame block 2 took.
-const FAILING: [Row; 5] = [
+    // What fails once: the write of block 0 or 1, which go out to make room for block 2; the write
+    // of block 2 at the sync; or the sync. Call 2 is the read of block 0, whose frame block 2 took.
     Row {
         name: "what waits outlives a write of block 0 that fails",
         blocks: 4,
         room: 4,
-        fails: Some(0),
-        capacity: 2,
+        fails: Fails::Once(0),
+        over: Over::Late(2),
         steps: IN_A_WRITE,
         below: ALL_WRITTEN,
     },
@@ -281,8 +183,8 @@ const FAILING: [Row; 5] = [
         name: "what waits outlives a write of block 1 that fails",
         blocks: 4,
         room: 4,
-        fails: Some(1),
-        capacity: 2,
+        fails: Fails::Once(1),
+        over: Over::Late(2),
         steps: IN_A_WRITE,
         below: ALL_WRITTEN,
     },
@@ -290,8 +192,8 @@ const FAILING: [Row; 5] = [
         name: "what waits outlives a write of block 2 that fails",
         blocks: 4,
         room: 4,
-        fails: Some(3),
-        capacity: 2,
+        fails: Fails::Once(3),
+        over: Over::Late(2),
         steps: IN_THE_SYNC,
         below: ALL_WRITTEN,
     },
@@ -299,8 +201,8 @@ const FAILING: [Row; 5] = [
         name: "what waits outlives a sync that fails",
         blocks: 4,
         room: 4,
-        fails: Some(4),
-        capacity: 2,
+        fails: Fails::Once(4),
+        over: Over::Late(2),
         steps: IN_THE_SYNC,
         below: ALL_WRITTEN,
     },
@@ -308,8 +210,8 @@ const FAILING: [Row; 5] = [
         name: "nothing is kept over a write that fails below",
         blocks: 8,
         room: 8,
-        fails: Some(3),
-        capacity: 2,
+        fails: Fails::Once(3),
+        over: Over::Late(2),
         // The second write of block 5 fails: what the disk below holds then is read again.
         steps: "
             fill 2 3
@@ -330,43 +232,41 @@ const FAILING: [Row; 5] = [
             dirty 2 5 -> no no
             holds 2 5 -> 3 6",
     },
+    Row {
+        name: "a fault below is answered where it is met",
+        blocks: 4,
+        room: 4,
+        fails: Fails::From(0),
+        over: Over::Late(2),
+        steps: "
+            fill 0 1
+            fill 1 2
+            fill 2 3 -> fault
+            sync -> fault
+            holds 3 -> fault
+            holds 0 1 -> 1 2",
+        below: "",
+    },
+    Row {
+        name: "a crash below loses what waits alone",
+        blocks: 4,
+        room: 4,
+        fails: Fails::Uncounted,
+        over: Over::Late(1),
+        steps: "
+            fill 0 1
+            fill 1 2
+            sync
+            fill 0 3
+            fill 2 4",
+        // Block 0 was written out, and not synced. Block 2 still waits.
+        below: "
+            crash 0=9 2=9
+            holds 0 1 2 3 -> 9 2 0 0",
+    },
 ];
 
 #[test]
-fn late_disk_loses_nothing_by_a_fault_below(rt: HostRuntime) -> Result<(), Fail> {
-    for row in &FAILING {
-        plays_row(&rt, row)?;
-    }
-    Ok(())
-}
-
-#[test]
-fn a_fault_below_is_answered_where_it_is_met(rt: HostRuntime) -> Result<(), Fail> {
-    let fuse = FuseDisk::stop(memory(rt.alloc(), 4)?, 0, [99; 4096]);
-    let row = "
-        fill 0 1
-        fill 1 2
-        fill 2 3 -> fault
-        sync -> fault
-        holds 3 -> fault
-        holds 0 1 -> 1 2";
-    plays(&rt, "stopped below", &mut late(rt.alloc(), fuse, 2)?, row);
-    Ok(())
-}
-
-#[test]
-fn a_crash_below_loses_what_waits_alone(rt: HostRuntime) -> Result<(), Fail> {
-    let mut disk = late(rt.alloc(), memory(rt.alloc(), 4)?, 1)?;
-    let row = "
-        fill 0 1
-        fill 1 2
-        sync
-        fill 0 3
-        fill 2 4";
-    plays(&rt, "before the crash", &mut disk, row);
-
-    // Block 0 was written out, and not synced. Block 2 still waits.
-    let mut left = disk.into_inner().crash(&[(0, [9; 4096]), (2, [9; 4096])]);
-    plays(&rt, "after it", &mut left, "holds 0 1 2 3 -> 9 2 0 0");
-    Ok(())
+fn late_disk_holds_and_writes_out_what_waits(rt: HostRuntime) {
+    plays_rows(&rt, &ROWS);
 }

@@ -1,111 +1,127 @@
-//! What disks in memory hold after a few calls, and disks that fail some of them.
-use super::script::plays;
-use super::seen::{fused, memory, memory_with_room};
-use std::test::Fail;
-use vm_disk::{Disk, FuseDisk, MemDisk};
-use vm_types::Block;
+//! What disks in memory hold after a few calls and after crashes, and disks that fail some of the
+//! calls.
+use super::script::{Fails, Over, Row, plays_rows};
 
-/// Each row: its name, how many blocks the disk has and has room for, and its steps.
-const IN_MEMORY: [(&str, (u32, u32), &str); 5] = [
-    (
-        "gives back what was written",
-        (4, 4),
-        "
-        blocks -> 4
-        fill 2 7
-        holds 0 1 2 3 -> 0 0 7 0
-        hand 0 1 2 3 -> 0 0 7 0",
-    ),
-    (
-        "is dirty until a sync",
-        (4, 4),
-        "
-        fill 2 7
-        dirty 1 2 3 4 -> no yes no no
-        sync
-        dirty 2 -> no",
-    ),
-    (
-        "gets longer within its room",
-        (3, 6),
-        "
-        blocks -> 3
-        sure -> 3
-        fill 2 7
-        grow 5
-        blocks -> 5
-        sure -> 3
-        dirty 1 2 3 4 5 -> no yes yes yes no
-        fill 4 8
-        holds 1 2 3 4 -> 0 7 0 8
-        sync
-        blocks -> 5
-        sure -> 5
-        dirty 4 -> no",
-    ),
-    (
-        "gets no longer than its room",
-        (3, 6),
-        "
-        grow 7 -> fault
-        blocks -> 3
-        sure -> 3
-        grow 6
-        blocks -> 6",
-    ),
-    (
-        "gets no longer without room",
-        (3, 3),
-        "
-        grow 3
-        grow 4 -> fault
-        blocks -> 3",
-    ),
-];
-
-#[test]
-fn memory_holds_what_was_written(rt: HostRuntime) -> Result<(), Fail> {
-    for (name, (blocks, room), row) in &IN_MEMORY {
-        let mut disk = memory_with_room(rt.alloc(), *blocks, *room)?;
-        plays(&rt, name, &mut disk, row);
-    }
-    Ok(())
-}
-
-/// Played on a disk that fails once, and then on the disk in memory below.
-struct FuseRow {
-    name: &'static str,
-    /// How many blocks the disk in memory has, and has room for.
-    blocks: u32,
-    room: u32,
-    /// Which of its calls fails, by its number from 0 on.
-    fails: u32,
-    steps: &'static str,
-    below: &'static str,
-}
-
-const UNDER_A_FUSE: [FuseRow; 4] = [
-    FuseRow {
-        name: "a forgotten block is dirty, and holds other bytes",
+const ROWS: [Row; 11] = [
+    Row {
+        name: "gives back what was written",
+        blocks: 4,
+        room: 4,
+        fails: Fails::Uncounted,
+        over: Over::Nothing,
+        steps: "
+            blocks -> 4
+            fill 2 7
+            holds 0 1 2 3 -> 0 0 7 0
+            hand 0 1 2 3 -> 0 0 7 0",
+        below: "",
+    },
+    Row {
+        name: "is dirty until a sync",
+        blocks: 4,
+        room: 4,
+        fails: Fails::Uncounted,
+        over: Over::Nothing,
+        steps: "
+            fill 2 7
+            dirty 1 2 3 4 -> no yes no no
+            sync
+            dirty 2 -> no",
+        below: "",
+    },
+    Row {
+        name: "gets longer within its room",
+        blocks: 3,
+        room: 6,
+        fails: Fails::Uncounted,
+        over: Over::Nothing,
+        steps: "
+            blocks -> 3
+            sure -> 3
+            fill 2 7
+            grow 5
+            blocks -> 5
+            sure -> 3
+            dirty 1 2 3 4 5 -> no yes yes yes no
+            fill 4 8
+            holds 1 2 3 4 -> 0 7 0 8
+            sync
+            blocks -> 5
+            sure -> 5
+            dirty 4 -> no",
+        below: "",
+    },
+    Row {
+        name: "gets no longer than its room",
+        blocks: 3,
+        room: 6,
+        fails: Fails::Uncounted,
+        over: Over::Nothing,
+        steps: "
+            grow 7 -> fault
+            blocks -> 3
+            sure -> 3
+            grow 6
+            blocks -> 6",
+        below: "",
+    },
+    Row {
+        name: "gets no longer without room",
         blocks: 3,
         room: 3,
-        fails: 9,
+        fails: Fails::Uncounted,
+        over: Over::Nothing,
+        steps: "
+            grow 3
+            grow 4 -> fault
+            blocks -> 3",
+        below: "",
+    },
+    Row {
+        name: "a crash fills dirty blocks alone",
+        blocks: 4,
+        room: 4,
+        fails: Fails::Uncounted,
+        over: Over::Nothing,
+        steps: "
+            fill 0 1
+            sync
+            fill 1 2
+            fill 2 3
+            # Block 1 twice, block 0 though it is clean, and a number past the end.
+            crash 1=8 0=5 77=6 1=9
+            dirty 0 1 2 3 -> no no no no
+            holds 0 1 2 3 -> 1 9 3 0",
+        below: "",
+    },
+    Row {
+        name: "a crash may leave fewer blocks",
+        blocks: 2,
+        room: 6,
+        fails: Fails::Uncounted,
+        over: Over::Nothing,
         steps: "
             fill 1 7
             sync
-            forget 1
-            calls -> 2
-            dirty 0 1 2 -> no yes no
-            is 1 7 -> no
-            fill 1 8
-            holds 1 -> 8",
+            grow 5
+            fill 2 8
+            short 3 2=9 4=5
+            blocks -> 3
+            sure -> 3
+            holds 0 1 2 -> 0 7 9
+            grow 6
+            blocks -> 6
+            sure -> 3
+            crash 2=9 4=5
+            blocks -> 6",
         below: "",
     },
-    FuseRow {
+    Row {
         name: "blocks in a row are written as one by one",
         blocks: 5,
         room: 5,
-        fails: 4,
+        fails: Fails::Once(4),
+        over: Over::Nothing,
         steps: "
             run 1 6 7 8
             calls -> 3
@@ -116,11 +132,12 @@ const UNDER_A_FUSE: [FuseRow; 4] = [
             holds 0 1 2 3 4 -> 0 6 1 9 0",
         below: "",
     },
-    FuseRow {
+    Row {
         name: "a growing fails",
         blocks: 2,
         room: 4,
-        fails: 1,
+        fails: Fails::Once(1),
+        over: Over::Nothing,
         steps: "
             fill 1 7
             grow 4 -> fault
@@ -134,11 +151,12 @@ const UNDER_A_FUSE: [FuseRow; 4] = [
             holds 1 -> 7",
         below: "",
     },
-    FuseRow {
+    Row {
         name: "one write fails, and the disk goes on",
         blocks: 4,
         room: 4,
-        fails: 2,
+        fails: Fails::Once(2),
+        over: Over::Nothing,
         steps: "
             fill 1 7
             holds 1 -> 7
@@ -151,93 +169,26 @@ const UNDER_A_FUSE: [FuseRow; 4] = [
             calls -> 5",
         below: "holds 1 -> 9",
     },
+    Row {
+        name: "a disk stops",
+        blocks: 4,
+        room: 4,
+        fails: Fails::From(1),
+        over: Over::Nothing,
+        steps: "
+            fill 1 7
+            sync -> fault
+            holds 1 -> fault
+            hand 1 -> fault
+            fill 2 8 -> fault
+            calls -> 5",
+        below: "
+            dirty 1 2 3 -> yes yes no
+            holds 1 2 3 -> 7 9 0",
+    },
 ];
 
 #[test]
-fn fuse_fails_one_call_and_goes_on(rt: HostRuntime) -> Result<(), Fail> {
-    for row in &UNDER_A_FUSE {
-        let memory = memory_with_room(rt.alloc(), row.blocks, row.room)?;
-        let mut disk = fused(memory, row.fails, [9; 4096])?;
-        plays(&rt, row.name, &mut disk, row.steps);
-        plays(&rt, row.name, &mut disk.into_inner(), row.below);
-    }
-    Ok(())
-}
-
-#[test]
-fn fuse_stops(rt: HostRuntime) -> Result<(), Fail> {
-    let mut disk = FuseDisk::stop(memory(rt.alloc(), 4)?, 1, [9; 4096]);
-    let row = "
-        fill 1 7
-        sync -> fault
-        holds 1 -> fault
-        hand 1 -> fault
-        fill 2 8 -> fault
-        calls -> 5";
-    plays(&rt, "the fuse", &mut disk, row);
-    let left = "
-        dirty 1 2 3 -> yes yes no
-        holds 1 2 3 -> 7 9 0";
-    plays(&rt, "the disk below", &mut disk.into_inner(), left);
-    Ok(())
-}
-
-#[test]
-fn crash_fills_dirty_blocks_alone(rt: HostRuntime) -> Result<(), Fail> {
-    let mut disk = memory(rt.alloc(), 4)?;
-    let row = "
-        fill 0 1
-        sync
-        fill 1 2
-        fill 2 3";
-    plays(&rt, "before the crash", &mut disk, row);
-
-    // Block 1 twice, block 0 though it is clean, and a number past the end.
-    let entries = [
-        (1, [8; 4096]),
-        (0, [5; 4096]),
-        (77, [6; 4096]),
-        (1, [9; 4096]),
-    ];
-    let row = "
-        dirty 0 1 2 3 -> no no no no
-        holds 0 1 2 3 -> 1 9 3 0";
-    plays(&rt, "after it", &mut disk.crash(&entries), row);
-    Ok(())
-}
-
-/// The disk after a crash that leaves this many blocks, if it may.
-fn left_with(disk: MemDisk, entries: &[(u32, Block)], blocks: u32) -> Result<MemDisk, Fail> {
-    if disk.sure() <= blocks && blocks <= disk.blocks() {
-        return Ok(disk.crash_short(entries, blocks));
-    }
-    Err(Fail::new("not left"))
-}
-
-#[test]
-fn crash_may_leave_fewer_blocks(rt: HostRuntime) -> Result<(), Fail> {
-    let mut disk = memory_with_room(rt.alloc(), 2, 6)?;
-    let row = "
-        fill 1 7
-        sync
-        grow 5
-        fill 2 8";
-    plays(&rt, "before the crash", &mut disk, row);
-    let entries = [(2, [9; 4096]), (4, [5; 4096])];
-    let mut left = left_with(disk, &entries, 3)?;
-    let row = "
-        blocks -> 3
-        sure -> 3
-        holds 0 1 2 -> 0 7 9
-        grow 6
-        blocks -> 6
-        sure -> 3";
-    plays(&rt, "after it", &mut left, row);
-    plays(
-        &rt,
-        "after the next",
-        &mut left.crash(&entries),
-        "blocks -> 6",
-    );
-    Ok(())
+fn disk_in_memory_holds_what_was_written(rt: HostRuntime) {
+    plays_rows(&rt, &ROWS);
 }

@@ -1,5 +1,5 @@
 //! Disks over files: over one in memory, byte by byte, and over files of the system.
-use super::script::plays;
+use super::script::plays_on;
 use std::alloc::{AllocError, Global};
 use std::fs;
 use std::marker::Brand;
@@ -127,52 +127,105 @@ fn numbered(alloc: Global, count: usize) -> Result<Bytes, AllocError> {
     })
 }
 
-/// The disk over such a file.
-fn over_numbered(alloc: Global, count: usize) -> Result<FileDisk<Bytes>, Fail> {
-    FileDisk::open(numbered(alloc, count)?).map_err(|_| Fail::new("no disk"))
+/// Played on the disk over a file of numbered blocks.
+struct Row {
+    name: &'static str,
+    /// How many bytes the file has, and has room for.
+    bytes: usize,
+    room: usize,
+    steps: &'static str,
+    /// How many bytes it has then, and some of these.
+    left: usize,
+    holds: &'static [(usize, u8)],
 }
 
-/// Plays a text on the disk over such a file, and returns what the file holds then.
-fn on_numbered<R: AllocGlobal + Abort>(rt: &R, count: usize, text: &str) -> Vec<u8> {
-    match over_numbered(rt.alloc(), count) {
-        Ok(mut disk) => {
-            plays(rt, "over numbered blocks", &mut disk, text);
-            disk.into_file().bytes
-        }
-        Err(_) => panic!(rt; "no disk"),
+const ROWS: [Row; 4] = [
+    Row {
+        name: "reads and writes at its offsets",
+        bytes: 12298,
+        room: 12298,
+        steps: "
+            blocks -> 3
+            holds 0 1 2 -> 1 2 3
+            fill 1 7
+            sync
+            holds 1 -> 7
+            hand 0 1 2 -> 1 7 3",
+        left: 12298,
+        holds: &[(4095, 1), (4096, 7), (8191, 7), (8192, 3), (12297, 4)],
+    },
+    Row {
+        name: "writes blocks in a row at their offsets",
+        bytes: 5 * 4096,
+        room: 5 * 4096,
+        steps: "
+            run 1 7 8 9
+            holds 0 1 2 3 4 -> 1 7 8 9 5",
+        left: 5 * 4096,
+        holds: &[],
+    },
+    Row {
+        name: "gets longer",
+        bytes: 12298,
+        room: 81920,
+        steps: "
+            grow 20
+            blocks -> 20
+            fill 19 7
+            holds 0 2 3 18 19 -> 1 3 0 0 7",
+        left: 81920,
+        holds: &[],
+    },
+    Row {
+        name: "keeps its blocks where there is no room",
+        bytes: 12288,
+        room: 30 * 4096,
+        steps: "
+            grow 36 -> fault
+            blocks -> 3
+            grow 30
+            holds 18 -> 0
+            blocks -> 30",
+        left: 30 * 4096,
+        holds: &[],
+    },
+];
+
+/// Plays a row.
+fn plays_row<R: AllocGlobal + Abort>(rt: &R, row: &Row) -> Result<(), Fail> {
+    let mut file = numbered(rt.alloc(), row.bytes)?;
+    file.room = row.room;
+    let Ok(disk) = FileDisk::open(file) else {
+        panic!(rt; "{}: no disk", row.name);
+    };
+    let disk = plays_on(rt, row.name, "in memory", disk, row.steps);
+    let bytes = disk.into_file().bytes;
+    assert_eq!(rt; bytes.len(), row.left, "{}", row.name);
+    for (at, byte) in row.holds {
+        assert_eq!(rt;
+            bytes.get(*at).copied(),
+            Some(*byte),
+            "{}, byte {at}",
+            row.name
+        );
     }
+    Ok(())
 }
 
 #[test]
-fn file_reads_and_writes_at_its_offsets(rt: HostRuntime) {
-    let row = "
-        blocks -> 3
-        holds 0 1 2 -> 1 2 3
-        fill 1 7
-        sync
-        holds 1 -> 7
-        hand 0 1 2 -> 1 7 3";
-    let bytes = on_numbered(&rt, 12298, row);
-    for (at, byte) in [(4095, 1), (4096, 7), (8191, 7), (8192, 3), (12297, 4)] {
-        assert_eq!(rt; bytes.get(at).copied(), Some(byte), "byte {at}");
+fn file_reads_and_writes_at_its_offsets(rt: HostRuntime) -> Result<(), Fail> {
+    for row in &ROWS {
+        plays_row(&rt, row)?;
     }
-    assert_eq!(rt; bytes.len(), 12298);
-}
-
-#[test]
-fn file_writes_blocks_in_a_row_at_their_offsets(rt: HostRuntime) {
-    let row = "
-        run 1 7 8 9
-        holds 0 1 2 3 4 -> 1 7 8 9 5";
-    assert_eq!(rt; on_numbered(&rt, 5 * 4096, row).len(), 5 * 4096);
+    Ok(())
 }
 
 #[test]
 fn file_is_made_of_zero_blocks(rt: HostRuntime) -> Result<(), Fail> {
-    let Ok(mut disk) = FileDisk::create(numbered(rt.alloc(), 0)?, 17) else {
+    let Ok(disk) = FileDisk::create(numbered(rt.alloc(), 0)?, 17) else {
         panic!(rt; "no disk");
     };
-    plays(&rt, "of 17 blocks", &mut disk, "blocks -> 17");
+    let disk = plays_on(&rt, "of 17 blocks", "in memory", disk, "blocks -> 17");
     let file = disk.into_file();
     assert_eq!(rt; file.bytes.len(), 69632);
     assert!(rt; file.bytes.iter().all(|byte| *byte == 0));
@@ -180,37 +233,9 @@ fn file_is_made_of_zero_blocks(rt: HostRuntime) -> Result<(), Fail> {
 }
 
 #[test]
-fn file_gets_longer(rt: HostRuntime) {
-    let row = "
-        grow 20
-        blocks -> 20
-        fill 19 7
-        holds 0 2 3 18 19 -> 1 3 0 0 7";
-    assert_eq!(rt; on_numbered(&rt, 12298, row).len(), 81920);
-}
-
-#[test]
-fn file_without_room_keeps_its_blocks(rt: HostRuntime) -> Result<(), Fail> {
-    let mut file = numbered(rt.alloc(), 12288)?;
-    file.room = 30 * 4096;
-    let Ok(mut disk) = FileDisk::open(file) else {
-        panic!(rt; "no disk");
-    };
-    let row = "
-        grow 36 -> fault
-        blocks -> 3
-        grow 30
-        holds 18 -> 0
-        blocks -> 30";
-    plays(&rt, "without room", &mut disk, row);
-    Ok(())
-}
-
-#[test]
 fn file_that_fails(rt: HostRuntime) -> Result<(), Fail> {
     let mut file = numbered(rt.alloc(), 4096)?;
     file.fails = true;
-    let mut disk = FileDisk::over(file, 1);
     let row = "
         holds 0 -> fault
         hand 0 -> fault
@@ -218,7 +243,13 @@ fn file_that_fails(rt: HostRuntime) -> Result<(), Fail> {
         sync -> fault
         grow 2 -> fault
         blocks -> 1";
-    plays(&rt, "each call fails", &mut disk, row);
+    let disk = plays_on(
+        &rt,
+        "each call fails",
+        "in memory",
+        FileDisk::over(file, 1),
+        row,
+    );
     let file = disk.into_file();
     assert_eq!(rt; file.bytes.get(0).copied(), Some(1));
     let Err(file) = FileDisk::open(file) else {
@@ -270,18 +301,15 @@ fn is_opened_to_read(rt: &HostRuntime, path: &str) -> bool {
 fn system_file_holds_what_was_written(rt: HostRuntime) -> Result<(), Fail> {
     let path = "vm_disk_system_file_test";
     let _ = fs::remove_file(&rt, path);
-    let mut disk = made(&rt, path)?;
     let row = "
         fill 16 7
         run 4 1 2 3
-        forget 6
         sync";
-    plays(&rt, "as it is made", &mut disk, row);
-    let _ = disk.into_file();
+    let _made = plays_on(&rt, "a file", "as it is made", made(&rt, path)?, row);
     let again = "
         blocks -> 17
-        holds 0 3 4 5 7 15 16 -> 0 0 1 2 0 0 7";
-    plays(&rt, "opened again", &mut opened(&rt, path)?, again);
+        holds 0 3 4 5 6 7 15 16 -> 0 0 1 2 3 0 0 7";
+    let _again = plays_on(&rt, "a file", "opened again", opened(&rt, path)?, again);
     fs::remove_file(&rt, path)?;
     Ok(())
 }
@@ -297,7 +325,13 @@ fn system_file_opened_to_read_is_never_written(rt: HostRuntime) -> Result<(), Fa
         run 0 4 5 6 -> fault
         sync
         holds 1 -> 7";
-    plays(&rt, "opened to read", &mut opened_to_read(&rt, path)?, row);
+    let _disk = plays_on(
+        &rt,
+        "a file",
+        "opened to read",
+        opened_to_read(&rt, path)?,
+        row,
+    );
     fs::remove_file(&rt, path)?;
     assert!(rt; !is_opened_to_read(&rt, path));
     for path in [".", "/dev/null"] {

@@ -5,7 +5,7 @@ use vm_block::{
     Child, Way, child_at, divide_child, divide_in_three, find_child, is_leaf, lowest_key,
     node_size, read_node, records_len, set_child, write_node,
 };
-use vm_types::Block;
+use vm_types::{Block, Key};
 
 fn child(table: u16, number: u64, block: u32) -> Child {
     Child {
@@ -24,25 +24,22 @@ fn has(block: &Block, level: u8, children: &[Child]) -> bool {
 
 #[test]
 fn inner_block_is_spelled_and_read(rt: HostRuntime) {
+    let two =
+        b"NODE\x01\0\0\0\x02\0\0\0\0\0\0\0\x01\0\x01\0\0\0\0\0\0\0\x23\0\0\0\x01\0\x0a\0\0\0\0\0\0\0\x24";
     let children = [child(1, 1, 35), child(1, 10, 36)];
     let mut block = [7; 4096];
     write_node(1, &children, &mut block);
-    let due =
-        b"NODE\x01\0\0\0\x02\0\0\0\0\0\0\0\x01\0\x01\0\0\0\0\0\0\0\x23\0\0\0\x01\0\x0a\0\0\0\0\0\0\0\x24";
-    assert!(rt; is_block(&block, due));
+    assert!(rt; is_block(&block, two));
     assert!(rt; has(&block, 1, &children));
     assert!(rt; !is_leaf(&block));
     assert!(rt; node_size(&block) == Some((1, 2)));
     assert!(rt; records_len(&block) == 0);
     assert!(rt; child_at(&block, 1) == child(1, 10, 36));
-}
 
-#[test]
-fn inner_block_with_one_child_is_read(rt: HostRuntime) {
+    let one = b"NODE\x01\0\0\0\x01\0\0\0\0\0\0\0\x01\0\x01\0\0\0\0\0\0\0\x22";
     let mut block = [7; 4096];
     write_node(1, &[child(1, 1, 34)], &mut block);
-    let due = b"NODE\x01\0\0\0\x01\0\0\0\0\0\0\0\x01\0\x01\0\0\0\0\0\0\0\x22";
-    assert!(rt; is_block(&block, due));
+    assert!(rt; is_block(&block, one));
     assert!(rt; read_node(&block).is_some());
 }
 
@@ -105,82 +102,86 @@ fn descent_goes_to_the_last_child_that_is_not_above(rt: HostRuntime) {
     assert!(rt; find_child(&block, key(2, 8)).is_none(), "no child");
 }
 
-#[test]
-fn child_is_replaced_where_it_stands(rt: HostRuntime) {
-    let old = child(1, 5, 35);
-    let new = child(1, 4, 99);
-    let mut block = [0; 4096];
-    let mut written = [7; 4096];
-    write_node(1, &[old, old, old], &mut block);
-    write_node(1, &[old, new, old], &mut written);
-    set_child(&mut block, 1, new);
-    assert!(rt; block == written);
+const OLD: Child = Child {
+    low: Key {
+        table: 1,
+        number: 5,
+    },
+    block: 35,
+};
+
+const LEFT: Child = Child {
+    low: Key {
+        table: 1,
+        number: 4,
+    },
+    block: 99,
+};
+
+const MIDDLE: Child = Child {
+    low: Key {
+        table: 1,
+        number: 6,
+    },
+    block: 101,
+};
+
+const RIGHT: Child = Child {
+    low: Key {
+        table: 1,
+        number: 7,
+    },
+    block: 100,
+};
+
+/// Which of three children becomes others, which these are, and the children then.
+const ROWS: [(usize, &[Child], &[Child]); 7] = [
+    (1, &[LEFT], &[OLD, LEFT, OLD]),
+    (0, &[LEFT, RIGHT], &[LEFT, RIGHT, OLD, OLD]),
+    (1, &[LEFT, RIGHT], &[OLD, LEFT, RIGHT, OLD]),
+    (2, &[LEFT, RIGHT], &[OLD, OLD, LEFT, RIGHT]),
+    (0, &[LEFT, MIDDLE, RIGHT], &[LEFT, MIDDLE, RIGHT, OLD, OLD]),
+    (1, &[LEFT, MIDDLE, RIGHT], &[OLD, LEFT, MIDDLE, RIGHT, OLD]),
+    (2, &[LEFT, MIDDLE, RIGHT], &[OLD, OLD, LEFT, MIDDLE, RIGHT]),
+];
+
+/// Puts others in the place of a child of an inner block of `count` children.
+fn divide(rt: &impl Abort, block: &mut Block, count: usize, index: usize, others: &[Child]) {
+    assert!(rt; index < count && count < 256);
+    match others {
+        [other] => set_child(block, index, *other),
+        [left, right] => divide_child(block, count, index, *left, *right),
+        [left, middle, right] if count < 255 => {
+            divide_in_three(block, count, index, *left, *middle, *right);
+        }
+        _ => panic!(rt; "{} others", others.len()),
+    }
 }
 
-#[test]
-fn child_becomes_two_where_it_stands(rt: HostRuntime) {
-    let old = child(1, 5, 35);
-    let left = child(1, 4, 99);
-    let right = child(1, 6, 100);
-    for (index, wanted) in [
-        (0, [left, right, old, old]),
-        (1, [old, left, right, old]),
-        (2, [old, old, left, right]),
-    ] {
+/// Puts others in the place of one of these children, which must be those after it then.
+fn plays(rt: &impl Abort, before: &[Child], index: usize, others: &[Child], after: &[Child]) {
+    let count = before.len();
+    assert!(rt; count <= 256 && after.len() <= 256);
+    for level in [1, 7] {
         let mut block = [0; 4096];
         let mut written = [7; 4096];
-        write_node(7, &[old, old, old], &mut block);
-        write_node(7, &wanted, &mut written);
-        divide_child(&mut block, 3, index, left, right);
-        assert!(rt; block == written);
+        write_node(level, before, &mut block);
+        write_node(level, after, &mut written);
+        divide(rt, &mut block, count, index, others);
+        let made = others.len();
+        assert!(rt; block == written, "{index} of {count} becomes {made}");
     }
 }
 
 #[test]
-fn last_of_255_children_becomes_two(rt: HostRuntime) {
-    let old = child(1, 5, 35);
-    let new = child(1, 6, 100);
-    let mut children = [old; 256];
-    let mut block = [0; 4096];
-    let mut written = [7; 4096];
-    write_node(1, &children[..255], &mut block);
-    children[255] = new;
-    write_node(1, &children, &mut written);
-    divide_child(&mut block, 255, 254, old, new);
-    assert!(rt; block == written);
-}
-
-#[test]
-fn child_becomes_three_where_it_stands(rt: HostRuntime) {
-    let old = child(1, 5, 35);
-    let left = child(1, 4, 99);
-    let middle = child(1, 6, 101);
-    let right = child(1, 7, 100);
-    for (index, wanted) in [
-        (0, [left, middle, right, old, old]),
-        (1, [old, left, middle, right, old]),
-        (2, [old, old, left, middle, right]),
-    ] {
-        let mut block = [0; 4096];
-        let mut written = [7; 4096];
-        write_node(7, &[old, old, old], &mut block);
-        write_node(7, &wanted, &mut written);
-        divide_in_three(&mut block, 3, index, left, middle, right);
-        assert!(rt; block == written);
+fn child_becomes_others_where_it_stands(rt: HostRuntime) {
+    for (index, others, after) in &ROWS {
+        plays(&rt, &[OLD; 3], *index, others, after);
     }
-}
-
-#[test]
-fn last_of_254_children_becomes_three(rt: HostRuntime) {
-    let old = child(1, 5, 35);
-    let (middle, right) = (child(1, 6, 100), child(1, 7, 101));
-    let mut children = [old; 256];
-    let mut block = [0; 4096];
-    let mut written = [7; 4096];
-    write_node(1, &children[..254], &mut block);
-    children[254] = middle;
-    children[255] = right;
-    write_node(1, &children, &mut written);
-    divide_in_three(&mut block, 254, 253, old, middle, right);
-    assert!(rt; block == written);
+    // The last of as many as there is room for.
+    let mut after = [OLD; 256];
+    after[255] = RIGHT;
+    plays(&rt, &[OLD; 255], 254, &[OLD, RIGHT], &after);
+    after[254] = MIDDLE;
+    plays(&rt, &[OLD; 254], 253, &[OLD, MIDDLE, RIGHT], &after);
 }

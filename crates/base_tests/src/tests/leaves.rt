@@ -7,21 +7,6 @@ use vm_block::{
 };
 use vm_types::Block;
 
-#[test]
-fn leaf_is_spelled_and_read(rt: HostRuntime) {
-    let mut block = [7; 4096];
-    first_record(key(7, 1), b"duct", &mut block);
-    let due = b"LEF3\0\0\0\0\x01\0\0\0\0\0\0\0\x07\0\x01\0\0\0\0\0\0\0\x04\0duct";
-    assert!(rt; is_block(&block, due));
-    assert!(rt; is_leaf(&block));
-    assert!(rt; read_node(&block).is_none());
-    assert!(rt; node_size(&block).is_none());
-    assert!(rt; records_len(&block) == 1);
-    assert!(rt; record_key(&block, 0) == key(7, 1));
-    assert!(rt; record_value(&block, 0) == b"duct".as_slice());
-    assert!(rt; lowest_key(&block) == key(7, 1));
-}
-
 /// The bytes of a leaf of three records: an entry for each, which ends with where its value ends
 /// among the values, and then the values.
 const THREE: &[u8; 60] = b"LEF3\0\0\0\0\x03\0\0\0\0\0\0\0\
@@ -38,7 +23,20 @@ fn three() -> Block {
 }
 
 #[test]
-fn values_stand_behind_the_entries(rt: HostRuntime) {
+fn leaf_is_spelled_and_read(rt: HostRuntime) {
+    let mut block = [7; 4096];
+    first_record(key(7, 1), b"duct", &mut block);
+    let due = b"LEF3\0\0\0\0\x01\0\0\0\0\0\0\0\x07\0\x01\0\0\0\0\0\0\0\x04\0duct";
+    assert!(rt; is_block(&block, due));
+    assert!(rt; is_leaf(&block));
+    assert!(rt; read_node(&block).is_none());
+    assert!(rt; node_size(&block).is_none());
+    assert!(rt; records_len(&block) == 1);
+    assert!(rt; record_key(&block, 0) == key(7, 1));
+    assert!(rt; record_value(&block, 0) == b"duct".as_slice());
+    assert!(rt; lowest_key(&block) == key(7, 1));
+
+    // Values stand behind the entries.
     let mut block = [7; 4096];
     first_record(key(8, 0), b"pipe", &mut block);
     assert!(rt; put_record(&mut block, key(7, 1), b"duct") == Placed::Put);
@@ -81,6 +79,14 @@ fn is_refused_with(rt: &impl Abort, at: usize, byte: u8) -> bool {
     !is_leaf(&block)
 }
 
+/// Whether a leaf of one value of 4,000 bytes is one with this length.
+fn is_leaf_with(len: u16) -> bool {
+    let mut block = [0; 4096];
+    first_record(key(7, 1), &[b'a'; 4000], &mut block);
+    block[26..28].copy_from_slice(&len.to_le_bytes());
+    is_leaf(&block)
+}
+
 #[test]
 fn bytes_that_are_no_leaf_are_refused(rt: HostRuntime) {
     assert!(rt; !is_refused_with(&rt, 52, b'D'), "another value");
@@ -107,18 +113,7 @@ fn bytes_that_are_no_leaf_are_refused(rt: HostRuntime) {
     ] {
         assert!(rt; is_refused_with(&rt, at, byte), "{why}");
     }
-}
-
-/// Whether a leaf of one value of 4,000 bytes is one with this length.
-fn is_leaf_with(len: u16) -> bool {
-    let mut block = [0; 4096];
-    first_record(key(7, 1), &[b'a'; 4000], &mut block);
-    block[26..28].copy_from_slice(&len.to_le_bytes());
-    is_leaf(&block)
-}
-
-#[test]
-fn value_of_a_leaf_has_up_to_4000_bytes(rt: HostRuntime) {
+    // A value has up to 4,000 bytes.
     assert!(rt; is_leaf_with(4000));
     assert!(rt; !is_leaf_with(4001), "a byte more");
     assert!(rt; !is_leaf_with(3999), "a byte behind the value");
@@ -152,10 +147,8 @@ fn record_is_put_where_it_belongs(rt: HostRuntime) {
     assert!(rt; lowest_key(&block) == key(7, 1));
     assert!(rt; is_found(&block, 9, b"pipe"));
     assert!(rt; find_record(&block, key(7, 8)) == Look::Missing(2));
-}
 
-#[test]
-fn copy_has_the_record_and_the_leaf_is_as_it_was(rt: HostRuntime) {
+    // A copy has the record, and the leaf is as it was.
     let old = three();
     let mut new = [7; 4096];
     assert!(rt; put_into(&old, key(7, 2), b"trench", &mut new) == Placed::Put);

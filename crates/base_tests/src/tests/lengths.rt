@@ -3,16 +3,6 @@ use super::spelled::{Lengths, key, leaf_of, put_len, spelled};
 use std::process::Abort;
 use vm_block::{Placed, Taken, is_leaf, record_value, records_len, remove_record};
 
-#[test]
-fn value_of_each_length_is_spelled_and_read(rt: HostRuntime) {
-    for len in [0, 1, 240, 241, 4000] {
-        let block = leaf_of(&rt, &[(1, len)]);
-        assert!(rt; block == spelled(&[(1, len)]), "{len}");
-        assert!(rt; is_leaf(&block), "{len}");
-        assert!(rt; record_value(&block, 0).len() == len, "{len}");
-    }
-}
-
 /// The records of a leaf, a number and a length that are put into it, and the records then, none
 /// if the leaf has no room.
 type Row = (&'static str, Lengths, (u64, usize), Lengths);
@@ -121,7 +111,13 @@ fn plays(rt: &impl Abort, row: &Row) {
 }
 
 #[test]
-fn values_grow_and_shrink_where_they_are(rt: HostRuntime) {
+fn values_of_each_length_are_spelled_and_grow_and_shrink(rt: HostRuntime) {
+    for len in [0, 1, 240, 241, 4000] {
+        let block = leaf_of(&rt, &[(1, len)]);
+        assert!(rt; block == spelled(&[(1, len)]), "{len}");
+        assert!(rt; is_leaf(&block), "{len}");
+        assert!(rt; record_value(&block, 0).len() == len, "{len}");
+    }
     for row in &ROWS {
         plays(&rt, row);
     }

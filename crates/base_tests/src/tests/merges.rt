@@ -18,23 +18,6 @@ fn value(byte: u8) -> Value {
     Value::new(&[byte]).unwrap_or_default()
 }
 
-/// A change of a key of table 1, of values of one byte.
-fn change(number: u64, before: Option<u8>, after: Option<u8>) -> Change {
-    Change {
-        key: key(number),
-        before: before.map(value),
-        after: after.map(value),
-    }
-}
-
-fn mine(number: u64) -> (Key, Side) {
-    (key(number), Side::Mine)
-}
-
-fn theirs(number: u64) -> (Key, Side) {
-    (key(number), Side::Theirs)
-}
-
 /// A record that both sides added.
 fn conflict(number: u64) -> Conflict {
     Conflict {
@@ -43,24 +26,6 @@ fn conflict(number: u64) -> Conflict {
         parent: Some(value(b'p')),
         mine: Some(value(b'm')),
     }
-}
-
-/// The keys 2, 4 and 6, by rising keys.
-fn rising() -> [Key; 3] {
-    [key(2), key(4), key(6)]
-}
-
-/// A packed list of these changes.
-fn packed(alloc: Global, changes: &[Change]) -> Result<Changes, AllocError> {
-    let mut list = Changes::new(alloc);
-    for change in changes {
-        list.push(
-            change.key,
-            change.before.as_ref().map(|value| value.as_bytes()),
-            change.after.as_ref().map(|value| value.as_bytes()),
-        )?;
-    }
-    Ok(list)
 }
 
 /// The keys in conflict, by their numbers in table 1: by rising keys, and in another order.
@@ -106,16 +71,22 @@ const TWICE: [(&[(u64, Side)], &[u64], u64); 4] = [
     (&[(3, Mine), (4, Mine), (4, Mine)], MIXED, 4),
 ];
 
+/// Settlements of keys of table 1.
+fn sides(alloc: Global, settled: &[(u64, Side)]) -> Result<Vec<(Key, Side)>, AllocError> {
+    let mut sides = Vec::new(alloc);
+    for (number, side) in settled {
+        sides.push((key(*number), *side))?;
+    }
+    Ok(sides)
+}
+
 /// Why these settlements are refused if these keys are in conflict.
 fn refusal(
     alloc: Global,
     settled: &[(u64, Side)],
     conflicts: &[u64],
 ) -> Result<Option<Refusal>, AllocError> {
-    let mut sides = Vec::new(alloc);
-    for (number, side) in settled {
-        sides.push((key(*number), *side))?;
-    }
+    let sides = sides(alloc, settled)?;
     let mut keys = Vec::new(alloc);
     for number in conflicts {
         keys.push(key(*number))?;
@@ -153,110 +124,142 @@ fn settlements_are_taken_or_refused(rt: HostRuntime) {
     }
 }
 
+/// Changes of keys of table 1, each with its values of one byte before and after.
+type Edits = &'static [(u64, Option<u8>, Option<u8>)];
+
 /// What the parent changed since a base, and what the alternative did.
-fn both_sides(alloc: Global) -> Result<(Changes, Changes), AllocError> {
-    let parent: [Change; 5] = [
-        change(1, None, Some(b'p')),
-        change(2, Some(b'b'), Some(b'p')),
-        change(4, Some(b'b'), None),
-        change(6, None, Some(b'p')),
-        change(7, None, Some(b'p')),
-    ];
-    let own: [Change; 5] = [
-        change(2, Some(b'b'), Some(b'm')),
-        change(4, Some(b'b'), Some(b'm')),
-        change(5, Some(b'b'), None),
-        change(6, None, Some(b'm')),
-        change(7, None, Some(b'p')),
-    ];
-    Ok((packed(alloc, &parent)?, packed(alloc, &own)?))
+const PARENT: Edits = &[
+    (1, None, Some(b'p')),
+    (2, Some(b'b'), Some(b'p')),
+    (4, Some(b'b'), None),
+    (6, None, Some(b'p')),
+    (7, None, Some(b'p')),
+];
+
+const OWN: Edits = &[
+    (2, Some(b'b'), Some(b'm')),
+    (4, Some(b'b'), Some(b'm')),
+    (5, Some(b'b'), None),
+    (6, None, Some(b'm')),
+    (7, None, Some(b'p')),
+];
+
+const ADDED: Edits = &[(1, None, Some(b'p'))];
+
+const REMOVED: Edits = &[(5, Some(b'b'), None)];
+
+fn change(number: u64, before: Option<u8>, after: Option<u8>) -> Change {
+    Change {
+        key: key(number),
+        before: before.map(value),
+        after: after.map(value),
+    }
+}
+
+/// A packed list of these changes.
+fn packed(alloc: Global, edits: Edits) -> Result<Changes, AllocError> {
+    let mut list = Changes::new(alloc);
+    for (number, before, after) in edits {
+        let change = change(*number, *before, *after);
+        list.push(
+            change.key,
+            change.before.as_ref().map(|value| value.as_bytes()),
+            change.after.as_ref().map(|value| value.as_bytes()),
+        )?;
+    }
+    Ok(list)
+}
+
+/// Whether these are the changes of a list.
+fn are(changes: &[Change], due: Edits) -> bool {
+    for (i, (number, before, after)) in due.iter().enumerate() {
+        if changes.get(i).copied() != Some(change(*number, *before, *after)) {
+            return false;
+        }
+    }
+    changes.len() == due.len()
 }
 
 #[test]
 fn finds_the_conflicts_and_their_keys(rt: HostRuntime) -> Result<(), Fail> {
-    let (parent, own) = both_sides(rt.alloc())?;
+    let (parent, own) = (packed(rt.alloc(), PARENT)?, packed(rt.alloc(), OWN)?);
     let conflicts = conflicts_between(rt.alloc(), &parent, &own)?;
     assert_eq!(rt; conflicts.len(), 3);
     assert!(rt; conflicts.at(2) == Some(conflict(6)));
     let keys = keys_in_conflict(rt.alloc(), &parent, &own)?;
-    assert!(rt; keys.as_slice() == rising().as_slice());
+    assert!(rt; keys.as_slice() == [key(2), key(4), key(6)].as_slice());
     Ok(())
 }
 
-/// Whether a merge with these settlements begins with the map of this side and makes these changes
-/// in it, and changes this many records of the alternative.
-fn plans(
-    alloc: Global,
-    sides: &(Changes, Changes),
-    settled: &[(Key, Side)],
-    start: Side,
-    changes: &[Change],
-    edits: usize,
-) -> Result<bool, Fail> {
-    let (parent, own) = sides;
-    let plan = plan_merge(alloc, parent, own, settled)?;
-    Ok(
-        plan.start == start
-            && plan.edits == edits
-            && plan.changes.to_vec(alloc)?.as_slice() == changes,
-    )
+/// What both sides changed, how the conflicts are settled, with the map of which side a merge
+/// begins, the changes that it makes in it, and how many records of the alternative it changes.
+type Plan = (Edits, Edits, &'static [(u64, Side)], Side, Edits, usize);
+
+/// The alternative removed key 5, and keeps its value at 6.
+const KEPT: Edits = &[(5, Some(b'b'), None), (6, Some(b'p'), Some(b'm'))];
+
+const PLANS: [Plan; 8] = [
+    // Three records come in, and two stay.
+    (
+        PARENT,
+        OWN,
+        &[(2, Theirs), (4, Theirs), (6, Mine)],
+        Theirs,
+        KEPT,
+        3,
+    ),
+    (
+        PARENT,
+        OWN,
+        &[(6, Mine), (4, Theirs), (2, Theirs)],
+        Theirs,
+        KEPT,
+        3,
+    ),
+    (
+        PARENT,
+        OWN,
+        &[(4, Theirs), (6, Mine), (2, Theirs)],
+        Theirs,
+        KEPT,
+        3,
+    ),
+    // One record comes in, and four stay.
+    (
+        PARENT,
+        OWN,
+        &[(2, Mine), (4, Mine), (6, Mine)],
+        Mine,
+        ADDED,
+        1,
+    ),
+    // The sides are equal, and one side changed nothing.
+    (ADDED, REMOVED, &[], Theirs, REMOVED, 1),
+    (ADDED, ADDED, &[], Theirs, &[], 0),
+    (&[], ADDED, &[], Mine, &[], 0),
+    (ADDED, &[], &[], Theirs, &[], 1),
+];
+
+fn expect_plan<R: AllocGlobal + Abort>(rt: &R, row: usize, plan: &Plan) -> Result<(), Fail> {
+    let (parent, own, settled, start, changes, edits) = *plan;
+    let (parent, own) = (packed(rt.alloc(), parent)?, packed(rt.alloc(), own)?);
+    let settled = sides(rt.alloc(), settled)?;
+    let keys = keys_in_conflict(rt.alloc(), &parent, &own)?;
+    assert!(rt;
+        settled_refusal(rt.alloc(), &settled, &keys).is_none(),
+        "row {row}"
+    );
+    let plan = plan_merge(rt.alloc(), &parent, &own, &settled)?;
+    assert!(rt; plan.start == start && plan.edits == edits, "row {row}");
+    let made = plan.changes.to_vec(rt.alloc())?;
+    assert!(rt; are(&made, changes), "row {row}: {made:?}");
+    Ok(())
 }
 
-// Three records come in, and two stay: the alternative removed key 5, and keeps its value at 6.
 #[test]
-fn merge_keeps_the_own_changes_in_the_parents_map(rt: HostRuntime) -> Result<(), Fail> {
-    let sides = both_sides(rt.alloc())?;
-    let kept: [Change; 2] = [
-        change(5, Some(b'b'), None),
-        change(6, Some(b'p'), Some(b'm')),
-    ];
-    for settled in [
-        [theirs(2), theirs(4), mine(6)],
-        [mine(6), theirs(4), theirs(2)],
-        [theirs(4), mine(6), theirs(2)],
-    ] {
-        assert!(rt; settled_refusal(rt.alloc(), &settled, &rising()).is_none());
-        assert!(rt; plans(rt.alloc(), &sides, &settled, Theirs, &kept, 3)?);
+fn merge_begins_with_one_map_and_makes_the_fewer_changes(rt: HostRuntime) -> Result<(), Fail> {
+    for (row, plan) in PLANS.iter().enumerate() {
+        expect_plan(&rt, row, plan)?;
     }
-    Ok(())
-}
-
-// One record comes in, and four stay.
-#[test]
-fn merge_takes_the_parents_changes_in_the_own_map(rt: HostRuntime) -> Result<(), Fail> {
-    let sides = both_sides(rt.alloc())?;
-    let settled = [mine(2), mine(4), mine(6)];
-    let taken = [change(1, None, Some(b'p'))];
-    assert!(rt; plans(rt.alloc(), &sides, &settled, Mine, &taken, 1)?);
-    Ok(())
-}
-
-/// Whether a merge of these changes of both sides, none of them in conflict, begins with the map of
-/// this side and makes these changes in it, and changes this many records of the alternative.
-fn plans_of(
-    alloc: Global,
-    parent: &[Change],
-    own: &[Change],
-    start: Side,
-    changes: &[Change],
-    edits: usize,
-) -> Result<bool, Fail> {
-    let sides = (packed(alloc, parent)?, packed(alloc, own)?);
-    plans(alloc, &sides, &[], start, changes, edits)
-}
-
-#[test]
-fn merge_of_equal_sides_begins_with_the_parents_map(rt: HostRuntime) -> Result<(), Fail> {
-    let (one, other) = (change(1, None, Some(b'p')), change(5, Some(b'b'), None));
-    assert!(rt; plans_of(rt.alloc(), &[one], &[other], Theirs, &[other], 1)?);
-    assert!(rt; plans_of(rt.alloc(), &[one], &[one], Theirs, &[], 0)?);
-    Ok(())
-}
-
-#[test]
-fn merge_of_one_side_makes_no_change(rt: HostRuntime) -> Result<(), Fail> {
-    let change = change(1, None, Some(b'p'));
-    assert!(rt; plans_of(rt.alloc(), &[], &[change], Mine, &[], 0)?);
-    assert!(rt; plans_of(rt.alloc(), &[change], &[], Theirs, &[], 1)?);
     Ok(())
 }

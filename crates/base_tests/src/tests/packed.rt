@@ -93,17 +93,6 @@ fn expect_change(rt: &impl Abort, changes: &Changes, i: usize, due: Change) {
     assert!(rt; changes.at(i) == Some(due), "change {i}, whole");
 }
 
-#[test]
-fn changes_are_given_in_the_order_of_the_pushes(rt: HostRuntime) -> Result<(), Fail> {
-    let changes = some_changes(rt.alloc())?;
-    for (i, due) in due_changes().iter().enumerate() {
-        expect_change(&rt, &changes, i, *due);
-    }
-    assert_eq!(rt; changes.len(), 4);
-    assert!(rt; changes.at(4).is_none());
-    Ok(())
-}
-
 /// How many changes the walk passes until one is not the expected one.
 fn walked_changes(changes: &Changes, due: &[Change]) -> usize {
     let mut walked = 0;
@@ -117,16 +106,17 @@ fn walked_changes(changes: &Changes, due: &[Change]) -> usize {
 }
 
 #[test]
-fn changes_are_walked_in_order(rt: HostRuntime) -> Result<(), Fail> {
+fn changes_are_given_walked_and_copied_in_the_order_of_the_pushes(
+    rt: HostRuntime,
+) -> Result<(), Fail> {
     let changes = some_changes(rt.alloc())?;
-    assert_eq!(rt; walked_changes(&changes, &due_changes()), 4);
+    for (i, due) in due_changes().iter().enumerate() {
+        expect_change(&rt, &changes, i, *due);
+    }
     assert_eq!(rt; changes.len(), 4);
-    Ok(())
-}
-
-#[test]
-fn changes_are_the_same_in_a_vec(rt: HostRuntime) -> Result<(), Fail> {
-    let list = some_changes(rt.alloc())?.to_vec(rt.alloc())?;
+    assert!(rt; changes.at(4).is_none());
+    assert_eq!(rt; walked_changes(&changes, &due_changes()), 4);
+    let list = changes.to_vec(rt.alloc())?;
     assert!(rt; list.as_slice() == due_changes().as_slice());
     Ok(())
 }
@@ -138,17 +128,6 @@ fn expect_conflict(rt: &impl Abort, conflicts: &Conflicts, i: usize, due: Confli
     let given = conflict(conflicts.key(i), base, parent, conflicts.mine(i));
     assert!(rt; given == due, "conflict {i}");
     assert!(rt; conflicts.at(i) == Some(due), "conflict {i}, whole");
-}
-
-#[test]
-fn conflicts_are_given_in_the_order_of_the_pushes(rt: HostRuntime) -> Result<(), Fail> {
-    let conflicts = some_conflicts(rt.alloc())?;
-    for (i, due) in due_conflicts().iter().enumerate() {
-        expect_conflict(&rt, &conflicts, i, *due);
-    }
-    assert_eq!(rt; conflicts.len(), 3);
-    assert!(rt; conflicts.at(3).is_none());
-    Ok(())
 }
 
 /// How many conflicts the walk passes until one is not the expected one.
@@ -164,10 +143,17 @@ fn walked_conflicts(conflicts: &Conflicts, due: &[Conflict]) -> usize {
 }
 
 #[test]
-fn conflicts_are_walked_in_order_and_the_same_in_a_vec(rt: HostRuntime) -> Result<(), Fail> {
+fn conflicts_are_given_walked_and_copied_in_the_order_of_the_pushes(
+    rt: HostRuntime,
+) -> Result<(), Fail> {
     let conflicts = some_conflicts(rt.alloc())?;
-    assert_eq!(rt; walked_conflicts(&conflicts, &due_conflicts()), 3);
+    for (i, due) in due_conflicts().iter().enumerate() {
+        expect_conflict(&rt, &conflicts, i, *due);
+    }
     assert_eq!(rt; conflicts.len(), 3);
-    assert!(rt; conflicts.to_vec(rt.alloc())?.as_slice() == due_conflicts().as_slice());
+    assert!(rt; conflicts.at(3).is_none());
+    assert_eq!(rt; walked_conflicts(&conflicts, &due_conflicts()), 3);
+    let list = conflicts.to_vec(rt.alloc())?;
+    assert!(rt; list.as_slice() == due_conflicts().as_slice());
     Ok(())
 }

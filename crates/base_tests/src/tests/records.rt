@@ -30,46 +30,12 @@ fn due_records() -> [(Key, Value); 4] {
     ]
 }
 
-fn expect_no_records(rt: &impl Abort, records: &Records) {
-    assert!(rt; records.is_empty());
-    assert_eq!(rt; records.len(), 0);
-    assert!(rt; records.at(0).is_none());
-}
-
-#[test]
-fn new_list_is_empty(rt: HostRuntime) -> Result<(), Fail> {
-    expect_no_records(&rt, &Records::new(rt.alloc()));
-    assert!(rt; Records::new(rt.alloc()).to_vec(rt.alloc())?.is_empty());
-    Ok(())
-}
-
 /// Record `i` must be this one, by its parts and as a whole.
 fn expect_record(rt: &impl Abort, records: &Records, i: usize, due: (Key, Value)) {
     assert!(rt; i < records.len(), "no record {i}");
     assert_eq!(rt; records.key(i), due.0, "record {i}");
     assert!(rt; records.value(i) == due.1.as_bytes(), "record {i}");
     assert!(rt; records.at(i) == Some(due), "record {i}, whole");
-}
-
-#[test]
-fn list_of_an_empty_value_is_not_empty(rt: HostRuntime) -> Result<(), Fail> {
-    let mut records = Records::new(rt.alloc());
-    records.push(key(0, 0), b"")?;
-    assert!(rt; !records.is_empty());
-    assert_eq!(rt; records.len(), 1);
-    expect_record(&rt, &records, 0, record(key(0, 0), b""));
-    Ok(())
-}
-
-#[test]
-fn records_are_given_in_the_order_of_the_pushes(rt: HostRuntime) -> Result<(), Fail> {
-    let records = some_records(rt.alloc())?;
-    for (i, due) in due_records().iter().enumerate() {
-        expect_record(&rt, &records, i, *due);
-    }
-    assert_eq!(rt; records.len(), 4);
-    assert!(rt; records.at(4).is_none());
-    Ok(())
 }
 
 /// How many records the walk passes until one is not the expected one.
@@ -85,16 +51,31 @@ fn walked(records: &Records, due: &[(Key, Value)]) -> usize {
 }
 
 #[test]
-fn list_is_walked_in_order(rt: HostRuntime) -> Result<(), Fail> {
-    let records = some_records(rt.alloc())?;
-    assert_eq!(rt; walked(&records, &due_records()), 4);
-    assert_eq!(rt; records.len(), 4);
+fn list_of_an_empty_value_is_not_empty(rt: HostRuntime) -> Result<(), Fail> {
+    let mut records = Records::new(rt.alloc());
+    assert!(rt; records.is_empty());
+    assert_eq!(rt; records.len(), 0);
+    assert!(rt; records.at(0).is_none());
+    assert!(rt; records.to_vec(rt.alloc())?.is_empty());
+    records.push(key(0, 0), b"")?;
+    assert!(rt; !records.is_empty());
+    assert_eq!(rt; records.len(), 1);
+    expect_record(&rt, &records, 0, record(key(0, 0), b""));
     Ok(())
 }
 
 #[test]
-fn list_is_the_same_in_a_vec(rt: HostRuntime) -> Result<(), Fail> {
-    let list = some_records(rt.alloc())?.to_vec(rt.alloc())?;
+fn records_are_given_walked_and_copied_in_the_order_of_the_pushes(
+    rt: HostRuntime,
+) -> Result<(), Fail> {
+    let records = some_records(rt.alloc())?;
+    for (i, due) in due_records().iter().enumerate() {
+        expect_record(&rt, &records, i, *due);
+    }
+    assert_eq!(rt; records.len(), 4);
+    assert!(rt; records.at(4).is_none());
+    assert_eq!(rt; walked(&records, &due_records()), 4);
+    let list = records.to_vec(rt.alloc())?;
     assert!(rt; list.as_slice() == due_records().as_slice());
     Ok(())
 }

@@ -1,13 +1,11 @@
-//! Scripts: lines of steps, each with its answer, played over a disk.
+//! Rows for disks: steps, each with its answer, played over a disk.
 //!
-//! A line is a step, and after ` -> ` comes its answer, which is `ok` if the line gives none. A
-//! call that fails is answered `fault`. A line that begins with `#` is a comment.
+//! A call that fails is answered `fault`.
 //!
 //! | Step | Answer |
 //! |---|---|
 //! | `fill 2 7` | `ok`: each byte of block 2 is 7 from here on |
 //! | `run 1 6 7 8` | `ok`: the same for blocks 1, 2 and 3, in one call |
-//! | `forget 1` | `ok`: the contents of block 1 are not needed |
 //! | `grow 5` | `ok`: the disk has this many blocks |
 //! | `sync` | `ok` |
 //! | `holds 0 2` | `0 7`: the byte that fills each of these blocks, or `mixed` |
@@ -19,49 +17,17 @@
 //! | `dirty 1 2` | `no yes`: which blocks of that disk are not synced |
 //! | `calls` | `5`: how many calls the fuse over it has had |
 //! | `blown` | `no`: whether the fuse has failed one of them |
+//!
+//! | Step, over a disk in memory | Answer |
+//! |---|---|
+//! | `crash 1=8` | `ok`: a crash came, which fills block 1 with this byte if it is not synced |
+//! | `short 3 1=8` | `ok`: the same, and only this many blocks are left |
 use super::seen::{OverMemory, Seen, cached, late};
-use std::alloc::{AllocError, Global};
-use std::fmt;
+use std::alloc::Global;
 use std::process::Abort;
-use vm_disk::{DeviceFault, Disk, Need};
+use testkit::{Playable, Wrong, byte, filling, number, plays};
+use vm_disk::{Disk, FuseDisk, MemDisk, Need};
 use vm_types::Block;
-
-/// Why a step has no answer of its own.
-#[derive(Clone, Copy, Debug, PartialEq, Eq)]
-enum Wrong {
-    /// Memory for the script itself could not be allocated.
-    Memory,
-    /// The call that the step makes failed.
-    Device,
-    /// There is no such step, or it asks for what the disk does not have.
-    Unreadable,
-}
-
-impl From<AllocError> for Wrong {
-    fn from(_: AllocError) -> Wrong {
-        Wrong::Memory
-    }
-}
-
-impl From<fmt::Error> for Wrong {
-    fn from(_: fmt::Error) -> Wrong {
-        Wrong::Memory
-    }
-}
-
-impl From<DeviceFault> for Wrong {
-    fn from(_: DeviceFault) -> Wrong {
-        Wrong::Device
-    }
-}
-
-fn number(word: &str) -> Result<u32, Wrong> {
-    word.parse::<u32>().map_err(|_| Wrong::Unreadable)
-}
-
-fn byte(word: &str) -> Result<u8, Wrong> {
-    word.parse::<u8>().map_err(|_| Wrong::Unreadable)
-}
 
 /// The bytes of a block filled with this byte.
 fn block(word: &str) -> Result<Block, Wrong> {
@@ -85,14 +51,6 @@ fn fill_run<D: Disk>(disk: &mut D, n: u32, bytes: &[Block; 3]) -> Result<(), Wro
     Ok(())
 }
 
-fn forget<D: Disk>(disk: &mut D, n: u32) -> Result<(), Wrong> {
-    if n >= disk.blocks() {
-        return Err(Wrong::Unreadable);
-    }
-    disk.forget(n);
-    Ok(())
-}
-
 fn grow<D: Disk>(disk: &mut D, blocks: u32) -> Result<(), Wrong> {
     if blocks < disk.blocks() {
         return Err(Wrong::Unreadable);
@@ -109,7 +67,6 @@ fn change<D: Disk>(disk: &mut D, words: &[&str]) -> Result<bool, Wrong> {
             let bytes = [block(first)?, block(second)?, block(third)?];
             fill_run(disk, number(n)?, &bytes)?;
         }
-        ["forget", n] => forget(disk, number(n)?)?,
         ["grow", blocks] => grow(disk, number(blocks)?)?,
         ["sync"] => disk.sync()?,
         _ => return Ok(false),
@@ -124,7 +81,7 @@ fn byte_in(bytes: &Block) -> Option<u8> {
 }
 
 /// The byte that fills a block, as read.
-fn filling<D: Disk>(disk: &mut D, n: u32) -> Result<Option<u8>, Wrong> {
+fn filling_of<D: Disk>(disk: &mut D, n: u32) -> Result<Option<u8>, Wrong> {
     let mut bytes = [0; 4096];
     if n >= disk.blocks() {
         return Err(Wrong::Unreadable);
@@ -151,7 +108,7 @@ fn fillings<D: Disk>(
     for n in blocks {
         let found = match at_hand {
             Some(need) => filling_at_hand(disk, number(n)?, need)?,
-            None => filling(disk, number(n)?)?,
+            None => filling_of(disk, number(n)?)?,
         };
         match found {
             Some(byte) => write!(text, " {byte}")?,
@@ -191,7 +148,7 @@ fn look<D: Seen>(disk: &mut D, words: &[&str], text: &mut String) -> Result<(), 
         ["once", blocks @ ..] => fillings(disk, blocks, Some(Need::Once), text),
         ["dirty", blocks @ ..] => dirty(disk, blocks, text),
         ["is", n, due] => {
-            let found = filling(disk, number(n)?)?;
+            let found = filling_of(disk, number(n)?)?;
             text.push_str(yes_or_no(found == Some(byte(due)?)))?;
             Ok(())
         }
@@ -218,66 +175,136 @@ fn answer<D: Seen>(disk: &mut D, words: &[&str], text: &mut String) -> Result<()
     look(disk, words, text)
 }
 
-/// Plays a step. Appends its answer to the text.
-fn play<D: Seen>(alloc: Global, disk: &mut D, step: &str, text: &mut String) -> Result<(), Wrong> {
-    let words: Vec<&str> = step.split_whitespace().collect(alloc)?;
-    match answer(disk, &words, text) {
-        Err(Wrong::Device) => Ok(text.push_str("fault")?),
-        other => other,
+/// The answer to a step.
+fn given<D: Seen>(alloc: Global, disk: &mut D, words: &[&str]) -> Result<String, Wrong> {
+    let mut text = String::new(alloc);
+    match answer(disk, words, &mut text) {
+        Err(Wrong::Device) => text.push_str("fault")?,
+        other => other?,
     }
+    Ok(text)
 }
 
-/// Plays the lines of a text, and compares each answer. A failure has the name of the row.
-pub(super) fn plays<D: Seen, R: AllocGlobal + Abort>(rt: &R, name: &str, disk: &mut D, text: &str) {
-    for (n, line) in text.lines().enumerate() {
-        let line = line.trim();
-        if line.is_empty() || line.starts_with('#') {
-            continue;
+/// A disk that rows are played on.
+#[derive(Drop)]
+struct Bench<D>(D);
+
+/// The disk after a crash that leaves this many blocks, or all.
+fn crashed<D: Seen>(
+    alloc: Global,
+    disk: D,
+    blocks: Option<u32>,
+    fills: &[&str],
+) -> Result<(Bench<D>, String), Wrong> {
+    let filling = filling(alloc, disk.blocks(), fills)?;
+    let left = disk.crashed(blocks, &filling)?;
+    Ok((Bench(left), String::from_str(alloc, "ok")?))
+}
+
+impl<D: Seen> Playable for Bench<D> {
+    fn play(self, alloc: Global, words: &[&str]) -> Result<(Bench<D>, String), Wrong> {
+        let Bench(mut disk) = self;
+        match words {
+            ["crash", fills @ ..] => crashed(alloc, disk, None, fills),
+            ["short", blocks, fills @ ..] => crashed(alloc, disk, Some(number(blocks)?), fills),
+            _ => {
+                let text = given(alloc, &mut disk, words)?;
+                Ok((Bench(disk), text))
+            }
         }
-        let (step, due) = line.split_once(" -> ").unwrap_or((line, "ok"));
-        let mut text = String::new(rt.alloc());
-        match play(rt.alloc(), disk, step, &mut text) {
-            Ok(()) => assert_eq!(rt; text.trim(), due.trim(), "{name}, line {n}: {line}"),
-            Err(wrong) => panic!(rt; "{name}, line {n}: {line}: {wrong:?}"),
-        }
+    }
+
+    fn end(self) {}
+}
+
+/// Plays the lines of a text on a disk.
+pub(super) fn plays_on<D: Seen, R: AllocGlobal + Abort>(
+    rt: &R,
+    name: &str,
+    on: &str,
+    disk: D,
+    text: &str,
+) -> D {
+    match plays(rt.alloc(), Bench(disk), text) {
+        Ok(Bench(disk)) => disk,
+        Err(mismatch) => panic!(rt; "{name}, {on}, {mismatch}"),
     }
 }
 
 /// More calls than any row makes.
 pub(super) const NEVER: u32 = 99;
 
-/// Played on a cache of a disk or on a delayed disk, and then on the disk in memory below.
+/// Which calls of the disk in memory fail, by their numbers from 0 on: none, and they are not
+/// counted; one, and the others go on; or all from one on.
+#[derive(Clone, Copy)]
+pub(super) enum Fails {
+    Uncounted,
+    Once(u32),
+    From(u32),
+}
+
+/// What is over it: nothing, a cache of this many blocks, a delayed disk on which this many blocks
+/// may wait, or such a disk over such a cache.
+#[derive(Clone, Copy)]
+pub(super) enum Over {
+    Nothing,
+    Cache(usize),
+    Late(usize),
+    LateOnCache(usize, usize),
+}
+
+/// Played on a disk, and then on the disk in memory below. A write that fails fills its block with
+/// nines.
 pub(super) struct Row {
     pub(super) name: &'static str,
     /// How many blocks the disk in memory has, and has room for.
     pub(super) blocks: u32,
     pub(super) room: u32,
-    /// Which of its calls fails, by its number from 0 on, if they are counted.
-    pub(super) fails: Option<u32>,
-    /// How many blocks the cache keeps, or how many may wait.
-    pub(super) capacity: usize,
+    pub(super) fails: Fails,
+    pub(super) over: Over,
     pub(super) steps: &'static str,
     pub(super) below: &'static str,
 }
 
-/// Plays a row on a cache of a disk.
-pub(super) fn on_a_cache<D: OverMemory, R: AllocGlobal + Abort>(rt: &R, inner: D, row: &Row) {
-    match cached(rt.alloc(), inner, row.capacity) {
-        Ok(mut disk) => {
-            plays(rt, row.name, &mut disk, row.steps);
-            plays(rt, row.name, &mut disk.into_inner().below(), row.below);
-        }
-        Err(_) => panic!(rt; "{}: no cache", row.name),
+/// Plays a row on a disk, if there is one.
+fn plays_row<D: OverMemory, R: AllocGlobal + Abort>(rt: &R, disk: Option<D>, row: &Row) {
+    let Some(disk) = disk else {
+        panic!(rt; "{}: no disk", row.name);
+    };
+    let disk = plays_on(rt, row.name, "above", disk, row.steps);
+    let _memory = plays_on(rt, row.name, "below", disk.below(), row.below);
+}
+
+/// Plays a row on what is over a disk.
+fn plays_over<D: OverMemory, R: AllocGlobal + Abort>(rt: &R, disk: D, row: &Row) {
+    match row.over {
+        Over::Nothing => plays_row(rt, Some(disk), row),
+        Over::Cache(kept) => plays_row(rt, cached(rt.alloc(), disk, kept), row),
+        Over::Late(waiting) => plays_row(rt, late(rt.alloc(), disk, waiting), row),
+        Over::LateOnCache(waiting, kept) => match cached(rt.alloc(), disk, kept) {
+            Some(cache) => plays_row(rt, late(rt.alloc(), cache, waiting), row),
+            None => panic!(rt; "{}: no cache", row.name),
+        },
     }
 }
 
-/// The same on a delayed disk over it.
-pub(super) fn on_a_late_disk<D: OverMemory, R: AllocGlobal + Abort>(rt: &R, inner: D, row: &Row) {
-    match late(rt.alloc(), inner, row.capacity) {
-        Ok(mut disk) => {
-            plays(rt, row.name, &mut disk, row.steps);
-            plays(rt, row.name, &mut disk.into_inner().below(), row.below);
+/// Plays rows, each on a disk of its own.
+pub(super) fn plays_rows<R: AllocGlobal + Abort>(rt: &R, rows: &[Row]) {
+    for row in rows {
+        assert!(rt; row.blocks <= row.room, "{}", row.name);
+        let Ok(memory) = MemDisk::with_room(rt.alloc(), row.blocks, row.room) else {
+            panic!(rt; "{}: no memory", row.name);
+        };
+        match row.fails {
+            Fails::Uncounted => plays_over(rt, memory, row),
+            Fails::Once(call) => {
+                assert!(rt; call < u32::MAX, "{}", row.name);
+                plays_over(rt, FuseDisk::once(memory, call, [9; 4096]), row);
+            }
+            Fails::From(call) => {
+                assert!(rt; call < u32::MAX, "{}", row.name);
+                plays_over(rt, FuseDisk::stop(memory, call, [9; 4096]), row);
+            }
         }
-        Err(_) => panic!(rt; "{}: no late disk", row.name),
     }
 }

@@ -1,16 +1,22 @@
 //! Disks to be played on, and what is below them.
 use std::alloc::Global;
-use std::test::Fail;
+use testkit::Wrong;
 use vm_disk::{CachedDisk, DelayedDisk, Disk, FileDisk, FuseDisk, MemDisk, Positional};
 use vm_types::Block;
 
 /// A disk, and what may be below it to look at.
-pub(super) trait Seen: Disk {
+pub(super) trait Seen: Disk + Drop + Sized {
     /// The disk in memory below it.
     fn memory(&self) -> Option<&MemDisk>;
 
     /// How many calls the fuse below it has had, and whether it has failed one.
     fn fuse(&self) -> Option<(u32, bool)>;
+
+    /// What a crash that fills blocks leaves of a disk in memory, with this many blocks or with
+    /// all.
+    fn crashed(self, _blocks: Option<u32>, _filling: &[(u32, Block)]) -> Result<Self, Wrong> {
+        Err(Wrong::Unreadable)
+    }
 }
 
 impl Seen for MemDisk {
@@ -20,6 +26,16 @@ impl Seen for MemDisk {
 
     fn fuse(&self) -> Option<(u32, bool)> {
         None
+    }
+
+    fn crashed(self, blocks: Option<u32>, filling: &[(u32, Block)]) -> Result<MemDisk, Wrong> {
+        match blocks {
+            None => Ok(self.crash(filling)),
+            Some(blocks) if self.sure() <= blocks && blocks <= self.blocks() => {
+                Ok(self.crash_short(filling, blocks))
+            }
+            Some(_) => Err(Wrong::Unreadable),
+        }
     }
 }
 
@@ -53,7 +69,7 @@ impl<D: Seen> Seen for DelayedDisk<D> {
     }
 }
 
-impl<F: Positional> Seen for FileDisk<F> {
+impl<F: Positional + Drop> Seen for FileDisk<F> {
     fn memory(&self) -> Option<&MemDisk> {
         None
     }
@@ -64,7 +80,7 @@ impl<F: Positional> Seen for FileDisk<F> {
 }
 
 /// A disk that has one in memory below it, which can be played on alone.
-pub(super) trait OverMemory: Seen + Drop + Sized {
+pub(super) trait OverMemory: Seen {
     /// The disk in memory.
     fn below(self) -> MemDisk;
 }
@@ -81,57 +97,34 @@ impl OverMemory for FuseDisk<MemDisk> {
     }
 }
 
-impl OverMemory for CachedDisk<FuseDisk<MemDisk>> {
+impl<D: OverMemory> OverMemory for CachedDisk<D> {
     fn below(self) -> MemDisk {
-        self.into_inner().into_inner()
+        self.into_inner().below()
     }
 }
 
-/// A disk in memory of this many blocks.
-pub(super) fn memory(alloc: Global, blocks: u32) -> Result<MemDisk, Fail> {
-    Ok(MemDisk::new(alloc, blocks)?)
-}
-
-/// The same with room for more.
-pub(super) fn memory_with_room(alloc: Global, blocks: u32, room: u32) -> Result<MemDisk, Fail> {
-    if blocks > room {
-        return Err(Fail::new("too little room"));
+impl<D: OverMemory> OverMemory for DelayedDisk<D> {
+    fn below(self) -> MemDisk {
+        self.into_inner().below()
     }
-    Ok(MemDisk::with_room(alloc, blocks, room)?)
-}
-
-/// A disk in memory that counts its calls, and fails one of them, by its number from 0 on.
-pub(super) fn fused(memory: MemDisk, call: u32, torn: Block) -> Result<FuseDisk<MemDisk>, Fail> {
-    if call == u32::MAX {
-        return Err(Fail::new("too many calls"));
-    }
-    Ok(FuseDisk::once(memory, call, torn))
 }
 
 /// A cache of this many blocks over a disk.
-pub(super) fn cached<D: Disk + Drop>(
-    alloc: Global,
-    inner: D,
-    capacity: usize,
-) -> Result<CachedDisk<D>, Fail> {
+pub(super) fn cached<D: Seen>(alloc: Global, inner: D, capacity: usize) -> Option<CachedDisk<D>> {
     if capacity > 0
         && let Ok(disk) = CachedDisk::new(alloc, inner, capacity)
     {
-        return Ok(disk);
+        return Some(disk);
     }
-    Err(Fail::new("no memory"))
+    None
 }
 
 /// A delayed disk over this one, on which this many blocks may wait.
-pub(super) fn late<D: Disk + Drop>(
-    alloc: Global,
-    inner: D,
-    capacity: usize,
-) -> Result<DelayedDisk<D>, Fail> {
+pub(super) fn late<D: Seen>(alloc: Global, inner: D, capacity: usize) -> Option<DelayedDisk<D>> {
     if capacity > 0
         && let Ok(disk) = DelayedDisk::new(alloc, inner, capacity)
     {
-        return Ok(disk);
+        return Some(disk);
     }
-    Err(Fail::new("no memory"))
+    None
 }

@@ -9,16 +9,6 @@ const HEAD: SlotHead = SlotHead {
     entries: 1,
 };
 
-#[test]
-fn head_of_a_slot_is_spelled_and_read(rt: HostRuntime) {
-    let mut bytes = [7; 128];
-    write_slot_head(HEAD, &mut bytes);
-    let mut due = [0; 128];
-    due[..16].copy_from_slice(b"SLOT\x03\0\0\0\x40\0\0\0\x01\0\0\0");
-    assert!(rt; bytes == due);
-    assert_eq!(rt; read_slot_head(&bytes), Some(HEAD));
-}
-
 /// Whether the head of a slot is no longer one with this byte at this offset.
 fn head_is_refused_with(at: usize, byte: u8) -> bool {
     let mut bytes = [0; 128];
@@ -31,7 +21,14 @@ fn head_is_refused_with(at: usize, byte: u8) -> bool {
 }
 
 #[test]
-fn bytes_that_are_no_head_are_refused(rt: HostRuntime) {
+fn head_of_a_slot_is_spelled_read_and_refused(rt: HostRuntime) {
+    let mut bytes = [7; 128];
+    write_slot_head(HEAD, &mut bytes);
+    let mut due = [0; 128];
+    due[..16].copy_from_slice(b"SLOT\x03\0\0\0\x40\0\0\0\x01\0\0\0");
+    assert!(rt; bytes == due);
+    assert_eq!(rt; read_slot_head(&bytes), Some(HEAD));
+
     assert!(rt; !head_is_refused_with(13, 1), "257 entries");
     for (at, byte, why) in [
         (0, b'L', "other letters"),
@@ -49,24 +46,6 @@ fn bytes_that_are_no_head_are_refused(rt: HostRuntime) {
     ] {
         assert!(rt; head_is_refused_with(at, byte), "{why}");
     }
-}
-
-#[test]
-fn entry_is_spelled_and_read(rt: HostRuntime) {
-    let entry = Entry {
-        kind: Kind::Alternative,
-        name: name(&rt, b"top"),
-        owner: None,
-        current: 34,
-        base: 0,
-    };
-    let mut bytes = [7; 128];
-    write_entry(&entry, &mut bytes);
-    let mut due = [0; 128];
-    due[..5].copy_from_slice(b"A\x03top");
-    due[67] = 0x22;
-    assert!(rt; bytes == due);
-    assert_eq!(rt; read_entry(&bytes), Some(entry));
 }
 
 /// Whether the entry of the checkpoint `now` of `top` is no longer one with this byte at this
@@ -89,7 +68,22 @@ fn entry_is_refused_with(rt: &impl Abort, at: usize, byte: u8) -> bool {
 }
 
 #[test]
-fn bytes_that_are_no_entry_are_refused(rt: HostRuntime) {
+fn entry_is_spelled_read_and_refused(rt: HostRuntime) {
+    let entry = Entry {
+        kind: Kind::Alternative,
+        name: name(&rt, b"top"),
+        owner: None,
+        current: 34,
+        base: 0,
+    };
+    let mut bytes = [7; 128];
+    write_entry(&entry, &mut bytes);
+    let mut due = [0; 128];
+    due[..5].copy_from_slice(b"A\x03top");
+    due[67] = 0x22;
+    assert!(rt; bytes == due);
+    assert_eq!(rt; read_entry(&bytes), Some(entry));
+
     assert!(rt; !entry_is_refused_with(&rt, 0, b'A'), "an alternative");
     for (at, byte, why) in [
         (0, b'B', "another tag"),

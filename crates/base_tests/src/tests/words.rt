@@ -4,36 +4,35 @@ use std::test::Fail;
 use vm_types::{Key, Name, Refusal, Settled, Side, Value};
 
 #[test]
-fn keys_go_by_table_then_number(rt: HostRuntime) {
+fn keys_go_by_table_then_number_and_are_written_with_a_colon(rt: HostRuntime) -> Result<(), Fail> {
     assert!(rt; Key::default() < key(1, 9));
     assert!(rt; key(1, 9) < key(2, 1));
     assert!(rt; key(2, 1) < key(2, 3));
     assert_eq!(rt; key(2, 1).place(), (2 << 64) + 1);
-}
-
-#[test]
-fn key_is_written_with_a_colon(rt: HostRuntime) -> Result<(), Fail> {
     let text = format!(in rt.alloc(); "{}", key(7, 1))?;
     assert_eq!(rt; text.as_str(), "7:1");
     Ok(())
 }
 
 #[test]
-fn value_holds_up_to_4000_bytes(rt: HostRuntime) {
-    let bytes = [7; 4001];
-    for len in [240, 241, 4000] {
-        let value = Value::new(&bytes[..len]);
-        assert!(rt;
-            value.is_some_and(|v| v.as_bytes() == &bytes[..len]),
-            "{len}"
-        );
+fn value_holds_up_to_4000_bytes(rt: HostRuntime) -> Result<(), Fail> {
+    let bytes = [7; 4096];
+    for (len, is_value) in [
+        (0, true),
+        (1, true),
+        (240, true),
+        (241, true),
+        (4000, true),
+        (4001, false),
+        (4096, false),
+    ] {
+        let bytes = bytes.get(..len).ok_or("too long")?;
+        match Value::new(bytes) {
+            Some(value) => assert!(rt; is_value && value.as_bytes() == bytes, "{len}"),
+            None => assert!(rt; !is_value, "{len}"),
+        }
     }
-    assert!(rt; Value::new(&bytes).is_none());
     assert!(rt; Value::new(b"") == Some(Value::default()));
-}
-
-#[test]
-fn value_is_padded_with_zeros(rt: HostRuntime) -> Result<(), Fail> {
     let value = Value::new(b"duct").ok_or("refused")?;
     assert!(rt; &value.padded()[..5] == b"duct\0".as_slice());
     assert_eq!(rt; value.padded()[3999], 0);
@@ -42,31 +41,28 @@ fn value_is_padded_with_zeros(rt: HostRuntime) -> Result<(), Fail> {
 }
 
 #[test]
-fn name_has_1_to_32_letters(rt: HostRuntime) {
+fn name_has_1_to_32_letters(rt: HostRuntime) -> Result<(), Fail> {
     let letters = [b'a'; 33];
-    assert!(rt; Name::new(&letters[..32]).is_some());
-    assert!(rt; Name::new(b"Az09_-.").is_some());
-    for refused in [letters.as_slice(), b"", b"a b"] {
-        assert!(rt; Name::new(refused).is_none());
+    for (bytes, is_name) in [
+        (&letters[..32], true),
+        (b"Az09_-.", true),
+        (letters.as_slice(), false),
+        (b"", false),
+        (b"a b", false),
+    ] {
+        assert!(rt; Name::new(bytes).is_some() == is_name, "{bytes:?}");
     }
-}
-
-#[test]
-fn name_is_read_back_and_written(rt: HostRuntime) -> Result<(), Fail> {
     let name = Name::new(b"ring-2").ok_or("refused")?;
     assert!(rt; name.as_bytes() == b"ring-2".as_slice());
     assert!(rt; &name.padded()[..7] == b"ring-2\0".as_slice());
     let text = format!(in rt.alloc(); "{name} {name:?}")?;
     assert_eq!(rt; text.as_str(), "ring-2 Name(ring-2)");
-    Ok(())
-}
-
-#[test]
-fn names_are_ordered_by_their_bytes(rt: HostRuntime) {
+    // Names are ordered by their bytes.
     let (short, long) = (Name::new(b"a"), Name::new(b"a1"));
     assert!(rt; short < long);
     assert!(rt; short != long);
     assert!(rt; Name::new(b"b") > long);
+    Ok(())
 }
 
 const KEY: Key = Key {

@@ -194,8 +194,8 @@ fn try_bytes(
 
 /// A disk of seventeen records, with the root in block 38 over leaves in 36 and 37, of which the
 /// second has the last record. Blocks 39 to 47, 34 and 35 hold the leaf as it was with 6 to 16
-/// records: a Checkpoint and an Uncheck after each Put end its series, so that no block is
-/// forgotten.
+/// records: a Checkpoint and an Uncheck after each Put end its series, so that no block is changed
+/// in its place.
 fn two_levels(alloc: Global) -> Result<MemDisk, Wrong> {
     let mut commands = Vec::new(alloc);
     let (alt, saved) = (top(), name(b"saved"));

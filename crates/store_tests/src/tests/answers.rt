@@ -1,7 +1,8 @@
 //! What an open store answers to a step of a script, as text.
-use super::words::{Wrong, command, key, many_of, name, number, value, version};
+use super::words::{command, version};
 use std::alloc::Global;
 use std::fmt;
+use testkit::{Wrong, key, many_of, name, number, value};
 use vm_disk::Disk;
 use vm_store::{Stop, Store};
 use vm_types::{Answer, Changes, Command, Key, Records, Refusal, Value, ValueRef};
@@ -254,7 +255,7 @@ fn check_all<D: Disk>(
 /// Carries out a list of commands, with `;` between two. After the answers comes how the list
 /// ended.
 fn run<D: Disk>(alloc: Global, store: &mut Store<D>, words: &[&str]) -> Result<String, Wrong> {
-    let mut lent = Vec::from_elem(alloc, Value::default(), words.len()).map_err(|_| Wrong::Memory)?;
+    let mut lent = Vec::from_elem(alloc, Value::default(), words.len())?;
     let mut commands = Vec::new(alloc);
     let parts = words.split(|word| *word == ";");
     for (part, lent) in parts.zip(&mut lent) {

@@ -1,6 +1,6 @@
 //! The blocks of a disk in memory, looked at and changed by the steps of a script.
-use super::words::{Wrong, byte, number};
 use std::alloc::Global;
+use testkit::{Wrong, byte, number};
 use vm_disk::{Disk, MemDisk};
 use vm_types::Block;
 
@@ -30,7 +30,7 @@ fn set_run(bytes: &mut Block, run: &str) -> Result<(), Wrong> {
         if at >= 4096 {
             return Err(Wrong::Unreadable);
         }
-        bytes[at] = byte(str::from_utf8(pair).map_err(|_| Wrong::Unreadable)?)?;
+        bytes[at] = byte(str::from_utf8(pair)?)?;
     }
     Ok(())
 }

@@ -1,5 +1,5 @@
 //! Copies of a store on another disk: what they show, where their blocks lie, and what is refused.
-use super::script::{DUCT, NEW, Row, SEVENTEEN, each_in_256_blocks, each_in_memory, each_on_both};
+use super::script::{ALONE, CACHED, DUCT, LARGE, NEW, Row, SEVENTEEN, each};
 use std::alloc::Global;
 use std::test::Fail;
 use vm_disk::{Disk, MemDisk};
@@ -161,9 +161,9 @@ const IN_256_BLOCKS: &[Row] = &[(
 
 #[test]
 fn copies_show_what_was_committed(rt: HostRuntime) {
-    each_on_both(&rt, ON_BOTH);
-    each_in_memory(&rt, IN_MEMORY);
-    each_in_256_blocks(&rt, IN_256_BLOCKS);
+    each(&rt, CACHED, ON_BOTH);
+    each(&rt, ALONE, IN_MEMORY);
+    each(&rt, LARGE, IN_256_BLOCKS);
 }
 
 /// Puts `count` records, every second one long, from the highest number to the lowest, and commits.

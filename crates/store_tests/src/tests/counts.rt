@@ -1,9 +1,7 @@
 //! How many device calls each call makes: none reads or writes a block twice without need.
 use super::records::TWO_RECORDS;
-use super::script::{DUCT, NEW, Row, SEVENTEEN, each_in_memory, from_disk, in_memory};
+use super::script::{ALONE, DUCT, NEW, On, Row, Rows, SEVENTEEN, each, each_of};
 use super::settlements::{CONFLICT, EACH_ADDED};
-use std::test::Fail;
-use vm_disk::MemDisk;
 
 /// Opening the store of `duct` makes five device calls: a sync, and four reads. So does opening the
 /// one of two records.
@@ -159,129 +157,151 @@ const CALLS: &[Row] = &[
     ),
 ];
 
-#[test]
-fn calls_are_counted(rt: HostRuntime) {
-    each_in_memory(&rt, CALLS);
-}
-
 /// Opening the store makes five device calls. A Put reads and writes a leaf. So does a Remove,
 /// which reads its leaf once more to look for the record if it begins a series.
-#[test]
-fn remove_in_a_series_reads_its_leaf_once(rt: HostRuntime) {
-    let [put, other, remove, absent] = [
-        "put top 7:3 z",
-        "put a 7:3 z",
-        "remove top 7:2",
-        "remove top 7:9 -> error 5 NoSuchRecord",
-    ];
-    for (one, two, three, calls) in &[
-        (remove, "", "", "calls -> 8"),
-        (remove, "remove top 7:1", "", "calls -> 9"),
-        (put, remove, "", "calls -> 9"),
-        (put, "get top 7:1 -> duct", remove, "calls -> 10"),
-        (put, absent, remove, "calls -> 10"),
-        (absent, remove, "", "calls -> 9"),
-        (put, "new b top", remove, "calls -> 10"),
-        (put, "reclaim", remove, "calls -> 10"),
-        (other, remove, "", "calls -> 10"),
-        (put, other, remove, "calls -> 12"),
-    ] {
-        let row = [
-            TWO_RECORDS,
-            "open",
-            "new a top",
-            one,
-            two,
-            three,
-            "close",
-            calls,
-        ];
-        in_memory(&rt, &row);
-    }
-}
+const ONE_LEVEL: Rows = (
+    "remove in a series reads its leaf once",
+    &[
+        TWO_RECORDS,
+        "open",
+        "new a top",
+        "?",
+        "?",
+        "?",
+        "close",
+        "?",
+    ],
+    &[
+        &["remove top 7:2", "", "", "calls -> 8"],
+        &["remove top 7:2", "remove top 7:1", "", "calls -> 9"],
+        &["put top 7:3 z", "remove top 7:2", "", "calls -> 9"],
+        &[
+            "put top 7:3 z",
+            "get top 7:1 -> duct",
+            "remove top 7:2",
+            "calls -> 10",
+        ],
+        &[
+            "put top 7:3 z",
+            "remove top 7:9 -> error 5 NoSuchRecord",
+            "remove top 7:2",
+            "calls -> 10",
+        ],
+        &[
+            "remove top 7:9 -> error 5 NoSuchRecord",
+            "remove top 7:2",
+            "",
+            "calls -> 9",
+        ],
+        &[
+            "put top 7:3 z",
+            "new b top",
+            "remove top 7:2",
+            "calls -> 10",
+        ],
+        &["put top 7:3 z", "reclaim", "remove top 7:2", "calls -> 10"],
+        &["put a 7:3 z", "remove top 7:2", "", "calls -> 10"],
+        &[
+            "put top 7:3 z",
+            "put a 7:3 z",
+            "remove top 7:2",
+            "calls -> 12",
+        ],
+    ],
+);
 
 /// Each Remove and each Put reads two blocks of the path, and writes two.
-#[test]
-fn remove_in_a_series_reads_a_path_of_two_levels_once(rt: HostRuntime) {
-    for (first, calls) in &[
-        ("", "calls -> 13"),
-        ("remove top 1:16", "calls -> 17"),
-        ("put top 1:1 w", "calls -> 15"),
-        ("get top 1:16 -> 76*240", "calls -> 15"),
-    ] {
-        let row = [SEVENTEEN, "open", first, "remove top 1:17", "close", calls];
-        in_memory(&rt, &row);
-    }
-}
+const TWO_LEVELS: Rows = (
+    "remove in a series reads a path of two levels once",
+    &[SEVENTEEN, "open", "?", "remove top 1:17", "close", "?"],
+    &[
+        &["", "calls -> 13"],
+        &["remove top 1:16", "calls -> 17"],
+        &["put top 1:1 w", "calls -> 15"],
+        &["get top 1:16 -> 76*240", "calls -> 15"],
+    ],
+);
+
+const THREE_LEVELS: &str = "
+    format 2048
+    open
+    puts top 1:1 771 76*1300
+    commit
+    close
+    anew
+    open
+    free -> 1754";
 
 /// The leaves have three records each. With 257 leaves there are two blocks above them, and the
 /// root. An opening reads the root to find the tree, and once more with these two to mark its
 /// blocks, and makes four more calls.
-#[test]
-fn remove_in_a_series_reads_a_path_of_three_levels_once(rt: HostRuntime) -> Result<(), Fail> {
-    let made = "
-        format 2048
-        open
-        puts top 1:1 771 76*1300
-        commit
-        close
-        anew
-        open
-        free -> 1754";
-    for (first, calls) in &[
-        ("", "calls -> 17"),
-        ("remove top 1:2", "calls -> 23"),
-        ("put top 1:2 w", "calls -> 20"),
-    ] {
-        let disk = MemDisk::new(rt.alloc(), 2048)?;
-        from_disk(&rt, disk, &[made, first, "remove top 1:1", "close", calls]);
-    }
-    Ok(())
-}
+const OF_THREE_LEVELS: Rows = (
+    "remove in a series reads a path of three levels once",
+    &[THREE_LEVELS, "?", "remove top 1:1", "close", "?"],
+    &[
+        &["", "calls -> 17"],
+        &["remove top 1:2", "calls -> 23"],
+        &["put top 1:2 w", "calls -> 20"],
+    ],
+);
+
+const LIST: &str = "list top -> 1:1=76*240 1:2=76*240 1:3=76*240 1:4=76*240 1:5=76*240 1:6=76*240 \
+    1:7=76*240 1:8=76*240 1:9=76*240 1:10=76*240 1:11=76*240 1:12=76*240 1:13=76*240 \
+    1:14=76*240 1:15=76*240 1:16=76*240 1:17=76*240";
 
 /// On a map of two levels. An opening syncs and reads the header, the selector and one block of the
 /// slot, and the root three times: to find the tree of each alternative, and to mark its blocks. A
 /// get reads two blocks, a list three, and a Put writes the two that it has read. A Remove that
 /// begins a series reads its path a second time, and a Reclaim reads only the root. What both
 /// alternatives share is not read to compare them.
-#[test]
-fn each_block_is_read_and_written_once(rt: HostRuntime) {
-    let list = "list top -> 1:1=76*240 1:2=76*240 1:3=76*240 1:4=76*240 1:5=76*240 1:6=76*240 \
-        1:7=76*240 1:8=76*240 1:9=76*240 1:10=76*240 1:11=76*240 1:12=76*240 1:13=76*240 \
-        1:14=76*240 1:15=76*240 1:16=76*240 1:17=76*240";
-    let due = [
-        ("", "calls -> 7"),
-        ("get top 1:17 -> 76*240", "calls -> 9"),
-        (list, "calls -> 10"),
-        ("put top 1:17 76*240", "calls -> 11"),
-        ("remove top 1:17", "calls -> 13"),
-        ("reclaim", "calls -> 8"),
-        ("changes spur -> none", "calls -> 7"),
-        ("conflicts spur -> none", "calls -> 7"),
-        ("tally spur -> 0 0 0 yes", "calls -> 7"),
-        ("merge spur -> ok 0", "calls -> 7"),
-        ("post spur", "calls -> 7"),
-    ];
-    for (call, calls) in &due {
-        in_memory(&rt, &[SEVENTEEN, "open", call, "close", calls]);
-    }
-}
+const ONCE: Rows = (
+    "each block is read and written once",
+    &[SEVENTEEN, "open", "?", "close", "?"],
+    &[
+        &["", "calls -> 7"],
+        &["get top 1:17 -> 76*240", "calls -> 9"],
+        &[LIST, "calls -> 10"],
+        &["put top 1:17 76*240", "calls -> 11"],
+        &["remove top 1:17", "calls -> 13"],
+        &["reclaim", "calls -> 8"],
+        &["changes spur -> none", "calls -> 7"],
+        &["conflicts spur -> none", "calls -> 7"],
+        &["tally spur -> 0 0 0 yes", "calls -> 7"],
+        &["merge spur -> ok 0", "calls -> 7"],
+        &["post spur", "calls -> 7"],
+    ],
+);
+
+const UNCHANGED: &str = "
+    close
+    calls -> 11
+    dirty -> none";
 
 /// Opening makes seven device calls. Each Merge reads two blocks to find what either side changed.
 /// A Merge that is refused, or that keeps or takes all values, writes no block.
+const MERGES: Rows = (
+    "merge that changes nothing writes nothing",
+    &[CONFLICT, "open", "?", UNCHANGED],
+    &[
+        &["merge a 1:1=theirs 1:1=theirs -> error 11 SettledTwice 1:1"],
+        &["merge a 1:1=theirs 1:17=theirs -> error 10 NotInConflict 1:17"],
+        &["merge a -> error 9 Unsettled 1"],
+        &["merge a 1:1=mine -> ok 0"],
+        &["merge a 1:1=theirs -> ok 1"],
+    ],
+);
+
 #[test]
-fn merge_that_changes_nothing_writes_nothing(rt: HostRuntime) {
-    let after = "
-        close
-        calls -> 11
-        dirty -> none";
-    for merge in &[
-        "merge a 1:1=theirs 1:1=theirs -> error 11 SettledTwice 1:1",
-        "merge a 1:1=theirs 1:17=theirs -> error 10 NotInConflict 1:17",
-        "merge a -> error 9 Unsettled 1",
-        "merge a 1:1=mine -> ok 0",
-        "merge a 1:1=theirs -> ok 1",
-    ] {
-        in_memory(&rt, &[CONFLICT, "open", merge, after]);
-    }
+fn calls_are_counted(rt: HostRuntime) {
+    each(&rt, ALONE, CALLS);
+    each_of(&rt, ALONE, &ONE_LEVEL);
+    each_of(&rt, ALONE, &TWO_LEVELS);
+    let on = On {
+        blocks: 2048,
+        room: 2048,
+        ..ALONE
+    };
+    each_of(&rt, on, &OF_THREE_LEVELS);
+    each_of(&rt, ALONE, &ONCE);
+    each_of(&rt, ALONE, &MERGES);
 }

@@ -1,5 +1,5 @@
 //! A crash in a command or after one, and what is shown afterwards.
-use super::script::{DUCT, Row, each_on_both, in_memory, on_both};
+use super::script::{ALONE, CACHED, DUCT, Row, Rows, each, each_of};
 
 /// A Commit of `duct` that is stopped inside the write of the selector, which is device call 15:
 /// formatting and opening take eleven, the Put writes block 34, and the Commit writes block 18,
@@ -14,31 +14,32 @@ const STOPPED_IN_THE_SELECTOR: &str = "
     crash
     open";
 
-#[test]
-fn torn_selector_that_is_even_shows_the_old_entries(rt: HostRuntime) {
-    let row = "get top 7:1 -> ~";
-    on_both(&rt, &["stop 14 FE 00", STOPPED_IN_THE_SELECTOR, row]);
-}
+const IN_SLOT_A: &str = "
+    get top 7:1 -> duct
+    commit
+    close
+    block 1 -> none
+    block 2 -> 0:534C4F5403 8:40 12:01 128:4103746F70 195:22
+    anew
+    open
+    get top 7:1 -> duct";
 
-#[test]
-fn torn_selector_that_is_odd_shows_the_new_entries(rt: HostRuntime) {
-    let row = "
-        get top 7:1 -> duct
-        commit
-        close
-        block 1 -> none
-        block 2 -> 0:534C4F5403 8:40 12:01 128:4103746F70 195:22
-        anew
-        open
-        get top 7:1 -> duct";
-    on_both(&rt, &["stop 14 A5 00", STOPPED_IN_THE_SELECTOR, row]);
-}
+const TORN_SELECTOR: Rows = (
+    "a torn selector shows the old entries if it is even, and the new ones if it is odd",
+    &["?", STOPPED_IN_THE_SELECTOR, "?"],
+    &[
+        &["stop 14 FE 00", "get top 7:1 -> ~"],
+        &["stop 14 A5 00", IN_SLOT_A],
+    ],
+);
 
-/// Opening a new store makes four device calls, the Put one, and the Commit writes the slot, syncs,
-/// and then writes the selector.
-#[test]
-fn selector_that_was_torn_to_an_even_byte_names_slot_a(rt: HostRuntime) {
-    let row = "
+const IN_MEMORY: &[Row] = &[
+    // Opening a new store makes four device calls, the Put one, and the Commit writes the slot,
+    // syncs, and then writes the selector.
+    (
+        "selector that was torn to an even byte names slot A",
+        "",
+        "
         format 64
         stop 7 FE FE
         open
@@ -47,9 +48,9 @@ fn selector_that_was_torn_to_an_even_byte_names_slot_a(rt: HostRuntime) {
         close
         crash
         open
-        list top -> none";
-    in_memory(&rt, &[row]);
-}
+        list top -> none",
+    ),
+];
 
 const LAST_SYNC_FAILS: &[Row] = &[
     // The second Commit writes block 2, syncs, writes block 1, and its last sync is device call 22.
@@ -105,68 +106,72 @@ const LAST_SYNC_FAILS: &[Row] = &[
     ),
 ];
 
-#[test]
-fn commit_whose_last_sync_fails_may_be_shown(rt: HostRuntime) {
-    each_on_both(&rt, LAST_SYNC_FAILS);
-}
+const PUT_PIPE: &str = "
+    format 64
+    open
+    put top 7:1 duct
+    commit
+    put top 7:1 pipe
+    close";
 
-#[test]
-fn put_that_is_not_committed_is_gone_after_a_crash(rt: HostRuntime) {
-    let row = "
-        format 64
-        open
-        put top 7:1 duct
-        commit
-        put top 7:1 pipe
-        close";
-    let after = "
-        open
-        get top 7:1 -> duct";
-    for crash in &["crash 35=00", "crash 35=FF"] {
-        on_both(&rt, &[row, crash, after]);
-    }
-}
+const ONLY_DUCT: &str = "
+    open
+    get top 7:1 -> duct";
+
+const NOT_COMMITTED: Rows = (
+    "put that is not committed is gone after a crash",
+    &[PUT_PIPE, "?", ONLY_DUCT],
+    &[&["crash 35=00"], &["crash 35=FF"]],
+);
+
+const CHANGED: &str = "
+    open
+    put top 7:1 pipe
+    new spur top
+    put top 7:2 x
+    close
+    dirty -> 35 36";
+
+const NO_SPUR: &str = "
+    open
+    get top 7:1 -> duct
+    get top 7:2 -> ~
+    get spur 7:1 -> error 1 NoSuchAlternative";
 
 /// The Puts write blocks 35 and 36. The crash puts other bytes into both.
-#[test]
-fn crash_after_a_closing_shows_what_was_committed(rt: HostRuntime) {
-    let row = "
-        open
-        put top 7:1 pipe
-        new spur top
-        put top 7:2 x
-        close
-        dirty -> 35 36";
-    let after = "
-        open
-        get top 7:1 -> duct
-        get top 7:2 -> ~
-        get spur 7:1 -> error 1 NoSuchAlternative";
-    for crash in &["crash all=00", "crash all=41", "crash all=FF"] {
-        in_memory(&rt, &[DUCT, row, crash, after]);
-    }
-}
+const AFTER_A_CLOSING: Rows = (
+    "crash after a closing shows what was committed",
+    &[DUCT, CHANGED, "?", NO_SPUR],
+    &[&["crash all=00"], &["crash all=41"], &["crash all=FF"]],
+);
+
+const STOPPED_IN_THE_SLOT: &str = "
+    format 64
+    open
+    put top 7:1 duct
+    commit
+    put top 7:1 pipe
+    commit -> error 15 Device
+    close
+    crash";
 
 /// The second Commit is stopped inside its first write, which is device call 19.
+const TORN_SLOT: Rows = (
+    "slot that is not in use may be torn",
+    &["?", STOPPED_IN_THE_SLOT, "?", ONLY_DUCT],
+    &[
+        &["stop 18 00 00", "block 2 -> none"],
+        &["stop 18 41 41", "block 2 -> all=41"],
+        &["stop 18 FF FF", "block 2 -> all=FF"],
+    ],
+);
+
 #[test]
-fn slot_that_is_not_in_use_may_be_torn(rt: HostRuntime) {
-    let row = "
-        format 64
-        open
-        put top 7:1 duct
-        commit
-        put top 7:1 pipe
-        commit -> error 15 Device
-        close
-        crash";
-    let after = "
-        open
-        get top 7:1 -> duct";
-    for (stop, torn) in &[
-        ("stop 18 00 00", "block 2 -> none"),
-        ("stop 18 41 41", "block 2 -> all=41"),
-        ("stop 18 FF FF", "block 2 -> all=FF"),
-    ] {
-        on_both(&rt, &[stop, row, torn, after]);
-    }
+fn crash_shows_what_was_committed_before_or_after(rt: HostRuntime) {
+    each_of(&rt, CACHED, &TORN_SELECTOR);
+    each(&rt, ALONE, IN_MEMORY);
+    each(&rt, CACHED, LAST_SYNC_FAILS);
+    each_of(&rt, CACHED, &NOT_COMMITTED);
+    each_of(&rt, ALONE, &AFTER_A_CLOSING);
+    each_of(&rt, CACHED, &TORN_SLOT);
 }

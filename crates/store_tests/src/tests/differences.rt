@@ -1,5 +1,5 @@
 //! What an alternative changed since its base, and its conflicts with its parent.
-use super::script::{NEW, Row, each_in_memory, each_on_both};
+use super::script::{ALONE, CACHED, NEW, Row, each};
 
 const ON_BOTH: &[Row] = &[(
     "value that is written again is no change",
@@ -41,6 +41,6 @@ const IN_MEMORY: &[Row] = &[
 
 #[test]
 fn differences_are_listed(rt: HostRuntime) {
-    each_on_both(&rt, ON_BOTH);
-    each_in_memory(&rt, IN_MEMORY);
+    each(&rt, CACHED, ON_BOTH);
+    each(&rt, ALONE, IN_MEMORY);
 }

@@ -1,5 +1,5 @@
 //! What the blocks of a store hold, and what formatting refuses.
-use super::script::{DUCT, Row, each_on_both, on_both};
+use super::script::{CACHED, DUCT, Row, Rows, each, each_of};
 
 /// `ALTSTORE`, three and the block size; the selector of slot B; both slots, which begin with `SLOT`,
 /// three and 64 blocks, with the entry of `top`, whose root is none in slot A and block 34 in slot B;
@@ -42,21 +42,10 @@ const ON_BOTH: &[Row] = &[
         open
         get top 7:1 -> duct",
     ),
-];
-
-#[test]
-fn format_commit_and_opening_agree(rt: HostRuntime) {
-    each_on_both(&rt, ON_BOTH);
-}
-
-#[test]
-fn format_leaves_a_store_as_it_was(rt: HostRuntime) {
-    on_both(&rt, &[DUCT, "format 64 -> error 20 AlreadyAStore", BLOCKS]);
-}
-
-#[test]
-fn format_leaves_a_store_of_an_earlier_format_and_no_other_disk(rt: HostRuntime) {
-    let steps = "
+    (
+        "format leaves a store of an earlier format and no other disk",
+        DUCT,
+        "
         set 0 8:01
         format 64 -> error 20 AlreadyAStore
         block 0 -> 0:414C5453544F524501 13:10
@@ -66,6 +55,18 @@ fn format_leaves_a_store_of_an_earlier_format_and_no_other_disk(rt: HostRuntime)
         block 34 -> 0:4C454633 8:01 16:07 18:01 26:04 28:64756374
         set 0 8:04
         format 64
-        block 0 -> 0:414C5453544F524503 13:10";
-    on_both(&rt, &[DUCT, steps]);
+        block 0 -> 0:414C5453544F524503 13:10",
+    ),
+];
+
+const AS_IT_WAS: Rows = (
+    "format leaves a store as it was",
+    &[DUCT, "format 64 -> error 20 AlreadyAStore", BLOCKS],
+    &[&[]],
+);
+
+#[test]
+fn format_commit_and_opening_agree(rt: HostRuntime) {
+    each(&rt, CACHED, ON_BOTH);
+    each_of(&rt, CACHED, &AS_IT_WAS);
 }

@@ -1,7 +1,7 @@
 //! A store that grows, on a disk with room for the blocks, on one without, and on one that already
 //! has them.
 use super::script::{
-    DUCT, NEW, RoomRow, Row, each_in_memory, each_on_both, each_with_room, with_room,
+    ALONE, CACHED, DUCT, NEW, On, RoomRow, Row, Rows, each, each_of, each_with_room,
 };
 
 /// Growths that are refused or not committed.
@@ -97,11 +97,6 @@ const NOT_COMMITTED: &[RoomRow] = &[
         dirty -> 70 71 72 73 74 75 76 77 78 79",
     ),
 ];
-
-#[test]
-fn growth_counts_from_its_commit_on(rt: HostRuntime) {
-    each_with_room(&rt, NOT_COMMITTED);
-}
 
 /// What becomes of the new blocks.
 const USED: &[RoomRow] = &[
@@ -259,7 +254,8 @@ const USED: &[RoomRow] = &[
 ];
 
 #[test]
-fn new_blocks_are_as_the_others(rt: HostRuntime) {
+fn growth_counts_from_its_commit_on(rt: HostRuntime) {
+    each_with_room(&rt, NOT_COMMITTED);
     each_with_room(&rt, USED);
 }
 
@@ -301,8 +297,8 @@ const NO_ROOM_IN_MEMORY: &[Row] = &[
 
 #[test]
 fn store_fails_where_the_disk_has_no_room(rt: HostRuntime) {
-    each_on_both(&rt, NO_ROOM_ON_BOTH);
-    each_in_memory(&rt, NO_ROOM_IN_MEMORY);
+    each(&rt, CACHED, NO_ROOM_ON_BOTH);
+    each(&rt, ALONE, NO_ROOM_IN_MEMORY);
 }
 
 /// What is shown after a crash before the Commit of a growth, and the same again without a crash.
@@ -323,84 +319,113 @@ const AS_BEFORE: &str = "
     free -> 45
     list top -> 7:1=duct 7:2=pipe";
 
+const CLOSED: &str = "
+    open
+    grow 80
+    close";
+
+const IN_THE_PUT: &str = "
+    open
+    grow 80
+    put top 7:2 pipe -> error 15 Device
+    blocks -> error 17 Failed
+    close";
+
+const IN_THE_COMMIT: &str = "
+    open
+    grow 80
+    put top 7:2 pipe
+    commit -> error 15 Device
+    blocks -> error 17 Failed
+    close";
+
 /// Opening makes five device calls, the Grow one, the Put two, and the Commit four: it writes the
 /// slot, syncs, writes the selector, and syncs.
-#[test]
-fn crash_before_the_first_sync_shows_the_old_number_of_blocks(rt: HostRuntime) {
-    let closed = "
-        open
-        grow 80
-        close";
-    let in_the_put = "
-        open
-        grow 80
-        put top 7:2 pipe -> error 15 Device
-        blocks -> error 17 Failed
-        close";
-    let in_the_commit = "
-        open
-        grow 80
-        put top 7:2 pipe
-        commit -> error 15 Device
-        blocks -> error 17 Failed
-        close";
-    for (stop, row) in &[
-        ("anew", closed),
-        ("stop 6 41 41", in_the_put),
-        ("stop 7 41 41", in_the_put),
-        ("stop 8 41 41", in_the_commit),
-        ("stop 9 41 41", in_the_commit),
-    ] {
-        for crash in &[
-            "short 64",
-            "short 64 all=41",
-            "short 65 all=00",
-            "short 79 all=FF",
-            "short 80 all=41",
-            "crash",
-        ] {
-            with_room(&rt, 80, &[DUCT, stop, row, crash, AS_BEFORE]);
-        }
-    }
-}
+const BEFORE_THE_FIRST_SYNC: Rows = (
+    "crash before the first sync shows the old number of blocks",
+    &[DUCT, "?", "?", "?", AS_BEFORE],
+    &[
+        &["anew", CLOSED, "short 64"],
+        &["anew", CLOSED, "short 64 all=41"],
+        &["anew", CLOSED, "short 65 all=00"],
+        &["anew", CLOSED, "short 79 all=FF"],
+        &["anew", CLOSED, "short 80 all=41"],
+        &["anew", CLOSED, "crash"],
+        &["stop 6 41 41", IN_THE_PUT, "short 64"],
+        &["stop 6 41 41", IN_THE_PUT, "short 64 all=41"],
+        &["stop 6 41 41", IN_THE_PUT, "short 65 all=00"],
+        &["stop 6 41 41", IN_THE_PUT, "short 79 all=FF"],
+        &["stop 6 41 41", IN_THE_PUT, "short 80 all=41"],
+        &["stop 6 41 41", IN_THE_PUT, "crash"],
+        &["stop 7 41 41", IN_THE_PUT, "short 64"],
+        &["stop 7 41 41", IN_THE_PUT, "short 64 all=41"],
+        &["stop 7 41 41", IN_THE_PUT, "short 65 all=00"],
+        &["stop 7 41 41", IN_THE_PUT, "short 79 all=FF"],
+        &["stop 7 41 41", IN_THE_PUT, "short 80 all=41"],
+        &["stop 7 41 41", IN_THE_PUT, "crash"],
+        &["stop 8 41 41", IN_THE_COMMIT, "short 64"],
+        &["stop 8 41 41", IN_THE_COMMIT, "short 64 all=41"],
+        &["stop 8 41 41", IN_THE_COMMIT, "short 65 all=00"],
+        &["stop 8 41 41", IN_THE_COMMIT, "short 79 all=FF"],
+        &["stop 8 41 41", IN_THE_COMMIT, "short 80 all=41"],
+        &["stop 8 41 41", IN_THE_COMMIT, "crash"],
+        &["stop 9 41 41", IN_THE_COMMIT, "short 64"],
+        &["stop 9 41 41", IN_THE_COMMIT, "short 64 all=41"],
+        &["stop 9 41 41", IN_THE_COMMIT, "short 65 all=00"],
+        &["stop 9 41 41", IN_THE_COMMIT, "short 79 all=FF"],
+        &["stop 9 41 41", IN_THE_COMMIT, "short 80 all=41"],
+        &["stop 9 41 41", IN_THE_COMMIT, "crash"],
+    ],
+);
+
+const IN_THE_SELECTOR: &str = "
+    open
+    grow 80
+    put top 7:2 pipe
+    commit -> error 15 Device
+    close
+    dirty -> 1";
+
+const AS_COMMITTED: &str = "
+    open
+    blocks -> 80
+    free -> 45
+    list top -> 7:1=duct 7:2=pipe";
 
 /// By then all blocks are sure. An odd selector names slot B, which says 64 blocks, and an even one
 /// names slot A.
-#[test]
-fn crash_after_the_first_sync_shows_either_number_of_blocks(rt: HostRuntime) {
-    let row = "
-        open
-        grow 80
-        put top 7:2 pipe
-        commit -> error 15 Device
-        close
-        dirty -> 1";
-    let as_committed = "
-        open
-        blocks -> 80
-        free -> 45
-        list top -> 7:1=duct 7:2=pipe";
-    for (stop, crash, shown) in &[
-        ("stop 10 A5 00", "crash", AS_BEFORE),
-        ("stop 10 FE 00", "crash", as_committed),
-        ("stop 11 41 41", "crash 1=01", AS_BEFORE),
-        ("stop 11 41 41", "crash", as_committed),
-    ] {
-        with_room(&rt, 80, &[DUCT, stop, row, crash, shown]);
-    }
-}
+const AFTER_THE_FIRST_SYNC: Rows = (
+    "crash after the first sync shows either number of blocks",
+    &[DUCT, "?", IN_THE_SELECTOR, "?", "?"],
+    &[
+        &["stop 10 A5 00", "crash", AS_BEFORE],
+        &["stop 10 FE 00", "crash", AS_COMMITTED],
+        &["stop 11 41 41", "crash 1=01", AS_BEFORE],
+        &["stop 11 41 41", "crash", AS_COMMITTED],
+    ],
+);
+
+const IN_THE_GROW: &str = "
+    open
+    grow 80 -> error 15 Device
+    blocks -> error 17 Failed
+    close
+    calls -> 6
+    crash all=41";
 
 /// The Grow makes the sixth device call.
+const FAILED: Rows = (
+    "growth that the device fails changes nothing",
+    &[DUCT, "?", IN_THE_GROW, AS_BEFORE],
+    &[&["once 5"], &["stop 5 41 41"]],
+);
+
+/// Over a cache as well, with room for the new blocks.
+const ON: On = On { room: 80, ..CACHED };
+
 #[test]
-fn growth_that_the_device_fails_changes_nothing(rt: HostRuntime) {
-    let row = "
-        open
-        grow 80 -> error 15 Device
-        blocks -> error 17 Failed
-        close
-        calls -> 6
-        crash all=41";
-    for fails in &["once 5", "stop 5 41 41"] {
-        with_room(&rt, 80, &[DUCT, fails, row, AS_BEFORE]);
-    }
+fn growth_is_shown_whole_or_not_at_all_after_a_crash(rt: HostRuntime) {
+    each_of(&rt, ON, &BEFORE_THE_FIRST_SYNC);
+    each_of(&rt, ON, &AFTER_THE_FIRST_SYNC);
+    each_of(&rt, ON, &FAILED);
 }

@@ -6,25 +6,9 @@ mod crashes;
 mod damage;
 mod merges;
 
-use super::script::{NEW, Row, each_in_256_blocks, each_on_both, on_both, on_each, with_room};
-use vm_types::Value;
-
-#[test]
-fn value_has_up_to_4000_bytes(rt: HostRuntime) {
-    let bytes = [0x61; 4096];
-    for (len, is_value) in [
-        (0, true),
-        (1, true),
-        (240, true),
-        (241, true),
-        (4000, true),
-        (4001, false),
-        (4096, false),
-    ] {
-        let value = bytes.get(..len).and_then(Value::new);
-        assert_eq!(rt; value.is_some(), is_value, "{len}");
-    }
-}
+use super::script::{
+    CACHED, LARGE, LARGE_AND_LATE, NEW, RoomRow, Row, Rows, each, each_of, each_with_room, plays_on,
+};
 
 const ON_BOTH: &[Row] = &[
     (
@@ -158,58 +142,60 @@ const IN_256_BLOCKS: &[Row] = &[
     ),
 ];
 
-#[test]
-fn values_of_any_length_are_put_and_freed(rt: HostRuntime) {
-    each_on_both(&rt, ON_BOTH);
-    each_in_256_blocks(&rt, IN_256_BLOCKS);
-}
+const OPENED_AGAIN: &str = "
+    free -> 29
+    commit
+    close
+    crash all=41
+    open
+    free -> 29";
 
 /// Each value alone is in block 34.
-#[test]
-fn values_of_each_length_are_there_after_opening(rt: HostRuntime) {
-    let after = "
-        free -> 29
-        commit
-        close
-        crash all=41
-        open
-        free -> 29";
-    for (put, shown, block) in &[
-        (
+const EACH_LENGTH: Rows = (
+    "values of each length are there after opening",
+    &[NEW, "?", "?", OPENED_AGAIN, "?", "close", "?"],
+    &[
+        &[
             "put top 7:1 ''",
             "list top -> 7:1=''",
+            "list top -> 7:1=''",
             "block 34 -> 0:4C454633 8:01 16:07 18:01",
-        ),
-        (
+        ],
+        &[
             "put top 7:1 a",
             "list top -> 7:1=a",
+            "list top -> 7:1=a",
             "block 34 -> 0:4C454633 8:01 16:07 18:01 26:01 28:61",
-        ),
-        (
+        ],
+        &[
             "put top 7:1 61*240",
             "list top -> 7:1=61*240",
+            "list top -> 7:1=61*240",
             "block 34 -> 0:4C454633 8:01 16:07 18:01 26:F0 28:61*240",
-        ),
-        (
+        ],
+        &[
             "put top 7:1 61*241",
             "list top -> 7:1=61*241",
+            "list top -> 7:1=61*241",
             "block 34 -> 0:4C454633 8:01 16:07 18:01 26:F1 28:61*241",
-        ),
-        (
+        ],
+        &[
             "put top 7:1 61*4000",
             "list top -> 7:1=61*4000",
+            "list top -> 7:1=61*4000",
             "block 34 -> 0:4C454633 8:01 16:07 18:01 26:A00F 28:61*4000",
-        ),
-    ] {
-        on_both(&rt, &[NEW, put, shown, after, shown, "close", block]);
-    }
-}
+        ],
+    ],
+);
 
-/// The first Put takes block 34. The checkpoints keep it and the twenty leaves of the next Puts,
-/// and the last Put takes one more.
-#[test]
-fn values_are_in_new_blocks_of_a_store_that_grew(rt: HostRuntime) {
-    let row = "
+const GROWN: &[RoomRow] = &[
+    // The first Put takes block 34. The checkpoints keep it and the twenty leaves of the next Puts,
+    // and the last Put takes one more.
+    (
+        "values are in new blocks of a store that grew",
+        96,
+        NEW,
+        "
         put top 1:1 62*4000
         remove top 1:1
         grow 96
@@ -230,8 +216,16 @@ fn values_are_in_new_blocks_of_a_store_that_grew(rt: HostRuntime) {
         reclaim
         free -> 21
         back top k040
-        list top -> 1:1=61*300";
-    with_room(&rt, 96, &[NEW, row]);
+        list top -> 1:1=61*300",
+    ),
+];
+
+#[test]
+fn values_of_any_length_are_put_and_freed(rt: HostRuntime) {
+    each(&rt, CACHED, ON_BOTH);
+    each(&rt, LARGE, IN_256_BLOCKS);
+    each_of(&rt, CACHED, &EACH_LENGTH);
+    each_with_room(&rt, GROWN);
 }
 
 /// All kinds of commands with values of any length, each shown before and after an opening.
@@ -303,5 +297,5 @@ fn a_session_with_values_of_any_length_shows_the_same_on_each_disk(rt: HostRunti
         merged_shown,
         "free -> 259",
     ];
-    on_each(&rt, &row);
+    plays_on(&rt, LARGE_AND_LATE, "a session", &row);
 }

@@ -1,5 +1,5 @@
 //! A store on a disk that has more blocks than the store, and that a crash may leave shorter.
-use super::script::{DUCT, RoomRow, each_with_room, with_room};
+use super::script::{CACHED, DUCT, On, RoomRow, Rows, each_of, each_with_room};
 
 const ON_LONGER_DISKS: &[RoomRow] = &[
     // The disk was lengthened behind the store's back: its blocks from 64 on do not belong to the
@@ -40,11 +40,6 @@ const ON_LONGER_DISKS: &[RoomRow] = &[
     ),
 ];
 
-#[test]
-fn a_store_is_the_same_on_a_longer_disk(rt: HostRuntime) {
-    each_with_room(&rt, ON_LONGER_DISKS);
-}
-
 /// The rest of a row, after a crash that left some of the new blocks.
 const ONLY_DUCT: &str = "
     open
@@ -59,14 +54,20 @@ const ONLY_DUCT: &str = "
     list top -> 7:1=duct 7:2=pipe
     free -> 29";
 
+const AFTER_A_CRASH: Rows = (
+    "a crash that takes new blocks shows what was committed",
+    &[DUCT, "longer 80", "?", ONLY_DUCT],
+    &[
+        &["short 64 all=41"],
+        &["short 65 all=41"],
+        &["short 79"],
+        &["short 80 all=41"],
+    ],
+);
+
 #[test]
-fn a_crash_that_takes_new_blocks_shows_what_was_committed(rt: HostRuntime) {
-    for crash in &[
-        "short 64 all=41",
-        "short 65 all=41",
-        "short 79",
-        "short 80 all=41",
-    ] {
-        with_room(&rt, 80, &[DUCT, "longer 80", crash, ONLY_DUCT]);
-    }
+fn a_store_is_the_same_on_a_longer_disk(rt: HostRuntime) {
+    each_with_room(&rt, ON_LONGER_DISKS);
+    let on = On { room: 80, ..CACHED };
+    each_of(&rt, on, &AFTER_A_CRASH);
 }

@@ -1,5 +1,5 @@
 //! What a Merge answers, and what it leaves in both alternatives.
-use super::script::{NEW, Row, each_in_memory, each_on_both};
+use super::script::{ALONE, CACHED, NEW, Row, each};
 
 const ON_BOTH: &[Row] = &[
     (
@@ -118,6 +118,6 @@ const IN_MEMORY: &[Row] = &[
 
 #[test]
 fn merges_are_answered(rt: HostRuntime) {
-    each_on_both(&rt, ON_BOTH);
-    each_in_memory(&rt, IN_MEMORY);
+    each(&rt, CACHED, ON_BOTH);
+    each(&rt, ALONE, IN_MEMORY);
 }

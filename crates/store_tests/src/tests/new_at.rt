@@ -1,5 +1,5 @@
 //! Alternatives that begin at a checkpoint of their parent.
-use super::script::{NEW, Row, each_in_memory, each_on_both};
+use super::script::{ALONE, CACHED, NEW, Row, each};
 
 const ON_BOTH: &[Row] = &[
     (
@@ -76,6 +76,6 @@ const IN_MEMORY: &[Row] = &[
 
 #[test]
 fn alternatives_begin_at_checkpoints(rt: HostRuntime) {
-    each_on_both(&rt, ON_BOTH);
-    each_in_memory(&rt, IN_MEMORY);
+    each(&rt, CACHED, ON_BOTH);
+    each(&rt, ALONE, IN_MEMORY);
 }

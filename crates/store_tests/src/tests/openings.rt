@@ -1,12 +1,5 @@
 //! What an opening refuses, and slots with several entries as an opening finds them.
-use super::script::{DUCT, Row, each_in_memory, each_on_both, from_disk};
-use std::alloc::Global;
-use std::test::Fail;
-use vm_block::{Entry, Kind, SlotName};
-use vm_catalog::write_slot;
-use vm_disk::{Disk, MemDisk};
-use vm_store::{format, open};
-use vm_types::{Command, Key, Name, ValueRef};
+use super::script::{ALONE, CACHED, DUCT, Row, Rows, each, each_of};
 
 const ON_BOTH: &[Row] = &[
     // Block 34 is a node of level one, and its child is itself.
@@ -95,100 +88,58 @@ const IN_MEMORY: &[Row] = &[
         set 18 8:41
         open -> error 21 BadSize",
     ),
-];
-
-#[test]
-fn opening_refuses_what_is_no_whole_store(rt: HostRuntime) {
-    each_on_both(&rt, ON_BOTH);
-    each_in_memory(&rt, IN_MEMORY);
-}
-
-/// A disk on which `duct` is committed, in block 34.
-fn duct_disk(alloc: Global) -> Result<MemDisk, Fail> {
-    let (table, number) = (7, 1);
-    let put = Command::Put {
-        alt: Name::new(b"top").ok_or("no name")?,
-        key: Key { table, number },
-        value: ValueRef::new(b"duct").ok_or("no value")?,
-    };
-    let disk = format(MemDisk::new(alloc, 64)?, 64).map_err(|refused| refused.1)?;
-    let mut store = open(alloc, disk).map_err(|refused| refused.1)?;
-    let put = store.apply(&put);
-    let commit = store.apply(&Command::Commit);
-    let disk = store.close();
-    put.and(commit)?;
-    Ok(disk)
-}
-
-/// `top` with `duct` in block 34, an alternative `a` under it and a checkpoint `c` of `a`, with
-/// these roots.
-fn entries(alternative: (u32, u32), checkpoint: (u32, u32)) -> Option<[Entry; 3]> {
-    let (top, a, c) = (Name::new(b"top")?, Name::new(b"a")?, Name::new(b"c")?);
-    let entry = |kind: Kind, name: Name, owner: Option<Name>, roots: (u32, u32)| Entry {
-        kind,
-        name,
-        owner,
-        current: roots.0,
-        base: roots.1,
-    };
-    Some([
-        entry(Kind::Alternative, top, None, (34, 0)),
-        entry(Kind::Alternative, a, Some(top), alternative),
-        entry(Kind::Checkpoint, c, Some(a), checkpoint),
-    ])
-}
-
-/// The disk of `duct` with these entries in slot B, which is in use.
-fn disk_of(
-    alloc: Global,
-    alternative: (u32, u32),
-    checkpoint: (u32, u32),
-) -> Result<MemDisk, Fail> {
-    let mut disk = duct_disk(alloc)?;
-    let entries = entries(alternative, checkpoint).ok_or("no name")?;
-    if disk.blocks() >= 34 {
-        write_slot(&mut disk, SlotName::B, 64, &entries)?;
-    }
-    Ok(disk)
-}
-
-#[test]
-fn slot_of_several_entries_is_opened(rt: HostRuntime) -> Result<(), Fail> {
-    let disk = disk_of(rt.alloc(), (34, 34), (34, 0))?;
-    let row = "
+    (
+        "slot of several entries is opened",
+        DUCT,
+        "
+        set 18 12:03 256:410161 290:03746F70 323:22 327:22 384:430163 418:0161 451:22
         open
         get top 7:1 -> duct
         get a 7:1 -> duct
-        get c 7:1 -> error 1 NoSuchAlternative";
-    from_disk(&rt, disk, &[row]);
-    Ok(())
-}
+        get c 7:1 -> error 1 NoSuchAlternative",
+    ),
+    (
+        "slot with a name twice is damage",
+        DUCT,
+        "
+        set 18 12:03 256:410161 290:03746F70 323:22 327:22 384:410161 418:03746F70 451:22 455:22
+        open -> error 18 Damaged 18",
+    ),
+];
 
-/// Blocks 35 to 38 are not leaves. Roots are tested entry by entry, the current one before the
-/// base.
-#[test]
-fn first_root_without_a_map_is_named(rt: HostRuntime) -> Result<(), Fail> {
-    for (alternative, checkpoint, row) in [
-        ((35, 36), (37, 38), "open -> error 18 Damaged 35"),
-        ((34, 36), (37, 38), "open -> error 18 Damaged 36"),
-        ((34, 0), (37, 36), "open -> error 18 Damaged 37"),
-        ((0, 34), (0, 38), "open -> error 18 Damaged 38"),
-        ((34, 34), (64, 35), "open -> error 18 Damaged 64"),
-    ] {
-        let disk = disk_of(rt.alloc(), alternative, checkpoint)?;
-        from_disk(&rt, disk, &[row]);
-    }
-    Ok(())
-}
+/// Slot B of the store of `duct` with the alternative `a` under `top` at byte 256, and its checkpoint
+/// `c` at byte 384. Each has its current root at byte 67, and its base at byte 71. Blocks 35 to 38
+/// are not leaves. Roots are tested entry by entry, the current one before the base.
+const ROOTS: Rows = (
+    "first root without a map is named",
+    &[DUCT, "?", "?"],
+    &[
+        &[
+            "set 18 12:03 256:410161 290:03746F70 323:23 327:24 384:430163 418:0161 451:25 455:26",
+            "open -> error 18 Damaged 35",
+        ],
+        &[
+            "set 18 12:03 256:410161 290:03746F70 323:22 327:24 384:430163 418:0161 451:25 455:26",
+            "open -> error 18 Damaged 36",
+        ],
+        &[
+            "set 18 12:03 256:410161 290:03746F70 323:22 384:430163 418:0161 451:25 455:24",
+            "open -> error 18 Damaged 37",
+        ],
+        &[
+            "set 18 12:03 256:410161 290:03746F70 327:22 384:430163 418:0161 455:26",
+            "open -> error 18 Damaged 38",
+        ],
+        &[
+            "set 18 12:03 256:410161 290:03746F70 323:22 327:22 384:430163 418:0161 451:40 455:23",
+            "open -> error 18 Damaged 64",
+        ],
+    ],
+);
 
 #[test]
-fn slot_with_a_name_twice_is_damage(rt: HostRuntime) -> Result<(), Fail> {
-    let mut disk = duct_disk(rt.alloc())?;
-    let all = entries((34, 34), (0, 0)).ok_or("no name")?;
-    if disk.blocks() >= 34 {
-        let twice = [all[0], all[1], all[1]];
-        write_slot(&mut disk, SlotName::B, 64, &twice)?;
-    }
-    from_disk(&rt, disk, &["open -> error 18 Damaged 18"]);
-    Ok(())
+fn opening_refuses_what_is_no_whole_store(rt: HostRuntime) {
+    each(&rt, CACHED, ON_BOTH);
+    each(&rt, ALONE, IN_MEMORY);
+    each_of(&rt, ALONE, &ROOTS);
 }

@@ -1,5 +1,5 @@
 //! Records: what is put, got, listed and taken out.
-use super::script::{DUCT, NEW, Row, each_in_memory, each_on_both, in_memory};
+use super::script::{ALONE, CACHED, DUCT, NEW, Row, each, plays_on};
 use std::test::Fail;
 
 /// A closed store in which `duct` and the record beside it are committed, in one leaf. Opening it
@@ -118,8 +118,8 @@ const IN_MEMORY: &[Row] = &[
 
 #[test]
 fn records_are_put_got_listed_and_taken_out(rt: HostRuntime) {
-    each_on_both(&rt, ON_BOTH);
-    each_in_memory(&rt, IN_MEMORY);
+    each(&rt, CACHED, ON_BOTH);
+    each(&rt, ALONE, IN_MEMORY);
 }
 
 #[test]
@@ -132,6 +132,6 @@ fn blocks_are_found_again_over_many_puts(rt: HostRuntime) -> Result<(), Fail> {
         close
         open
         get top 7:1 -> duct";
-    in_memory(&rt, &[DUCT, "open", &row, after]);
+    plays_on(&rt, ALONE, "many puts", &[DUCT, "open", &row, after]);
     Ok(())
 }

@@ -1,6 +1,6 @@
 //! What a Rollback undoes, and which blocks are free after it. Those that were taken since the
 //! Commit are held until the next marking.
-use super::script::{NEW, RoomRow, Row, and_late, each_in_memory, each_on_both, each_with_room};
+use super::script::{ALONE, CACHED, LATE, NEW, RoomRow, Row, each, each_with_room};
 
 const UNDONE: &[Row] = &[
     // Opening makes four device calls.
@@ -140,11 +140,6 @@ const UNDONE: &[Row] = &[
     ),
 ];
 
-#[test]
-fn rollback_goes_back_to_what_was_committed(rt: HostRuntime) {
-    each_on_both(&rt, UNDONE);
-}
-
 const FAILED: &[Row] = &[(
     "a store that has failed undoes nothing",
     NEW,
@@ -154,11 +149,6 @@ const FAILED: &[Row] = &[(
     rollback -> error 17 Failed
     run rollback -> Failed",
 )];
-
-#[test]
-fn rollback_is_refused_by_a_store_that_has_failed(rt: HostRuntime) {
-    each_in_memory(&rt, FAILED);
-}
 
 const GROWN: &[RoomRow] = &[
     // Opening makes four device calls, and the Grow and the Put one each.
@@ -263,15 +253,13 @@ const GROWN: &[RoomRow] = &[
     ),
 ];
 
-#[test]
-fn rollback_goes_back_to_the_committed_number_of_blocks(rt: HostRuntime) {
-    each_with_room(&rt, GROWN);
-}
-
-/// Block 34 is committed. The Puts before the Rollback take one block, and those after it one more.
-#[test]
-fn series_after_a_rollback_leaves_what_was_committed(rt: HostRuntime) {
-    let row = "
+const SERIES: &[Row] = &[
+    // Block 34 is committed. The Puts before the Rollback take one block, and those after it one
+    // more.
+    (
+        "series after a rollback leaves what was committed",
+        NEW,
+        "
         put top 1:1 x
         commit
         puts top 1:2 3 v
@@ -283,6 +271,14 @@ fn series_after_a_rollback_leaves_what_was_committed(rt: HostRuntime) {
         close
         crash all=41
         open
-        list top -> 1:1=x";
-    and_late(&rt, &[NEW, row]);
+        list top -> 1:1=x",
+    ),
+];
+
+#[test]
+fn rollback_goes_back_to_what_was_committed(rt: HostRuntime) {
+    each(&rt, CACHED, UNDONE);
+    each(&rt, ALONE, FAILED);
+    each_with_room(&rt, GROWN);
+    each(&rt, LATE, SERIES);
 }

@@ -1,5 +1,5 @@
 //! Lists of commands.
-use super::script::{NEW, Row, each_in_memory};
+use super::script::{ALONE, NEW, Row, each};
 
 const LISTS: &[Row] = &[
     (
@@ -49,5 +49,5 @@ const LISTS: &[Row] = &[
 
 #[test]
 fn lists_of_commands_are_answered(rt: HostRuntime) {
-    each_in_memory(&rt, LISTS);
+    each(&rt, ALONE, LISTS);
 }

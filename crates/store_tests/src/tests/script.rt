@@ -1,10 +1,8 @@
 //! Scripts: lines of steps, each with its answer, played over a disk in memory, and over others on
 //! top of it.
 //!
-//! A line is a step, and after ` -> ` comes its answer, which is `ok` if the line gives none. A
-//! refusal is `error` and its text. A line that begins with `#` is a comment. A record's key is
-//! `7:1`. `''` is the empty value, `~` no value, and `none` an empty list. A hundred or more bytes
-//! of one kind are `61*300`.
+//! A refusal is `error` and its text. A record's key is `7:1`. `''` is the empty value, `~` no
+//! value, and `none` an empty list. A hundred or more bytes of one kind are `61*300`.
 //!
 //! | Step, while a store is open | Answer |
 //! |---|---|
@@ -43,14 +41,12 @@
 //! | `cut 21` | the same, with only this many of its blocks |
 //! | `longer 80` | `ok`, or `fault`: the disk is asked to have this many blocks |
 //! | `short 64`, `short 64 35=FF` | `ok`: the device is made new after a crash that leaves this many blocks, and may fill some |
-ghost use Rattle.std.specs.Prelude.{◌≤◌};
-
 use super::answers::{answer, refusal_text};
 use super::blocks::{cut, look, set_block, set_bytes};
 use super::over::OverMemory;
-use super::words::{Wrong, byte, number};
-use std::alloc::{AllocError, Global};
+use std::alloc::Global;
 use std::process::Abort;
+use testkit::{Playable, Wrong, byte, filling, number, plays};
 use vm_disk::{CachedDisk, DelayedDisk, Disk, FuseDisk, MemDisk};
 use vm_store::{Store, copy, format, open, open_whole};
 use vm_types::{Block, Refusal};
@@ -90,8 +86,13 @@ pub(super) type Row = (&'static str, &'static str, &'static str);
 /// The same, with the room of the disk after the name.
 pub(super) type RoomRow = (&'static str, u32, &'static str, &'static str);
 
-/// Printed instead of a name for a row that is in no table.
-const ROW: &str = "row";
+/// Rows under one name: texts that are played one after another, and what stands in each row for
+/// those that are `?`. If a row fails, the name and the number of the row are printed.
+pub(super) type Rows = (
+    &'static str,
+    &'static [&'static str],
+    &'static [&'static [&'static str]],
+);
 
 /// More device calls than any script makes.
 const NEVER: u32 = 100_000;
@@ -115,29 +116,11 @@ fn device<M: OverMemory>(
     if passes > NEVER {
         return Err(Wrong::Unreadable);
     }
-    let disk = M::over(alloc, disk).map_err(|_| Wrong::Memory)?;
+    let disk = M::over(alloc, disk)?;
     Ok(match torn {
         Some(torn) => FuseDisk::stop(disk, passes, torn),
         None => FuseDisk::once(disk, passes, [9; 4096]),
     })
-}
-
-/// What a crash may leave: `all=41` fills each block with this byte, and `35=FF` fills one of them.
-fn filling(alloc: Global, blocks: u32, words: &[&str]) -> Result<Vec<(u32, Block)>, Wrong> {
-    let mut filling = Vec::new(alloc);
-    for word in words {
-        let (place, fill) = word.split_once('=').ok_or(Wrong::Unreadable)?;
-        let fill = byte(fill)?;
-        if place == "all" {
-            for n in 0..blocks {
-                filling.push((n, [fill; 4096])).map_err(|_| Wrong::Memory)?;
-            }
-        } else {
-            let n = number(place)?;
-            filling.push((n, [fill; 4096])).map_err(|_| Wrong::Memory)?;
-        }
-    }
-    Ok(filling)
 }
 
 /// The disk after a crash that leaves this many blocks.
@@ -331,161 +314,158 @@ fn play_open<M: OverMemory>(
     }
 }
 
-/// Plays a step.
-fn play<M: OverMemory>(alloc: Global, bench: Bench<FuseDisk<M>>, step: &str) -> Played<M> {
-    match bench {
-        Bench::Shut(disk) => {
-            let words: Vec<&str> = step.split_whitespace().collect(alloc)?;
-            play_shut(alloc, disk, &words)
+impl<M: OverMemory> Playable for Bench<FuseDisk<M>> {
+    fn play(self, alloc: Global, words: &[&str]) -> Result<(Bench<FuseDisk<M>>, String), Wrong> {
+        match self {
+            Bench::Shut(disk) => play_shut(alloc, disk, words),
+            Bench::Open(store) => play_open(alloc, store, words),
         }
-        Bench::Open(store) => match step.split_whitespace().collect::<Vec<&str>>(alloc) {
-            Ok(words) => play_open(alloc, store, &words),
-            Err(_) => {
-                let _disk = store.close();
-                Err(Wrong::Memory)
-            }
-        },
+    }
+
+    fn end(self) {
+        let _disk = match self {
+            Bench::Shut(disk) => disk,
+            Bench::Open(store) => store.close(),
+        };
     }
 }
 
-/// Plays the lines of a text, and compares each answer. If one differs, the name of the row is
-/// printed.
-fn plays<M: OverMemory, R: AllocGlobal + Abort>(
-    rt: &R,
-    name: &str,
-    on: &str,
-    mut bench: Bench<FuseDisk<M>>,
-    text: &str,
-) -> Bench<FuseDisk<M>> {
-    for (n, line) in text.lines().enumerate() {
-        let line = line.trim();
-        if line.is_empty() || line.starts_with('#') {
-            continue;
-        }
-        let (step, due) = line.split_once(" -> ").unwrap_or((line, "ok"));
-        match play(rt.alloc(), bench, step) {
-            Ok((next, given)) => {
-                let given = given.trim();
-                let given = if given.is_empty() { "none" } else { given };
-                assert_eq!(rt; given, due.trim(), "{name}, {on}, line {n}: {line}");
-                bench = next;
-            }
-            Err(wrong) => panic!(rt; "{name}, {on}, line {n}: {line}: {wrong:?}"),
-        }
-    }
-    bench
+/// The blank disks that a row is played on, one after another: how many blocks each has, and has
+/// room for; it alone, then with a cache over it, and then with a disk over it that delays writes.
+#[derive(Clone, Copy)]
+pub(super) struct On {
+    pub(super) blocks: u32,
+    pub(super) room: u32,
+    pub(super) cached: bool,
+    pub(super) late: bool,
 }
 
-/// Plays texts one after another on a disk.
-fn plays_all<M: OverMemory, R: AllocGlobal + Abort>(
+/// 64 blocks, in memory alone.
+pub(super) const ALONE: On = On {
+    blocks: 64,
+    room: 64,
+    cached: false,
+    late: false,
+};
+
+/// The same, and once more over a cache.
+pub(super) const CACHED: On = On {
+    blocks: 64,
+    room: 64,
+    cached: true,
+    late: false,
+};
+
+/// 64 blocks with room for 80, over a cache as well, and over a disk that delays writes.
+pub(super) const LATE: On = On {
+    blocks: 64,
+    room: 80,
+    cached: true,
+    late: true,
+};
+
+/// 256 blocks, in memory alone.
+pub(super) const LARGE: On = On {
+    blocks: 256,
+    room: 256,
+    cached: false,
+    late: false,
+};
+
+/// 256 blocks with room for 300, over a cache as well, and over a disk that delays writes.
+pub(super) const LARGE_AND_LATE: On = On {
+    blocks: 256,
+    room: 300,
+    cached: true,
+    late: true,
+};
+
+/// Plays texts one after another on a blank disk.
+fn plays_over<M: OverMemory, R: AllocGlobal + Abort>(
     rt: &R,
+    on: On,
+    over: &str,
     name: &str,
-    on: &str,
-    disk: Result<MemDisk, AllocError>,
     texts: &[&str],
 ) {
-    let device = match disk {
-        Ok(disk) => device::<M>(rt.alloc(), disk, NEVER, None),
-        Err(_) => Err(Wrong::Memory),
+    assert!(rt; on.blocks <= on.room, "{name}");
+    let Ok(disk) = MemDisk::with_room(rt.alloc(), on.blocks, on.room) else {
+        panic!(rt; "{name}, {over}: no memory");
     };
-    let mut bench = match device {
+    let mut bench = match device::<M>(rt.alloc(), disk, NEVER, None) {
         Ok(device) => Bench::Shut(device),
-        Err(wrong) => panic!(rt; "{name}, {on}: {wrong:?}"),
+        Err(wrong) => panic!(rt; "{name}, {over}: {wrong:?}"),
     };
     for text in texts {
-        bench = plays(rt, name, on, bench, text);
+        bench = match plays(rt.alloc(), bench, text) {
+            Ok(bench) => bench,
+            Err(mismatch) => panic!(rt; "{name}, {over}, {mismatch}"),
+        };
     }
-    let _disk = match bench {
-        Bench::Shut(disk) => disk,
-        Bench::Open(store) => store.close(),
-    };
+    bench.end();
 }
 
-/// Plays texts one after another on a disk in memory.
-pub(super) fn from_disk<R: AllocGlobal + Abort>(rt: &R, disk: MemDisk, texts: &[&str]) {
-    plays_all::<MemDisk, R>(rt, ROW, "in memory", Ok(disk), texts);
+/// The same on each of the disks.
+pub(super) fn plays_on<R: AllocGlobal + Abort>(rt: &R, on: On, name: &str, texts: &[&str]) {
+    plays_over::<MemDisk, R>(rt, on, "in memory", name, texts);
+    if on.cached {
+        plays_over::<CachedDisk<MemDisk>, R>(rt, on, "over a cache", name, texts);
+    }
+    if on.late {
+        plays_over::<DelayedDisk<MemDisk>, R>(rt, on, "over a late disk", name, texts);
+    }
 }
 
-/// The same on a blank disk of 256 blocks.
-pub(super) fn in_256_blocks<R: AllocGlobal + Abort>(rt: &R, texts: &[&str]) {
-    let blank = MemDisk::new(rt.alloc(), 256);
-    plays_all::<MemDisk, R>(rt, ROW, "in memory", blank, texts);
-}
-
-/// The same on a blank disk of 64 blocks.
-pub(super) fn in_memory<R: AllocGlobal + Abort>(rt: &R, texts: &[&str]) {
-    let blank = MemDisk::new(rt.alloc(), 64);
-    plays_all::<MemDisk, R>(rt, ROW, "in memory", blank, texts);
-}
-
-/// The same on a blank disk of 64 blocks with this room, and once more over a cache.
-pub(super) fn with_room<R: AllocGlobal + Abort>(rt: &R, room: u32, texts: &[&str])
-    requires { 64 ≤ room }
-{
-    let blank = MemDisk::with_room(rt.alloc(), 64, room);
-    plays_all::<MemDisk, R>(rt, ROW, "in memory", blank, texts);
-    let blank = MemDisk::with_room(rt.alloc(), 64, room);
-    plays_all::<CachedDisk<MemDisk>, R>(rt, ROW, "over a cache", blank, texts);
-}
-
-/// The same on a blank disk of 64 blocks, and once more over a cache.
-pub(super) fn on_both<R: AllocGlobal + Abort>(rt: &R, texts: &[&str]) {
-    in_memory(rt, texts);
-    let blank = MemDisk::new(rt.alloc(), 64);
-    plays_all::<CachedDisk<MemDisk>, R>(rt, ROW, "over a cache", blank, texts);
-}
-
-/// The same on a blank disk of 64 blocks with room for 80, over a cache, and over a disk that
-/// delays writes.
-pub(super) fn and_late<R: AllocGlobal + Abort>(rt: &R, texts: &[&str]) {
-    with_room(rt, 80, texts);
-    let blank = MemDisk::with_room(rt.alloc(), 64, 80);
-    plays_all::<DelayedDisk<MemDisk>, R>(rt, ROW, "over a late disk", blank, texts);
-}
-
-/// The same on a blank disk of 256 blocks with room for 300, over a cache, and over a disk that
-/// delays writes.
-pub(super) fn on_each<R: AllocGlobal + Abort>(rt: &R, texts: &[&str]) {
-    let blank = MemDisk::with_room(rt.alloc(), 256, 300);
-    plays_all::<MemDisk, R>(rt, ROW, "in memory", blank, texts);
-    let blank = MemDisk::with_room(rt.alloc(), 256, 300);
-    plays_all::<CachedDisk<MemDisk>, R>(rt, ROW, "over a cache", blank, texts);
-    let blank = MemDisk::with_room(rt.alloc(), 256, 300);
-    plays_all::<DelayedDisk<MemDisk>, R>(rt, ROW, "over a late disk", blank, texts);
-}
-
-/// Plays each row of a table on its own blank disk of 64 blocks.
-pub(super) fn each_in_memory<R: AllocGlobal + Abort>(rt: &R, rows: &[Row]) {
+/// Plays the rows of a table, each on disks of its own.
+pub(super) fn each<R: AllocGlobal + Abort>(rt: &R, on: On, rows: &[Row]) {
     for (name, first, row) in rows {
-        let blank = MemDisk::new(rt.alloc(), 64);
-        plays_all::<MemDisk, R>(rt, name, "in memory", blank, &[first, row]);
+        plays_on(rt, on, name, &[first, row]);
     }
 }
 
-/// The same on blank disks of 256 blocks.
-pub(super) fn each_in_256_blocks<R: AllocGlobal + Abort>(rt: &R, rows: &[Row]) {
-    for (name, first, row) in rows {
-        let blank = MemDisk::new(rt.alloc(), 256);
-        plays_all::<MemDisk, R>(rt, name, "in memory", blank, &[first, row]);
-    }
-}
-
-/// The same on blank disks of 64 blocks, and once more over a cache.
-pub(super) fn each_on_both<R: AllocGlobal + Abort>(rt: &R, rows: &[Row]) {
-    each_in_memory(rt, rows);
-    for (name, first, row) in rows {
-        let blank = MemDisk::new(rt.alloc(), 64);
-        plays_all::<CachedDisk<MemDisk>, R>(rt, name, "over a cache", blank, &[first, row]);
-    }
-}
-
-/// The same on blank disks of 64 blocks with the row's room, and once more over a cache.
+/// The same on disks of 64 blocks with the row's room, and once more over a cache.
 pub(super) fn each_with_room<R: AllocGlobal + Abort>(rt: &R, rows: &[RoomRow]) {
     for (name, room, first, row) in rows {
-        assert!(rt; 64 <= *room, "{name}");
-        let blank = MemDisk::with_room(rt.alloc(), 64, *room);
-        plays_all::<MemDisk, R>(rt, name, "in memory", blank, &[first, row]);
-        let blank = MemDisk::with_room(rt.alloc(), 64, *room);
-        plays_all::<CachedDisk<MemDisk>, R>(rt, name, "over a cache", blank, &[first, row]);
+        let on = On {
+            room: *room,
+            ..CACHED
+        };
+        plays_on(rt, on, name, &[first, row]);
+    }
+}
+
+/// These texts, with what a row has for those that are `?`.
+fn filled(
+    alloc: Global,
+    texts: &[&'static str],
+    row: &[&'static str],
+) -> Result<Vec<&'static str>, Wrong> {
+    let mut filled = Vec::new(alloc);
+    let mut used: usize = 0;
+    for text in texts {
+        if *text == "?" {
+            filled.push(*row.get(used).ok_or(Wrong::Unreadable)?)?;
+            used = used.saturating_add(1);
+        } else {
+            filled.push(*text)?;
+        }
+    }
+    if used != row.len() {
+        return Err(Wrong::Unreadable);
+    }
+    Ok(filled)
+}
+
+/// Plays rows under one name, each on disks of its own.
+pub(super) fn each_of<R: AllocGlobal + Abort>(rt: &R, on: On, rows: &Rows) {
+    let (name, texts, rows) = rows;
+    for (n, row) in rows.iter().enumerate() {
+        let Ok(texts) = filled(rt.alloc(), texts, row) else {
+            panic!(rt; "{name}, row {n}: no such row");
+        };
+        let Ok(name) = format!(in rt.alloc(); "{name}, row {n}") else {
+            panic!(rt; "{name}, row {n}: no memory");
+        };
+        plays_on(rt, on, &name, &texts);
     }
 }

@@ -1,15 +1,20 @@
 //! Series of changes: a Put or a Remove changes those blocks in their places that the series which
 //! it continues took, and copies all others.
 use super::records::TWO_RECORDS;
-use super::script::{NEW, Row, SEVENTEEN, and_late, each_in_256_blocks, each_on_both, on_each};
+use super::script::{
+    CACHED, LARGE, LARGE_AND_LATE, LATE, NEW, Row, Rows, SEVENTEEN, each, each_of, plays_on,
+};
 
 /// The first Put takes a block.
-#[test]
-fn each_put_but_the_first_takes_no_block(rt: HostRuntime) {
-    for puts in &["puts top 1:1 1 v", "puts top 1:1 2 v", "puts top 1:1 5 v"] {
-        and_late(&rt, &[NEW, puts, "free -> 29"]);
-    }
-}
+const FIRST_PUT: Rows = (
+    "each put but the first takes no block",
+    &[NEW, "?", "free -> 29"],
+    &[
+        &["puts top 1:1 1 v"],
+        &["puts top 1:1 2 v"],
+        &["puts top 1:1 5 v"],
+    ],
+);
 
 const LOAD_AND_MERGE: &[Row] = &[
     // The seventeenth Put takes a second leaf, and a root.
@@ -43,11 +48,6 @@ const LOAD_AND_MERGE: &[Row] = &[
         list a -> 1:1=v 1:2=v 1:3=v 1:4=w 2:1=v 2:2=v",
     ),
 ];
-
-#[test]
-fn load_and_merge_take_few_blocks(rt: HostRuntime) {
-    each_in_256_blocks(&rt, LOAD_AND_MERGE);
-}
 
 const MARKINGS: &[Row] = &[
     // Thirteen Puts end the series of each other, and take a block each. The great value takes a
@@ -111,65 +111,43 @@ const MARKINGS: &[Row] = &[
     ),
 ];
 
-#[test]
-fn a_marking_ends_no_series(rt: HostRuntime) {
-    each_on_both(&rt, MARKINGS);
-}
+/// What is shown after a crash in a series of changes of the seventeen records.
+const SEVENTEEN_KEPT: &str = "
+    close
+    crash all=41
+    open
+    get top 1:1 -> 76*240
+    get top 1:2 -> 76*240
+    get top 1:16 -> 76*240
+    get top 1:17 -> 76*240";
 
 /// The root is in block 36, over leaves 34 and 35, which are committed. The first Put takes a leaf
 /// and a root. The second one changes this leaf in its place, the third one takes the other leaf
 /// and changes the root, and the Remove changes that leaf.
-#[test]
-fn blocks_from_before_the_series_are_not_changed(rt: HostRuntime) {
-    let [one, two, three, four] = [
+const FROM_BEFORE: Rows = (
+    "blocks from before the series are not changed",
+    &[
+        SEVENTEEN,
+        "open",
         "put top 1:1 w",
-        "put top 1:2 w",
-        "put top 1:17 w",
-        "remove top 1:16",
-    ];
-    let kept = "
-        close
-        crash all=41
-        open
-        get top 1:1 -> 76*240
-        get top 1:2 -> 76*240
-        get top 1:16 -> 76*240
-        get top 1:17 -> 76*240";
-    for (changes, free) in &[
-        ([one, "", "", ""], "free -> 25"),
-        ([one, two, "", ""], "free -> 25"),
-        ([one, two, three, ""], "free -> 24"),
-        ([one, two, three, four], "free -> 24"),
-    ] {
-        let [one, two, three, four] = changes;
-        let row = [SEVENTEEN, "open", one, two, three, four, free, kept];
-        and_late(&rt, &row);
-    }
-}
-
-#[test]
-fn removes_change_in_place_what_the_series_took(rt: HostRuntime) {
-    // Both records are committed in block 35. With the last one, the tree is gone.
-    let row = "
-        open
-        remove top 7:2
-        free -> 28
-        close
-        open
-        put top 7:3 y
-        free -> 28
-        remove top 7:3
-        remove top 7:2
-        remove top 7:2 -> error 5 NoSuchRecord
-        list top -> 7:1=duct
-        remove top 7:1
-        free -> 28
-        list top -> none
-        close
-        open
-        list top -> 7:1=duct 7:2=x";
-    and_late(&rt, &[TWO_RECORDS, row]);
-}
+        "?",
+        "?",
+        "?",
+        "?",
+        SEVENTEEN_KEPT,
+    ],
+    &[
+        &["", "", "", "free -> 25"],
+        &["put top 1:2 w", "", "", "free -> 25"],
+        &["put top 1:2 w", "put top 1:17 w", "", "free -> 24"],
+        &[
+            "put top 1:2 w",
+            "put top 1:17 w",
+            "remove top 1:16",
+            "free -> 24",
+        ],
+    ],
+);
 
 /// Alternatives `a` under `top` and `b` under `a`, with a record each, in blocks 34 and 35.
 const BRANCHES: &str = "
@@ -187,70 +165,100 @@ const BRANCHES: &str = "
 
 /// The first Put takes block 36, and the last one a copy of it. A Grow adds sixteen blocks, and the
 /// Put of `b` takes one.
-#[test]
-fn each_other_command_that_is_served_ends_the_series(rt: HostRuntime) {
-    for (between, free) in &[
-        ("new c top", "free -> 26"),
-        ("new c a k", "free -> 26"),
-        ("checkpoint a m", "free -> 26"),
-        ("uncheck a k", "free -> 26"),
-        ("back a k", "free -> 26"),
-        ("drop b", "free -> 26"),
-        ("merge a -> ok 0", "free -> 26"),
-        ("post a", "free -> 26"),
-        ("commit", "free -> 26"),
-        ("reclaim", "free -> 26"),
-        ("grow 80", "free -> 42"),
-        ("put b 2:2 v", "free -> 25"),
-        ("remove b 2:2", "free -> 26"),
-    ] {
-        let puts = [BRANCHES, "put a 1:1 v", between, "put a 1:2 w", free];
-        and_late(&rt, &puts);
-    }
-}
+const ENDED: Rows = (
+    "each other command that is served ends the series",
+    &[BRANCHES, "put a 1:1 v", "?", "put a 1:2 w", "?"],
+    &[
+        &["new c top", "free -> 26"],
+        &["new c a k", "free -> 26"],
+        &["checkpoint a m", "free -> 26"],
+        &["uncheck a k", "free -> 26"],
+        &["back a k", "free -> 26"],
+        &["drop b", "free -> 26"],
+        &["merge a -> ok 0", "free -> 26"],
+        &["post a", "free -> 26"],
+        &["commit", "free -> 26"],
+        &["reclaim", "free -> 26"],
+        &["grow 80", "free -> 42"],
+        &["put b 2:2 v", "free -> 25"],
+        &["remove b 2:2", "free -> 26"],
+    ],
+);
 
-#[test]
-fn queries_and_refused_commands_do_not_end_it(rt: HostRuntime) {
-    for between in &[
-        "get a 1:1 -> v",
-        "get b 2:2 -> u",
-        "list a -> 1:1=v",
-        "changes a -> 1:1=~/v",
-        "conflicts a -> none",
-        "tally a -> 1 0 0 yes",
-        "alts -> top a<top b<a",
-        "checks a -> k",
-        "free -> 27",
-        "blocks -> 64",
-        "new a top -> error 2 AlternativeExists",
-        "checkpoint a k -> error 4 CheckpointExists",
-        "put nope 1:1 w -> error 1 NoSuchAlternative",
-        "remove a 9:9 -> error 5 NoSuchRecord",
-        "remove b 9:9 -> error 5 NoSuchRecord",
-        "merge a 1:1=mine -> error 10 NotInConflict 1:1",
-        "post b -> error 8 NotMerged",
-    ] {
-        let puts = [
-            BRANCHES,
-            "put a 1:1 v",
-            between,
-            "put a 1:2 w",
-            "free -> 27",
-        ];
-        and_late(&rt, &puts);
-    }
-}
+const GOING_ON: Rows = (
+    "queries and refused commands do not end it",
+    &[BRANCHES, "put a 1:1 v", "?", "put a 1:2 w", "free -> 27"],
+    &[
+        &["get a 1:1 -> v"],
+        &["get b 2:2 -> u"],
+        &["list a -> 1:1=v"],
+        &["changes a -> 1:1=~/v"],
+        &["conflicts a -> none"],
+        &["tally a -> 1 0 0 yes"],
+        &["alts -> top a<top b<a"],
+        &["checks a -> k"],
+        &["free -> 27"],
+        &["blocks -> 64"],
+        &["new a top -> error 2 AlternativeExists"],
+        &["checkpoint a k -> error 4 CheckpointExists"],
+        &["put nope 1:1 w -> error 1 NoSuchAlternative"],
+        &["remove a 9:9 -> error 5 NoSuchRecord"],
+        &["remove b 9:9 -> error 5 NoSuchRecord"],
+        &["merge a 1:1=mine -> error 10 NotInConflict 1:1"],
+        &["post b -> error 8 NotMerged"],
+    ],
+);
 
-/// The first Put takes block 36, the second 37, which the third changes in its place.
-#[test]
-fn a_series_begins_after_one_that_ended(rt: HostRuntime) {
-    let row = "
+const ON_EACH: &[Row] = &[
+    // Both records are committed in block 35. With the last one, the tree is gone.
+    (
+        "removes change in place what the series took",
+        TWO_RECORDS,
+        "
+        open
+        remove top 7:2
+        free -> 28
+        close
+        open
+        put top 7:3 y
+        free -> 28
+        remove top 7:3
+        remove top 7:2
+        remove top 7:2 -> error 5 NoSuchRecord
+        list top -> 7:1=duct
+        remove top 7:1
+        free -> 28
+        list top -> none
+        close
+        open
+        list top -> 7:1=duct 7:2=x",
+    ),
+    // The first Put takes block 36, the second 37, which the third changes in its place.
+    (
+        "a series begins after one that ended",
+        BRANCHES,
+        "
         put a 1:1 v
         new c top
         put a 1:2 w
         put a 1:3 w
-        free -> 26";
-    and_late(&rt, &[BRANCHES, row]);
+        free -> 26",
+    ),
+];
+
+#[test]
+fn a_series_changes_in_place_what_it_took(rt: HostRuntime) {
+    each_of(&rt, LATE, &FIRST_PUT);
+    each(&rt, LARGE, LOAD_AND_MERGE);
+    each(&rt, CACHED, MARKINGS);
+    each_of(&rt, LATE, &FROM_BEFORE);
+    each(&rt, LATE, ON_EACH);
+}
+
+#[test]
+fn other_commands_that_are_served_end_a_series(rt: HostRuntime) {
+    each_of(&rt, LATE, &ENDED);
+    each_of(&rt, LATE, &GOING_ON);
 }
 
 /// The store closed, and opened again at its last commit.
@@ -369,5 +377,5 @@ fn a_session_shows_the_same_on_each_disk(rt: HostRuntime) {
         ANEW,
         grown_shown,
     ];
-    on_each(&rt, &row);
+    plays_on(&rt, LARGE_AND_LATE, "a session", &row);
 }

@@ -1,5 +1,5 @@
 //! How many blocks are free, and how many each command asks for and takes.
-use super::script::{DUCT, NEW, Row, SEVENTEEN, each_in_256_blocks, each_in_memory, each_on_both};
+use super::script::{ALONE, CACHED, DUCT, LARGE, NEW, Row, SEVENTEEN, each};
 
 const ON_BOTH: &[Row] = &[
     ("new store of 64 blocks has 30 free", NEW, "free -> 30"),
@@ -141,12 +141,6 @@ const IN_MEMORY: &[Row] = &[
         free -> 25",
     ),
 ];
-
-#[test]
-fn blocks_are_taken_kept_and_freed(rt: HostRuntime) {
-    each_on_both(&rt, ON_BOTH);
-    each_in_memory(&rt, IN_MEMORY);
-}
 
 const MERGES: &[Row] = &[
     // Eight records stay, and nine come in: eight changes ask for 136 spare blocks. Beside the two
@@ -290,7 +284,9 @@ const MERGES_IN_256_BLOCKS: &[Row] = &[
 ];
 
 #[test]
-fn merges_ask_for_blocks_and_take_them(rt: HostRuntime) {
-    each_in_memory(&rt, MERGES);
-    each_in_256_blocks(&rt, MERGES_IN_256_BLOCKS);
+fn blocks_are_asked_for_taken_kept_and_freed(rt: HostRuntime) {
+    each(&rt, CACHED, ON_BOTH);
+    each(&rt, ALONE, IN_MEMORY);
+    each(&rt, ALONE, MERGES);
+    each(&rt, LARGE, MERGES_IN_256_BLOCKS);
 }

@@ -1,5 +1,5 @@
 //! How far an alternative is from its base and from its parent.
-use super::script::{NEW, Row, each_in_256_blocks, each_on_both};
+use super::script::{CACHED, LARGE, NEW, Row, each};
 
 const IN_256_BLOCKS: &[Row] = &[
     // Both sides changed the first record, the parent alone the second and the fourth, the
@@ -64,6 +64,6 @@ const ON_BOTH: &[Row] = &[
 
 #[test]
 fn tallies_count_what_differs(rt: HostRuntime) {
-    each_in_256_blocks(&rt, IN_256_BLOCKS);
-    each_on_both(&rt, ON_BOTH);
+    each(&rt, LARGE, IN_256_BLOCKS);
+    each(&rt, CACHED, ON_BOTH);
 }

@@ -1,5 +1,5 @@
 //! Alternatives and checkpoints.
-use super::script::{NEW, Row, each_in_memory, each_on_both};
+use super::script::{ALONE, CACHED, NEW, Row, each};
 
 const ON_BOTH: &[Row] = &[
     (
@@ -233,6 +233,6 @@ const IN_MEMORY: &[Row] = &[
 
 #[test]
 fn versions_are_made_shown_listed_and_refused(rt: HostRuntime) {
-    each_on_both(&rt, ON_BOTH);
-    each_in_memory(&rt, IN_MEMORY);
+    each(&rt, CACHED, ON_BOTH);
+    each(&rt, ALONE, IN_MEMORY);
 }

@@ -1,9 +1,8 @@
 //! Scripts: lines of steps, each with its answer, played over a map in a tree on a disk in memory.
 //!
-//! A line is a step, and after ` -> ` comes its answer, which is `ok` if the line gives none. A
-//! fault is `error` and its name, as in `error Damaged 36`. A line that begins with `#` is a
-//! comment. Keys are those of table 1, by number. `''` is the empty value, `300*a` is 300 times the
-//! letter a, and `~` is no value. `none` is an empty list, or the root of the empty map.
+//! A fault is `error` and its name, as in `error Damaged 36`. Keys are those of table 1, by number.
+//! `''` is the empty value, `300*a` is 300 times the letter a, and `~` is no value. `none` is an
+//! empty list, or the root of the empty map.
 //!
 //! | Step | Answer |
 //! |---|---|
@@ -58,6 +57,7 @@ use super::bench::Bench;
 use super::words::Wrong;
 use std::alloc::Global;
 use std::process::Abort;
+use testkit::{Playable, plays};
 
 /// Sixteen records in block 34, with block 48 also held, and then one before them, for which the
 /// leaf has no room: leaves of 1 to 8 and of 9 to 17 in blocks 35 and 36, and the root in 37.
@@ -82,29 +82,16 @@ pub(super) const FOREIGN: &str = "
 /// of 64 blocks.
 pub(super) type Row = (&'static str, &'static [&'static str]);
 
-/// Plays a step. Returns its answer, or why it has none.
-fn play(alloc: Global, bench: &mut Bench, step: &str) -> Result<String, Wrong> {
-    let words: Vec<&str> = step.split_whitespace().collect(alloc)?;
-    answer(alloc, bench, &words)
-}
-
-/// Plays the lines of a text, and compares each answer. A failure has the name of the row.
-fn plays_lines<R: AllocGlobal + Abort>(rt: &R, name: &str, bench: &mut Bench, text: &str) {
-    for (n, line) in text.lines().enumerate() {
-        let line = line.trim();
-        if line.is_empty() || line.starts_with('#') {
-            continue;
+impl Playable for Bench {
+    fn play(mut self, alloc: Global, words: &[&str]) -> Result<(Bench, String), testkit::Wrong> {
+        match answer(alloc, &mut self, words) {
+            Ok(text) => Ok((self, text)),
+            Err(Wrong::Memory) => Err(testkit::Wrong::Memory),
+            Err(_) => Err(testkit::Wrong::Unreadable),
         }
-        let (step, due) = line.split_once(" -> ").unwrap_or((line, "ok"));
-        let played = play(rt.alloc(), bench, step);
-        let given = match &played {
-            Ok(text) if text.trim().is_empty() => "none",
-            Ok(text) => text.trim(),
-            Err(Wrong::Memory) => "no memory",
-            Err(_) => "no step",
-        };
-        assert_eq!(rt; given, due.trim(), "{name}, line {n}: {line}");
     }
+
+    fn end(self) {}
 }
 
 /// Plays rows, each over a disk of its own.
@@ -114,7 +101,10 @@ pub(super) fn plays_rows<R: AllocGlobal + Abort>(rt: &R, rows: &[Row]) {
             panic!(rt; "{name}: no memory");
         };
         for text in *texts {
-            plays_lines(rt, name, &mut bench, text);
+            bench = match plays(rt.alloc(), bench, text) {
+                Ok(bench) => bench,
+                Err(mismatch) => panic!(rt; "{name}, {mismatch}"),
+            };
         }
     }
 }

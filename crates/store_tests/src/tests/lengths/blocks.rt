@@ -1,5 +1,5 @@
 //! The bytes of leaves, and which of them a series changes in their places.
-use crate::tests::script::{NEW, Row, and_late, each_on_both, in_256_blocks};
+use crate::tests::script::{CACHED, LARGE, LATE, NEW, Row, Rows, each, each_of};
 
 const ON_BOTH: &[Row] = &[
     // An entry for each value, of its key and where it ends, and then the values.
@@ -62,16 +62,13 @@ const ON_BOTH: &[Row] = &[
     ),
 ];
 
-#[test]
-fn leaves_are_spelled_and_shared(rt: HostRuntime) {
-    each_on_both(&rt, ON_BOTH);
-}
-
-/// The first three Puts take block 34, in which the fourth leaves the first record. It takes three
-/// more, for the others and a root.
-#[test]
-fn leaf_in_three_is_spelled(rt: HostRuntime) {
-    let made = "
+const IN_256_BLOCKS: &[Row] = &[
+    // The first three Puts take block 34, in which the fourth leaves the first record. It takes
+    // three more, for the others and a root.
+    (
+        "leaf in three is spelled",
+        "",
+        "
         format 256
         open
         put top 1:1 61*1300
@@ -87,36 +84,80 @@ fn leaf_in_three_is_spelled(rt: HostRuntime) {
         block 37 -> 0:4E4F444501 8:03 16:01 18:01 26:22 30:01 32:02 40:23 44:01 46:03 54:24
         open
         free -> 218
-        list top -> 1:1=61*1300 1:2=64*4000 1:3=63*1300";
-    in_256_blocks(&rt, &[made]);
-}
+        list top -> 1:1=61*1300 1:2=64*4000 1:3=63*1300",
+    ),
+];
 
 /// The first Put takes block 34, the second one more leaf and a root. In their series, the third
 /// changes the first leaf in its place, and the Remove leaves the other one alone. Of a series that
 /// begins with it, the third takes a leaf, and a root if there is one.
-#[test]
-fn leaves_are_changed_in_place_in_their_own_series_alone(rt: HostRuntime) {
-    let [one, two, three, four] = [
-        "put top 1:1 61*4000",
-        "put top 1:2 62*4000",
-        "put top 1:1 63*3000",
-        "remove top 1:1",
-    ];
-    for (changes, free) in &[
-        ([one, "", "", ""], "free -> 29"),
-        ([one, two, "", ""], "free -> 27"),
-        ([one, two, three, ""], "free -> 27"),
-        ([one, two, three, four], "free -> 27"),
-        ([one, "commit", three, four], "free -> 28"),
-        ([one, "checkpoint top c", three, four], "free -> 28"),
-        ([one, two, "commit", three], "free -> 25"),
-        ([one, "new a top", two, three], "free -> 26"),
-        (
-            ["new a top", one, "merge a -> ok 1", "put a 1:1 v"],
+const IN_PLACE: Rows = (
+    "leaves are changed in place in their own series alone",
+    &[NEW, "?", "?", "?", "?", "?"],
+    &[
+        &["put top 1:1 61*4000", "", "", "", "free -> 29"],
+        &[
+            "put top 1:1 61*4000",
+            "put top 1:2 62*4000",
+            "",
+            "",
+            "free -> 27",
+        ],
+        &[
+            "put top 1:1 61*4000",
+            "put top 1:2 62*4000",
+            "put top 1:1 63*3000",
+            "",
+            "free -> 27",
+        ],
+        &[
+            "put top 1:1 61*4000",
+            "put top 1:2 62*4000",
+            "put top 1:1 63*3000",
+            "remove top 1:1",
+            "free -> 27",
+        ],
+        &[
+            "put top 1:1 61*4000",
+            "commit",
+            "put top 1:1 63*3000",
+            "remove top 1:1",
             "free -> 28",
-        ),
-    ] {
-        let [one, two, three, four] = changes;
-        and_late(&rt, &[NEW, one, two, three, four, free]);
-    }
+        ],
+        &[
+            "put top 1:1 61*4000",
+            "checkpoint top c",
+            "put top 1:1 63*3000",
+            "remove top 1:1",
+            "free -> 28",
+        ],
+        &[
+            "put top 1:1 61*4000",
+            "put top 1:2 62*4000",
+            "commit",
+            "put top 1:1 63*3000",
+            "free -> 25",
+        ],
+        &[
+            "put top 1:1 61*4000",
+            "new a top",
+            "put top 1:2 62*4000",
+            "put top 1:1 63*3000",
+            "free -> 26",
+        ],
+        &[
+            "new a top",
+            "put top 1:1 61*4000",
+            "merge a -> ok 1",
+            "put a 1:1 v",
+            "free -> 28",
+        ],
+    ],
+);
+
+#[test]
+fn leaves_are_spelled_shared_and_changed_in_place(rt: HostRuntime) {
+    each(&rt, CACHED, ON_BOTH);
+    each(&rt, LARGE, IN_256_BLOCKS);
+    each_of(&rt, LATE, &IN_PLACE);
 }

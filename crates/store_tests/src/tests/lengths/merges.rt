@@ -1,5 +1,5 @@
 //! Differences of values of any length, their conflicts, and merges.
-use crate::tests::script::{NEW, Row, each_in_256_blocks, each_on_both};
+use crate::tests::script::{CACHED, LARGE, NEW, Row, each};
 
 const ON_BOTH: &[Row] = &[
     // The base has block 34, `top` 35, and `a` 36. The Merge takes the map of `top`, which is then
@@ -213,6 +213,6 @@ const IN_256_BLOCKS: &[Row] = &[
 
 #[test]
 fn values_of_any_length_are_compared_and_merged(rt: HostRuntime) {
-    each_on_both(&rt, ON_BOTH);
-    each_in_256_blocks(&rt, IN_256_BLOCKS);
+    each(&rt, CACHED, ON_BOTH);
+    each(&rt, LARGE, IN_256_BLOCKS);
 }
