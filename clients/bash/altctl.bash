@@ -3,11 +3,11 @@ _altctl() {
     local word=${COMP_WORDS[COMP_CWORD]} before=${COMP_WORDS[COMP_CWORD - 1]} command=${COMP_WORDS[1]-} options=--help
     COMPREPLY=()
     if [ "$COMP_CWORD" -eq 1 ]; then
-        mapfile -t COMPREPLY < <(compgen -W 'create run do check tree copy --help --version' -- "$word")
+        mapfile -t COMPREPLY < <(compgen -W 'create run serve do check tree copy --help --version' -- "$word")
         return
     fi
     case $command in
-    run | do) options="$_altctl_numbers --strict --read-only --grow --no-lock --wait --help" ;;
+    run | serve | do) options="$_altctl_numbers --strict --read-only --grow --no-lock --wait --help" ;;
     check | tree | copy) options='--no-lock --wait --help' ;;
     esac
     # Bash takes `--cache=5` for three words.

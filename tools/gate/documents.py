@@ -203,6 +203,8 @@ def wrong_versions(altctl):
 
 def main():
     altctl = os.path.abspath((sys.argv[1:] or [TOP / "altctl"])[0])
+    if sys.argv[1:]:  # The sessions' scripts take it, too, and not ./altctl, which may have to be built first.
+        os.environ["ALTCTL"] = altctl
     faults = [*refusals.faults(refusals.of_program(), refusals.of_service())]
     faults += [*wrong_scripts(TOP / "tools"), *wrong_versions(altctl)]
     for document in [*DOCUMENTS, *OTHERS, *sorted(TOP.glob("crates/*/README.md"))]:

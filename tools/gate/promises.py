@@ -1,24 +1,28 @@
 #!/usr/bin/env python3
-"""Writes the tables of promises in docs/PROMISES.md and in the README of each crate: `tools/gate/promises.py
-[--check]`. With `--check` it writes nothing, names the pages whose tables differ, and ends with status 1 if there is
-one. `--missing` lists the fields and clauses of these tables that have no sentence yet.
+"""Writes the lists of promises in docs/PROMISES.md and in the README of each crate: `tools/gate/promises.py
+[--check]`. With `--check` it writes nothing, names the pages whose lists differ, and ends with status 1 if there is
+one. `--missing` names the fields and clauses of these lists that have no sentence yet.
 
 The sentence of a promise stands where it is proved: in the comment above a field of a record (crates/NAME/specs) or
 above a clause of a contract (crates/NAME/src). It speaks for all fields or clauses below it, up to the next comment or
 an empty line; for those that have none, the first sentence above the whole record or function does, or above the
-function of the trait that it implements. A table stands between two lines. The first one names the crate, and the
-records and functions whose promises are listed, all of them or those that are named:
+function of the trait that it implements. A list has an item for each record or function, or one for several that follow
+one another and promise the same; after each sentence stand the fields or clauses that carry it. It stands between two
+lines. The first one names the crate, and the records and functions whose promises are listed, all of them or those that
+are named:
 
     <!-- promises vm_store: Performs Store::run open.opened,none -->
     <!-- end of promises -->
 """
 import re
 import sys
+import textwrap
+from itertools import groupby
 from pathlib import Path
 
 TOP = Path(__file__).resolve().parents[2]
 PAGES = [TOP / "docs" / "PROMISES.md", *sorted(TOP.glob("crates/*/README.md"))]
-TABLE = re.compile(r"^(<!-- promises (\w+): ([\w:., ]+) -->\n)(.*?)^(<!-- end of promises -->)$", re.M | re.S)
+LIST = re.compile(r"^(<!-- promises (\w+): ([\w:., ]+) -->\n)(.*?)^(<!-- end of promises -->)$", re.M | re.S)
 RECORD = re.compile(r"^( *)pub record (\w+)")
 FIELD = re.compile(r"^ *pub (\w+) *:")
 OWNER = re.compile(r"^(?:pub )?(?:trait|impl(?:<.*?>)?(?: (\w+) for)?) (\w+)")
@@ -84,14 +88,15 @@ def functions_of(crate):
                 yield owner * bool(it[1]) + it[2], told, groups(lines[at:last], CLAUSE, "//")
 
 
-def sentence(text):
-    """A comment as the text of a cell."""
-    text = re.sub(r"\[(`[^`]+`)\]", r"\1", text).replace("|", "\\|")
-    return text[:1].upper() + text[1:].rstrip(".:")
+def sentence(text, fields):
+    """A comment as a sentence, with the fields or clauses that carry it."""
+    text = re.sub(r"\[(`[^`]+`)\]", r"\1", text).rstrip(".:")
+    carried = ", ".join(f"`{it}`" for it in fields if it)
+    return f"{text[:1].upper()}{text[1:]}{carried and f' ({carried})'}."
 
 
-def rows(crate, names, missing):
-    """The rows for these records and functions."""
+def promises(crate, names, missing):
+    """Each of these records and functions, with what it promises."""
     known = {}
     for name, told, found in [*records_of(crate), *functions_of(crate)]:
         known.setdefault(name, (told, found))
@@ -107,27 +112,33 @@ def rows(crate, names, missing):
         bare = [it for text, fields in found if not text for it in fields]
         missing += [f"{crate}: {name}: {it or 'its clause'}" for it in bare]
         own = [(told.split(". ")[0] or ", ".join(bare).replace("_", " "), bare)] if bare else []
-        for text, fields in own + [it for it in found if it[0]]:
-            carried = ", ".join(f"`{it}`" for it in fields if it)
-            yield f"| {sentence(text)} | `{name}`{': ' if carried else ''}{carried} |\n"
+        yield name, [sentence(text, fields) for text, fields in own + [it for it in found if it[0]]]
+
+
+def items(crate, names, missing):
+    """The lines of a list. What promises more than three sentences has an item for each below it."""
+    for told, those in groupby(promises(crate, names, missing), lambda it: it[1]):
+        head = f"- {', '.join(f'`{name}`' for name, _ in those)}:"
+        for it in [f"{head} {' '.join(told)}"] if len(told) <= 3 else [head, *(f"  - {it}" for it in told)]:
+            below = " " * (it.index("-") + 2)
+            yield textwrap.fill(it, 120, subsequent_indent=below, break_long_words=False, break_on_hyphens=False) + "\n"
 
 
 def main():
     words, wrong, missing = sys.argv[1:], [], []
-    head = "| Promise | Carried by |\n|---|---|\n"
     for page in PAGES:
         text = page.read_text()
-        due = TABLE.sub(lambda it: it[1] + head + "".join(rows(it[2], it[3].split(), missing)) + it[5], text)
-        if due.count("<!-- promises ") != len(TABLE.findall(due)):
-            wrong.append(f"{page.relative_to(TOP)}: a table of promises has no last line")
+        due = LIST.sub(lambda it: it[1] + "".join(items(it[2], it[3].split(), missing)) + it[5], text)
+        if due.count("<!-- promises ") != len(LIST.findall(due)):
+            wrong.append(f"{page.relative_to(TOP)}: a list of promises has no last line")
         elif due != text and words:
-            wrong.append(f"{page.relative_to(TOP)}: a table of promises differs from what stands at the clauses")
+            wrong.append(f"{page.relative_to(TOP)}: a list of promises differs from what stands at the clauses")
         elif due != text:
             page.write_text(due)
     if words == ["--missing"]:
         print("\n".join(missing))
         return 0
-    print("\n".join(wrong) or f"promises: the tables of {len(PAGES)} pages are what stands at the clauses")
+    print("\n".join(wrong) or f"promises: the lists of {len(PAGES)} pages are what stands at the clauses")
     return 1 if wrong else 0
 
 

@@ -44,6 +44,8 @@ class LinesTests(unittest.TestCase):
                 "clients/c/altctl.h: no alt_touch for `touch ALT`",
                 "tools/faults/compare.py: no `touch`",
                 "crates/cli_tests/data: no `touch`",
+                "clients/python/test_altctl.py: no test of touch",
+                "clients/c/test_altctl.c: no test of alt_touch",
                 f"desk/service: `touch ALT`, a query, is answered as {NO_LINE}",
             ],
             self.faults([*self.lines, MADE_UP]),
@@ -78,6 +80,7 @@ class LinesTests(unittest.TestCase):
             [
                 "clients/python/altctl.py: no method checks that sends `checks`",
                 "clients/c/altctl.c: no alt_changes that sends `checks`",
+                "clients/python/test_altctl.py: no test of checks",
             ],
             self.faults(lines),
         )
@@ -162,8 +165,10 @@ class RefusalsTests(unittest.TestCase):
             ],
             found[:4],
         )
-        self.assertEqual(["refusals", "service_refusals"], [it.split()[1] for it in found[4:]])
+        self.assertEqual(["refusals", "service_refusals"], [it.split()[1] for it in found[4:6]])
         self.assertTrue(found[4].endswith(", MadeUp") and found[5].endswith(", SoToo"))
+        places = "crates/vm_cli/src/program/help.rt", "crates/base_tests/src/tests/words.rt"
+        self.assertEqual([f"{it}: no `{more} MadeUp`" for it in places], found[6:])
 
     def test_two_refusals_of_one_number_are_seen(self):
         with tempfile.TemporaryDirectory() as folder:

@@ -115,7 +115,8 @@ def in_c(lines: list[Line]) -> Iterator[str]:
 
 
 def in_tests(lines: list[Line]) -> Iterator[str]:
-    """The random sessions beside a model make each line, and the scripts of the program's tests have it."""
+    """The random sessions beside a model make each line, the scripts of the program's tests have it, the tests of both
+    clients call it, and if it takes memory for rows, it is refused that."""
     model = ast.parse((TOP / "tools/faults/compare.py").read_text())
     texts = [it.value for it in ast.walk(model) if isinstance(it, ast.Constant) and isinstance(it.value, str)]
     made = {it.split(" ")[0] for it in texts}
@@ -126,6 +127,15 @@ def in_tests(lines: list[Line]) -> Iterator[str]:
             yield f"tools/faults/compare.py: no `{word}`"
         if word not in tried:
             yield f"crates/cli_tests/data: no `{word}`"
+    places = "clients/python/test_altctl.py", "clients/c/test_altctl.c", "tools/faults/refuse_allocations.sh"
+    in_python, in_c, without_memory = ((TOP / it).read_text() for it in places)
+    for it in lines:
+        if not re.search(rf"\.{it.python}\b", in_python):
+            yield f"{places[0]}: no test of {it.python}"
+        if not re.search(rf"\b{it.c}\(", in_c):
+            yield f"{places[1]}: no test of {it.c}"
+        if it.kind == "list" and not re.search(rf"^{it.word}\b.* => ", without_memory, re.M):
+            yield f"{places[2]}: no `{it.word}`"
 
 
 class Service:

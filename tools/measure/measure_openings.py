@@ -28,6 +28,7 @@ import time
 from typing import NamedTuple
 
 sys.dont_write_bytecode = True
+from compiled import Compiler
 from measure_sizes import VALUES, load
 
 TOP = os.path.join(os.path.dirname(os.path.abspath(__file__)), "..", "..")
@@ -63,21 +64,13 @@ def fail(why):
     sys.exit(f"measure_openings: {why}")
 
 
-class Bench:
+class Bench(Compiler):
     """Where files and compiled programs lie."""
 
     def __init__(self, folder, rounds):
-        self.folder, self.rounds = folder, rounds
+        super().__init__(folder)
+        self.rounds = rounds
         self.timed = self.compiled("timed", "timed.c")
-
-    def path(self, name):
-        return os.path.join(self.folder, name)
-
-    def compiled(self, name, source, *options):
-        """A program of a C file beside this one. None if it can't be compiled."""
-        words = ["cc", "-O3", "-o", self.path(name), os.path.join(TOP, "tools/measure", source), *options]
-        built = subprocess.run(words, stderr=subprocess.DEVNULL)
-        return None if built.returncode else self.path(name)
 
     def lines(self, lines, *words):
         """Has a program answer lines, each once the one before it is answered."""

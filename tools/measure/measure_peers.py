@@ -1,6 +1,6 @@
 #!/usr/bin/env python3
 """Measures loads, gets, lists and designs beside plain C, LMDB and SQLite in one run, and prints tables in Markdown:
-`tools/measure/measure_peers.py [-n RECORDS ..] [-r ROUNDS] [--only NAME ..] [ALTCTL]`.
+`tools/measure/measure_peers.py [-n RECORDS ..] [-r ROUNDS] [--cache BLOCKS] [--only NAME ..] [ALTCTL]`.
 
 Maps of 100,000 and of 1,000,000 records (-n has other numbers), with values of 200 bytes and with the mixture of a
 network (`measure_sizes.py`): puts in random order in one commit, then in the same session 100,000 gets and a list of
@@ -20,6 +20,7 @@ import sys
 import tempfile
 
 sys.dont_write_bytecode = True
+from compiled import Compiler
 from measure_sizes import TOP, VALUES
 
 GETS, DESIGNS, EACH = 100000, 1000, 100
@@ -43,10 +44,10 @@ class Step:
 
 
 class Peer:
-    """A program that answers lines."""
+    """A program that answers lines, run with these options."""
 
-    def __init__(self, name, program, has_designs):
-        self.name, self.program, self.has_designs = name, program, has_designs
+    def __init__(self, name, program, has_designs, options=()):
+        self.name, self.program, self.has_designs, self.options = name, program, has_designs, options
 
     def create(self, file, blocks):
         if self.has_designs:
@@ -92,14 +93,15 @@ def sessions(records, size_of):
     yield [Step(f"puts in random order, a commit after each {EACH}", *puts(shuffled, values, EACH))]
 
 
-class Bench:
+class Bench(Compiler):
     """Where files and compiled programs lie."""
 
-    def __init__(self, folder, altctl, only):
-        self.folder, self.nothing = folder, os.open(os.devnull, os.O_RDONLY)
+    def __init__(self, folder, altctl, options, only):
+        super().__init__(folder)
+        self.nothing = os.open(os.devnull, os.O_RDONLY)
         self.timed = self.compiled("timed", "timed.c") or fail("no C compiler")
         named = [
-            Peer("altctl", altctl, True),
+            Peer("altctl", altctl, True, options),
             Peer("plain", self.compiled("plain", "plain.c"), True),
             Peer("LMDB", self.compiled("lmdb", "peers.c", "-DLMDB", "-llmdb"), False),
             Peer("LMDB by a map", self.compiled("lmdb_map", "peers.c", "-DLMDB", "-DBY_MAP", "-llmdb"), False),
@@ -109,14 +111,6 @@ class Bench:
         for it in named:
             if not it.program:
                 print(f"measure_peers: {it.name} is left out: it is not installed", file=sys.stderr)
-
-    def path(self, name):
-        return os.path.join(self.folder, name)
-
-    def compiled(self, name, source, *options):
-        words = ["cc", "-O3", "-o", self.path(name), os.path.join(TOP, "tools/measure", source), *options]
-        built = subprocess.run(words, stderr=subprocess.DEVNULL)
-        return None if built.returncode else self.path(name)
 
     def write(self, name, text):
         with open(self.path(name), "wb") as file:
@@ -140,7 +134,7 @@ class Bench:
             peer.create(file, blocks)
             its, ours = os.pipe()
             with open(self.path("answers"), "ab") as answers:
-                process = subprocess.Popen([peer.program, "run", file], stdin=its, stdout=answers)
+                process = subprocess.Popen([peer.program, "run", *peer.options, file], stdin=its, stdout=answers)
             os.close(its)
             os.dup2(ours, INPUT)
             os.close(ours)
@@ -170,13 +164,15 @@ def main():
     words = argparse.ArgumentParser(description=__doc__.split(":")[0])
     words.add_argument("-n", type=int, action="append", help="how many records, in place of 100,000 and a million")
     words.add_argument("-r", type=int, default=3, help="how many rounds")
+    words.add_argument("--cache", help="how many blocks altctl keeps in memory, in place of 256")
     words.add_argument("--only", action="append", help="these programs alone, besides altctl")
     words.add_argument("altctl", nargs="?", default=os.path.join(TOP, "crates/altctl/out/altctl"))
     said = words.parse_args()
     # So no file that is opened below gets this number.
     os.dup2(os.open(os.devnull, os.O_RDONLY), INPUT)
     with tempfile.TemporaryDirectory() as folder:
-        bench = Bench(folder, os.path.abspath(said.altctl), said.only and ["altctl", *said.only])
+        options = ["--cache", said.cache] if said.cache else []
+        bench = Bench(folder, os.path.abspath(said.altctl), options, said.only and ["altctl", *said.only])
         names = [it.name for it in bench.peers]
         for records in said.n or [100000, 1000000]:
             for what in ("200 bytes", "a network's mixture"):

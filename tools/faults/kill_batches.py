@@ -1,0 +1,176 @@
+#!/usr/bin/env python3
+"""Sends random batches of lines to `altctl serve` over one real file, compares each answer with a plain model, kills
+the program at random moments, and looks each time whether the file then shows the tree after a beginning of the batches
+that has each one answered `ok`, and no part of another: `tools/faults/kill_batches.py [ALTCTL] [COUNT] [SEED]`. The
+status is 1 if it does not. The model is that of `kill.py`."""
+import argparse
+import random
+import signal
+import subprocess
+import sys
+import tempfile
+import threading
+import time
+from pathlib import Path
+
+sys.dont_write_bytecode = True
+sys.path.insert(0, str(Path(__file__).resolve().parent))
+from kill import BLOCKS, EMPTY, Failure, answered, change, part_query, unlike
+
+LONGEST_LIFE = 0.3
+MOST_LINES = 12
+OPTIONS = [[], ["--buffer", "1"], ["--cache", "0"], ["--grow"]]
+FULL = "error 13 Full"
+
+
+def carried_out(state, lines):
+    """The answers to a batch that a line begins, and the state that it leaves."""
+    answers, now = [], state
+    for place, line in enumerate(lines):
+        [answer], now = answered(now, line)
+        if answer.startswith("error "):
+            return refused(len(lines), place, answer), state
+        answers.append(answer)
+    return [*answers, "ok"], now
+
+
+def refused(count, place, answer):
+    """The answers to a batch and its commit of which one line is refused."""
+    others = f"error 91 NotDone {place + 1}"
+    return [others] * place + [answer] + [others] * (count - place)
+
+
+def turn(chance, state):
+    """Lines to send, the answers that are due, and the state after them, or None for one that stays."""
+    kind = chance.choices(["change", "batch", "query", "abort", "mixed", "word"], [30, 40, 15, 5, 5, 5])[0]
+    line = change(chance, state, True)
+    if kind == "change" and line != "rollback":
+        [answer], after = answered(state, line)
+        return [line], [answer], after
+    if kind == "query":
+        line = chance.choice(["alts", "list top", part_query(chance, state.tree)])
+        return [line], answered(state, line)[0], state
+    if kind == "word":
+        return [chance.choice(["commit", "abort", "rollback"])], ["ok"], state
+    lines, now = [], state
+    for _ in range(chance.randrange(1, MOST_LINES)):
+        line = change(chance, now, True)
+        if line != "rollback":
+            lines.append(line)
+            now = answered(now, line)[1]
+    if kind == "abort":
+        return ["begin", *lines, "abort"], ["ok", *["error 92 Aborted"] * len(lines), "ok"], state
+    if kind == "mixed":
+        place = chance.randrange(len(lines) + 1)
+        lines.insert(place, chance.choice(["list top", "begin", "free"]))
+        return ["begin", *lines, "commit"], ["ok", *refused(len(lines), place, "error 93 NotInBatch")], state
+    answers, after = carried_out(state, lines)
+    return ["begin", *lines, "commit"], ["ok", *answers], after
+
+
+def is_full(expected, came):
+    """Whether the store had no block for a change: how many it has is no part of the model."""
+    return FULL in came and len(came) == len(expected)
+
+
+class Life:
+    """One process, from its start until it is killed or ends."""
+
+    def __init__(self, altctl, file, chance, state, count):
+        self.chance, self.state, self.count = chance, state, count
+        words = [altctl, "serve", *chance.choice(OPTIONS), file]
+        self.process = subprocess.Popen(words, stdin=subprocess.PIPE, stdout=subprocess.PIPE)
+        # The states after the last batch that was answered, and after those sent since.
+        self.possible = [state]
+
+    def answers(self, expected):
+        """As many lines as are expected, or fewer if the program ended."""
+        came = []
+        for _ in expected:
+            line = self.process.stdout.readline().decode()
+            if not line.endswith("\n"):
+                return came, False
+            came.append(line[:-1])
+        return came, True
+
+    def live(self):
+        for _ in range(self.count):
+            lines, expected, after = turn(self.chance, self.state)
+            self.possible = [self.state, after]
+            try:
+                self.process.stdin.write("".join(f"{it}\n" for it in lines).encode())
+                self.process.stdin.flush()
+            except BrokenPipeError:
+                return
+            came, is_whole = self.answers(expected)
+            if not is_whole:
+                return
+            if came != expected and not is_full(expected, came):
+                raise Failure(f"{lines}\n{unlike(lines[-1], expected, came)}")
+            self.state = after if came == expected else self.state
+            self.possible = [self.state]
+
+    def end(self):
+        try:
+            self.process.stdin.close()
+        except BrokenPipeError:
+            pass  # It was killed.
+        self.process.stdout.close()
+        self.process.wait()
+
+
+def seen(altctl, file, state):
+    """Where the file does not show this state."""
+    lines = ["alts", "blocks"]
+    for name in state.tree:
+        lines += [f"list {name}", f"list {name}@", f"checks {name}"]
+        lines += [f"list {name}@{it}" for it in state.tree[name].checkpoints]
+    due = []
+    for line in lines:
+        due += [f"blocks {state.blocks}"] if line == "blocks" else answered(state, line)[0]
+    words = [altctl, "run", "--read-only", file]
+    came = subprocess.run(words, input="".join(f"{it}\n" for it in lines), stdout=subprocess.PIPE, text=True)
+    return unlike("after the kill", due, came.stdout.splitlines())
+
+
+def lived(altctl, file, chance, state, kills):
+    """The state that the file shows after one life."""
+    life = Life(altctl, file, chance, state, 10_000 if kills else chance.randrange(1, 60))
+    timer = threading.Timer(chance.random() * LONGEST_LIFE, life.process.send_signal, [signal.SIGKILL])
+    if kills:
+        timer.start()
+    try:
+        life.live()
+    finally:
+        timer.cancel()
+        if kills:
+            life.process.kill()
+        life.end()
+    wrong = [seen(altctl, file, it) for it in life.possible]
+    if all(wrong):
+        raise Failure(f"{len(life.possible)} states may be shown, and none is\n" + "\n".join(wrong))
+    return life.possible[wrong.index("")]
+
+
+def main():
+    parser = argparse.ArgumentParser(description=__doc__)
+    parser.add_argument("altctl", nargs="?", default=str(Path(__file__).resolve().parents[2] / "altctl"))
+    parser.add_argument("count", nargs="?", type=int, default=200)
+    parser.add_argument("seed", nargs="?", type=int, default=int(time.time()))
+    given = parser.parse_args()
+    chance = random.Random(given.seed)
+    with tempfile.TemporaryDirectory() as folder:
+        file, state = f"{folder}/map.alt", EMPTY
+        subprocess.run([given.altctl, "create", file, str(BLOCKS)], check=True, stdout=subprocess.DEVNULL)
+        try:
+            for number in range(given.count):
+                state = lived(given.altctl, file, chance, state, chance.random() < 0.8)
+        except Failure as failure:
+            print(f"seed {given.seed}, life {number}: {failure}")
+            return 1
+    print(f"{given.count} lives, {len(state.tree)} alternatives at the end")
+    return 0
+
+
+if __name__ == "__main__":
+    sys.exit(main())
