@@ -1,5 +1,5 @@
 -- What is held of a batch.
-use Rattle.std.proofs.Common.{◌≡◌, ◌⊎◌, inl, inr, ◌+◌, ◌<◌, ◌≤◌, ℕ, suc, true, false, is_some, List, [], ◌∷◌, ◌++◌, Option, None, Some, length, sum_by, ap, sym, subst, refl, ◌∙◌, arith}
+use Rattle.std.proofs.Common.{◌≡◌, inl, inr, ◌+◌, ℕ, suc, true, false, is_some, List, [], ◌∷◌, ◌++◌, Option, None, Some, length, sum_by, ap, sym, subst, refl, ◌∙◌, arith}
 use Rattle.std.proofs.lemmas.List.{length-append}
 use Rattle.std.proofs.lemmas.List.Sums.{sum_by-append}
 use Rattle.vm_types.specs.declared.refusal.Refusal.TheVariants.{Memory}

@@ -1,5 +1,5 @@
 -- The lines of a batch, carried out one after another.
-use Rattle.std.proofs.Common.{◌≡◌, ◌⊎◌, inl, inr, ◌<◌, ◌≤◌, ◌+◌, ◌++◌, ◌∙◌, ℕ, zero, suc, add-one, Bool, true, false, List, [], ◌∷◌, Option, Some, Result, Ok, Err, ap, sym, refl, subst, arith, append-nil, length, take, drop, slice_index_or}
+use Rattle.std.proofs.Common.{◌≡◌, inl, inr, ◌<◌, ◌+◌, ◌++◌, ◌∙◌, ℕ, zero, suc, add-one, Bool, true, false, List, [], ◌∷◌, Some, Ok, Err, ap, sym, refl, subst, arith, length, take, slice_index_or}
 use Rattle.std.proofs.Math.Seq.{drop-append_seam}
 use Rattle.vm_types.specs.State.{State, after}
 use Rattle.vm_store.specs.declared.store.Store.{Store}

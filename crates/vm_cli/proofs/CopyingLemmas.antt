@@ -14,11 +14,11 @@ use Rattle.vm_store.specs.Recovery.{OpensWhole}
 use Rattle.vm_store.specs.Store.{disk_of}
 use Rattle.vm_store.specs.declared.store.Store.{Store}
 use Rattle.vm_cli.specs.Sessions.{IsAnyStore}
-use Rattle.vm_cli.specs.Copies.{ComesBack, CopiesOnto, DropsCopy, IsInUse, IsNamed, MakesCopy, NamesCopy, RefusesCopy, ToldOfCopy, used_of}
+use Rattle.vm_cli.specs.Copies.{ComesBack, CopiesOnto, IsInUse, MakesCopy, NamesCopy, RefusesCopy, ToldOfCopy, used_of}
 use Rattle.vm_cli.specs.Exits.{Tells, copied_text, file_text, part_of, refused_text}
-use Rattle.vm_cli.specs.Places.{Creates, KeepsBut, KeepsOthers, Lacks, Links, PlaceState, Removes, TakesBack}
+use Rattle.vm_cli.specs.Places.{Creates, KeepsBut, Lacks, Links, PlaceState, Removes, TakesBack}
 use Rattle.vm_cli.specs.declared.program.Exit.{Exit}
-use Rattle.vm_cli.specs.declared.program.Exit.TheVariants.{Done, Refused, Stopped}
+use Rattle.vm_cli.specs.declared.program.Exit.TheVariants.{Done, Refused}
 
 -- a file that is there and one that is not have different names
 apart_from : (name other : List ℕ) (files : List ℕ → Option Contents) (contents : Contents) → files name ≡ Some contents → files other ≡ None → other ≢ name

@@ -49,8 +49,10 @@ pub mod CarryLemmas
 pub mod SettleLemmas
 pub mod StreamLemmas
 pub mod RoundLemmas
+pub mod ConversationLemmas
 pub mod StreamEndLemmas
 mod StreamPassLemmas
 mod LineUseLemmas
 mod StreamKeepLemmas
 mod WholeLemmas
+mod SoundLemmas

@@ -1,5 +1,5 @@
 -- What the lines of a session with batches are.
-use Rattle.std.proofs.Common.{◌≡◌, ◌⊎◌, inl, inr, ℕ, Bool, true, false, List, codes, length, nat_lt, if◌then◌else◌, Option, None, ap, ◌∙◌, refl}
+use Rattle.std.proofs.Common.{◌≡◌, inl, inr, ℕ, Bool, true, false, List, codes, length, nat_lt, if◌then◌else◌, None, ap, ◌∙◌, refl}
 use Rattle.vm_types.specs.State.{State}
 use Rattle.vm_types.specs.declared.command.Command.{Command}
 use Rattle.vm_types.specs.declared.command.Command.TheVariants.{Commit, Rollback}

@@ -1,5 +1,5 @@
 -- What a new disk of a place holds.
-use Rattle.std.proofs.Common.{◌≡◌, ℕ, ◌<◌, [], length, replicate, ap, ◌∙◌, arith}
+use Rattle.std.proofs.Common.{◌≡◌, ℕ, [], length, replicate, ap, ◌∙◌, arith}
 use Rattle.std.proofs.lemmas.List.{get_or-replicate, length-replicate}
 use Rattle.vm_disk.specs.Disk.{Contents, block}
 use Rattle.vm_sums.proofs.ShownLemmas.{shown_block}

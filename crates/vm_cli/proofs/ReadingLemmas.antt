@@ -1,12 +1,12 @@
 -- What is read of an input, line by line.
-use Rattle.std.proofs.Common.{◌≡◌, ◌==◌, ◌<◌, ◌≤◌, ◌+◌, ◌-◌, ◌++◌, ◌∙◌, ℕ, Bool, true, false, List, [], ◌∷◌, Option, Ok, ap, sym, refl, subst, arith, append-nil, append_assoc, length, take, drop, slice_index, take-append-drop}
+use Rattle.std.proofs.Common.{◌≡◌, ◌==◌, ◌<◌, ◌≤◌, ◌+◌, ◌-◌, ◌++◌, ◌∙◌, ℕ, Bool, true, false, List, [], ◌∷◌, Option, Ok, ap, sym, refl, arith, append-nil, append_assoc, length, take, drop, slice_index, take-append-drop}
 use Rattle.std.proofs.lemmas.List.{drop-drop, drop-take, length-take}
-use Rattle.std.proofs.KnownBytes.{Consumes-kept, Consumes-nil, Consumes-trans}
+use Rattle.std.proofs.KnownBytes.{Consumes-kept, Consumes-trans}
 use Rattle.std.specs.Io.KnownBytes.{Consumes, IsAtEnd, Keeps}
+use Rattle.vm_cli.specs.Conversations.{ended_lines}
 use Rattle.vm_cli.specs.Input.{HoldsLine, is_nil}
 use Rattle.vm_cli.specs.LineEndings.{ending_at}
 use Rattle.vm_cli.specs.LineReading.{ReadsLine, Took}
-use Rattle.vm_cli.specs.Streams.{ended_lines}
 use Rattle.vm_cli.specs.declared.lines.line.Line.{Line}
 use Rattle.vm_cli.proofs.FeedLemmas.{line_is}
 

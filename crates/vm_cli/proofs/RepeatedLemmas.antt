@@ -1,5 +1,5 @@
 -- A text that is written several times.
-use Rattle.std.proofs.Common.{◌≡◌, ◌≤◌, ◌+◌, ◌-◌, ◌++◌, ◌∙◌, ℕ, zero, suc, add-one, List, [], Option, ap, sym, refl, subst, arith, append-nil, append_assoc}
+use Rattle.std.proofs.Common.{◌≡◌, ◌≤◌, ◌+◌, ◌-◌, ◌++◌, ◌∙◌, ℕ, zero, suc, add-one, List, Option, ap, sym, subst, arith, append-nil, append_assoc}
 use Rattle.vm_cli.specs.Carried.{WritesStart}
 use Rattle.vm_cli.specs.Streams.{repeated}
 use Rattle.vm_cli.proofs.CarriedLemmas.{begins-more}

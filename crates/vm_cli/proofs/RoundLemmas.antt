@@ -1,12 +1,11 @@
 -- The states that batches leave.
-use Rattle.std.proofs.Common.{◌≡◌, ◌∙◌, ℕ, false, List, [], ◌∷◌, Result, Ok, Err, ap, sym, refl}
+use Rattle.std.proofs.Common.{◌≡◌, ◌∙◌, ℕ, false, List, [], ◌∷◌, ◌++◌, Result, Ok, Err, ap, sym, refl, append_assoc}
 use Rattle.vm_types.specs.declared.answer.Answer.{Answer}
 use Rattle.vm_types.specs.declared.command.Command.{Command}
-use Rattle.vm_types.specs.declared.command.Command.TheVariants.{Commit, Rollback}
 use Rattle.vm_types.specs.declared.refusal.Refusal.{Refusal}
-use Rattle.vm_types.specs.State.{State, accepted, after, is_commit, next}
+use Rattle.vm_types.specs.State.{State, after, is_commit, next}
 use Rattle.vm_types.specs.Tree.{Tree}
-use Rattle.vm_cli.specs.Rounds.{AllWhole, Batch, CommitNothing, IsSettled, IsWhole, Round, after_batch, after_batches, after_round, after_rounds, committed_batches}
+use Rattle.vm_cli.specs.Rounds.{AllWhole, Batch, CommitNothing, IsSettled, IsWhole, Round, after_batch, after_batches, after_round, after_rounds, all_answers, all_commands, committed_batches, round_answers, round_commands}
 use Rattle.vm_cli.specs.Rounds.Round.{broken, committed, idle, undone, unsure}
 
 -- a command that is no commit leaves what is committed
@@ -48,3 +47,20 @@ rounds_are s (undone batch answer ∷ rounds) whole settled =
     ap (λ t. after_rounds t rounds) (settled_stays s settled batch whole.0 answer) ∙ rounds_are s rounds whole.1 settled
 rounds_are s (broken batch ∷ rounds) whole settled = rounds_are s rounds whole.1 settled
 rounds_are s (unsure batch refusal ∷ rounds) whole settled = rounds_are s rounds whole.1 settled
+
+-- rounds, and more of them
+pub commands-append : (first later : List Round) → all_commands (first ++ later) ≡ all_commands first ++ all_commands later
+commands-append [] later = refl
+commands-append (round ∷ first) later = ap (λ cs. round_commands round ++ cs) (commands-append first later) ∙ sym (append_assoc (round_commands round) (all_commands first) (all_commands later))
+
+pub answers-append : (first later : List Round) → all_answers (first ++ later) ≡ all_answers first ++ all_answers later
+answers-append [] later = refl
+answers-append (round ∷ first) later = ap (λ rs. round_answers round ++ rs) (answers-append first later) ∙ sym (append_assoc (round_answers round) (all_answers first) (all_answers later))
+
+pub rounds_append : (s : State) (first later : List Round) → after_rounds s (first ++ later) ≡ after_rounds (after_rounds s first) later
+rounds_append s [] later = refl
+rounds_append s (round ∷ first) later = rounds_append (after_round s round) first later
+
+pub whole_append : (first later : List Round) → AllWhole first → AllWhole later → AllWhole (first ++ later)
+whole_append [] later none more = more
+whole_append (round ∷ first) later all more = (all.0, whole_append first later all.1 more)

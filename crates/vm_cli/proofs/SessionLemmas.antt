@@ -23,10 +23,10 @@ use Rattle.vm_cli.specs.declared.talk.OnRefusal.{OnRefusal}
 use Rattle.vm_cli.specs.declared.talk.OnRefusal.TheVariants.{Ignore, Stop, Tell}
 use Rattle.vm_cli.specs.declared.talk.ServeFault.{ServeFault}
 use Rattle.vm_cli.specs.declared.talk.ServeFault.TheVariants as fault
+use Rattle.vm_cli.proofs.ConversationLemmas.{stream_is_whole, stream_keeps}
 use Rattle.vm_cli.proofs.KeepLemmas.{Keeping, keeping_none, keeping_quiet}
-use Rattle.vm_cli.proofs.StreamKeepLemmas.{batches_keep}
+use Rattle.vm_cli.proofs.SoundLemmas.{batches_sound}
 use Rattle.vm_cli.proofs.TalkKeepLemmas.{SoFar, serves_keeps}
-use Rattle.vm_cli.proofs.WholeLemmas.{batches_are_whole}
 
 -- a crash leaves of a synced disk what it holds
 pub clean_leaves : (P : Contents → Type 0) (m : Medium) → IsClean m → P m.contents → Leaves P m
@@ -59,7 +59,7 @@ served_keeps : {D : Type 0} {members : _} (start : DiskState) (s : State) (old n
     → (grouping : Grouping) (on : Manner) (result : Result Bool ServeFault) (before then known : Option (List ℕ)) (serves : ServesBy grouping old new s on result before then known)
     → Keeps start (members.state (disk_of new)) s (commands_by grouping old new s on result before then known serves) (answers_by grouping old new s on result before then known serves)
 served_keeps start s old new so_far honest sound holds Lines on result before then known serves = serves_keeps start s old new so_far honest sound holds on result before then known serves
-served_keeps start s old new so_far honest sound holds Batches on result before then known serves = batches_keep start s old new so_far honest sound holds on result _ serves
+served_keeps start s old new so_far honest sound holds Batches on result before then known serves = stream_keeps batches_sound start s old new so_far honest sound holds on result _ serves
 
 -- and so does one on which lines were answered
 module _ {D : Type 0} {members : _} (old : DiskState) (first last : Store D members) (opens : (members.state (disk_of first)).honest ≡ true → OpensAs old.now.contents first)
@@ -92,7 +92,7 @@ after_refusal Stop = inr (inr (refl, λ e. cc))
 pub served_whole : {D : Type 0} {members : _} (first last : Store D members) (s : State) (grouping : Grouping) (on : Manner) (result : Result Bool ServeFault) (before then known : Option (List ℕ))
     → (serves : ServesBy grouping first last s on result before then known) → IsWholeBy grouping first last s on result before then known serves
 served_whole first last s Lines on result before then known serves = tt
-served_whole first last s Batches on result before then known serves = batches_are_whole on first last s result _ serves
+served_whole first last s Batches on result before then known serves = stream_is_whole batches_sound on first last s result _ serves
 
 -- a refusal ends a session only where it is to
 refused_stops : {D : Type 0} {members : _} (first last : Store D members) (s : State) (grouping : Grouping) (on : Manner) (before then known : Option (List ℕ)) → ServesBy grouping first last s on (Err fault.Refused) before then known

@@ -1,5 +1,5 @@
 -- How a batch comes out.
-use Rattle.std.proofs.Common.{◌≡◌, ◌==◌, ◌⊎◌, inl, inr, ◌++◌, ◌∙◌, ℕ, Bool, true, false, List, [], ◌∷◌, Option, None, Some, Result, Ok, Err, ap, sym, refl, subst, arith, length}
+use Rattle.std.proofs.Common.{◌≡◌, ◌==◌, ◌⊎◌, inl, inr, ◌∙◌, ℕ, Bool, true, false, List, [], ◌∷◌, Option, None, Some, Result, Ok, Err, ap, sym, refl, subst, arith, length}
 use Rattle.std.proofs.lemmas.Bool.Decides.{nat_tests}
 use Rattle.vm_types.specs.declared.answer.Answer.{Answer}
 use Rattle.vm_types.specs.declared.command.Command.{Command}
@@ -17,7 +17,6 @@ use Rattle.vm_cli.specs.Streams.{Applies, CommitsOrNot, Held, HoldsLines, IsHeld
 use Rattle.vm_cli.specs.Streams.Held.{holds, lost}
 use Rattle.vm_cli.specs.Streams.Verdict.{fails, succeeds}
 use Rattle.vm_cli.specs.Talk.{HasTalked}
-use Rattle.vm_cli.specs.declared.answers.reply.Reply.TheVariants as reply
 use Rattle.vm_cli.specs.declared.lines.line.Line.{Line}
 use Rattle.vm_cli.specs.declared.talk.Manner.{Manner}
 use Rattle.vm_cli.specs.declared.talk.ServeFault.TheVariants as fault
@@ -25,7 +24,6 @@ use Rattle.vm_cli.specs.declared.talk.batch.Lost.{Lost}
 use Rattle.vm_cli.specs.declared.talk.carrying.Stop.{Stop as LastLine}
 use Rattle.vm_cli.specs.declared.talk.carrying.Then.{Then}
 use Rattle.vm_cli.specs.declared.talk.carrying.Then.TheVariants.{GoOn, Failed as AsFailed, Unsure as AsUnsure}
-use Rattle.vm_cli.specs.declared.talk.carrying.Why.TheVariants as why
 use Rattle.vm_cli.proofs.EndLemmas.{fails_then, talks_then}
 use Rattle.vm_cli.proofs.HandledLemmas.{Applied, applied_fails, applied_goes}
 use Rattle.vm_cli.proofs.PassLemmas.{failed_or, grows_both, left_again}

@@ -1,16 +1,19 @@
--- How a session with batches ends.
-use Rattle.std.proofs.Common.{◌≡◌, ◌⊎◌, inl, inr, ◌||◌, ◌++◌, ◌∙◌, ℕ, zero, suc, Bool, true, false, List, [], ◌∷◌, Option, None, Some, IfSome, Result, Ok, Err, ap, sym, refl, subst, append_assoc, append-nil}
+-- How a session ends in which lines are answered one after another.
+use Rattle.std.proofs.Common.{◌≡◌, inl, inr, ◌||◌, ◌++◌, ◌∙◌, ℕ, zero, suc, Bool, true, false, List, [], ◌∷◌, Option, IfSome, Result, Ok, Err, ap, sym, refl, subst, append_assoc, append-nil}
 use Rattle.std.proofs.KnownBytes.{Consumes-nil, Consumes-whole}
 use Rattle.std.specs.Io.KnownBytes.{Appends, IsAtEnd}
-use Rattle.vm_types.specs.State.{State}
+use Rattle.vm_types.specs.State.{State, opened}
+use Rattle.vm_disk.specs.declared.disk.Disk.{Ghosts}
+use Rattle.vm_store.specs.Shown.{new_store}
 use Rattle.vm_store.specs.declared.store.Store.{Store}
 use Rattle.vm_cli.specs.Carried.{WritesStart}
+use Rattle.vm_cli.specs.Conversations.{AnswersThen, Conversation, Course, EndsInput, EndsWithLine, HasTaken, RunsStream, ServesInput, SessionStreams, TakesEach, TakesTo, Tells, counted_result, ended_lines, half_lines, some_lines, streams_of}
+use Rattle.vm_cli.specs.Conversations.Course.{over, proceeds}
+use Rattle.vm_cli.specs.Feeds.{TalksOn}
 use Rattle.vm_cli.specs.Input.{is_nil}
 use Rattle.vm_cli.specs.LineReading.{ReadsLine, Took}
 use Rattle.vm_cli.specs.Lines.{IsPart}
 use Rattle.vm_cli.specs.Rounds.{Round, after_rounds}
-use Rattle.vm_cli.specs.Streams.{AnswersThen, Course, EndsInput, EndsWithLine, HasTaken, Held, ServesBatches, ServesInput, Takes, Tells, counted_result, end_count, end_text, ended_lines, half_lines, some_lines, streams_of}
-use Rattle.vm_cli.specs.Streams.Course.{over, proceeds}
 use Rattle.vm_cli.specs.declared.lines.line.Line.{Line}
 use Rattle.vm_cli.specs.declared.talk.Manner.{Manner}
 use Rattle.vm_cli.specs.declared.talk.OnRefusal.{OnRefusal}
@@ -18,108 +21,38 @@ use Rattle.vm_cli.specs.declared.talk.OnRefusal.TheVariants.{Ignore, Stop, Tell}
 use Rattle.vm_cli.specs.declared.talk.ServeFault.{ServeFault}
 use Rattle.vm_cli.specs.declared.talk.ServeFault.TheVariants as fault
 use Rattle.vm_cli.proofs.CarriedLemmas.{begins-then}
+use Rattle.vm_cli.proofs.EndLemmas.{serves_on, serves_unread, talks_none, talks_then}
 use Rattle.vm_cli.proofs.FeedLemmas.{joined}
-use Rattle.vm_cli.proofs.Known.{Appends-then}
+use Rattle.vm_cli.proofs.Known.{Appends-nil, Appends-then}
 use Rattle.vm_cli.proofs.ReadingLemmas.{ended-more, took_then}
+use Rattle.vm_cli.proofs.RoundLemmas.{rounds_append}
 use Rattle.vm_cli.proofs.ServeLemmas.{read-some}
-use Rattle.vm_cli.proofs.StreamLemmas.{taken_more}
+use Rattle.vm_cli.proofs.StreamLemmas.{counted_talks}
+
+or-assoc : (a b c : Bool) → ((a || b) || c) ≡ (a || (b || c))
+or-assoc true b c = refl
+or-assoc false b c = refl
+
+or-false : (a : Bool) → (a || false) ≡ a
+or-false true = refl
+or-false false = refl
+
+neither : (a b : Bool) → a ≡ false → b ≡ false → (a || b) ≡ false
+neither a b e f = rw (e, f) refl
 
 -- a beginning of a second text, behind a first
 begins-behind : (a b c : Option (List ℕ)) (first second : List ℕ) → Appends a b first → WritesStart b c second → WritesStart a c (first ++ second)
 begins-behind a b c first second written begun = begins-then a b c second (first ++ second) (record { sent = first; split = refl; written = written }) begun
 
-module _ {D : Type 0} {members : _} (old mid new : Store D members) (s : State) (how : Manner) (parts : List (List ℕ)) (text : List ℕ) (stage : Option Held) (again : Bool) (so_far : HasTaken old mid s how parts text stage again) (a b c : Option (List ℕ)) (written : Appends a b text) where
-  -- with a line
-  ends_line : (part more : List ℕ) (course : Course) (said : List ℕ) (stage' : Option Held) (round : Round) → Takes mid new (after_rounds s so_far.rounds) how stage part said course stage' round
-      → EndsWithLine old new s how course (ended_lines parts ++ (part ++ (10 ∷ more))) (text ++ said)
-  ends_line part more course said stage' round takes = record {
-    mid = mid;
-    parts = parts;
-    part = part;
-    more = more;
-    earlier = text;
-    last = said;
-    stage = stage;
-    stage' = stage';
-    round = round;
-    again = again;
-    cut = refl;
-    texts = refl;
-    taken = so_far;
-    takes = takes;
-  }
-
-  pub serves_stop : (part more : List ℕ) (P : Option Held → Type 0) (why : ServeFault)
-      → Tells how (λ said course. (stage' : Option Held) × (round : Round) × P stage' × Takes mid new (after_rounds s so_far.rounds) how stage part said course stage' round) (Err why) b c
-      → ServesInput old new s how (Err why) a c (ended_lines parts ++ (part ++ (10 ∷ more)))
-  serves_stop part more P fault.Read tells = absurd tells
-  serves_stop part more P fault.Store (said, (stage', round, held, takes), more_written) = (text ++ said, ends_line part more over said stage' round takes, Appends-then a b c text said written more_written)
-  serves_stop part more P fault.Unsure (said, (stage', round, held, takes), more_written) = (text ++ said, ends_line part more over said stage' round takes, Appends-then a b c text said written more_written)
-  serves_stop part more P fault.Refused (said, (stage', round, held, takes), stop, more_written) =
-      (text ++ said, stop, inl (ends_line part more (proceeds true) said stage' round takes), Appends-then a b c text said written more_written)
-  serves_stop part more P fault.Write (said, course, (stage', round, held, takes), begun) =
-      (text ++ said, inl (course, ends_line part more course said stage' round takes), begins-behind a b c text said written begun)
-
--- with the end of the input
-module _ {D : Type 0} {members : _} (old new : Store D members) (s : State) (how : Manner) (parts : List (List ℕ)) (text : List ℕ) (stage : Option Held) (again : Bool) (so_far : HasTaken old new s how parts text stage again) (a b c : Option (List ℕ)) (written : Appends a b text)
-    (half : List ℕ) (unbroken : IsPart half) where
-  ends_input : EndsInput old new s how (ended_lines parts ++ half) (text ++ end_text stage (half_lines half)) again (some_lines (end_count stage (half_lines half)))
-  ends_input = record {
-    parts = parts;
-    half = half;
-    unbroken = unbroken;
-    earlier = text;
-    stage = stage;
-    cut = refl;
-    texts = refl;
-    refuses = refl;
-    taken = so_far;
-  }
-
-  abbrev whole : List ℕ
-  whole = text ++ end_text stage (half_lines half)
-
-  all_written : Appends b c (end_text stage (half_lines half)) → Appends a c whole
-  all_written more = Appends-then a b c text (end_text stage (half_lines half)) written more
-
-  some_refused : (count : ℕ) → end_count stage (half_lines half) ≡ suc count → (on_refusal : OnRefusal) → how.on_refusal ≡ on_refusal → Appends b c (end_text stage (half_lines half))
-      → ServesInput old new s how (joined again (counted_result on_refusal (suc count))) a c (ended_lines parts ++ half)
-  some_refused count is Stop stops more =
-      (whole, stops, inr (again, subst (λ n. EndsInput old new s how (ended_lines parts ++ half) whole again (some_lines n)) is ends_input), all_written more)
-  some_refused count is Ignore stops more =
-      (whole, again, true, subst (λ n. EndsInput old new s how (ended_lines parts ++ half) whole again (some_lines n)) is ends_input, refl, all_written more)
-  some_refused count is Tell stops more =
-      (whole, again, true, subst (λ n. EndsInput old new s how (ended_lines parts ++ half) whole again (some_lines n)) is ends_input, refl, all_written more)
-
-  pub serves_end : (result : Result Bool ServeFault) → AnswersThen (end_text stage (half_lines half)) (counted_result how.on_refusal (end_count stage (half_lines half))) result b c
-      → ServesInput old new s how (joined again result) a c (ended_lines parts ++ half)
-  serves_end result (inr h) =
-      subst (λ r. ServesInput old new s how (joined again r) a c (ended_lines parts ++ half)) (sym h.0)
-      (whole, inr (again, some_lines (end_count stage (half_lines half)), ends_input), begins-behind a b c text (end_text stage (half_lines half)) written h.1)
-  serves_end result (inl h) = subst (λ r. ServesInput old new s how (joined again r) a c (ended_lines parts ++ half)) (sym h.0) (by (end_count stage (half_lines half)) refl h.1)
-    where
-      by : (count : ℕ) → end_count stage (half_lines half) ≡ count → Appends b c (end_text stage (half_lines half)) → ServesInput old new s how (joined again (counted_result how.on_refusal count)) a c (ended_lines parts ++ half)
-      by zero is more = (whole, again, false, subst (λ n. EndsInput old new s how (ended_lines parts ++ half) whole again (some_lines n)) is ends_input, refl, all_written more)
-      by (suc count) is more = some_refused count is how.on_refusal refl more
-
 -- the reader had these bytes, and has no more
-pub all_read : (known rest : Option (List ℕ)) (bytes : List ℕ) → Took known rest [] bytes [] → IsAtEnd rest → IfSome known (λ own. own ≡ bytes)
+all_read : (known rest : Option (List ℕ)) (bytes : List ℕ) → Took known rest [] bytes [] → IsAtEnd rest → IfSome known (λ own. own ≡ bytes)
 all_read known rest bytes took end = Consumes-whole known rest took.read (λ own. own ≡ bytes) took.consumed end (took.split ∙ append-nil bytes)
 
 -- or may have more
-pub more_read : (known rest : Option (List ℕ)) (taken unread : List ℕ) → Took known rest [] taken unread → (more : List ℕ) × IfSome known (λ own. own ≡ taken ++ more)
+more_read : (known rest : Option (List ℕ)) (taken unread : List ℕ) → Took known rest [] taken unread → (more : List ℕ) × IfSome known (λ own. own ≡ taken ++ more)
 more_read known rest taken unread took =
     let some = read-some known rest took.read took.consumed in
     (unread ++ some.0, subst (λ bs. IfSome known (λ own. own ≡ bs)) (ap (λ bs. bs ++ some.0) took.split ∙ append_assoc taken unread some.0) some.1)
-
--- a line is more of what was read
-pub line_read : (known mid rest : Option (List ℕ)) (parts : List (List ℕ)) (unread part after : List ℕ) → Took known mid [] (ended_lines parts) unread → Took mid rest unread (part ++ 10 ∷ []) after
-    → Took known rest [] (ended_lines parts ++ (part ++ 10 ∷ [])) after
-line_read known mid rest parts unread part after before took = took_then known mid rest [] (ended_lines parts) unread (part ++ 10 ∷ []) after before took
-
--- nothing is read yet
-pub none_read : (known : Option (List ℕ)) (unread : List ℕ) → unread ≡ [] → Took known known [] [] unread
-none_read known unread none = record { read = []; consumed = Consumes-nil known; split = sym none }
 
 -- the reader failed, in whatever it was asked for
 pub read_fails : (why : ServeFault) (from : List ℕ) (known rest : Option (List ℕ)) (before after : List ℕ) (line : Line) → ReadsLine (Err why) from known rest before after line → why ≡ fault.Read
@@ -129,54 +62,6 @@ read_fails fault.Store from known rest before after line reads = absurd reads
 read_fails fault.Refused from known rest before after line reads = absurd reads
 read_fails fault.Unsure from known rest before after line reads = absurd reads
 
--- lines of an input were taken, and written
-module _ {D : Type 0} {members : _} (old mid : Store D members) (s : State) (how : Manner) (parts : List (List ℕ)) (text : List ℕ) (stage : Option Held) (again : Bool) (so_far : HasTaken old mid s how parts text stage again)
-    (a b : Option (List ℕ)) (written : Appends a b text) (known at : Option (List ℕ)) (unread : List ℕ) (took : Took known at [] (ended_lines parts) unread) where
-  -- then the reader failed
-  pub serves_reader : ServesBatches old mid s how (Err fault.Read) (streams_of known a b)
-  serves_reader =
-      let more = more_read known at (ended_lines parts) unread took in
-      record { input = ended_lines parts ++ more.0; own = more.1; served = (text, parts, more.0, stage, again, refl, so_far, written) }
-
-  -- then one more was, with which the session ends
-  pub serves_line : (new : Store D members) (c rest : Option (List ℕ)) (part after : List ℕ) → Took at rest unread (part ++ 10 ∷ []) after → (P : Option Held → Type 0) (why : ServeFault)
-      → Tells how (λ said course. (stage' : Option Held) × (round : Round) × P stage' × Takes mid new (after_rounds s so_far.rounds) how stage part said course stage' round) (Err why) b c
-      → ServesBatches old new s how (Err why) (streams_of known a c)
-  serves_line new c rest part after more P why tells =
-      let line : List ℕ = part ++ 10 ∷ [] in
-      let all = more_read known rest (ended_lines parts ++ line) after (line_read known at rest parts unread part after took more) in
-      let cut : (ended_lines parts ++ line) ++ all.0 ≡ ended_lines parts ++ (part ++ (10 ∷ all.0)) =
-      append_assoc (ended_lines parts) line all.0 ∙ ap (λ bs. ended_lines parts ++ bs) (append_assoc part (10 ∷ []) all.0) in
-      record {
-        input = ended_lines parts ++ (part ++ (10 ∷ all.0));
-        own = subst (λ bs. IfSome known (λ own. own ≡ bs)) cut all.1;
-        served = serves_stop old mid new s how parts text stage again so_far a b c written part all.0 P why tells;
-      }
-
-  -- after which it goes on
-  pub takes_on : (new : Store D members) (c rest : Option (List ℕ)) (part after : List ℕ) → Took at rest unread (part ++ 10 ∷ []) after → (P : Option Held → Type 0) (refused : Bool)
-      → Tells how (λ said course. (stage' : Option Held) × (round : Round) × P stage' × Takes mid new (after_rounds s so_far.rounds) how stage part said course stage' round) (Ok refused) b c
-      → (parts' : List (List ℕ)) × (text' : List ℕ) × (stage' : Option Held) × P stage' × Took known rest [] (ended_lines parts') after
-      × HasTaken old new s how parts' text' stage' (again || refused) × Appends a c text'
-  takes_on new c rest part after more P refused (said, (stage', round, held, takes), goes_on, said_written) = (
-    parts ++ part ∷ [],
-    text ++ said,
-    stage',
-    held,
-    subst (λ bs. Took known rest [] bs after) (sym (ended-more parts part)) (line_read known at rest parts unread part after took more),
-    taken_more old mid new s how parts text stage again so_far part said refused stage' round takes goes_on,
-    Appends-then a b c text said written said_written,
-  )
-
-  -- or the end of the input was answered
-  pub serves_rest : (c rest : Option (List ℕ)) (half after : List ℕ) → Took at rest unread half after → after ≡ [] → IsAtEnd rest → IsPart half → (count : ℕ) → count ≡ half_lines half → (result : Result Bool ServeFault)
-      → AnswersThen (end_text stage count) (counted_result how.on_refusal (end_count stage count)) result b c → ServesBatches old mid s how (joined again result) (streams_of known a c)
-  serves_rest c rest half after more none end unbroken count is result said = record {
-    input = ended_lines parts ++ half;
-    own = all_read known rest (ended_lines parts ++ half) (subst (Took known rest [] (ended_lines parts ++ half)) none (took_then known at rest [] (ended_lines parts) unread half after took more)) end;
-    served = serves_end old mid s how parts text stage again so_far a b c written half unbroken result (subst (λ n. AnswersThen (end_text stage n) (counted_result how.on_refusal (end_count stage n)) result b c) is said);
-  }
-
 -- whether the input ended within a line
 pub one_half : (half : List ℕ) → is_nil half ≡ false → 1 ≡ half_lines half
 one_half [] some = cc
@@ -185,3 +70,244 @@ one_half (b ∷ half) some = refl
 pub no_half : (half : List ℕ) → is_nil half ≡ true → 0 ≡ half_lines half
 no_half [] none = refl
 no_half (b ∷ half) none = cc
+
+-- ---- what was taken so far
+
+module _ {D : Type 0} {members : Ghosts D} (kind : Conversation D members) where
+  -- one more line was taken
+  each_more : (how : Manner) (parts : List (List ℕ)) (old mid new : Store D members) (s : State) (stage : kind.Stage) (text : List ℕ) (next : kind.Stage) (rounds : List Round) (again : Bool)
+      → TakesEach kind old mid s how stage parts text next rounds again
+      → (part said : List ℕ) (refused : Bool) (stage' : kind.Stage) (more : List Round) → kind.Takes mid new (after_rounds s rounds) how next part said (proceeds refused) stage' more
+      → TakesEach kind old new s how stage (parts ++ part ∷ []) (text ++ said) stage' (rounds ++ more) (again || refused)
+  each_more how [] old mid new s stage text next rounds again (same, none, stage_is, no_rounds, no_refusal) part said refused stage' more takes =
+      let from_old = subst (λ (x : Store D members). kind.Takes x new (after_rounds s rounds) how next part said (proceeds refused) stage' more) same takes in
+      let from_here = subst (λ rs. kind.Takes old new (after_rounds s rs) how next part said (proceeds refused) stage' more) no_rounds from_old in (
+        new,
+        stage',
+        said,
+        [],
+        more,
+        [],
+        refused,
+        false,
+        subst (λ st. kind.Takes old new s how st part said (proceeds refused) stage' more) stage_is from_here,
+        ap (λ t. t ++ said) none ∙ sym (append-nil said),
+        ap (λ rs. rs ++ more) no_rounds ∙ sym (append-nil more),
+        ap (λ b. b || refused) no_refusal ∙ sym (or-false refused),
+        (refl, refl, refl, refl, refl),
+      )
+  each_more how (p ∷ parts) old mid new s stage text next rounds again (to, st, words, rest, first, later, bad, others, step, texts, came_so, again_is, each) part said refused stage' more takes = (
+    to,
+    st,
+    words,
+    rest ++ said,
+    first,
+    later ++ more,
+    bad,
+    others || refused,
+    step,
+    ap (λ t. t ++ said) texts ∙ append_assoc words rest said,
+    ap (λ rs. rs ++ more) came_so ∙ append_assoc first later more,
+    ap (λ b. b || refused) again_is ∙ or-assoc bad others refused,
+    each_more how parts to mid new (after_rounds s first) st rest next later others each part said refused stage' more
+        (subst (λ t. kind.Takes mid new t how next part said (proceeds refused) stage' more) (ap (λ rs. after_rounds s rs) came_so ∙ rounds_append s first later) takes),
+  )
+
+  -- lines of an input were read, taken and answered, and this is true of what is held
+  pub record HasServed (IsHeld : kind.Stage → Type 0) (old mid : Store D members) (s : State) (how : Manner) (known : SessionStreams) (rest : Option (List ℕ)) (unread : List ℕ) (again : Bool) : Type 0 where
+    pub parts : List (List ℕ)
+    pub text : List ℕ
+    pub stage : kind.Stage
+    pub held : IsHeld stage
+    pub took : Took known.input rest [] (ended_lines parts) unread
+    pub taken : HasTaken kind old mid s how parts text stage again
+    pub written : Appends known.before known.after text
+
+  -- however the session is told
+  pub record RunsSoFar (IsHeld : kind.Stage → Type 0) (old mid : Store D members) (how : Manner) (known : SessionStreams) (rest : Option (List ℕ)) (unread : List ℕ) (again : Bool) : Type 0 where
+    pub store : TalksOn (Ok again) old mid
+    pub served : (s : State) → HasServed IsHeld old mid s how known rest unread again
+
+  -- no line yet
+  pub runs_none : (IsHeld : kind.Stage → Type 0) (store : Store D members) (how : Manner) (input output : Option (List ℕ)) (unread : List ℕ) → IsHeld kind.start → unread ≡ []
+      → RunsSoFar IsHeld store store how (streams_of input output output) input unread false
+  runs_none IsHeld store how input output unread held none = record {
+    store = talks_none store false;
+    served = λ s. record {
+      parts = [];
+      text = [];
+      stage = kind.start;
+      held = held;
+      took = record { read = []; consumed = Consumes-nil input; split = sym none };
+      taken = record { rounds = []; each = (refl, refl, refl, refl, refl); goes_on = λ stop. refl };
+      written = Appends-nil output;
+    };
+  }
+
+-- ---- how it goes on, or ends
+
+module _ {D : Type 0} {members : Ghosts D} {kind : Conversation D members} {IsHeld : kind.Stage → Type 0} {old mid : Store D members} {s : State} {how : Manner} {input a b rest : Option (List ℕ)} {unread : List ℕ} {again : Bool}
+    (so_far : HasServed kind IsHeld old mid s how (streams_of input a b) rest unread again) where
+  -- the bytes so far, and more
+  abbrev ended_with : List ℕ → List ℕ
+  ended_with more = ended_lines so_far.parts ++ more
+
+  some_read : (more : List ℕ) × IfSome input (λ own. own ≡ ended_with more)
+  some_read = more_read input rest (ended_lines so_far.parts) unread so_far.took
+
+  -- a line was read, and taken
+  module _ (new : Store D members) (c rest' : Option (List ℕ)) (part after : List ℕ) (took : Took rest rest' unread (part ++ 10 ∷ []) after) (IsHeld' : kind.Stage → Type 0) where
+    abbrev Answered : List ℕ → Course → Type 0
+    Answered = TakesTo kind IsHeld' mid new (after_rounds s so_far.taken.rounds) how so_far.stage part
+
+    line_took : Took input rest' [] (ended_with (part ++ 10 ∷ [])) after
+    line_took = took_then input rest rest' [] (ended_lines so_far.parts) unread (part ++ 10 ∷ []) after so_far.took took
+
+    more_behind : (more : List ℕ) × IfSome input (λ own. own ≡ ended_with (part ++ (10 ∷ more)))
+    more_behind =
+        let all = more_read input rest' (ended_with (part ++ 10 ∷ [])) after line_took in
+        let cut : ended_with (part ++ 10 ∷ []) ++ all.0 ≡ ended_with (part ++ (10 ∷ all.0)) =
+        append_assoc (ended_lines so_far.parts) (part ++ 10 ∷ []) all.0 ∙ ap ended_with (append_assoc part (10 ∷ []) all.0) in
+        (all.0, subst (λ bs. IfSome input (λ own. own ≡ bs)) cut all.1)
+
+    -- with it the session ends
+    ends_line : (more : List ℕ) (course : Course) (said : List ℕ) → Answered said course → EndsWithLine kind old new s how course (ended_with (part ++ (10 ∷ more))) (so_far.text ++ said)
+    ends_line more course said (stage', rounds, held, takes) = record {
+      mid = mid;
+      parts = so_far.parts;
+      part = part;
+      more = more;
+      earlier = so_far.text;
+      last = said;
+      stage = so_far.stage;
+      stage' = stage';
+      rounds = rounds;
+      again = again;
+      cut = refl;
+      texts = refl;
+      taken = so_far.taken;
+      takes = takes;
+    }
+
+    serves_stop : (more : List ℕ) (why : ServeFault) → Tells how Answered (Err why) b c → ServesInput kind old new s how (Err why) a c (ended_with (part ++ (10 ∷ more)))
+    serves_stop more fault.Read tells = absurd tells
+    serves_stop more fault.Store (said, answered, written) = (so_far.text ++ said, ends_line more over said answered, Appends-then a b c so_far.text said so_far.written written)
+    serves_stop more fault.Unsure (said, answered, written) = (so_far.text ++ said, ends_line more over said answered, Appends-then a b c so_far.text said so_far.written written)
+    serves_stop more fault.Refused (said, answered, stop, written) =
+        (so_far.text ++ said, stop, inl (ends_line more (proceeds true) said answered), Appends-then a b c so_far.text said so_far.written written)
+    serves_stop more fault.Write (said, course, answered, begun) = (so_far.text ++ said, inl (course, ends_line more course said answered), begins-behind a b c so_far.text said so_far.written begun)
+
+    -- or it goes on
+    line_more : (refused : Bool) → Tells how Answered (Ok refused) b c → HasServed kind IsHeld' old new s how (streams_of input a c) rest' after (again || refused)
+    line_more refused (said, (stage', rounds, held, takes), goes_on, written) = record {
+      parts = so_far.parts ++ part ∷ [];
+      text = so_far.text ++ said;
+      stage = stage';
+      held = held;
+      took = subst (λ bs. Took input rest' [] bs after) (sym (ended-more so_far.parts part)) line_took;
+      taken = record {
+        rounds = so_far.taken.rounds ++ rounds;
+        each = each_more kind how so_far.parts old mid new s kind.start so_far.text so_far.stage so_far.taken.rounds again so_far.taken.each part said refused stage' rounds takes;
+        goes_on = λ stop. neither again refused (so_far.taken.goes_on stop) (goes_on stop);
+      };
+      written = Appends-then a b c so_far.text said so_far.written written;
+    }
+
+  -- the end of the input was answered
+  module _ (c : Option (List ℕ)) (half : List ℕ) (unbroken : IsPart half) where
+    abbrev said : List ℕ
+    said = kind.end_text so_far.stage (half_lines half)
+
+    abbrev count : ℕ
+    count = kind.end_count so_far.stage (half_lines half)
+
+    ends_input : EndsInput kind old mid s how (ended_with half) (so_far.text ++ said) again (some_lines count)
+    ends_input = record {
+      parts = so_far.parts;
+      half = half;
+      unbroken = unbroken;
+      earlier = so_far.text;
+      stage = so_far.stage;
+      cut = refl;
+      texts = refl;
+      refuses = refl;
+      taken = so_far.taken;
+    }
+
+    ends_so : (n : ℕ) → count ≡ n → EndsInput kind old mid s how (ended_with half) (so_far.text ++ said) again (some_lines n)
+    ends_so n is = subst (λ k. EndsInput kind old mid s how (ended_with half) (so_far.text ++ said) again (some_lines k)) is ends_input
+
+    counted : (n : ℕ) → count ≡ n → (on_refusal : OnRefusal) → how.on_refusal ≡ on_refusal → Appends a c (so_far.text ++ said)
+        → ServesInput kind old mid s how (joined again (counted_result on_refusal n)) a c (ended_with half)
+    counted zero is on_refusal stops written = (so_far.text ++ said, again, false, ends_so 0 is, refl, written)
+    counted (suc n) is Stop stops written = (so_far.text ++ said, stops, inr (again, ends_so (suc n) is), written)
+    counted (suc n) is Ignore stops written = (so_far.text ++ said, again, true, ends_so (suc n) is, refl, written)
+    counted (suc n) is Tell stops written = (so_far.text ++ said, again, true, ends_so (suc n) is, refl, written)
+
+    serves_end : (result : Result Bool ServeFault) → AnswersThen said (counted_result how.on_refusal count) result b c → ServesInput kind old mid s how (joined again result) a c (ended_with half)
+    serves_end result (inr h) =
+        subst (λ r. ServesInput kind old mid s how (joined again r) a c (ended_with half)) (sym h.0)
+        (so_far.text ++ said, inr (again, some_lines count, ends_input), begins-behind a b c so_far.text said so_far.written h.1)
+    serves_end result (inl h) =
+        subst (λ r. ServesInput kind old mid s how (joined again r) a c (ended_with half)) (sym h.0)
+        (counted count refl how.on_refusal refl (Appends-then a b c so_far.text said so_far.written h.1))
+
+-- ---- so does a session, however it is told
+
+module _ {D : Type 0} {members : Ghosts D} {kind : Conversation D members} {IsHeld : kind.Stage → Type 0} {old mid : Store D members} {how : Manner} {input a b rest : Option (List ℕ)} {unread : List ℕ} {again : Bool}
+    (so_far : RunsSoFar kind IsHeld old mid how (streams_of input a b) rest unread again) where
+  -- the reader failed
+  pub serves_reader : RunsStream kind how (Err fault.Read) old mid (streams_of input a b)
+  serves_reader = record {
+    store = serves_unread old mid again so_far.store;
+    answers = λ s.
+        let p = so_far.served s in
+        let more = some_read p in
+        record { input = ended_with p more.0; own = more.1; served = (p.text, p.parts, more.0, p.stage, again, refl, p.taken, p.written) };
+  }
+
+  -- a line was read, and taken in the manner of the session
+  module _ (now : Manner) (same : now ≡ how) (new : Store D members) (c rest' : Option (List ℕ)) (part after : List ℕ) (took : Took rest rest' unread (part ++ 10 ∷ []) after) (IsHeld' : kind.Stage → Type 0) where
+    abbrev IsTaken : Result Bool ServeFault → Manner → Type 0
+    IsTaken result m = (s : State) (stage : kind.Stage) → IsHeld stage → Tells m (TakesTo kind IsHeld' mid new s m stage part) result b c
+
+    -- with it the session ends
+    pub serves_line : (why : ServeFault) → TalksOn (Err why) mid new → IsTaken (Err why) now → RunsStream kind how (Err why) old new (streams_of input a c)
+    serves_line why talks taken = record {
+      store = serves_on old new (Err why) (talks_then old mid new again so_far.store (Err why) talks);
+      answers = λ s.
+          let p = so_far.served s in
+          let more = more_behind p new c rest' part after took IsHeld' in
+          record {
+            input = ended_with p (part ++ (10 ∷ more.0));
+            own = more.1;
+            served = serves_stop p new c rest' part after took IsHeld' more.0 why (subst (IsTaken (Err why)) same taken (after_rounds s p.taken.rounds) p.stage p.held);
+          };
+    }
+
+    -- or it goes on
+    pub takes_on : (refused : Bool) → TalksOn (Ok refused) mid new → IsTaken (Ok refused) now → RunsSoFar kind IsHeld' old new how (streams_of input a c) rest' after (again || refused)
+    takes_on refused talks taken = record {
+      store = talks_then old mid new again so_far.store (Ok refused) talks;
+      served = λ s. let p = so_far.served s in line_more p new c rest' part after took IsHeld' refused (subst (IsTaken (Ok refused)) same taken (after_rounds s p.taken.rounds) p.stage p.held);
+    }
+
+  -- the end of the input was answered, in so many lines
+  module _ (now : Manner) (same : now ≡ how) (c rest' : Option (List ℕ)) (half after : List ℕ) (took : Took rest rest' unread half after) (none : after ≡ []) (end : IsAtEnd rest') (unbroken : IsPart half) (result : Result Bool ServeFault) where
+    abbrev IsAnswered : Manner → ℕ → Type 0
+    IsAnswered m n = (stage : kind.Stage) → IsHeld stage → AnswersThen (kind.end_text stage n) (counted_result m.on_refusal (kind.end_count stage n)) result b c
+
+    pub serves_rest : (n : ℕ) → n ≡ half_lines half → IsAnswered now n → RunsStream kind how (joined again result) old mid (streams_of input a c)
+    serves_rest n is answered = record {
+      store =
+          let p = so_far.served (opened (new_store 64)) in
+          serves_on old mid (joined again result)
+          (talks_then old mid mid again so_far.store result (counted_talks mid (kind.end_text p.stage n) b c now.on_refusal (kind.end_count p.stage n) result (answered p.stage p.held)));
+      answers = λ s.
+          let p = so_far.served s in
+          record {
+            input = ended_with p half;
+            own = all_read input rest' (ended_with p half) (subst (Took input rest' [] (ended_with p half)) none (took_then input rest rest' [] (ended_lines p.parts) unread half after p.took took)) end;
+            served = serves_end p c half unbroken result (subst (λ m. IsAnswered m (half_lines half)) same (subst (IsAnswered now) is answered) p.stage p.held);
+          };
+    }

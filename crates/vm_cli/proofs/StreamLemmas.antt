@@ -1,15 +1,15 @@
 -- What a session with batches answers.
-use Rattle.std.proofs.Common.{◌≡◌, ◌⊎◌, inl, inr, ◌||◌, ◌+◌, ◌++◌, ◌∙◌, ℕ, zero, suc, Bool, true, false, List, [], ◌∷◌, Option, None, Some, Result, Ok, Err, OnErr, OnOk, ap, sym, refl, subst, append-nil, append_assoc, take}
+use Rattle.std.proofs.Common.{◌≡◌, inl, inr, ◌++◌, ◌∙◌, ℕ, zero, suc, Bool, true, false, List, [], ◌∷◌, Option, None, Some, Result, Ok, Err, OnErr, OnOk, ap, sym, refl, subst, append-nil, take}
 use Rattle.std.specs.Io.KnownBytes.{Appends}
 use Rattle.vm_types.specs.State.{State}
 use Rattle.vm_store.specs.declared.store.Store.{Store}
 use Rattle.vm_cli.specs.Carried.{WritesStart}
+use Rattle.vm_cli.specs.Conversations.{AnswersThen, Course, Puts, TakesTo, Tells, counted_result, refused_result, said_result, some_lines}
+use Rattle.vm_cli.specs.Conversations.Course.{over, proceeds}
 use Rattle.vm_cli.specs.Feeds.{TalksOn, Writes}
 use Rattle.vm_cli.specs.LineUses.{IsUse}
-use Rattle.vm_cli.specs.Replies.{is_error}
-use Rattle.vm_cli.specs.Rounds.{Round, after_round, after_rounds}
-use Rattle.vm_cli.specs.Streams.{AnswersThen, Course, Held, HasTaken, IsStage, Puts, Takes, TakesAs, TakesEach, TakesInside, TakesOutside, Tells, Verdict, after_refusal, batch_course, counted_result, course_of, refused_result, repeated, result_of, said_result, some_lines, verdict_result}
-use Rattle.vm_cli.specs.Streams.Course.{over, proceeds}
+use Rattle.vm_cli.specs.Rounds.{Round}
+use Rattle.vm_cli.specs.Streams.{Held, IsStage, Takes, TakesAs, TakesInside, TakesOutside, Verdict, batch_course, batches, course_of, repeated, result_of, verdict_result}
 use Rattle.vm_cli.specs.Streams.Verdict.{fails, succeeds}
 use Rattle.vm_cli.specs.declared.answers.output.WriteFault.{WriteFault}
 use Rattle.vm_cli.specs.declared.talk.Manner.{Manner}
@@ -18,25 +18,13 @@ use Rattle.vm_cli.specs.declared.talk.OnRefusal.{OnRefusal}
 use Rattle.vm_cli.specs.declared.talk.OnRefusal.TheVariants.{Ignore, Stop, Tell}
 use Rattle.vm_cli.specs.declared.talk.ServeFault.{ServeFault}
 use Rattle.vm_cli.specs.declared.talk.ServeFault.TheVariants as fault
-use Rattle.vm_cli.specs.declared.talk.carrying.Then.{Then}
 use Rattle.vm_cli.specs.declared.talk.line_use.LineUse.{LineUse}
 use Rattle.vm_cli.specs.declared.talk.carrying.Then.TheVariants.{GoOn, Failed as AsFailed, Unsure as AsUnsure}
 use Rattle.vm_cli.proofs.CarriedLemmas.{begins-cut, begins-more, begins-then}
 use Rattle.vm_cli.proofs.EndLemmas.{talks_none}
 use Rattle.vm_cli.proofs.PassLemmas.{never_both}
 use Rattle.vm_cli.specs.Talk.{EndsBy}
-use Rattle.vm_cli.proofs.Known.{Appends-nil, Appends-then}
-
-or-assoc : (a b c : Bool) → ((a || b) || c) ≡ (a || (b || c))
-or-assoc true b c = refl
-or-assoc false b c = refl
-
-or-false : (a : Bool) → (a || false) ≡ a
-or-false true = refl
-or-false false = refl
-
-neither : (a b : Bool) → a ≡ false → b ≡ false → (a || b) ≡ false
-neither a b e f = rw (e, f) refl
+use Rattle.vm_cli.proofs.Known.{Appends-then}
 
 -- or its first bytes
 pub puts_put : {T : Type 0} (text : List ℕ) (written : Result T WriteFault) (a b : Option (List ℕ)) → OnOk written (Appends a b text) → OnErr written ((k : ℕ) × Appends a b (take k text)) → Puts text (said_result written) a b
@@ -106,25 +94,23 @@ module _ {D : Type 0} {members : _} (old new : Store D members) (s : State) (how
       by (inl wanting) = inl (subst (λ u. TakesAs old new s how u stage part text course stage' round) wanting takes)
       by (inr found) = inr (subst (λ u. TakesAs old new s how u stage part text course stage' round) found takes)
 
-  tells_taken : (stage : Option Held) → Tells how (λ text course. (stage' : Option Held) × (round : Round) × P stage' × TakesAs old new s how used stage part text course stage' round) result a b
-      → Tells how (λ text course. (stage' : Option Held) × (round : Round) × P stage' × Takes old new s how stage part text course stage' round) result a b
+  tells_taken : (stage : Option Held) → Tells how (λ text course. (stage' : Option Held) × (round : Round) × P stage' × TakesAs old new s how used stage part text course stage' round) result a b → Tells how (TakesTo batches P old new s how stage part) result a b
   tells_taken stage =
       tells_as how
-      (λ text course. (stage' : Option Held) × (round : Round) × P stage' × TakesAs old new s how used stage part text course stage' round)
-      (λ text course. (stage' : Option Held) × (round : Round) × P stage' × Takes old new s how stage part text course stage' round)
-      (λ text course said. (said.0, said.1, said.2, taken_as stage text course said.0 said.1 said.3)) result a b
+      (λ text course. (stage' : Option Held) × (round : Round) × P stage' × TakesAs old new s how used stage part text course stage' round) (TakesTo batches P old new s how stage part)
+      (λ text course said. (said.0, said.1 ∷ [], said.2, (said.1, taken_as stage text course said.0 said.1 said.3, refl))) result a b
 
   -- within a batch
   pub inside_taken : (batch : Batch) → batch.is_open ≡ true → (stage : Option Held) → IsStage batch stage
       → ((held : Held) → IsStage batch (Some held) → Tells how (λ text course. (stage' : Option Held) × (round : Round) × P stage' × TakesInside old new s how used held part text course stage' round) result a b)
-      → Tells how (λ text course. (stage' : Option Held) × (round : Round) × P stage' × Takes old new s how stage part text course stage' round) result a b
+      → Tells how (TakesTo batches P old new s how stage part) result a b
   inside_taken batch begun None held told = absurd (never_both _ held.0 begun)
   inside_taken batch begun (Some h) held told = tells_taken (Some h) (told h held)
 
   -- or outside of one
   pub outside_taken : (batch : Batch) → batch.is_open ≡ false → (stage : Option Held) → IsStage batch stage
       → (IsStage batch None → Tells how (λ text course. (stage' : Option Held) × (round : Round) × P stage' × TakesOutside old new s how used part text course stage' round) result a b)
-      → Tells how (λ text course. (stage' : Option Held) × (round : Round) × P stage' × Takes old new s how stage part text course stage' round) result a b
+      → Tells how (TakesTo batches P old new s how stage part) result a b
   outside_taken batch closed None held told = tells_taken None (told held)
   outside_taken batch closed (Some h) held told = absurd (never_both _ closed held.0)
 
@@ -156,57 +142,3 @@ module _ {D : Type 0} {members : _} where
       subst (λ r. TalksOn r store store) (sym h.0) (record { goes = none.goes; ok = λ sound. tt; err = λ sound. tt; failing = none.failing; left = none.left })
   counted_talks store text a b Ignore (suc n) result (inl h) = subst (λ r. TalksOn r store store) (sym h.0) (talks_none store true)
   counted_talks store text a b Tell (suc n) result (inl h) = subst (λ r. TalksOn r store store) (sym h.0) (talks_none store true)
-
-  -- one more line was taken
-  pub each_more : (old mid new : Store D members) (s : State) (how : Manner) (stage : Option Held) (parts : List (List ℕ)) (text : List ℕ) (next : Option Held) (rounds : List Round) (again : Bool)
-      → TakesEach old mid s how stage parts text next rounds again
-      → (part said : List ℕ) (refused : Bool) (stage' : Option Held) (round : Round) → Takes mid new (after_rounds s rounds) how next part said (proceeds refused) stage' round
-      → TakesEach old new s how stage (parts ++ part ∷ []) (text ++ said) stage' (rounds ++ round ∷ []) (again || refused)
-  each_more old mid new s how stage [] text next rounds again (same, none, stage_is, no_rounds, no_refusal) part said refused stage' round takes =
-      let from_old = subst (λ (t : Store D members). Takes t new (after_rounds s rounds) how next part said (proceeds refused) stage' round) same takes in
-      let from_here = subst (λ rs. Takes old new (after_rounds s rs) how next part said (proceeds refused) stage' round) no_rounds from_old in
-      let here = subst (λ st. Takes old new s how st part said (proceeds refused) stage' round) stage_is from_here in (
-        new,
-        stage',
-        said,
-        [],
-        round,
-        [],
-        refused,
-        false,
-        here,
-        ap (λ t. t ++ said) none ∙ sym (append-nil said),
-        ap (λ rs. rs ++ round ∷ []) no_rounds,
-        ap (λ b. b || refused) no_refusal ∙ sym (or-false refused),
-        (refl, refl, refl, refl, refl),
-      )
-  each_more old mid new s how stage (p ∷ parts) text next rounds again (to, st, first, rest, came, later, bad, others, step, texts, came_so, again_is, streams) part said refused stage' round takes = (
-    to,
-    st,
-    first,
-    rest ++ said,
-    came,
-    later ++ round ∷ [],
-    bad,
-    others || refused,
-    step,
-    ap (λ t. t ++ said) texts ∙ append_assoc first rest said,
-    ap (λ rs. rs ++ round ∷ []) came_so,
-    ap (λ b. b || refused) again_is ∙ or-assoc bad others refused,
-    each_more to mid new (after_round s came) how st parts rest next later others streams part said refused stage' round
-        (subst (λ rs. Takes mid new (after_rounds s rs) how next part said (proceeds refused) stage' round) came_so takes),
-  )
-
-  -- all lines so far, and one more
-  pub taken_more : (old mid new : Store D members) (s : State) (how : Manner) (parts : List (List ℕ)) (text : List ℕ) (stage : Option Held) (again : Bool) (so_far : HasTaken old mid s how parts text stage again)
-      → (part said : List ℕ) (refused : Bool) (stage' : Option Held) (round : Round) → Takes mid new (after_rounds s so_far.rounds) how stage part said (proceeds refused) stage' round
-      → (how.on_refusal ≡ Stop → refused ≡ false) → HasTaken old new s how (parts ++ part ∷ []) (text ++ said) stage' (again || refused)
-  taken_more old mid new s how parts text stage again so_far part said refused stage' round takes goes_on = record {
-    rounds = so_far.rounds ++ round ∷ [];
-    each = each_more old mid new s how None parts text stage so_far.rounds again so_far.each part said refused stage' round takes;
-    goes_on = λ stop. neither again refused (so_far.goes_on stop) (goes_on stop);
-  }
-
-  -- no line
-  pub taken_none : (store : Store D members) (s : State) (how : Manner) → HasTaken store store s how [] [] None false
-  taken_none store s how = record { rounds = []; each = (refl, refl, refl, refl, refl); goes_on = λ stop. refl }

@@ -1,29 +1,26 @@
--- A session with batches in which commands are refused only reads.
-use Rattle.std.proofs.Common.{◌≡◌, ◌⊎◌, inl, inr, ℕ, Bool, true, false, List, [], ◌∷◌, codes, length, nat_lt, if◌then◌else◌, Option, None, Some, Result, Ok, Err, refl, sym, subst}
+-- A line of a session with batches in which commands are refused only reads.
+use Rattle.std.proofs.Common.{◌≡◌, inl, inr, ℕ, Bool, true, false, List, [], ◌∷◌, codes, length, nat_lt, if◌then◌else◌, Option, None, Some, sym, subst}
 use Rattle.vm_types.specs.State.{State}
 use Rattle.vm_types.specs.declared.command.Command.{Command}
 use Rattle.vm_types.specs.declared.command.Command.TheVariants.{Commit, Rollback}
 use Rattle.vm_store.specs.declared.store.Store.{Store}
 use Rattle.vm_cli.specs.Asking.{Request}
+use Rattle.vm_cli.specs.Conversations.{Course}
 use Rattle.vm_cli.specs.Input.{without_return}
 use Rattle.vm_cli.specs.LineUses.{is_alone, no_memory, use_of, use_of_command, use_of_request, use_of_words}
 use Rattle.vm_cli.specs.Requests.{request_of}
-use Rattle.vm_cli.specs.Rounds.{Round, after_round}
+use Rattle.vm_cli.specs.Rounds.{Round}
 use Rattle.vm_cli.specs.Spaces.{words_of}
-use Rattle.vm_cli.specs.Streams.{Course, EndsWithLine, EndsInput, Held, ServesBatches, SessionStreams, Takes, TakesAs, TakesEach}
-use Rattle.vm_cli.specs.Streams.Course.{proceeds}
+use Rattle.vm_cli.specs.Streams.{Held, Takes, TakesAs}
 use Rattle.vm_cli.specs.Streams.Held.{holds, lost}
 use Rattle.vm_cli.specs.Talk.{Passes}
 use Rattle.vm_cli.specs.declared.lines.line.TheConstants.{MAX_BYTES}
 use Rattle.vm_cli.specs.declared.talk.Manner.{Manner}
-use Rattle.vm_cli.specs.declared.talk.OnCommand.{OnCommand}
 use Rattle.vm_cli.specs.declared.talk.OnCommand.TheVariants.{Refuse}
-use Rattle.vm_cli.specs.declared.talk.ServeFault.{ServeFault}
-use Rattle.vm_cli.specs.declared.talk.ServeFault.TheVariants as fault
 use Rattle.vm_cli.specs.declared.talk.line_use.LineUse.{LineUse}
 use Rattle.vm_cli.specs.declared.talk.line_use.LineUse.TheVariants as line
 use Rattle.vm_cli.proofs.PassLemmas.{passes_left}
-use Rattle.vm_cli.proofs.ReadOnlyLemmas.{line_passes, passes_both}
+use Rattle.vm_cli.proofs.ReadOnlyLemmas.{line_passes}
 
 -- a line that is no change
 abbrev IsOther : LineUse → Type 0
@@ -59,7 +56,7 @@ use_other : (part : List ℕ) → IsOther (use_of Refuse part)
 use_other part = either_other (nat_lt MAX_BYTES (length part)) _ (use_of_words Refuse (words_of (without_return part))) tt (words_other (words_of (without_return part)))
 
 -- no line is held
-abbrev IsReading : Option Held → Type 0
+abbrev pub IsReading : Option Held → Type 0
 IsReading None = Unit {0}
 IsReading (Some (holds [])) = Unit {0}
 IsReading (Some (holds (part ∷ parts))) = ⊥
@@ -96,45 +93,8 @@ module _ {D : Type 0} {members : _} (how : Manner) (refuses : how.on_command ≡
   as_passes old new s line.Commit other (Some (lost place answer count)) reading part text course stage' round takes = left_so old new takes.settles.0 None stage' takes.outside tt
 
   -- a line
-  takes_passes : (old new : Store D members) (s : State) (stage : Option Held) → IsReading stage → (part text : List ℕ) (course : Course) (stage' : Option Held) (round : Round)
+  pub takes_passes : (old new : Store D members) (s : State) (stage : Option Held) → IsReading stage → (part text : List ℕ) (course : Course) (stage' : Option Held) (round : Round)
       → Takes old new s how stage part text course stage' round → Passes old new None × IsReading stage'
   takes_passes old new s stage reading part text course stage' round (inl wanting) = as_passes old new s no_memory tt stage reading part text course stage' round wanting
   takes_passes old new s stage reading part text course stage' round (inr found) =
       as_passes old new s (use_of how.on_command part) (subst (λ on. IsOther (use_of on part)) (sym refuses) (use_other part)) stage reading part text course stage' round found
-
-  -- lines one after another
-  each_passes : (parts : List (List ℕ)) (old new : Store D members) (s : State) (stage : Option Held) → IsReading stage → (text : List ℕ) (stage' : Option Held) (rounds : List Round) (again : Bool)
-      → TakesEach old new s how stage parts text stage' rounds again → Passes old new None × IsReading stage'
-  each_passes [] old new s stage reading text stage' rounds again each = left_so old new each.0 stage stage' each.2 reading
-  each_passes (part ∷ parts) old new s stage reading text stage' rounds again (mid, next, first, rest, round, later, refused, others, takes, e, f, g, each) =
-      let one = takes_passes old mid s stage reading part first (proceeds refused) next round takes in
-      let more = each_passes parts mid new (after_round s round) next one.1 rest stage' later others each in
-      (passes_both old mid new one.0 more.0, more.1)
-
-  line_ends : (old new : Store D members) (s : State) (course : Course) (input text : List ℕ) → EndsWithLine old new s how course input text → Passes old new None
-  line_ends old new s course input text ended =
-      let before = each_passes ended.parts old ended.mid s None tt ended.earlier ended.stage ended.taken.rounds ended.again ended.taken.each in
-      passes_both old ended.mid new before.0 (takes_passes ended.mid new _ ended.stage before.1 ended.part ended.last course ended.stage' ended.round ended.takes).0
-
-  input_ends : (old new : Store D members) (s : State) (input text : List ℕ) (again last : Bool) → EndsInput old new s how input text again last → Passes old new None
-  input_ends old new s input text again last ended = (each_passes ended.parts old new s None tt ended.earlier ended.stage ended.taken.rounds again ended.taken.each).0
-
-  -- a whole session
-  pub batches_pass : (old new : Store D members) (s : State) (result : Result Bool ServeFault) (known : SessionStreams) → ServesBatches old new s how result known → Passes old new None
-  batches_pass old new s (Ok refused) known serves = let served = serves.served in input_ends old new s serves.input served.0 served.1 served.2 served.3
-  batches_pass old new s (Err fault.Read) known serves =
-      let served = serves.served in (each_passes served.1 old new s None tt served.0 served.3 served.6.rounds served.4 served.6.each).0
-  batches_pass old new s (Err fault.Store) known serves = let served = serves.served in line_ends old new s _ serves.input served.0 served.1
-  batches_pass old new s (Err fault.Unsure) known serves = let served = serves.served in line_ends old new s _ serves.input served.0 served.1
-  batches_pass old new s (Err fault.Refused) known serves =
-      let served = serves.served in
-      elim served.2 [
-        | inl ended ↦ line_ends old new s (proceeds true) serves.input served.0 ended
-        | inr all ↦ input_ends old new s serves.input served.0 all.0 true all.1
-      ]
-  batches_pass old new s (Err fault.Write) known serves =
-      let served = serves.served in
-      elim served.1 [
-        | inl ended ↦ line_ends old new s ended.0 serves.input served.0 ended.1
-        | inr all ↦ input_ends old new s serves.input served.0 all.0 all.1 all.2
-      ]

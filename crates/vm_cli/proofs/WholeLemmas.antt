@@ -1,5 +1,5 @@
 -- What a batch carries out: its lines alone, of which none commits.
-use Rattle.std.proofs.Common.{◌≡◌, ◌⊎◌, inl, inr, ◌+◌, ◌++◌, ◌∙◌, ℕ, zero, suc, Bool, true, false, List, [], ◌∷◌, codes, length, nat_lt, if◌then◌else◌, Option, None, Some, Result, Ok, Err, ap, sym, subst, refl, arith}
+use Rattle.std.proofs.Common.{◌≡◌, inl, inr, ◌++◌, ◌∙◌, ℕ, zero, suc, Bool, false, List, [], ◌∷◌, codes, length, nat_lt, if◌then◌else◌, Option, None, Some, Result, Ok, Err, ap, sym, subst, refl, arith}
 use Rattle.std.proofs.lemmas.List.{length-append}
 use Rattle.vm_types.specs.declared.answer.Answer.{Answer}
 use Rattle.vm_types.specs.declared.command.Command.{Command}
@@ -10,16 +10,15 @@ use Rattle.vm_types.specs.declared.refusal.Refusal.{Refusal}
 use Rattle.vm_types.specs.State.{State, is_commit}
 use Rattle.vm_store.specs.declared.store.Store.{Store}
 use Rattle.vm_cli.specs.Asking.{Request}
+use Rattle.vm_cli.specs.Conversations.{Course}
 use Rattle.vm_cli.specs.Input.{without_return}
-use Rattle.vm_cli.specs.LineUses.{change_use, is_alone, no_memory, use_of, use_of_command, use_of_request, use_of_words}
+use Rattle.vm_cli.specs.LineUses.{is_alone, no_memory, use_of, use_of_command, use_of_request, use_of_words}
 use Rattle.vm_cli.specs.Requests.{asked_in, request_of}
-use Rattle.vm_cli.specs.Rounds.{AllWhole, AreWholeBatches, Batch as Commanded, CommitNothing, IsWhole, IsWholeRound, Round, after_round}
-use Rattle.vm_cli.specs.Rounds.Round.{committed, idle, undone}
+use Rattle.vm_cli.specs.Rounds.{Batch as Commanded, CommitNothing, IsWhole, IsWholeRound, Round}
+use Rattle.vm_cli.specs.Rounds.Round.{idle}
 use Rattle.vm_cli.specs.Settlements.{for_all}
 use Rattle.vm_cli.specs.Spaces.{words_of}
-use Rattle.vm_cli.specs.StreamKeeps.{rounds_ended, rounds_of, rounds_taken}
-use Rattle.vm_cli.specs.Streams.{Adds, Course, EndsInput, EndsWithLine, Held, ServesBatches, SessionStreams, Settles, SettlesHeld, StopsIn, Takes, TakesAs, TakesEach, Undoes, Verdict, carried_by, losing, trying}
-use Rattle.vm_cli.specs.Streams.Course.{proceeds}
+use Rattle.vm_cli.specs.Streams.{Adds, Held, Settles, SettlesHeld, StopsIn, Takes, TakesAs, Undoes, Verdict, carried_by, losing, trying}
 use Rattle.vm_cli.specs.Streams.Held.{holds, lost}
 use Rattle.vm_cli.specs.Streams.Verdict.{fails, succeeds}
 use Rattle.vm_cli.specs.Talk.{Answered, AnsweredRequest, AnswersCommand, AnswersMerge, AnswersWithin, Done, HasTalked, Meets, Talks, Tries, after_line, each_answer, each_command, with_answer, with_command}
@@ -27,14 +26,11 @@ use Rattle.vm_cli.specs.declared.lines.line.TheConstants.{MAX_BYTES}
 use Rattle.vm_cli.specs.declared.talk.Manner.{Manner}
 use Rattle.vm_cli.specs.declared.talk.OnCommand.{OnCommand}
 use Rattle.vm_cli.specs.declared.talk.OnCommand.TheVariants.{CarryOut, GrowIfFull, Refuse}
-use Rattle.vm_cli.specs.declared.talk.ServeFault.{ServeFault}
-use Rattle.vm_cli.specs.declared.talk.ServeFault.TheVariants as fault
 use Rattle.vm_cli.specs.declared.talk.carrying.Then.{Then}
 use Rattle.vm_cli.specs.declared.talk.carrying.Then.TheVariants.{GoOn, Failed as AsFailed, Unsure as AsUnsure}
 use Rattle.vm_cli.specs.declared.talk.line_use.LineUse.{LineUse}
 use Rattle.vm_cli.specs.declared.talk.line_use.LineUse.TheVariants as line
 use Rattle.vm_cli.proofs.LineUseLemmas.{other_use}
-use Rattle.vm_cli.proofs.RoundLemmas.{rounds_are}
 
 -- ---- what is asked for by a change
 
@@ -109,10 +105,6 @@ no_command done none = subst (λ (d : Done). CommitNothing (with_command d [])) 
 idle_whole : (round : Round) → round ≡ idle → IsWholeRound round
 idle_whole round came_so = subst IsWholeRound (sym came_so) tt
 
-whole_more : (rounds : List Round) (round : Round) → AllWhole rounds → IsWholeRound round → AllWhole (rounds ++ round ∷ [])
-whole_more [] round all one = (one, tt)
-whole_more (first ∷ rounds) round all one = (all.0, whole_more rounds round all.1 one)
-
 module _ {D : Type 0} {members : _} where
   tries_nothing : (left most : ℕ) (command : Command) (old new : Store D members) (text : List ℕ) (each : List (Command × Result Answer Refusal)) → is_commit command ≡ false → Tries left most command old new text each → CommitNothing (each_command each [])
   tries_nothing left most command old new text [] never tries = absurd tries
@@ -167,7 +159,7 @@ abbrev AreChanges : OnCommand → Held → Type 0
 AreChanges on (holds parts) = AllChanges on parts
 AreChanges on (lost place answer count) = Unit {0}
 
-abbrev StageChanges : OnCommand → Option Held → Type 0
+abbrev pub StageChanges : OnCommand → Option Held → Type 0
 StageChanges on None = Unit {0}
 StageChanges on (Some held) = AreChanges on held
 
@@ -256,48 +248,6 @@ module _ {D : Type 0} {members : _} where
     as_whole line.Abort (Some held) found all takes = said_whole None takes.4 takes.3 tt
     as_whole line.Commit (Some held) found all takes = (held_whole how held old new s takes.verdict round takes.settles all, subst (StageChanges how.on_command) (sym takes.outside) tt)
 
-    takes_whole : (stage : Option Held) → StageChanges how.on_command stage → Takes old new s how stage part text course stage' round → IsWholeRound round × StageChanges how.on_command stage'
+    pub takes_whole : (stage : Option Held) → StageChanges how.on_command stage → Takes old new s how stage part text course stage' round → IsWholeRound round × StageChanges how.on_command stage'
     takes_whole stage all (inl wanting) = as_whole no_memory stage (λ e. cc) all wanting
     takes_whole stage all (inr found) = as_whole (use_of how.on_command part) stage (λ e. e) all found
-
-  each_whole : (how : Manner) (parts : List (List ℕ)) (old new : Store D members) (s : State) (stage : Option Held) (text : List ℕ) (stage' : Option Held) (rounds : List Round) (again : Bool) → StageChanges how.on_command stage
-      → TakesEach old new s how stage parts text stage' rounds again → AllWhole rounds × StageChanges how.on_command stage'
-  each_whole how [] old new s stage text stage' rounds again all (same, none, stage_is, no_rounds, no_refusal) = (subst AllWhole (sym no_rounds) tt, subst (StageChanges how.on_command) (sym stage_is) all)
-  each_whole how (part ∷ parts) old new s stage text stage' rounds again all (mid, next, first, rest, round, later, refused, others, takes, texts, came_so, again_is, each) =
-      let one = takes_whole how old mid s part first (proceeds refused) next round stage all takes in
-      let more = each_whole how parts mid new (after_round s round) next rest stage' later others one.1 each in
-      (subst AllWhole (sym came_so) (one.0, more.0), more.1)
-
-  ended_whole : (how : Manner) (old new : Store D members) (s : State) (course : Course) (input text : List ℕ) (ended : EndsWithLine old new s how course input text) → AllWhole (rounds_ended ended)
-  ended_whole how old new s course input text ended =
-      let before = each_whole how ended.parts old ended.mid s None ended.earlier ended.stage ended.taken.rounds ended.again tt ended.taken.each in
-      let last = takes_whole how ended.mid new _ ended.part ended.last course ended.stage' ended.round ended.stage before.1 ended.takes in
-      whole_more ended.taken.rounds ended.round before.0 last.0
-
-  input_whole : (how : Manner) (old new : Store D members) (s : State) (input text : List ℕ) (again last : Bool) (ended : EndsInput old new s how input text again last) → AllWhole (rounds_taken ended)
-  input_whole how old new s input text again last ended = (each_whole how ended.parts old new s None ended.earlier ended.stage ended.taken.rounds again tt ended.taken.each).0
-
-  -- the batches of a session
-  batches_whole : (how : Manner) (old new : Store D members) (s : State) (result : Result Bool ServeFault) (known : SessionStreams) (serves : ServesBatches old new s how result known) → AllWhole (rounds_of serves)
-  batches_whole how old new s (Ok refused) known serves = input_whole how old new s serves.input serves.served.0 serves.served.1 serves.served.2 serves.served.3
-  batches_whole how old new s (Err fault.Read) known serves =
-      (each_whole how serves.served.1 old new s None serves.served.0 serves.served.3 serves.served.6.rounds serves.served.4 tt serves.served.6.each).0
-  batches_whole how old new s (Err fault.Store) known serves = ended_whole how old new s _ serves.input serves.served.0 serves.served.1
-  batches_whole how old new s (Err fault.Unsure) known serves = ended_whole how old new s _ serves.input serves.served.0 serves.served.1
-  batches_whole how old new s (Err fault.Refused) known serves = by serves.served.2
-    where
-      by : (all : EndsWithLine old new s how (proceeds true) serves.input serves.served.0 ⊎ ((again : Bool) × EndsInput old new s how serves.input serves.served.0 again true))
-          → AllWhole (elim all [ inl ended ↦ rounds_ended ended | inr taken ↦ rounds_taken taken.1 ])
-      by (inl ended) = ended_whole how old new s (proceeds true) serves.input serves.served.0 ended
-      by (inr taken) = input_whole how old new s serves.input serves.served.0 taken.0 true taken.1
-  batches_whole how old new s (Err fault.Write) known serves = by serves.served.1
-    where
-      by : (all : ((course : Course) × EndsWithLine old new s how course serves.input serves.served.0) ⊎ ((again : Bool) × (last : Bool) × EndsInput old new s how serves.input serves.served.0 again last))
-          → AllWhole (elim all [ inl ended ↦ rounds_ended ended.1 | inr taken ↦ rounds_taken taken.2 ])
-      by (inl ended) = ended_whole how old new s ended.0 serves.input serves.served.0 ended.1
-      by (inr taken) = input_whole how old new s serves.input serves.served.0 taken.0 taken.1 taken.2
-
-  pub batches_are_whole : (how : Manner) (old new : Store D members) (s : State) (result : Result Bool ServeFault) (known : SessionStreams) (serves : ServesBatches old new s how result known) → AreWholeBatches s (rounds_of serves)
-  batches_are_whole how old new s result known serves =
-      let all = batches_whole how old new s result known serves in
-      record { whole = all; state = rounds_are s (rounds_of serves) all }

@@ -38,6 +38,7 @@ pub mod RealFiles
 pub mod MemFiles
 pub mod LineUses
 pub mod Rounds
+pub mod Conversations
 pub mod Streams
 pub mod LineReading
 pub mod LineEndings

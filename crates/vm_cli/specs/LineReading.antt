@@ -1,5 +1,5 @@
 -- What is read of an input, line by line.
-use Rattle.std.specs.Prelude.{◌≡◌, ◌-◌, ℕ, Bool, true, false, List, [], ◌∷◌, ◌++◌, drop, take, Option, Result, Ok, Err}
+use Rattle.std.specs.Prelude.{◌≡◌, ◌-◌, ℕ, true, false, List, [], ◌∷◌, ◌++◌, drop, take, Option, Result, Ok, Err}
 use Rattle.std.specs.Io.KnownBytes.{Consumes, IsAtEnd}
 use Rattle.vm_cli.specs.Input.{HoldsLine, is_nil}
 use Rattle.vm_cli.specs.declared.lines.line.Line.{Line}

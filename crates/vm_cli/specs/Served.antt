@@ -1,14 +1,15 @@
 -- What a session promises: one of lines, or one with batches.
-use Rattle.std.specs.Prelude.{ℕ, Bool, List, Option, Result, Ok, Err}
+use Rattle.std.specs.Prelude.{ℕ, Bool, List, Option, Result}
 use Rattle.vm_types.specs.declared.answer.Answer.{Answer}
 use Rattle.vm_types.specs.declared.command.Command.{Command}
 use Rattle.vm_types.specs.declared.refusal.Refusal.{Refusal}
 use Rattle.vm_types.specs.State.{State}
 use Rattle.vm_store.specs.declared.store.Store.{Store}
+use Rattle.vm_cli.specs.Conversations.{streams_of}
 use Rattle.vm_cli.specs.Keeps.{answers_of, commands_of}
 use Rattle.vm_cli.specs.Rounds.{AreWholeBatches}
 use Rattle.vm_cli.specs.StreamKeeps.{answers_streamed, commands_streamed, rounds_of}
-use Rattle.vm_cli.specs.Streams.{ServesBatches, streams_of}
+use Rattle.vm_cli.specs.Streams.{ServesBatches}
 use Rattle.vm_cli.specs.Talk.{Serves}
 use Rattle.vm_cli.specs.declared.talk.Grouping.{Grouping}
 use Rattle.vm_cli.specs.declared.talk.Grouping.TheVariants.{Batches, Lines}

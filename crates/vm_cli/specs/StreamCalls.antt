@@ -2,15 +2,15 @@
 use Rattle.std.specs.Prelude.{◌≡◌, ◌+◌, ◌≤◌, ℕ, List, [], Option, None, Some, Result, Bool, Vec}
 use Rattle.vm_types.specs.State.{State}
 use Rattle.vm_disk.specs.declared.disk.Disk.{Ghosts}
-use Rattle.vm_cli.specs.Feeds.{ServesOn, Stays, TalksOn, Writes}
+use Rattle.vm_cli.specs.Conversations.{AnswersThen, Course, TakesTo, Tells}
+use Rattle.vm_cli.specs.Feeds.{Stays, TalksOn, Writes}
 use Rattle.vm_cli.specs.Input.{HoldsLine}
 use Rattle.vm_cli.specs.Rounds.{Round}
-use Rattle.vm_cli.specs.Streams.{AnswersThen, CarriesLines, Course, Held, HoldsLines, IsHeld, IsStage, ServesBatches, SettlesHeld, Takes, TakesInside, TakesOutside, Tells, Verdict, count_of, settled_text, streams_of, tried_result, trying, verdict_result}
-use Rattle.vm_cli.specs.Talk.{HandlesLine, Passes}
+use Rattle.vm_cli.specs.Streams.{CarriesLines, Held, HoldsLines, IsHeld, IsStage, SettlesHeld, TakesInside, TakesOutside, Verdict, batches, count_of, settled_text, tried_result, trying, verdict_result}
+use Rattle.vm_cli.specs.Talk.{HandlesLine}
 use Rattle.vm_store.specs.declared.store.Store.{Store}
 use Rattle.vm_cli.specs.declared.lines.line.Line.{Line}
 use Rattle.vm_cli.specs.declared.talk.Manner.{Manner}
-use Rattle.vm_cli.specs.declared.talk.OnCommand.TheVariants.{Refuse}
 use Rattle.vm_cli.specs.declared.talk.ServeFault.{ServeFault}
 use Rattle.vm_cli.specs.declared.talk.Session.{Session}
 use Rattle.vm_cli.specs.declared.talk.batches.BatchSession.{BatchSession}
@@ -75,18 +75,12 @@ module _ {D W : Type 0} {members : Ghosts D} (contents : W → Option (List ℕ)
     pub store : TalksOn result old.store new.store
     pub count : new.session.batch.count ≤ old.session.batch.count + 1
     pub taken : (s : State) (stage : Option Held) (part : List ℕ) → IsStage old.session.batch stage → HoldsLine line part
-        → TellsLine (λ text course. (stage' : Option Held) × (round : Round) × IsStage new.session.batch stage'
-        × Takes old.store new.store s old.session.manner stage part text course stage' round) result old new
+        → TellsLine (TakesTo batches (IsStage new.session.batch) old.store new.store s old.session.manner stage part) result old new
 
   -- a line was answered by itself
   pub record AnswersAlone (on : Manner) (line : Line) (result : Result Bool ServeFault) (old new : Store D members) (writer writer' : W) : Type 0 where
     pub store : TalksOn result old new
     pub answer : (s : State) (part : List ℕ) → HoldsLine line part → Writes on (HandlesLine old new s on part) result (contents writer) (contents writer')
-
-  -- all lines of an input were taken
-  pub record RunsStream (result : Result Bool ServeFault) (old new : Scene D W members) (input : Option (List ℕ)) : Type 0 where
-    pub store : ServesOn result old.store new.store
-    pub answers : (s : State) → ServesBatches old.store new.store s old.session.manner result (streams_of input (contents old.writer) (contents new.writer))
 
 -- lines were answered one after another, up to the first that was refused, and the answers are kept
 pub record CarriesEach {D A T : Type 0} {members : _} (lines : List Line) (result : Result T LastLine) (old new : Session (Vec ℕ A) D members) : Type 0 where

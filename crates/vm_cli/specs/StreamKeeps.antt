@@ -1,29 +1,29 @@
--- What a session with batches carried out, and what a crash leaves of it.
-use Rattle.std.specs.Prelude.{◌++◌, ◌⊎◌, ℕ, Bool, true, false, List, [], ◌∷◌, Option, Result, Ok, Err}
+-- What a session in which lines are answered one after another carried out, and what a crash leaves of it.
+use Rattle.std.specs.Prelude.{◌++◌, ℕ, Bool, List, Result, Ok, Err}
 use Rattle.std.proofs.Common.{inl, inr}
 use Rattle.vm_types.specs.declared.answer.Answer.{Answer}
 use Rattle.vm_types.specs.declared.command.Command.{Command}
 use Rattle.vm_types.specs.declared.refusal.Refusal.{Refusal}
 use Rattle.vm_types.specs.State.{State}
+use Rattle.vm_disk.specs.declared.disk.Disk.{Ghosts}
 use Rattle.vm_store.specs.declared.store.Store.{Store}
+use Rattle.vm_cli.specs.Conversations.{Conversation, Course, EndsInput, EndsWithLine, ServesStream, SessionStreams}
 use Rattle.vm_cli.specs.Rounds.{Round, all_answers, all_commands}
-use Rattle.vm_cli.specs.Streams.{Course, EndsInput, EndsWithLine, ServesBatches, SessionStreams}
 use Rattle.vm_cli.specs.declared.talk.Manner.{Manner}
 use Rattle.vm_cli.specs.declared.talk.ServeFault.{ServeFault}
 use Rattle.vm_cli.specs.declared.talk.ServeFault.TheVariants as fault
 
-module _ {D : Type 0} {members : _} where
+module _ {D : Type 0} {members : Ghosts D} {kind : Conversation D members} {old new : Store D members} {s : State} {how : Manner} where
   -- what came of the lines of a session that ended with one
-  abbrev pub rounds_ended : {old new : Store D members} {s : State} {how : Manner} {course : Course} {input text : List ℕ} → EndsWithLine old new s how course input text → List Round
-  rounds_ended ended = ended.taken.rounds ++ ended.round ∷ []
+  abbrev pub rounds_ended : {course : Course} {input text : List ℕ} → EndsWithLine kind old new s how course input text → List Round
+  rounds_ended ended = ended.taken.rounds ++ ended.rounds
 
   -- or of one that took all of its input
-  abbrev pub rounds_taken : {old new : Store D members} {s : State} {how : Manner} {input text : List ℕ} {again last : Bool} → EndsInput old new s how input text again last → List Round
+  abbrev pub rounds_taken : {input text : List ℕ} {again last : Bool} → EndsInput kind old new s how input text again last → List Round
   rounds_taken ended = ended.taken.rounds
 
   -- what came of all its lines
-  abbrev pub rounds_of : {old new : Store D members} {s : State} {how : Manner} {result : Result Bool ServeFault} {known : SessionStreams}
-      → ServesBatches old new s how result known → List Round
+  abbrev pub rounds_of : {result : Result Bool ServeFault} {known : SessionStreams} → ServesStream kind old new s how result known → List Round
   rounds_of {result = Ok refused} serves = rounds_taken serves.served.3
   rounds_of {result = Err fault.Read} serves = serves.served.6.rounds
   rounds_of {result = Err fault.Store} serves = rounds_ended serves.served.1
@@ -32,11 +32,9 @@ module _ {D : Type 0} {members : _} where
   rounds_of {result = Err fault.Write} serves = elim serves.served.1 [ inl ended ↦ rounds_ended ended.1 | inr all ↦ rounds_taken all.2 ]
 
   -- the commands that were carried out
-  abbrev pub commands_streamed : {old new : Store D members} {s : State} {how : Manner} {result : Result Bool ServeFault} {known : SessionStreams}
-      → ServesBatches old new s how result known → List Command
+  abbrev pub commands_streamed : {result : Result Bool ServeFault} {known : SessionStreams} → ServesStream kind old new s how result known → List Command
   commands_streamed serves = all_commands (rounds_of serves)
 
   -- the answers to them
-  abbrev pub answers_streamed : {old new : Store D members} {s : State} {how : Manner} {result : Result Bool ServeFault} {known : SessionStreams}
-      → ServesBatches old new s how result known → List (Result Answer Refusal)
+  abbrev pub answers_streamed : {result : Result Bool ServeFault} {known : SessionStreams} → ServesStream kind old new s how result known → List (Result Answer Refusal)
   answers_streamed serves = all_answers (rounds_of serves)

@@ -1,6 +1,5 @@
 -- What a session with batches promises: what each line is answered, and what each batch does.
-use Rattle.std.specs.Prelude.{◌≡◌, ◌≢◌, ◌⊎◌, ◌||◌, ◌+◌, ◌-◌, ◌<◌, ◌≤◌, ℕ, zero, suc, Bool, true, false, List, [], ◌∷◌, ◌++◌, Option, None, Some, Result, Ok, Err, IfSome, drop, length, map, sum_by, codes}
-use Rattle.std.specs.Io.KnownBytes.{Appends}
+use Rattle.std.specs.Prelude.{◌≡◌, ◌⊎◌, ◌+◌, ◌-◌, ◌<◌, ◌≤◌, ℕ, zero, suc, Bool, true, false, List, [], ◌∷◌, ◌++◌, Option, None, Some, Result, Ok, Err, drop, length, sum_by}
 use Rattle.vm_types.specs.declared.answer.Answer.{Answer}
 use Rattle.vm_types.specs.declared.command.Command.{Command}
 use Rattle.vm_types.specs.declared.command.Command.TheVariants.{Commit, Rollback}
@@ -10,20 +9,18 @@ use Rattle.vm_types.specs.State.{State, after}
 use Rattle.vm_store.specs.Commands.{CarriesOut}
 use Rattle.vm_store.specs.Store.{has_failed}
 use Rattle.vm_store.specs.declared.store.Store.{Store}
-use Rattle.vm_cli.specs.Carried.{WritesStart}
+use Rattle.vm_cli.specs.Conversations.{Conversation, Course, ServesStream, SessionStreams, refused_result, some_lines}
+use Rattle.vm_cli.specs.Conversations.Course.{over, proceeds}
 use Rattle.vm_cli.specs.Input.{HoldsLine}
 use Rattle.vm_cli.specs.LineUses.{no_memory, use_of}
-use Rattle.vm_cli.specs.Lines.{IsPart}
 use Rattle.vm_cli.specs.Replies.{is_error, reply_text}
-use Rattle.vm_cli.specs.Rounds.{Batch as Commanded, Round, after_round, after_rounds}
+use Rattle.vm_cli.specs.Rounds.{Batch as Commanded, Round}
 use Rattle.vm_cli.specs.Rounds.Round.{broken, committed, idle, undone, unsure}
 use Rattle.vm_cli.specs.Talk.{HandlesLine, HasTalked, error_text, with_answer, with_command}
-use Rattle.vm_cli.specs.declared.answers.output.WriteFault.{WriteFault}
 use Rattle.vm_cli.specs.declared.answers.reply.Reply.TheVariants as reply
 use Rattle.vm_cli.specs.declared.lines.line.Line.{Line}
 use Rattle.vm_cli.specs.declared.talk.Grouping.TheVariants.{Lines}
 use Rattle.vm_cli.specs.declared.talk.Manner.{Manner}
-use Rattle.vm_cli.specs.declared.talk.OnRefusal.{OnRefusal}
 use Rattle.vm_cli.specs.declared.talk.OnRefusal.TheVariants.{Stop}
 use Rattle.vm_cli.specs.declared.talk.ServeFault.{ServeFault}
 use Rattle.vm_cli.specs.declared.talk.ServeFault.TheVariants as fault
@@ -138,11 +135,6 @@ abbrev pub change_text : Verdict → List ℕ
 change_text (succeeds answers) = answers
 change_text (fails place answer then) = answer
 
--- how a session goes on after an answer: with a line refused or none; or it is over
-pub data Course : Type 0 where
-  proceeds : Bool → Course
-  over : Course
-
 -- by an answer of the store
 abbrev pub course_of : Bool → List ℕ → Course
 course_of true text = over
@@ -153,11 +145,6 @@ abbrev pub batch_course : Verdict → Course
 batch_course (succeeds answers) = proceeds false
 batch_course (fails place answer GoOn) = proceeds true
 batch_course (fails place answer then) = over
-
--- some lines were refused
-abbrev pub some_lines : ℕ → Bool
-some_lines zero = false
-some_lines (suc n) = true
 
 -- ---- what is done
 
@@ -302,36 +289,7 @@ module _ {D : Type 0} {members : _} where
   Takes old new s how stage part text course stage' round =
       TakesAs old new s how no_memory stage part text course stage' round ⊎ TakesAs old new s how (use_of how.on_command part) stage part text course stage' round
 
-  -- lines are taken one after another, each by the store that the line before left: the texts joined, what came of them, and whether one was
-  -- refused
-  abbrev pub TakesEach : Store D members → Store D members → State → Manner → Option Held → List (List ℕ) → List ℕ → Option Held → List Round → Bool → Type 0
-  TakesEach old new s how stage [] text stage' rounds again = (new ≡ old) × (text ≡ []) × (stage' ≡ stage) × (rounds ≡ []) × (again ≡ false)
-  TakesEach old new s how stage (part ∷ parts) text stage' rounds again =
-      (mid : Store D members) × (next : Option Held) × (first : List ℕ) × (rest : List ℕ) × (round : Round) × (later : List Round)
-      × (refused : Bool) × (others : Bool) × Takes old mid s how stage part first (proceeds refused) next round
-      × (text ≡ first ++ rest) × (rounds ≡ round ∷ later) × (again ≡ (refused || others))
-      × TakesEach mid new (after_round s round) how next parts rest stage' later others
-
 -- ---- the whole input
-
--- what is known of the streams of a session: what the reader had to give, and what the writer held before the session and holds after it
-pub record SessionStreams : Type 0 where
-  pub input : Option (List ℕ)
-  pub before : Option (List ℕ)
-  pub after : Option (List ℕ)
-
-abbrev pub streams_of : Option (List ℕ) → Option (List ℕ) → Option (List ℕ) → SessionStreams
-streams_of input before after = record { input = input; before = before; after = after }
-
--- lines, each with the line feed (10) at its end
-abbrev pub ended_lines : List (List ℕ) → List ℕ
-ended_lines [] = []
-ended_lines (part ∷ parts) = part ++ (10 ∷ ended_lines parts)
-
--- how many lines end with the input and not with a line feed
-abbrev pub half_lines : List ℕ → ℕ
-half_lines [] = 0
-half_lines bytes = 1
 
 -- how many lines are refused at the end of the input
 abbrev pub end_count : Option Held → ℕ → ℕ
@@ -344,66 +302,19 @@ end_text None half = repeated half (reply_text reply.HalfLine)
 end_text (Some held) half = forgotten_text (count_of held + half)
 
 module _ {D : Type 0} {members : _} where
-  -- the first lines of an input were taken
-  pub record HasTaken (old new : Store D members) (s : State) (how : Manner) (parts : List (List ℕ)) (text : List ℕ) (stage : Option Held) (again : Bool) : Type 0 where
-    pub rounds : List Round
-    pub each : TakesEach old new s how None parts text stage rounds again
-    pub goes_on : how.on_refusal ≡ Stop → again ≡ false
+  -- a conversation in batches: each line is taken as one round
+  abbrev pub batches : Conversation D members
+  batches = record {
+    Stage = Option Held;
+    start = None;
+    Takes = λ old new s how stage part text course stage' rounds. (round : Round) × Takes old new s how stage part text course stage' round × (rounds ≡ round ∷ []);
+    end_text = end_text;
+    end_count = end_count;
+  }
 
-  -- then one more was, with which the session ends
-  pub record EndsWithLine (old new : Store D members) (s : State) (how : Manner) (course : Course) (input text : List ℕ) : Type 0 where
-    pub mid : Store D members
-    pub parts : List (List ℕ)
-    pub part : List ℕ
-    pub more : List ℕ
-    pub earlier : List ℕ
-    pub last : List ℕ
-    pub stage : Option Held
-    pub stage' : Option Held
-    pub round : Round
-    pub again : Bool
-    pub cut : input ≡ ended_lines parts ++ (part ++ (10 ∷ more))
-    pub texts : text ≡ earlier ++ last
-    pub taken : HasTaken old mid s how parts earlier stage again
-    pub takes : Takes mid new (after_rounds s taken.rounds) how stage part last course stage' round
-
-  -- all lines were taken, and the end of the input was answered, which refuses some lines or none
-  pub record EndsInput (old new : Store D members) (s : State) (how : Manner) (input text : List ℕ) (again last : Bool) : Type 0 where
-    pub parts : List (List ℕ)
-    pub half : List ℕ
-    pub unbroken : IsPart half
-    pub earlier : List ℕ
-    pub stage : Option Held
-    pub cut : input ≡ ended_lines parts ++ half
-    pub texts : text ≡ earlier ++ end_text stage (half_lines half)
-    pub refuses : last ≡ some_lines (end_count stage (half_lines half))
-    pub taken : HasTaken old new s how parts earlier stage again
-
-  -- a session with batches over all this input. At Ok each line was answered, and it is said whether one was refused; at Read the first of
-  -- them were; at Store the store failed in one of them; at Unsure a commit was not acknowledged; at Refused one of them was refused, which
-  -- was to end the session; and at Write the writer failed in the answers to one of them, of which only a beginning was written
-  abbrev pub ServesInput : Store D members → Store D members → State → Manner → Result Bool ServeFault → Option (List ℕ) → Option (List ℕ) → List ℕ → Type 0
-  ServesInput old new s how (Ok refused) before after input =
-      (text : List ℕ) × (again : Bool) × (last : Bool) × EndsInput old new s how input text again last × (refused ≡ (again || last)) × Appends before after text
-  ServesInput old new s how (Err fault.Read) before after input =
-      (text : List ℕ) × (parts : List (List ℕ)) × (more : List ℕ) × (stage : Option Held) × (again : Bool) × (input ≡ ended_lines parts ++ more)
-      × HasTaken old new s how parts text stage again × Appends before after text
-  ServesInput old new s how (Err fault.Store) before after input = (text : List ℕ) × EndsWithLine old new s how over input text × Appends before after text
-  ServesInput old new s how (Err fault.Unsure) before after input = (text : List ℕ) × EndsWithLine old new s how over input text × Appends before after text
-  ServesInput old new s how (Err fault.Refused) before after input =
-      (text : List ℕ) × (how.on_refusal ≡ Stop)
-      × (EndsWithLine old new s how (proceeds true) input text ⊎ ((again : Bool) × EndsInput old new s how input text again true))
-      × Appends before after text
-  ServesInput old new s how (Err fault.Write) before after input =
-      (text : List ℕ)
-      × (((course : Course) × EndsWithLine old new s how course input text) ⊎ ((again : Bool) × (last : Bool) × EndsInput old new s how input text again last))
-      × WritesStart before after text
-
-  -- a session with batches over some input, which is what the reader had to give, if that is known
-  pub record ServesBatches (old new : Store D members) (s : State) (how : Manner) (result : Result Bool ServeFault) (known : SessionStreams) : Type 0 where
-    pub input : List ℕ
-    pub own : IfSome known.input (λ bytes. bytes ≡ input)
-    pub served : ServesInput old new s how result known.before known.after input
+  -- a session with batches over some input
+  abbrev pub ServesBatches : Store D members → Store D members → State → Manner → Result Bool ServeFault → SessionStreams → Type 0
+  ServesBatches = ServesStream batches
 
 -- what is found of lines: all are carried out, or one of them is the last
 abbrev pub CarriesLines : {D T : Type 0} {members : _} → Store D members → Store D members → State → Manner → List (List ℕ) → Result T LastLine → List ℕ → Type 0
@@ -423,40 +334,11 @@ tried_result (Err stop) = Err fault.Refused
 
 -- ---- what a call of a session does
 
--- a refused line ends the session, or does not
-abbrev pub refused_result : OnRefusal → Result Bool ServeFault
-refused_result Stop = Err fault.Refused
-refused_result on_refusal = Ok true
-
 -- what follows of an answer by which lines were refused
 abbrev pub after_refusal : Manner → Then → Result Bool ServeFault
 after_refusal how AsFailed = Err fault.Store
 after_refusal how AsUnsure = Err fault.Unsure
 after_refusal how GoOn = refused_result how.on_refusal
-
--- an answer was written whole, and the session goes on or ends with it; or a beginning of it, if the writer failed
-abbrev pub Tells : Manner → (List ℕ → Course → Type 0) → Result Bool ServeFault → Option (List ℕ) → Option (List ℕ) → Type 0
-Tells how IsAnswer (Ok refused) before after =
-    (text : List ℕ) × IsAnswer text (proceeds refused) × (how.on_refusal ≡ Stop → refused ≡ false) × Appends before after text
-Tells how IsAnswer (Err fault.Read) before after = ⊥
-Tells how IsAnswer (Err fault.Store) before after = (text : List ℕ) × IsAnswer text over × Appends before after text
-Tells how IsAnswer (Err fault.Unsure) before after = (text : List ℕ) × IsAnswer text over × Appends before after text
-Tells how IsAnswer (Err fault.Refused) before after = (text : List ℕ) × IsAnswer text (proceeds true) × (how.on_refusal ≡ Stop) × Appends before after text
-Tells how IsAnswer (Err fault.Write) before after = (text : List ℕ) × (course : Course) × IsAnswer text course × WritesStart before after text
-
--- so far a text was written, or a beginning of it
-abbrev pub Puts : {T : Type 0} → List ℕ → Result T ServeFault → Option (List ℕ) → Option (List ℕ) → Type 0
-Puts text (Ok u) before after = Appends before after text
-Puts text (Err why) before after = (why ≡ fault.Write) × WritesStart before after text
-
--- a text was written whole, and this was the result; or a beginning of it
-abbrev pub AnswersThen : List ℕ → Result Bool ServeFault → Result Bool ServeFault → Option (List ℕ) → Option (List ℕ) → Type 0
-AnswersThen text then result before after = ((result ≡ then) × Appends before after text) ⊎ ((result ≡ Err fault.Write) × WritesStart before after text)
-
--- how a session goes on after that many lines were refused
-abbrev pub counted_result : OnRefusal → ℕ → Result Bool ServeFault
-counted_result on_refusal zero = Ok false
-counted_result on_refusal (suc n) = refused_result on_refusal
 
 -- after a batch
 abbrev pub verdict_result : Manner → Verdict → Result Bool ServeFault
@@ -467,8 +349,3 @@ verdict_result how (fails place answer then) = after_refusal how then
 abbrev pub settled_text : Bool → ℕ → Verdict → List ℕ
 settled_text true count verdict = batch_text count verdict
 settled_text false count verdict = change_text verdict
-
--- a call that wrote, as a session takes it
-abbrev pub said_result : {T : Type 0} → Result T WriteFault → Result T ServeFault
-said_result (Ok u) = Ok u
-said_result (Err failed) = Err fault.Write

@@ -2,12 +2,13 @@
 ghost use Rattle.std.specs.Prelude.{◌≡◌, ◌+◌, ◌<◌, ◌++◌, ℕ, List, Option, None, drop, false, IfErr, Ok, OnOk, true};
 ghost use Rattle.vm_types.specs.State.{State};
 ghost use Rattle.vm_store.specs.Store.{GrowsOn, has_failed};
+ghost use Rattle.vm_cli.specs.Conversations.{said_result, streams_of};
 ghost use Rattle.vm_cli.specs.Feeds.{TalksOn};
 ghost use Rattle.vm_cli.specs.Replies.{reply_text};
 ghost use Rattle.vm_cli.specs.Rounds.{AreWholeBatches, Round};
 ghost use Rattle.vm_cli.specs.StreamCalls.{AnswersAlone};
 ghost use Rattle.vm_cli.specs.StreamKeeps.{rounds_of};
-ghost use Rattle.vm_cli.specs.Streams.{Held, HoldsLines, IsHeld, ServesBatches, SettlesHeld, result_of, said_result, streams_of, verdict_of};
+ghost use Rattle.vm_cli.specs.Streams.{Held, HoldsLines, IsHeld, ServesBatches, SettlesHeld, result_of, verdict_of};
 ghost use Rattle.vm_cli.specs.Streams.Held.{holds};
 ghost use Rattle.vm_cli.specs.Talk.{Passes, StoreFails};
 
@@ -91,9 +92,10 @@ pub(crate) struct BatchSession {
 
 impl BatchSession {
     ghost use Rattle.std.specs.Prelude.{◌≡◌, ◌+◌, ◌<◌, ◌++◌, Option, None, IfErr, Ok};
+    ghost use Rattle.vm_cli.specs.Conversations.{Puts, RunsStream, counted_result, streams_of};
     ghost use Rattle.vm_cli.specs.Replies.{reply_text};
-    ghost use Rattle.vm_cli.specs.StreamCalls.{KeepsSession, RunsStream, SaysThen, SettlesBatch, TakesLine, TakesLineInside, TakesLineOutside, scene};
-    ghost use Rattle.vm_cli.specs.Streams.{Held, IsStage, Puts, after_refusal, batch_text, change_text, counted_result, end_count, end_text, forgotten_text, ok_text, repeated, verdict_of, verdict_result, why_text};
+    ghost use Rattle.vm_cli.specs.StreamCalls.{KeepsSession, SaysThen, SettlesBatch, TakesLine, TakesLineInside, TakesLineOutside, scene};
+    ghost use Rattle.vm_cli.specs.Streams.{Held, IsStage, after_refusal, batch_text, batches, change_text, end_count, end_text, forgotten_text, ok_text, repeated, verdict_of, verdict_result, why_text};
 
     /// Takes all lines of the input.
     fn run<R: Read, W: Write, D: Disk>(
@@ -104,9 +106,8 @@ impl BatchSession {
     ) -> Result<bool, ServeFault>
         requires closed { IsStage self.old.batch None }
         requires none { self.old.batch.count ≡ 0 }
-        ensures { RunsStream W.contents result
-            (scene self.old store.old writer.old) (scene self.new store.new writer.new)
-            (R.remaining reader.old) }
+        ensures { RunsStream batches self.old.manner result store.old store.new
+            (streams_of (R.remaining reader.old) (W.contents writer.old) (W.contents writer.new)) }
     {
         let mut line = Line::new(self.alloc);
         let mut input = LineReader::new();

@@ -1,4 +1,4 @@
-use Rattle.std.proofs.Common.{◌≡◌, List, arith, drop, rules, subst, sym, take, ◌∙◌, ap}
+use Rattle.std.proofs.Common.{◌≡◌, List, rules, take, ◌∙◌, ap}
 use Rattle.vm_block.specs.Header.{IsHeader}
 use Rattle.vm_disk.specs.System.{system_state}
 use Rattle.vm_cli.proofs.program.selector.rewrite_selector.Goals as goal

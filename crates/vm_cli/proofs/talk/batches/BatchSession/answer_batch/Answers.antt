@@ -1,6 +1,7 @@
-use Rattle.std.proofs.Common.{◌++◌, ◌+◌, ◌-◌, List, ℕ, Ok, false, sym, subst}
+use Rattle.std.proofs.Common.{◌++◌, ◌+◌, List, ℕ, Ok, false, subst}
+use Rattle.vm_cli.specs.Conversations.{AnswersThen}
 use Rattle.vm_cli.specs.Replies.{reply_text}
-use Rattle.vm_cli.specs.Streams.{AnswersThen, after_refusal, ok_text, repeated, why_text}
+use Rattle.vm_cli.specs.Streams.{after_refusal, ok_text, repeated, why_text}
 use Rattle.vm_cli.specs.declared.answers.reply.Reply.TheVariants.{NotDone}
 use Rattle.vm_cli.proofs.StreamLemmas.{repeated-one}
 use Rattle.vm_cli.proofs.talk.batches.BatchSession.answer_batch.Goals as goal

@@ -1,5 +1,6 @@
-use Rattle.std.proofs.Common.{◌++◌, ◌+◌, List, ℕ, Ok, false, sym, subst, append-nil}
-use Rattle.vm_cli.specs.Streams.{AnswersThen, after_refusal, why_text}
+use Rattle.std.proofs.Common.{List, ℕ, Ok, false, subst, append-nil}
+use Rattle.vm_cli.specs.Conversations.{AnswersThen}
+use Rattle.vm_cli.specs.Streams.{after_refusal, why_text}
 use Rattle.vm_cli.proofs.talk.batches.BatchSession.answer_change.Goals as goal
 
 pub returns-in-Ok-clause-said : goal.returns-in-Ok-clause-said

@@ -1,6 +1,7 @@
 use Rattle.std.proofs.Common.{inr, ap, subst, Err}
 use Rattle.vm_cli.specs.Carried.{WritesStart}
-use Rattle.vm_cli.specs.Streams.{counted_result, forgotten_text, ok_text}
+use Rattle.vm_cli.specs.Conversations.{counted_result}
+use Rattle.vm_cli.specs.Streams.{forgotten_text, ok_text}
 use Rattle.vm_cli.proofs.CarriedLemmas.{passed_on}
 use Rattle.vm_cli.proofs.StreamLemmas.{cut_short, repeated-one, written_behind}
 use Rattle.vm_cli.proofs.talk.batches.BatchSession.forget.Goals as goal

@@ -1,5 +1,6 @@
 use Rattle.std.proofs.Common.{◌≡◌, ◌∙◌, ap, sym, subst, drop}
-use Rattle.vm_cli.specs.Streams.{Puts, why_text}
+use Rattle.vm_cli.specs.Conversations.{Puts}
+use Rattle.vm_cli.specs.Streams.{why_text}
 use Rattle.vm_cli.proofs.StreamLemmas.{puts_put}
 use Rattle.vm_cli.proofs.talk.batches.BatchSession.put_why.Goals as goal
 

@@ -1,5 +1,6 @@
-use Rattle.std.proofs.Common.{◌≡◌, ◌++◌, ◌∙◌, Bool, true, false, ℕ, List, None, ap, sym, subst}
-use Rattle.vm_cli.specs.Streams.{AnswersThen, IsStage, batch_text, count_of, verdict_of, verdict_result}
+use Rattle.std.proofs.Common.{◌≡◌, ◌∙◌, None, ap, sym, subst}
+use Rattle.vm_cli.specs.Conversations.{AnswersThen}
+use Rattle.vm_cli.specs.Streams.{IsStage, batch_text, count_of, verdict_of, verdict_result}
 use Rattle.vm_cli.specs.declared.talk.batch.Batch.{Batch}
 use Rattle.vm_cli.proofs.BatchLemmas.{held_count}
 use Rattle.vm_cli.proofs.StreamLemmas.{verdict_talks}

@@ -1,9 +1,10 @@
-use Rattle.std.proofs.Common.{◌≡◌, ◌∙◌, ◌++◌, ◌+◌, ◌≤◌, List, [], Option, None, Some, ap, sym, subst, refl, false, true, arith}
+use Rattle.std.proofs.Common.{◌∙◌, ◌++◌, [], Option, None, Some, ap, refl, false, arith}
+use Rattle.vm_cli.specs.Conversations.{some_lines}
+use Rattle.vm_cli.specs.Conversations.Course.{proceeds}
 use Rattle.vm_cli.specs.Replies.{reply_text}
 use Rattle.vm_cli.specs.Rounds.{Round}
 use Rattle.vm_cli.specs.Rounds.Round.{idle}
-use Rattle.vm_cli.specs.Streams.{Held, IsStage, TakesInside, batch_text, count_of, forgotten_text, losing, ok_text, some_lines}
-use Rattle.vm_cli.specs.Streams.Course.{proceeds}
+use Rattle.vm_cli.specs.Streams.{Held, IsStage, TakesInside, batch_text, count_of, forgotten_text, losing, ok_text}
 use Rattle.vm_cli.specs.declared.answers.reply.Reply.TheVariants.{NotInBatch}
 use Rattle.vm_cli.specs.declared.talk.line_use.LineUse.TheVariants as line
 use Rattle.vm_cli.proofs.BatchLemmas.{held_count}

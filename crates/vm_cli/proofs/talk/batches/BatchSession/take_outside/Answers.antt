@@ -1,13 +1,12 @@
-use Rattle.std.proofs.Common.{◌≡◌, ◌∙◌, ◌++◌, ◌+◌, ◌≤◌, List, [], Option, None, Some, ap, sym, subst, refl, false, true, arith}
+use Rattle.std.proofs.Common.{[], Option, None, Some, ap, sym, subst, refl, arith}
 use Rattle.vm_cli.specs.Replies.{reply_text}
 use Rattle.vm_cli.specs.Rounds.{Round}
 use Rattle.vm_cli.specs.Rounds.Round.{idle}
-use Rattle.vm_cli.specs.Streams.{Held, IsStage, TakesOutside, change_text, course_of, ok_text, repeated}
+use Rattle.vm_cli.specs.Streams.{Held, IsStage, TakesOutside, change_text, ok_text, repeated}
 use Rattle.vm_cli.specs.Streams.Held.{holds}
 use Rattle.vm_cli.specs.Talk.{HandlesLine}
 use Rattle.vm_cli.specs.declared.talk.batch.Batch.{Batch}
 use Rattle.vm_cli.specs.declared.talk.line_use.LineUse.TheVariants as line
-use Rattle.vm_cli.proofs.Known.{Appends-nil}
 use Rattle.vm_cli.proofs.StreamLemmas.{counted_talks, repeated-one, tells_counted, tells_verdict, tells_writes}
 use Rattle.vm_cli.proofs.talk.batches.BatchSession.take_outside.Goals as goal
 

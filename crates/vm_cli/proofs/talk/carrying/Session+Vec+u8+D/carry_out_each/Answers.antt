@@ -1,4 +1,4 @@
-use Rattle.std.proofs.Common.{◌≡◌, ◌∙◌, ◌+◌, [], Ok, Err, false, sym, subst, refl, arith, take, length}
+use Rattle.std.proofs.Common.{◌≡◌, ◌∙◌, [], Ok, Err, false, sym, subst, refl, arith, take}
 use Rattle.std.proofs.lemmas.List.{take_all}
 use Rattle.vm_cli.specs.Streams.{StopsIn, trying, why_text}
 use Rattle.vm_cli.specs.Talk.{HasTalked}

@@ -1,7 +1,7 @@
-use Rattle.std.proofs.Common.{◌≡◌, ◌++◌, ◌-◌, ◌+◌, ◌∷◌, ◌∙◌, ℕ, List, [], ap, sym, subst, refl, append_assoc, arith, rules, take, drop, length}
+use Rattle.std.proofs.Common.{◌≡◌, ◌++◌, ◌-◌, ◌+◌, ◌∷◌, ℕ, List, [], sym, subst, refl, append_assoc, arith, rules, take, drop}
 use Rattle.std.specs.Io.KnownBytes.{Consumes}
 use Rattle.vm_cli.specs.Input.{HoldsLine}
-use Rattle.vm_cli.specs.LineReading.{ReadsLine, Took, unread_of}
+use Rattle.vm_cli.specs.LineReading.{Took, unread_of}
 use Rattle.vm_cli.proofs.FeedLemmas.{part_before, whole_part}
 use Rattle.vm_cli.proofs.ReadingLemmas.{reads_end, took_all, took_line, took_kept, took_more, unread_behind, unread_short}
 use Rattle.vm_cli.proofs.talk.line_reader.LineReader.read_line.Goals as goal

@@ -1,0 +1,180 @@
+-- What a session promises in which lines are answered one after another: for any kind of conversation.
+use Rattle.std.specs.Prelude.{◌≡◌, ◌⊎◌, ◌||◌, ℕ, zero, suc, Bool, true, false, List, [], ◌∷◌, ◌++◌, Option, Result, Ok, Err, IfSome}
+use Rattle.std.specs.Io.KnownBytes.{Appends}
+use Rattle.vm_types.specs.State.{State}
+use Rattle.vm_disk.specs.declared.disk.Disk.{Ghosts}
+use Rattle.vm_store.specs.declared.store.Store.{Store}
+use Rattle.vm_cli.specs.Carried.{WritesStart}
+use Rattle.vm_cli.specs.Feeds.{ServesOn}
+use Rattle.vm_cli.specs.Lines.{IsPart}
+use Rattle.vm_cli.specs.Rounds.{Round, after_rounds}
+use Rattle.vm_cli.specs.declared.answers.output.WriteFault.{WriteFault}
+use Rattle.vm_cli.specs.declared.talk.Manner.{Manner}
+use Rattle.vm_cli.specs.declared.talk.OnRefusal.{OnRefusal}
+use Rattle.vm_cli.specs.declared.talk.OnRefusal.TheVariants.{Stop}
+use Rattle.vm_cli.specs.declared.talk.ServeFault.{ServeFault}
+use Rattle.vm_cli.specs.declared.talk.ServeFault.TheVariants as fault
+
+-- ---- a kind of conversation
+
+-- how a session goes on after an answer: with a line refused or none; or it is over
+pub data Course : Type 0 where
+  proceeds : Bool → Course
+  over : Course
+
+-- a kind of conversation: what is held between lines, what a line does, and what is answered when the input ends
+pub record Conversation (D : Type 0) (members : Ghosts D) : Type 1 where
+  -- what is held between lines, and before the first
+  pub Stage : Type 0
+  pub start : Stage
+  -- a line is taken: the store before it and after it, the state before it, the manner of the session, what is held, the line, its answer,
+  -- how the session goes on, what is held then, and the rounds that came of it
+  pub Takes : Store D members → Store D members → State → Manner → Stage → List ℕ → List ℕ → Course → Stage → List Round → Type 0
+  -- what is answered at the end of the input, by what is held then and how many lines it ends in, and how many lines are refused by that
+  pub end_text : Stage → ℕ → List ℕ
+  pub end_count : Stage → ℕ → ℕ
+
+-- ---- an input and its streams
+
+-- what is known of the streams of a session: what the reader had to give, and what the writer held before the session and holds after it
+pub record SessionStreams : Type 0 where
+  pub input : Option (List ℕ)
+  pub before : Option (List ℕ)
+  pub after : Option (List ℕ)
+
+abbrev pub streams_of : Option (List ℕ) → Option (List ℕ) → Option (List ℕ) → SessionStreams
+streams_of input before after = record { input = input; before = before; after = after }
+
+-- lines, each with the line feed (10) at its end
+abbrev pub ended_lines : List (List ℕ) → List ℕ
+ended_lines [] = []
+ended_lines (part ∷ parts) = part ++ (10 ∷ ended_lines parts)
+
+-- how many lines end with the input and not with a line feed
+abbrev pub half_lines : List ℕ → ℕ
+half_lines [] = 0
+half_lines bytes = 1
+
+-- some lines were refused
+abbrev pub some_lines : ℕ → Bool
+some_lines zero = false
+some_lines (suc n) = true
+
+-- ---- the whole input
+
+module _ {D : Type 0} {members : Ghosts D} (kind : Conversation D members) where
+  -- a line is taken, and this is true of what is held then
+  abbrev pub TakesTo : (kind.Stage → Type 0) → Store D members → Store D members → State → Manner → kind.Stage → List ℕ → List ℕ → Course → Type 0
+  TakesTo IsHeld old new s how stage part text course = (stage' : kind.Stage) × (rounds : List Round) × IsHeld stage' × kind.Takes old new s how stage part text course stage' rounds
+
+  -- lines are taken one after another, each by the store that the line before left: the texts joined, what came of them, and whether one was
+  -- refused
+  abbrev pub TakesEach : Store D members → Store D members → State → Manner → kind.Stage → List (List ℕ) → List ℕ → kind.Stage → List Round → Bool → Type 0
+  TakesEach old new s how stage [] text stage' rounds again = (new ≡ old) × (text ≡ []) × (stage' ≡ stage) × (rounds ≡ []) × (again ≡ false)
+  TakesEach old new s how stage (part ∷ parts) text stage' rounds again =
+      (mid : Store D members) × (next : kind.Stage) × (said : List ℕ) × (rest : List ℕ) × (first : List Round) × (later : List Round)
+      × (refused : Bool) × (others : Bool) × kind.Takes old mid s how stage part said (proceeds refused) next first
+      × (text ≡ said ++ rest) × (rounds ≡ first ++ later) × (again ≡ (refused || others))
+      × TakesEach mid new (after_rounds s first) how next parts rest stage' later others
+
+  -- the first lines of an input were taken
+  pub record HasTaken (old new : Store D members) (s : State) (how : Manner) (parts : List (List ℕ)) (text : List ℕ) (stage : kind.Stage) (again : Bool) : Type 0 where
+    pub rounds : List Round
+    pub each : TakesEach old new s how kind.start parts text stage rounds again
+    pub goes_on : how.on_refusal ≡ Stop → again ≡ false
+
+  -- then one more was, with which the session ends
+  pub record EndsWithLine (old new : Store D members) (s : State) (how : Manner) (course : Course) (input text : List ℕ) : Type 0 where
+    pub mid : Store D members
+    pub parts : List (List ℕ)
+    pub part : List ℕ
+    pub more : List ℕ
+    pub earlier : List ℕ
+    pub last : List ℕ
+    pub stage : kind.Stage
+    pub stage' : kind.Stage
+    pub rounds : List Round
+    pub again : Bool
+    pub cut : input ≡ ended_lines parts ++ (part ++ (10 ∷ more))
+    pub texts : text ≡ earlier ++ last
+    pub taken : HasTaken old mid s how parts earlier stage again
+    pub takes : kind.Takes mid new (after_rounds s taken.rounds) how stage part last course stage' rounds
+
+  -- all lines were taken, and the end of the input was answered, which refuses some lines or none
+  pub record EndsInput (old new : Store D members) (s : State) (how : Manner) (input text : List ℕ) (again last : Bool) : Type 0 where
+    pub parts : List (List ℕ)
+    pub half : List ℕ
+    pub unbroken : IsPart half
+    pub earlier : List ℕ
+    pub stage : kind.Stage
+    pub cut : input ≡ ended_lines parts ++ half
+    pub texts : text ≡ earlier ++ kind.end_text stage (half_lines half)
+    pub refuses : last ≡ some_lines (kind.end_count stage (half_lines half))
+    pub taken : HasTaken old new s how parts earlier stage again
+
+  -- a session over all this input. At Ok each line was answered, and it is said whether one was refused; at Read the first of them were; at
+  -- Store the store failed in one of them; at Unsure a commit was not acknowledged; at Refused one of them was refused, which was to end the
+  -- session; and at Write the writer failed in the answers to one of them, of which only a beginning was written
+  abbrev pub ServesInput : Store D members → Store D members → State → Manner → Result Bool ServeFault → Option (List ℕ) → Option (List ℕ) → List ℕ → Type 0
+  ServesInput old new s how (Ok refused) before after input =
+      (text : List ℕ) × (again : Bool) × (last : Bool) × EndsInput old new s how input text again last × (refused ≡ (again || last)) × Appends before after text
+  ServesInput old new s how (Err fault.Read) before after input =
+      (text : List ℕ) × (parts : List (List ℕ)) × (more : List ℕ) × (stage : kind.Stage) × (again : Bool) × (input ≡ ended_lines parts ++ more)
+      × HasTaken old new s how parts text stage again × Appends before after text
+  ServesInput old new s how (Err fault.Store) before after input = (text : List ℕ) × EndsWithLine old new s how over input text × Appends before after text
+  ServesInput old new s how (Err fault.Unsure) before after input = (text : List ℕ) × EndsWithLine old new s how over input text × Appends before after text
+  ServesInput old new s how (Err fault.Refused) before after input =
+      (text : List ℕ) × (how.on_refusal ≡ Stop)
+      × (EndsWithLine old new s how (proceeds true) input text ⊎ ((again : Bool) × EndsInput old new s how input text again true))
+      × Appends before after text
+  ServesInput old new s how (Err fault.Write) before after input =
+      (text : List ℕ)
+      × (((course : Course) × EndsWithLine old new s how course input text) ⊎ ((again : Bool) × (last : Bool) × EndsInput old new s how input text again last))
+      × WritesStart before after text
+
+  -- a session over some input, which is what the reader had to give, if that is known
+  pub record ServesStream (old new : Store D members) (s : State) (how : Manner) (result : Result Bool ServeFault) (known : SessionStreams) : Type 0 where
+    pub input : List ℕ
+    pub own : IfSome known.input (λ bytes. bytes ≡ input)
+    pub served : ServesInput old new s how result known.before known.after input
+
+-- ---- what a call of a session does
+
+-- a refused line ends the session, or does not
+abbrev pub refused_result : OnRefusal → Result Bool ServeFault
+refused_result Stop = Err fault.Refused
+refused_result on_refusal = Ok true
+
+-- how a session goes on after that many lines were refused
+abbrev pub counted_result : OnRefusal → ℕ → Result Bool ServeFault
+counted_result on_refusal zero = Ok false
+counted_result on_refusal (suc n) = refused_result on_refusal
+
+-- an answer was written whole, and the session goes on or ends with it; or a beginning of it, if the writer failed
+abbrev pub Tells : Manner → (List ℕ → Course → Type 0) → Result Bool ServeFault → Option (List ℕ) → Option (List ℕ) → Type 0
+Tells how IsAnswer (Ok refused) before after =
+    (text : List ℕ) × IsAnswer text (proceeds refused) × (how.on_refusal ≡ Stop → refused ≡ false) × Appends before after text
+Tells how IsAnswer (Err fault.Read) before after = ⊥
+Tells how IsAnswer (Err fault.Store) before after = (text : List ℕ) × IsAnswer text over × Appends before after text
+Tells how IsAnswer (Err fault.Unsure) before after = (text : List ℕ) × IsAnswer text over × Appends before after text
+Tells how IsAnswer (Err fault.Refused) before after = (text : List ℕ) × IsAnswer text (proceeds true) × (how.on_refusal ≡ Stop) × Appends before after text
+Tells how IsAnswer (Err fault.Write) before after = (text : List ℕ) × (course : Course) × IsAnswer text course × WritesStart before after text
+
+-- so far a text was written, or a beginning of it
+abbrev pub Puts : {T : Type 0} → List ℕ → Result T ServeFault → Option (List ℕ) → Option (List ℕ) → Type 0
+Puts text (Ok u) before after = Appends before after text
+Puts text (Err why) before after = (why ≡ fault.Write) × WritesStart before after text
+
+-- a text was written whole, and this was the result; or a beginning of it
+abbrev pub AnswersThen : List ℕ → Result Bool ServeFault → Result Bool ServeFault → Option (List ℕ) → Option (List ℕ) → Type 0
+AnswersThen text then result before after = ((result ≡ then) × Appends before after text) ⊎ ((result ≡ Err fault.Write) × WritesStart before after text)
+
+-- all lines of an input were taken
+pub record RunsStream {D : Type 0} {members : Ghosts D} (kind : Conversation D members) (how : Manner) (result : Result Bool ServeFault) (old new : Store D members) (known : SessionStreams) : Type 0 where
+  pub store : ServesOn result old new
+  pub answers : (s : State) → ServesStream kind old new s how result known
+
+-- a call that wrote, as a session takes it
+abbrev pub said_result : {T : Type 0} → Result T WriteFault → Result T ServeFault
+said_result (Ok u) = Ok u
+said_result (Err failed) = Err fault.Write
