@@ -10,7 +10,7 @@ use std::alloc::Global;
 use std::fmt::Write;
 use vm_cli::{
     Grouping, InMemory, Job, Manner, OnCommand, OnRefusal, buffer_for, job, run_words, serve,
-    serve_batches,
+    serve_batches, serve_planners,
 };
 use vm_disk::{FuseDisk, MemDisk};
 use vm_store::{Store, format, open};
@@ -151,16 +151,18 @@ fn play_talks(alloc: Global, passes: u32, steps: &mut [Step]) -> Result<()> {
     played
 }
 
-/// The word of a session.
+/// The words of a session.
 fn word_of(grouping: Grouping) -> &'static str {
     match grouping {
         Grouping::Lines => "run",
         Grouping::Batches => "serve",
+        Grouping::Planners => "serve --planners",
     }
 }
 
 /// The manner of a session that words give: `serve ignore`, `tell` or `stop`, followed by
-/// `read-only` if commands are refused, or by `batches` if lines come in batches.
+/// `read-only` if commands are refused, by `batches` if lines come in batches, or by `planners` if
+/// they are those of many planners.
 fn manner(words: &[String]) -> Result<Manner> {
     let (meaning, on_command, grouping) = match words {
         [verb, meaning] if verb.as_str() == "serve" => {
@@ -171,6 +173,9 @@ fn manner(words: &[String]) -> Result<Manner> {
         }
         [verb, meaning, more] if verb.as_str() == "serve" && more.as_str() == "batches" => {
             (meaning, OnCommand::CarryOut, Grouping::Batches)
+        }
+        [verb, meaning, more] if verb.as_str() == "serve" && more.as_str() == "planners" => {
+            (meaning, OnCommand::CarryOut, Grouping::Planners)
         }
         _ => bail!("a step over a store is a talk"),
     };
@@ -198,6 +203,7 @@ fn talk(alloc: Global, store: &mut Store<FuseDisk<MemDisk>>, step: &mut Step) ->
     let served = match manner.grouping {
         Grouping::Lines => serve(alloc, &mut input, output, store, manner),
         Grouping::Batches => serve_batches(alloc, &mut input, output, store, manner),
+        Grouping::Planners => serve_planners(alloc, &mut input, output, store, manner),
     };
     step.end = match served {
         Ok(false) => String::from_str(alloc, "0")?,

@@ -22,10 +22,10 @@ use Rattle.clap.specs.Faults.{fault_of, level_fault, values_fault}
 use Rattle.clap.specs.declared.builder.value_parser.ValueParser.TheVariants as vp
 use Rattle.clap.specs.declared.builder.value_parser.ValueParser.{ValueParser}
 use Rattle.clap.proofs.ValueTestLemmas.{Accepts-accepts, accepts-Accepts}
-use Rattle.vm_cli.specs.Words.{Wanted, altctl, asked_of, blocks_rule, buffer_rule, cache_rule, check_app, command_with, copy_app, create_app, do_app, file_rule, grow_rule, grow_to_rule, buffer_by, is_set, line_rule, no_lock_rule, number_by, number_in, read_only_rule, refusal_by, run_app, serve_app, strict_rule, tree_app, wait_rule}
+use Rattle.vm_cli.specs.Words.{Wanted, altctl, asked_of, blocks_rule, buffer_rule, cache_rule, check_app, command_with, copy_app, create_app, do_app, file_rule, grow_rule, grow_to_rule, grouping_by, buffer_by, is_set, line_rule, no_lock_rule, number_by, number_in, planners_rule, read_only_rule, refusal_by, run_app, serve_app, strict_rule, tree_app, wait_rule}
 use Rattle.vm_cli.specs.Given.{input_of}
 use Rattle.vm_cli.specs.Words.Wanted.{check, copy, create, do_lines, draw, run}
-use Rattle.vm_cli.specs.declared.talk.Grouping.TheVariants.{Batches, Lines}
+use Rattle.vm_cli.specs.declared.talk.Grouping.TheVariants.{Lines}
 use Rattle.vm_cli.specs.declared.talk.OnRefusal.TheVariants.{Ignore, Tell}
 use Rattle.vm_cli.proofs.FaultFree.{Every, every-found, neither, nothing_wanting}
 use Rattle.vm_cli.proofs.Levels.{IsFilled, IsKnown, each_given, given_row, has-default, has-stays, held_row, level_rows, no-default}
@@ -142,7 +142,7 @@ run_known : Every (IsKnown run_level.rules) run_level.rules
 run_known = (valued refl (lit< tt) refl refl, (flag (codes "true") refl refl refl refl, (flag (codes "true") refl refl refl refl, (flag (codes "true") refl refl refl refl, (flag (codes "true") refl refl refl refl, (flag (codes "true") refl refl refl refl, (valued refl (lit< tt) refl refl, (valued refl (lit< tt) refl refl, (valued refl (lit< tt) refl refl, (help refl refl, tt))))))))))
 
 serve_known : Every (IsKnown serve_level.rules) serve_level.rules
-serve_known = (valued refl (lit< tt) refl refl, (flag (codes "true") refl refl refl refl, (flag (codes "true") refl refl refl refl, (flag (codes "true") refl refl refl refl, (flag (codes "true") refl refl refl refl, (flag (codes "true") refl refl refl refl, (valued refl (lit< tt) refl refl, (valued refl (lit< tt) refl refl, (valued refl (lit< tt) refl refl, (help refl refl, tt))))))))))
+serve_known = (valued refl (lit< tt) refl refl, (flag (codes "true") refl refl refl refl, (flag (codes "true") refl refl refl refl, (flag (codes "true") refl refl refl refl, (flag (codes "true") refl refl refl refl, (flag (codes "true") refl refl refl refl, (flag (codes "true") refl refl refl refl, (valued refl (lit< tt) refl refl, (valued refl (lit< tt) refl refl, (valued refl (lit< tt) refl refl, (help refl refl, tt)))))))))))
 
 do_known : Every (IsKnown do_level.rules) do_level.rules
 do_known = (valued refl (lit< tt) refl refl, (listed refl (lit< tt) refl refl, (flag (codes "true") refl refl refl refl, (flag (codes "true") refl refl refl refl, (flag (codes "true") refl refl refl refl, (flag (codes "true") refl refl refl refl, (flag (codes "true") refl refl refl refl, (valued refl (lit< tt) refl refl, (valued refl (lit< tt) refl refl, (valued refl (lit< tt) refl refl, (help refl refl, tt)))))))))))
@@ -223,7 +223,7 @@ serve_rows rows filled file_given grow_held cache_held =
     let cache = held_row serve_level serve_known refl rows (codes "cache") filled cache_held in
     let stay = number_read serve_level.rules cache_option 0 65536 rows cache.0 (lit< tt) refl refl refl cache.2 cache.1 cache.3 in
     let command = command_with (is_set (first_of (codes "read-only") rows)) (is_set (first_of (codes "grow") rows)) most.0 in (
-      run file.2.first (record { cache = stay.0; buffer = buffer_by rows }) (record { on_command = command; on_refusal = refusal_by Ignore rows; grouping = Batches }),
+      run file.2.first (record { cache = stay.0; buffer = buffer_by rows }) (record { on_command = command; on_refusal = refusal_by Ignore rows; grouping = grouping_by rows }),
       rw (first_text serve_level.rules rows (codes "file") file.0 file.2 file.1, stay.1, most.1) refl,
     )
 
@@ -284,12 +284,15 @@ module _ (rows : List Row) where
       let there : has_row (codes "grow-to") with_buffer ≡ true = has-stays (codes "grow-to") buffer_option with_cache then in
       subst (λ ends. has_row (codes "grow-to") ends ≡ true) (sym (no-default (filled help_rule) with_buffer refl)) there
 
--- so it is in both levels, where the flags come before these options
+-- so it is in each of these levels, where the flags come before these options
 abbrev flag_ends : List Row → List Row
 flag_ends rows = with_default (with_default (with_default (with_default (with_default rows (filled no_lock_rule)) (filled wait_rule)) (filled strict_rule)) (filled read_only_rule)) (filled grow_rule)
 
 abbrev run_ends : List Row → List Row
 run_ends rows = flag_ends (with_default rows (with_index 1 (filled file_rule)))
+
+abbrev serve_ends : List Row → List Row
+serve_ends rows = flag_ends (with_default (with_default rows (with_index 1 (filled file_rule))) (filled planners_rule))
 
 abbrev do_ends : List Row → List Row
 do_ends rows = flag_ends (with_default (with_default rows (with_index 1 (filled file_rule))) (with_index 2 (filled line_rule)))
@@ -314,7 +317,7 @@ serve_asks words e =
     let level = level_rows serve_level serve_known refl words e in
     let rows = rows_after serve_level.rules [] words in
     let given = each_given serve_level serve_known refl serve_level.rules rows (nothing_wanting false false (list_any (λ a. a.required && not (is_given a.id rows)) serve_level.rules) level.1).1 in
-    let ends = run_ends (settled serve_level.rules (walk serve_level.rules [] nothing_held words).held).rows in
+    let ends = serve_ends (settled serve_level.rules (walk serve_level.rules [] nothing_held words).held).rows in
     serve_rows rows level.0 (given.0 refl) (grow_ends ends) (cache_ends ends)
 
 do_asks : Asks do_level

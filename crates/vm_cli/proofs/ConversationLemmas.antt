@@ -9,7 +9,7 @@ use Rattle.vm_disk.specs.declared.disk.Disk.{Ghosts}
 use Rattle.vm_store.specs.Store.{Holds, has_failed, disk_of}
 use Rattle.vm_store.specs.declared.store.Store.{Store}
 use Rattle.vm_cli.specs.Conversations.{Conversation, Course, EndsInput, EndsWithLine, HasTaken, ServesStream, SessionStreams, TakesEach}
-use Rattle.vm_cli.specs.Conversations.Course.{over, proceeds}
+use Rattle.vm_cli.specs.Conversations.Course.{over, proceeds, unwritten}
 use Rattle.vm_cli.specs.Keeps.{Keeps}
 use Rattle.vm_cli.specs.Rounds.{AllWhole, AreWholeBatches, Round, after_rounds, all_answers, all_commands}
 use Rattle.vm_cli.specs.StreamKeeps.{answers_streamed, commands_streamed, rounds_ended, rounds_of, rounds_taken}
@@ -48,6 +48,7 @@ module _ {D : Type 0} {members : Ghosts D} (start : DiskState) (s : State) where
   abbrev pub KeptSo : Course → Store D members → List Round → Type 0
   KeptSo (proceeds refused) store rounds = KeepsOn store rounds
   KeptSo over store rounds = EndsKept store rounds
+  KeptSo unwritten store rounds = EndsKept store rounds
 
   ends_kept : (store : Store D members) (rounds : List Round) → KeepsOn store rounds → EndsKept store rounds
   ends_kept store rounds kept = keeps start (members.state (disk_of store)) s (all_commands rounds) (all_answers rounds) kept.so_far
@@ -55,10 +56,12 @@ module _ {D : Type 0} {members : Ghosts D} (start : DiskState) (s : State) where
   pub kept_so : (course : Course) (store : Store D members) (rounds : List Round) → KeepsOn store rounds → KeptSo course store rounds
   kept_so (proceeds refused) store rounds kept = kept
   kept_so over store rounds kept = ends_kept store rounds kept
+  kept_so unwritten store rounds kept = ends_kept store rounds kept
 
   last_kept : (course : Course) (store : Store D members) (rounds : List Round) → KeptSo course store rounds → EndsKept store rounds
   last_kept (proceeds refused) store rounds kept = ends_kept store rounds kept
   last_kept over store rounds kept = kept
+  last_kept unwritten store rounds kept = kept
 
 -- ---- what holds of each line
 

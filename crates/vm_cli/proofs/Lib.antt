@@ -48,11 +48,17 @@ pub mod ReadingLemmas
 pub mod CarryLemmas
 pub mod SettleLemmas
 pub mod StreamLemmas
+pub mod PlannerLemmas
+pub mod HallLemmas
+pub mod SeatLemmas
 pub mod RoundLemmas
 pub mod ConversationLemmas
 pub mod StreamEndLemmas
 mod StreamPassLemmas
 mod LineUseLemmas
+mod PlannerLineLemmas
+mod Rows
 mod StreamKeepLemmas
 mod WholeLemmas
 mod SoundLemmas
+pub mod PlannerSoundLemmas

@@ -16,8 +16,9 @@ use Rattle.vm_cli.specs.Keeps.{Keeps}
 use Rattle.vm_cli.specs.Served.{IsWholeBy, ServesBy, answers_by, commands_by}
 use Rattle.vm_cli.specs.Exits.{MayEnd}
 use Rattle.vm_cli.specs.Sessions.{end_of, end_refused}
+use Rattle.vm_cli.specs.Planners.{telling}
 use Rattle.vm_cli.specs.declared.talk.Grouping.{Grouping}
-use Rattle.vm_cli.specs.declared.talk.Grouping.TheVariants.{Batches, Lines}
+use Rattle.vm_cli.specs.declared.talk.Grouping.TheVariants.{Batches, Lines, Planners}
 use Rattle.vm_cli.specs.declared.talk.Manner.{Manner}
 use Rattle.vm_cli.specs.declared.talk.OnRefusal.{OnRefusal}
 use Rattle.vm_cli.specs.declared.talk.OnRefusal.TheVariants.{Ignore, Stop, Tell}
@@ -25,6 +26,7 @@ use Rattle.vm_cli.specs.declared.talk.ServeFault.{ServeFault}
 use Rattle.vm_cli.specs.declared.talk.ServeFault.TheVariants as fault
 use Rattle.vm_cli.proofs.ConversationLemmas.{stream_is_whole, stream_keeps}
 use Rattle.vm_cli.proofs.KeepLemmas.{Keeping, keeping_none, keeping_quiet}
+use Rattle.vm_cli.proofs.PlannerSoundLemmas.{planners_sound}
 use Rattle.vm_cli.proofs.SoundLemmas.{batches_sound}
 use Rattle.vm_cli.proofs.TalkKeepLemmas.{SoFar, serves_keeps}
 
@@ -60,6 +62,7 @@ served_keeps : {D : Type 0} {members : _} (start : DiskState) (s : State) (old n
     → Keeps start (members.state (disk_of new)) s (commands_by grouping old new s on result before then known serves) (answers_by grouping old new s on result before then known serves)
 served_keeps start s old new so_far honest sound holds Lines on result before then known serves = serves_keeps start s old new so_far honest sound holds on result before then known serves
 served_keeps start s old new so_far honest sound holds Batches on result before then known serves = stream_keeps batches_sound start s old new so_far honest sound holds on result _ serves
+served_keeps start s old new so_far honest sound holds Planners on result before then known serves = stream_keeps planners_sound start s old new so_far honest sound holds (telling on) result _ serves
 
 -- and so does one on which lines were answered
 module _ {D : Type 0} {members : _} (old : DiskState) (first last : Store D members) (opens : (members.state (disk_of first)).honest ≡ true → OpensAs old.now.contents first)
@@ -93,12 +96,14 @@ pub served_whole : {D : Type 0} {members : _} (first last : Store D members) (s 
     → (serves : ServesBy grouping first last s on result before then known) → IsWholeBy grouping first last s on result before then known serves
 served_whole first last s Lines on result before then known serves = tt
 served_whole first last s Batches on result before then known serves = stream_is_whole batches_sound on first last s result _ serves
+served_whole first last s Planners on result before then known serves = stream_is_whole planners_sound (telling on) first last s result _ serves
 
 -- a refusal ends a session only where it is to
 refused_stops : {D : Type 0} {members : _} (first last : Store D members) (s : State) (grouping : Grouping) (on : Manner) (before then known : Option (List ℕ)) → ServesBy grouping first last s on (Err fault.Refused) before then known
     → on.on_refusal ≡ Stop
 refused_stops first last s Lines on before then known serves = serves.served.3
 refused_stops first last s Batches on before then known serves = serves.served.1
+refused_stops first last s Planners on before then known serves = let bad : Tell ≡ Stop = serves.served.1 in cc
 
 -- how the program may end after a session
 pub may_end : {D : Type 0} {members : _} (first last : Store D members) (s : State) (on : Manner) (result : Result Bool ServeFault) (before then known : Option (List ℕ)) → ServesBy on.grouping first last s on result before then known

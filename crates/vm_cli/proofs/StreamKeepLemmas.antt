@@ -237,7 +237,7 @@ module _ {D : Type 0} {members : _} where
       ends_round round commands' answers' these those kept' = keeps_as new commands' _ answers' _ (commands-more before round ∙ these) (answers-more before round ∙ those) kept'
 
       -- nothing was carried out
-      keeps_idle : (course : Course) (round : Round) → round ≡ idle → new ≡ old → RoundKept course round
+      pub keeps_idle : (course : Course) (round : Round) → round ≡ idle → new ≡ old → RoundKept course round
       keeps_idle course round came_so same =
           subst (RoundKept course) (sym came_so)
           (keeps_round idle course commands answers (append-nil commands) (append-nil answers) (subst (λ (x : Store D members). IsKept start s x t commands answers) (sym same) kept))

@@ -102,7 +102,7 @@ with_even (Some each) later others same = each_even each later others same
 no_command : (done : Done) → done ≡ None → CommitNothing (with_command done [])
 no_command done none = subst (λ (d : Done). CommitNothing (with_command d [])) (sym none) tt
 
-idle_whole : (round : Round) → round ≡ idle → IsWholeRound round
+pub idle_whole : (round : Round) → round ≡ idle → IsWholeRound round
 idle_whole round came_so = subst IsWholeRound (sym came_so) tt
 
 module _ {D : Type 0} {members : _} where

@@ -17,10 +17,11 @@ use Rattle.vm_cli.specs.declared.talk.ServeFault.TheVariants as fault
 
 -- ---- a kind of conversation
 
--- how a session goes on after an answer: with a line refused or none; or it is over
+-- how a session goes on after an answer: with a line refused or none; or it is over; or the writer failed before the line was carried out
 pub data Course : Type 0 where
   proceeds : Bool → Course
   over : Course
+  unwritten : Course
 
 -- a kind of conversation: what is held between lines, what a line does, and what is answered when the input ends
 pub record Conversation (D : Type 0) (members : Ghosts D) : Type 1 where

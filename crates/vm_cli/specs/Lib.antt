@@ -6,6 +6,9 @@ pub mod Names
 pub mod Numbers
 pub mod Openings
 pub mod Pieces
+pub mod PlannerCalls
+pub mod PlannerLines
+pub mod Planners
 pub mod Asking
 pub mod Mistakes
 pub mod Requests

@@ -12,7 +12,7 @@ use Rattle.vm_cli.specs.declared.lines.mistake.Mistake.{Mistake}
 use Rattle.vm_cli.specs.declared.lines.mistake.Mistake.TheVariants.{NoSuchLine, Takes, Wrong}
 use Rattle.vm_cli.specs.declared.lines.mistake.WordKind.{WordKind}
 use Rattle.vm_cli.specs.declared.lines.mistake.WordKind.TheVariants as kind
-use Rattle.vm_cli.specs.declared.answers.reply.Reply.TheVariants.{Nothing, Done, Merged, Free, Blocks, Tally, End, Refused, Last, BadLine, LongLine, ReadOnly, NotDone, Aborted, NotInBatch, TooLarge, HalfLine, Unsure}
+use Rattle.vm_cli.specs.declared.answers.reply.Reply.TheVariants.{Nothing, Done, Merged, Free, Blocks, Tally, End, Refused, Last, BadLine, LongLine, ReadOnly, NotDone, Aborted, NotInBatch, TooLarge, HalfLine, Unsure, NoSuchPlanner, PlannerExists}
 
 -- a yes or a no
 abbrev pub yes_or_no : Bool → List ℕ
@@ -82,6 +82,8 @@ reply_text NotInBatch = codes "error 93 NotInBatch" ++ 10 ∷ []
 reply_text TooLarge = codes "error 94 TooLarge" ++ 10 ∷ []
 reply_text HalfLine = codes "error 96 HalfLine" ++ 10 ∷ []
 reply_text Unsure = codes "error 101 Unsure" ++ 10 ∷ []
+reply_text NoSuchPlanner = codes "error 106 NoSuchPlanner" ++ 10 ∷ []
+reply_text PlannerExists = codes "error 107 PlannerExists" ++ 10 ∷ []
 
 -- the line of a record's value, or that there is none
 abbrev pub found_text : Option (List ℕ) → List ℕ

@@ -1,4 +1,4 @@
--- What a session promises: one of lines, or one with batches.
+-- What a session promises: one of lines, one with batches, or one with batches of many planners.
 use Rattle.std.specs.Prelude.{ℕ, Bool, List, Option, Result}
 use Rattle.vm_types.specs.declared.answer.Answer.{Answer}
 use Rattle.vm_types.specs.declared.command.Command.{Command}
@@ -7,12 +7,13 @@ use Rattle.vm_types.specs.State.{State}
 use Rattle.vm_store.specs.declared.store.Store.{Store}
 use Rattle.vm_cli.specs.Conversations.{streams_of}
 use Rattle.vm_cli.specs.Keeps.{answers_of, commands_of}
+use Rattle.vm_cli.specs.Planners.{ServesPlanners, telling}
 use Rattle.vm_cli.specs.Rounds.{AreWholeBatches}
 use Rattle.vm_cli.specs.StreamKeeps.{answers_streamed, commands_streamed, rounds_of}
 use Rattle.vm_cli.specs.Streams.{ServesBatches}
 use Rattle.vm_cli.specs.Talk.{Serves}
 use Rattle.vm_cli.specs.declared.talk.Grouping.{Grouping}
-use Rattle.vm_cli.specs.declared.talk.Grouping.TheVariants.{Batches, Lines}
+use Rattle.vm_cli.specs.declared.talk.Grouping.TheVariants.{Batches, Lines, Planners}
 use Rattle.vm_cli.specs.declared.talk.Manner.{Manner}
 use Rattle.vm_cli.specs.declared.talk.ServeFault.{ServeFault}
 
@@ -21,21 +22,25 @@ module _ {D : Type 0} {members : _} where
   abbrev pub ServesBy : Grouping → Store D members → Store D members → State → Manner → Result Bool ServeFault → Option (List ℕ) → Option (List ℕ) → Option (List ℕ) → Type 0
   ServesBy Lines old new s on result before after known = Serves old new s on result before after known
   ServesBy Batches old new s on result before after known = ServesBatches old new s on result (streams_of known before after)
+  ServesBy Planners old new s on result before after known = ServesPlanners old new s (telling on) result (streams_of known before after)
 
   -- the commands that it carried out
   abbrev pub commands_by : (grouping : Grouping) (old new : Store D members) (s : State) (on : Manner) (result : Result Bool ServeFault) (before after known : Option (List ℕ))
       → ServesBy grouping old new s on result before after known → List Command
   commands_by Lines old new s on result before after known serves = commands_of serves
   commands_by Batches old new s on result before after known serves = commands_streamed serves
+  commands_by Planners old new s on result before after known serves = commands_streamed serves
 
   -- the answers to them
   abbrev pub answers_by : (grouping : Grouping) (old new : Store D members) (s : State) (on : Manner) (result : Result Bool ServeFault) (before after known : Option (List ℕ))
       → ServesBy grouping old new s on result before after known → List (Result Answer Refusal)
   answers_by Lines old new s on result before after known serves = answers_of serves
   answers_by Batches old new s on result before after known serves = answers_streamed serves
+  answers_by Planners old new s on result before after known serves = answers_streamed serves
 
   -- its batches are whole, if it has any
   abbrev pub IsWholeBy : (grouping : Grouping) (old new : Store D members) (s : State) (on : Manner) (result : Result Bool ServeFault) (before after known : Option (List ℕ))
       → ServesBy grouping old new s on result before after known → Type 0
   IsWholeBy Lines old new s on result before after known serves = Unit {0}
   IsWholeBy Batches old new s on result before after known serves = AreWholeBatches s (rounds_of serves)
+  IsWholeBy Planners old new s on result before after known serves = AreWholeBatches s (rounds_of serves)

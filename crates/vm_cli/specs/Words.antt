@@ -14,7 +14,7 @@ use Rattle.vm_types.specs.declared.sizes.TheConstants.{MIN_BLOCKS, MAX_BLOCKS}
 use Rattle.vm_cli.specs.declared.program.task.TheConstants.{MAX_BUFFER}
 use Rattle.vm_cli.specs.declared.program.words.TheConstants.{MAX_CACHE}
 use Rattle.vm_cli.specs.declared.talk.Grouping.{Grouping}
-use Rattle.vm_cli.specs.declared.talk.Grouping.TheVariants.{Batches, Lines}
+use Rattle.vm_cli.specs.declared.talk.Grouping.TheVariants.{Batches, Lines, Planners}
 use Rattle.vm_cli.specs.declared.talk.Manner.{Manner}
 use Rattle.vm_cli.specs.declared.talk.OnCommand.{OnCommand}
 use Rattle.vm_cli.specs.declared.talk.OnCommand.TheVariants.{CarryOut, GrowIfFull, Refuse}
@@ -99,9 +99,13 @@ with_options app =
 abbrev pub run_app : App
 run_app = with_options (with_rule (new_app (codes "run")) file_rule)
 
--- `serve [OPTIONS] FILE`
+-- whether the lines are those of many planners
+abbrev pub planners_rule : Rule
+planners_rule = flag_rule (codes "planners")
+
+-- `serve [--planners] [OPTIONS] FILE`
 abbrev pub serve_app : App
-serve_app = with_options (with_rule (new_app (codes "serve")) file_rule)
+serve_app = with_options (with_rule (with_rule (new_app (codes "serve")) file_rule) planners_rule)
 
 -- lines, one at least
 abbrev pub line_rule : Rule
@@ -135,7 +139,7 @@ copy_app = with_lock (with_rule (with_rule (with_rule (new_app (codes "copy")) f
 abbrev pub top_app : App
 top_app = on_top (λ s. record s { subcommand_required = true; has_version = true }) (new_app (codes "altctl"))
 
--- `altctl create FILE BLOCKS`, `altctl run [OPTIONS] FILE`, `altctl serve [OPTIONS] FILE`, `altctl do [OPTIONS] FILE LINE..`,
+-- `altctl create FILE BLOCKS`, `altctl run [OPTIONS] FILE`, `altctl serve [--planners] [OPTIONS] FILE`, `altctl do [OPTIONS] FILE LINE..`,
 -- `altctl check [--no-lock] [--wait] FILE`, `altctl tree [--no-lock] [--wait] FILE` and `altctl copy [--no-lock] [--wait] FROM TO [BLOCKS]`
 abbrev pub altctl : App
 altctl =
@@ -200,6 +204,10 @@ buffer_by rows = number_by 0 MAX_BUFFER (codes "buffer") rows
 abbrev pub memory_by : List Row → Option InMemory
 memory_by rows = option_map (λ cache. record { cache = cache; buffer = buffer_by rows }) (cache_by rows)
 
+-- what takes effect together in a `serve` with these matches: the batches of many planners, or of one
+abbrev pub grouping_by : List Row → Grouping
+grouping_by rows = if is_set (first_of (codes "planners") rows) then Planners else Batches
+
 -- what `run` or `serve` with these matches wants of this file
 abbrev pub run_by : Grouping → List Row → Text → Option Wanted
 run_by grouping rows file = option_and_then (λ in_memory. option_map (λ manner. run file in_memory manner) (manner_by Ignore grouping rows)) (memory_by rows)
@@ -220,7 +228,7 @@ abbrev pub asked_by : Text → List Row → Text → Option Wanted
 asked_by name rows file =
     if bytes_eq name (codes "create") then option_map (create file) (number_by MIN_BLOCKS MAX_BLOCKS (codes "blocks") rows)
     else (if bytes_eq name (codes "run") then run_by Lines rows file
-    else (if bytes_eq name (codes "serve") then run_by Batches rows file
+    else (if bytes_eq name (codes "serve") then run_by (grouping_by rows) rows file
     else (if bytes_eq name (codes "do") then do_by rows file
     else (if bytes_eq name (codes "check") then Some (check file)
     else (if bytes_eq name (codes "tree") then Some (draw file)

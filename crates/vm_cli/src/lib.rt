@@ -21,5 +21,6 @@ pub use program::task::{InMemory, Job, buffer_for};
 pub use program::words::job;
 pub use program::{refuse_lock, refuse_words, run_words, stop};
 pub use talk::batches::serve_batches;
+pub use talk::planners::serve_planners;
 pub use talk::{Grouping, Manner, OnCommand, OnRefusal, ServeFault, serve};
 pub use vm_disk::FileDisk;

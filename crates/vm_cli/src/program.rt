@@ -13,6 +13,7 @@ pub mod opening;
 pub mod place;
 pub mod progress;
 pub mod selector;
+pub mod session;
 pub mod store_copy;
 pub mod store_counts;
 pub mod task;
@@ -24,8 +25,7 @@ pub mod words;
 use crate::answers::output::{WriteFault, flush, put_all};
 use crate::answers::reply::push_refusal;
 use crate::answers::text::Text;
-use crate::talk::batches::serve_batches;
-use crate::talk::{Grouping, Manner, OnCommand, OnRefusal, ServeFault, serve};
+use crate::talk::{Manner, OnCommand};
 use cached_lines::answer_lines_in_memory;
 use clap::Error;
 use clap::error::ErrorKind;
@@ -33,6 +33,7 @@ use damage::unopened_whole;
 use file_lock::NoLock;
 use opening::{open_store, open_surveyed_store, unopened};
 use place::Place;
+use session::{end_of, serve_by};
 use std::alloc::Global;
 use std::io::{Read, Write};
 use store_copy::copy;
@@ -40,7 +41,7 @@ use store_counts::{Counts, count};
 use task::{InMemory, Job};
 use tree_view::tree;
 use vm_disk::{CachedDisk, DelayedDisk, Disk};
-use vm_store::{Store, format};
+use vm_store::format;
 use vm_types::Refusal;
 use words::job;
 
@@ -84,11 +85,6 @@ ghost use Rattle.vm_disk.specs.Between.{IfHonest};
 ghost use Rattle.vm_cli.specs.Told.{AnswersOver, FormatsOnly, MakesStore, TellsCount, TellsDamage, TellsRefusal};
 ghost use Rattle.vm_cli.specs.Places.{FindsIn, IsAsked};
 ghost use Rattle.vm_cli.specs.Runs.{AnswersIn, AsksToWrite, CountsIn, DoesIn, LooksOnly, MakesIn, RunsIn, ServesIn, ServesRun, ServesWords, disks};
-ghost use Rattle.vm_types.specs.State.{State};
-ghost use Rattle.vm_store.specs.Store.{GrowsOn};
-ghost use Rattle.vm_cli.specs.Served.{ServesBy};
-ghost use Rattle.vm_cli.specs.Sessions.{end_of as end_of_talk};
-ghost use Rattle.vm_cli.specs.Talk.{Passes};
 ghost use Rattle.vm_cli.specs.Exits.{Blames, Checks, Ends, EndsSaying, Helps, IsDone, IsLineRefused, IsRefused, IsStopped, IsWrong, JobEnds, RefusesLock, RefusesOn, RefusesWords, StopsUnsaid, TalkEnds, TellsOn, counts_text, created_text, file_text, named_text, refused_text, status_of, stopped_text};
 ghost use Rattle.vm_cli.specs.Words.Wanted.{check as check_wanted, create as create_wanted, run as run_wanted};
 
@@ -327,41 +323,6 @@ pub(crate) fn answer_lines<D: Disk, R: Read, W: Write, F: Write>(
             (end_of(manner.on_refusal, &served), store.close())
         }
         Err((disk, why)) => (unopened(&why, errors), disk),
-    }
-}
-
-/// Answers the lines of the input, each by itself or in batches.
-fn serve_by<D: Disk, R: Read, W: Write>(
-    alloc: Global,
-    input: &mut R,
-    output: &mut W,
-    store: &mut Store<D>,
-    manner: Manner,
-) -> Result<bool, ServeFault>
-    ensures goes { GrowsOn ⊥ store.old store.new }
-    ensures answers { (s : State) → ServesBy manner.grouping store.old store.new s manner result
-        (W.contents output.old) (W.contents output.new) (R.remaining input.old) }
-    ensures reads { manner.on_command ≡ OnCommand.Refuse → Passes store.old store.new None }
-{
-    match manner.grouping {
-        Grouping::Lines => serve(alloc, input, output, store, manner),
-        Grouping::Batches => serve_batches(alloc, input, output, store, manner),
-    }
-}
-
-/// How the program ends after a session.
-fn end_of(on_refusal: OnRefusal, served: &Result<bool, ServeFault>) -> Exit
-    ensures { result ≡ end_of_talk on_refusal served.now }
-{
-    match served {
-        Ok(false) => Exit::Done,
-        Ok(true) => match on_refusal {
-            OnRefusal::Ignore => Exit::Done,
-            OnRefusal::Tell => Exit::LineRefused,
-            OnRefusal::Stop => Exit::LineRefused,
-        },
-        Err(ServeFault::Refused) => Exit::LineRefused,
-        Err(_) => Exit::Stopped,
     }
 }
 

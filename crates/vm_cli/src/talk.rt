@@ -1,5 +1,6 @@
 //! A session: lines in, answers out.
 
+pub mod addressing;
 pub mod batch;
 pub mod batches;
 pub mod carrying;
@@ -7,6 +8,8 @@ pub mod commands;
 pub mod growth;
 pub mod line_reader;
 pub mod line_use;
+pub mod planner_line;
+pub mod planners;
 pub mod queries;
 
 ghost use Rattle.std.specs.Prelude.{◌≡◌, ◌+◌, ◌≤◌, ◌++◌, ◌∷◌, [], length, true, false, None, IfErr, OnErr, OnOk};
@@ -66,6 +69,8 @@ pub enum Grouping {
     /// Each batch from `begin` to `commit`, and each change outside of one: as a whole or not at
     /// all. It is committed before it is answered.
     Batches,
+    /// Batches of many planners, each of whom says its lines in the one input.
+    Planners,
 }
 
 /// How a session is run.

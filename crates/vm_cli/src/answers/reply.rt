@@ -44,6 +44,10 @@ pub enum Reply {
     HalfLine,
     /// The commit of the batch was not acknowledged. The session ends with it.
     Unsure,
+    /// No planner of this number has joined.
+    NoSuchPlanner,
+    /// A planner of this number has joined.
+    PlannerExists,
 }
 
 impl Reply {
@@ -98,6 +102,8 @@ impl Reply {
             Reply::TooLarge => text.push_bytes(b"error 94 TooLarge\n"),
             Reply::HalfLine => text.push_bytes(b"error 96 HalfLine\n"),
             Reply::Unsure => text.push_bytes(b"error 101 Unsure\n"),
+            Reply::NoSuchPlanner => text.push_bytes(b"error 106 NoSuchPlanner\n"),
+            Reply::PlannerExists => text.push_bytes(b"error 107 PlannerExists\n"),
         }
     }
 
@@ -146,6 +152,8 @@ impl Reply {
             Reply::TooLarge => true,
             Reply::HalfLine => true,
             Reply::Unsure => true,
+            Reply::NoSuchPlanner => true,
+            Reply::PlannerExists => true,
         }
     }
 }

@@ -347,6 +347,11 @@ Opens a store and answers the lines of the standard input, one after another,
 until it ends. Each change, and each batch of lines from begin to commit, takes
 effect as a whole or not at all, and is durable before it is answered.";
 
+/// What `--planners` does.
+pub const PLANNERS: &str = "\
+Lines of many planners, each with its number before it:
+join N, line N LINE, leave N";
+
 /// The lines that `serve` answers.
 pub const SERVE_AFTER: &str = "\
 The lines of altctl run, and:
@@ -365,6 +370,10 @@ answered 96 HalfLine; if it ends within a batch, the batch is forgotten.
 
 Where 101 Unsure answers a commit, its sync failed, and the run ends: the next
 one shows whether the batch was committed.
+
+With --planners each planner N has batches of its own, and is answered behind a
+line @N; @0 is nobody. 106 NoSuchPlanner answers one who has not joined, and 107
+PlannerExists a second join. --strict then ends nothing, but makes the status 4.
 
 A session, where each line after > is typed, and its answer stands below it:
 

@@ -3,7 +3,7 @@ ghost use Rattle.clap.specs.Words.{FailsBy, app_of, fault_of, found_of, first_of
 ghost use Rattle.std.specs.Prelude.{◌≡◌, ◌⊎◌, if◌then◌else◌, IfErr, IfOk, None, Some, false, map, ℕ, List, option_map, option_and_then, codes};
 ghost use Rattle.std.specs.String.{string_bytes};
 ghost use Rattle.vm_cli.specs.Locks.{IsLockOf, WordsLock, access_by, access_with, lock_by, lock_of_wanted};
-ghost use Rattle.vm_cli.specs.Words.{AddsTask, IsAsked, IsArgOf, IsAskedOf, IsCommandOf, IsLocal, WordsAsk, altctl, amount_rule, blocks_rule, check_app, command_with, copy_app, create_app, do_app, file_rule, flag_rule, grow_to_rule, line_rule, is_set, manner_by, number_by, memory_by, run_app, run_by, serve_app, to_rule, top_app, tree_app, wanted_of, with_lock, with_options};
+ghost use Rattle.vm_cli.specs.Words.{AddsTask, IsAsked, IsArgOf, IsAskedOf, IsCommandOf, IsLocal, WordsAsk, altctl, amount_rule, blocks_rule, check_app, command_with, copy_app, create_app, do_app, file_rule, flag_rule, grouping_by, grow_to_rule, line_rule, is_set, manner_by, number_by, memory_by, run_app, run_by, serve_app, to_rule, top_app, tree_app, wanted_of, with_lock, with_options};
 
 use crate::program::file_lock::{Access, LockWanted};
 use crate::program::given::input_of;
@@ -113,7 +113,7 @@ fn asked<'a>(alloc: Global, matches: &ArgMatches<'a>) -> Result<Option<Job<'a>>,
     match name {
         "create" => Ok(asked_create(matches, file)),
         "run" => Ok(asked_run(matches, file, Grouping::Lines)),
-        "serve" => Ok(asked_run(matches, file, Grouping::Batches)),
+        "serve" => Ok(asked_run(matches, file, serve_grouping(matches))),
         "do" => asked_do(alloc, matches, file),
         "check" => Ok(Some(Job::Check { file })),
         "tree" => Ok(Some(Job::Tree { file })),
@@ -141,6 +141,16 @@ fn asked_run<'a>(matches: &ArgMatches<'a>, file: &'a str, grouping: Grouping) ->
         in_memory,
         manner,
     })
+}
+
+/// What takes effect together in `serve`: with `--planners` the batches of many planners.
+fn serve_grouping(matches: &ArgMatches<'_>) -> Grouping
+    ensures { result ≡ grouping_by (rows_of (found_of matches.now)) }
+{
+    if is_given(matches, "planners") {
+        return Grouping::Planners;
+    }
+    Grouping::Batches
 }
 
 /// The job of `do` with these matches.
@@ -339,11 +349,9 @@ fn serve_lines<'a>(alloc: Global) -> Result<Command<'a>, AllocError>
     ensures local { IfOk result (λ c. IsLocal c) }
 {
     let about = "Opens a store and carries out batches of lines of the standard input";
-    let command = described(alloc, "serve", about, help::SERVE, help::SERVE_AFTER).arg(file(
-        alloc,
-        "FILE",
-        help::RUN_FILE,
-    ))?;
+    let command = described(alloc, "serve", about, help::SERVE, help::SERVE_AFTER)
+        .arg(file(alloc, "FILE", help::RUN_FILE))?
+        .arg(flag(alloc, "planners", help::PLANNERS))?;
     with_options(alloc, command)
 }
 

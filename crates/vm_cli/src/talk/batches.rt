@@ -64,30 +64,23 @@ pub fn serve_batches<R: Read, W: Write, D: Disk>(
     // is left as it was.
     ensures reads { manner.on_command ≡ OnCommand.Refuse → Passes store.old store.new None }
 {
-    let mut session = BatchSession {
-        alloc,
-        manner,
-        batch: Batch::new(alloc),
-        answers: Vec::new(alloc),
-        text: Text::new(),
-        room: [0; 4096],
-    };
+    let mut session = BatchSession::new(alloc, manner);
     session.run(reader, writer, store)
 }
 
 /// A session with batches, beside its store and where its answers go.
 #[derive(Drop)]
 pub(crate) struct BatchSession {
-    alloc: Global,
-    manner: Manner,
+    pub alloc: Global,
+    pub manner: Manner,
     // What is held of a batch.
-    batch: Batch,
+    pub batch: Batch,
     // The answers to the lines of a batch, while it is carried out.
     answers: Vec<u8>,
     // Answers are composed in it. Nothing is kept in it from line to line.
-    text: Text,
+    pub text: Text,
     // Values of words are read into this buffer. Nothing is kept in it from line to line.
-    room: [u8; 4096],
+    pub room: [u8; 4096],
 }
 
 impl BatchSession {
@@ -96,6 +89,22 @@ impl BatchSession {
     ghost use Rattle.vm_cli.specs.Replies.{reply_text};
     ghost use Rattle.vm_cli.specs.StreamCalls.{KeepsSession, SaysThen, SettlesBatch, TakesLine, TakesLineInside, TakesLineOutside, scene};
     ghost use Rattle.vm_cli.specs.Streams.{Held, IsStage, after_refusal, batch_text, batches, change_text, end_count, end_text, forgotten_text, ok_text, repeated, verdict_of, verdict_result, why_text};
+
+    /// A session in which nothing is held.
+    pub(crate) fn new(alloc: Global, manner: Manner) -> BatchSession
+        ensures closed { IsStage result.batch None }
+        ensures none { result.batch.count ≡ 0 }
+        ensures manner { result.manner ≡ manner }
+    {
+        BatchSession {
+            alloc,
+            manner,
+            batch: Batch::new(alloc),
+            answers: Vec::new(alloc),
+            text: Text::new(),
+            room: [0; 4096],
+        }
+    }
 
     /// Takes all lines of the input.
     fn run<R: Read, W: Write, D: Disk>(
@@ -152,7 +161,7 @@ impl BatchSession {
     }
 
     /// Takes a line outside of a batch.
-    fn take_outside<W: Write, D: Disk>(
+    pub(crate) fn take_outside<W: Write, D: Disk>(
         &mut self,
         used: LineUse,
         line: &mut Line,
@@ -182,7 +191,7 @@ impl BatchSession {
     }
 
     /// Takes a line within a batch.
-    fn take_inside<W: Write, D: Disk>(
+    pub(crate) fn take_inside<W: Write, D: Disk>(
         &mut self,
         used: LineUse,
         line: &mut Line,
@@ -366,7 +375,7 @@ impl BatchSession {
     }
 
     /// Writes a line of an answer this many times.
-    fn put_repeated<W: Write>(
+    pub(crate) fn put_repeated<W: Write>(
         &mut self,
         reply: Reply,
         count: usize,
@@ -395,7 +404,7 @@ impl BatchSession {
     }
 
     /// So many lines were refused.
-    fn go_on(&self, count: usize) -> Result<bool, ServeFault>
+    pub(crate) fn go_on(&self, count: usize) -> Result<bool, ServeFault>
         ensures { result ≡ counted_result self.now.manner.on_refusal count }
     {
         if count == 0 {
@@ -483,7 +492,7 @@ fn behind(bytes: &[u8], at: usize) -> &[u8]
 }
 
 /// Whether it was said.
-fn said(written: Result<(), WriteFault>) -> Result<(), ServeFault>
+pub(crate) fn said(written: Result<(), WriteFault>) -> Result<(), ServeFault>
     ensures { result ≡ said_result written }
 {
     match written {

@@ -2,7 +2,8 @@ use Rattle.std.proofs.Common.{◌≡◌, Some, None, codes, ap, sym, refl, ◌�
 use Rattle.std.proofs.lemmas.Result.{IfOk-weaker}
 use Rattle.clap.specs.Words.{Text, first_of, found_of, rows_of, subcommand_rows_of}
 use Rattle.clap.proofs.WalkLemmas.{first_value-rows}
-use Rattle.vm_cli.specs.Words.{asked_by, asked_of}
+use Rattle.vm_cli.specs.Words.{asked_by, asked_of, run_by}
+use Rattle.vm_cli.specs.declared.talk.Grouping.{Grouping}
 use Rattle.vm_cli.proofs.Matches.{asked_of-entered, subcommand_rows-parts}
 use Rattle.vm_cli.proofs.program.words.asked.Goals as goal
 
@@ -46,7 +47,7 @@ returns-in-serve c =
     let file : first_of (codes "file") rows ≡ Some c.in-Some-get_str.file.now = sym (first_value-rows (found_of c.in-Some.matches.now) (codes "file")) ∙ sym given in
     let asks : asked_of (subcommand_rows_of c.args.matches.now) ≡ asked_by (codes "serve") rows c.in-Some-get_str.file.now =
     asked_of-entered _ _ rows _ entered file ∙ ap (λ (name : Text). asked_by name rows c.in-Some-get_str.file.now) c.in-serve.is in
-    c.asked_run-in-serve.ensures ∙ sym asks
+    c.asked_run-in-serve.ensures ∙ ap (λ (grouping : Grouping). run_by grouping rows c.in-Some-get_str.file.now) c.serve_grouping.ensures ∙ sym asks
 
 pub returns-in-do : goal.returns-in-do
 returns-in-do c =

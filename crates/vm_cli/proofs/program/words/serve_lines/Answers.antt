@@ -6,9 +6,11 @@ use Rattle.vm_cli.proofs.program.words.serve_lines.Goals as goal
 
 pub returns-clause-app : goal.returns-clause-app
 returns-clause-app c =
-    let first = with_arg _ _ _ _ _ c.in_ok-command.ensures c.described.ensures.app c.file.ensures.rule c.file.ensures.local in
-    IfOk-weaker c.with_options.result _ _ (λ whole is. is ∙ ap with_options first) c.with_options.ensures.app
+    let first = with_arg _ _ _ _ _ c.in_ok-arg.ensures c.described.ensures.app c.file.ensures.rule c.file.ensures.local in
+    let second = with_arg _ _ _ _ _ c.in_ok-command.ensures first c.flag.ensures.rule c.flag.ensures.local in
+    IfOk-weaker c.with_options.result _ _ (λ whole is. is ∙ ap with_options second) c.with_options.ensures.app
 
 pub returns-clause-local : goal.returns-clause-local
 returns-clause-local c =
-    c.with_options.ensures.local (local_arg _ _ _ c.in_ok-command.ensures c.described.ensures.local c.file.ensures.local)
+    let first = local_arg _ _ _ c.in_ok-arg.ensures c.described.ensures.local c.file.ensures.local in
+    c.with_options.ensures.local (local_arg _ _ _ c.in_ok-command.ensures first c.flag.ensures.local)

@@ -1,0 +1,39 @@
+use Rattle.std.proofs.Common.{sym}
+use Rattle.vm_cli.specs.PlannerLines.Saying.{joins, leaves, nothing, strange}
+use Rattle.vm_cli.specs.Planners.{IsPassedBy, IsTold, Joins, Leaves, TakesSaying}
+use Rattle.vm_cli.specs.Replies.{reply_text}
+use Rattle.vm_cli.specs.declared.answers.reply.Reply.TheVariants.{BadLine}
+use Rattle.vm_cli.specs.declared.lines.mistake.Mistake.TheVariants.{NoSuchLine}
+use Rattle.vm_cli.proofs.HallLemmas.{answered_hall, passed_by}
+use Rattle.vm_cli.proofs.talk.planners.PlannersSession.take_saying.Goals as goal
+
+pub returns-in-Nothing : goal.returns-in-Nothing
+returns-in-Nothing g c =
+    rw (sym c.planner_line.ensures.said, c.in-Nothing.is)
+    (answered_hall g.W.Write.contents IsPassedBy c.args.store.now
+    (λ s seats text course seats' rounds. TakesSaying c.args.store.now c.args.store.now s c.args.self.now.session.manner nothing text course seats seats' rounds)
+    (λ s seats text course seats' rounds it. it) _ c.args.self.now c.args.self.now c.args.writer.now c.args.writer.now (passed_by c.args.self.now (g.W.Write.contents c.args.writer.now)))
+
+pub returns-in-Strange : goal.returns-in-Strange
+returns-in-Strange g c =
+    rw (sym c.planner_line.ensures.said, c.in-Strange.is)
+    (answered_hall g.W.Write.contents (IsTold 0 (reply_text (BadLine NoSuchLine))) c.args.store.now
+    (λ s seats text course seats' rounds. TakesSaying c.args.store.now c.args.store.now s c.args.self.now.session.manner strange text course seats seats' rounds)
+    (λ s seats text course seats' rounds it. it) c.tell.result c.args.self.now c.tell.new.self c.args.writer.now c.tell.new.writer c.tell.ensures)
+
+pub returns-in-Join : goal.returns-in-Join
+returns-in-Join g c =
+    rw (sym c.planner_line.ensures.said, c.in-Join.is)
+    (answered_hall g.W.Write.contents (Joins c.in-Join.number) c.args.store.now
+    (λ s seats text course seats' rounds. TakesSaying c.args.store.now c.args.store.now s c.args.self.now.session.manner (joins c.in-Join.number) text course seats seats' rounds)
+    (λ s seats text course seats' rounds it. it) c.join.result c.args.self.now c.join.new.self c.args.writer.now c.join.new.writer c.join.ensures)
+
+pub returns-in-Leave : goal.returns-in-Leave
+returns-in-Leave g c =
+    rw (sym c.planner_line.ensures.said, c.in-Leave.is)
+    (answered_hall g.W.Write.contents (Leaves c.in-Leave.number) c.args.store.now
+    (λ s seats text course seats' rounds. TakesSaying c.args.store.now c.args.store.now s c.args.self.now.session.manner (leaves c.in-Leave.number) text course seats seats' rounds)
+    (λ s seats text course seats' rounds it. it) c.leave.result c.args.self.now c.leave.new.self c.args.writer.now c.leave.new.writer c.leave.ensures)
+
+pub returns-in-Says : goal.returns-in-Says
+returns-in-Says g c = rw (sym c.planner_line.ensures.said, c.in-Says.is) c.say.ensures
