@@ -67,6 +67,7 @@ if [ -n "$quick" ]; then
     try 600 faults/compare.py -n 8
     try 600 faults/kill.py "$tools/../altctl" 8
     try 300 faults/kill_batches.py "$tools/../altctl" 40
+    try 300 faults/kill_planners.py "$tools/../altctl" 30
     try 300 faults/kill_copy.py "$tools/../altctl" 20
     try 600 faults/crashes.py -n 1
     try 300 faults/damage.py --files 300
@@ -82,6 +83,7 @@ else
     try 600 faults/compare.py -n 60
     try 300 faults/kill.py "$tools/../altctl" 60
     try 900 faults/kill_batches.py "$tools/../altctl" 400
+    try 900 faults/kill_planners.py "$tools/../altctl" 400
     try 300 faults/kill_copy.py
     try 600 faults/crashes.py
     try 900 faults/damage.py

@@ -10,6 +10,7 @@ _altctl() {
     run | serve | do) options="$_altctl_numbers --strict --read-only --grow --no-lock --wait --help" ;;
     check | tree | copy) options='--no-lock --wait --help' ;;
     esac
+    [ "$command" != serve ] || options="--planners $options"
     # Bash takes `--cache=5` for three words.
     [ "$before" != = ] || before=${COMP_WORDS[COMP_CWORD - 2]}
     if [ "$word" = = ]; then

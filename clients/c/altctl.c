@@ -802,7 +802,7 @@ static const char *const refusals[] = {
 static const char *const service_refusals[] = {
     "Denied", "NotDone", "Aborted", "NotInBatch", "TooLarge", "HeldTooLong", "HalfLine", "NotJournaled", "NoBackup",
     "Stopped", "TooManyPlanners", "Unsure", "TooManyEntries", "Changed",
-    "NoArchive", "NoRoom"};
+    "NoArchive", "NoRoom", "NoSuchPlanner", "PlannerExists"};
 
 #define COUNT(array) ((int)(sizeof(array) / sizeof *(array)))
 

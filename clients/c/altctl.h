@@ -83,6 +83,8 @@ enum {
     ALT_CHANGED = 103,
     ALT_NO_ARCHIVE = 104,
     ALT_NO_ROOM = 105,
+    ALT_NO_SUCH_PLANNER = 106,
+    ALT_PLANNER_EXISTS = 107,
 
     /* There are no more rows. */
     ALT_DONE = -1,

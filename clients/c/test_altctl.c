@@ -750,6 +750,7 @@ static void errors_have_names(void)
     SAME_TEXT("Changed", alt_error_name(ALT_CHANGED));
     SAME_TEXT("NoArchive", alt_error_name(ALT_NO_ARCHIVE));
     SAME_TEXT("NoRoom", alt_error_name(ALT_NO_ROOM));
+    SAME_TEXT("PlannerExists", alt_error_name(ALT_PLANNER_EXISTS));
     SAME_TEXT("ALT_DONE", alt_error_name(ALT_DONE));
     SAME_TEXT("ALT_IN_BATCH", alt_error_name(ALT_IN_BATCH));
     SAME_TEXT("ReadOnly", alt_error_name(ALT_READ_ONLY));

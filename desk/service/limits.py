@@ -50,6 +50,9 @@ REFUSALS = {
     103: "Changed",
     104: "NoArchive",
     105: "NoRoom",
+    # The program's own, in a session of many planners.
+    106: "NoSuchPlanner",
+    107: "PlannerExists",
 }
 
 

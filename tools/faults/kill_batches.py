@@ -76,9 +76,11 @@ def is_full(expected, came):
 class Life:
     """One process, from its start until it is killed or ends."""
 
+    JOB = ["serve"]
+
     def __init__(self, altctl, file, chance, state, count):
         self.chance, self.state, self.count = chance, state, count
-        words = [altctl, "serve", *chance.choice(OPTIONS), file]
+        words = [altctl, *self.JOB, *chance.choice(OPTIONS), file]
         self.process = subprocess.Popen(words, stdin=subprocess.PIPE, stdout=subprocess.PIPE)
         # The states after the last batch that was answered, and after those sent since.
         self.possible = [state]
@@ -133,9 +135,9 @@ def seen(altctl, file, state):
     return unlike("after the kill", due, came.stdout.splitlines())
 
 
-def lived(altctl, file, chance, state, kills):
-    """The state that the file shows after one life."""
-    life = Life(altctl, file, chance, state, 10_000 if kills else chance.randrange(1, 60))
+def lived(altctl, file, chance, state, kills, life_of):
+    """The state that the file shows after one life of this class."""
+    life = life_of(altctl, file, chance, state, 10_000 if kills else chance.randrange(1, 60))
     timer = threading.Timer(chance.random() * LONGEST_LIFE, life.process.send_signal, [signal.SIGKILL])
     if kills:
         timer.start()
@@ -152,8 +154,8 @@ def lived(altctl, file, chance, state, kills):
     return life.possible[wrong.index("")]
 
 
-def main():
-    parser = argparse.ArgumentParser(description=__doc__)
+def main(life_of=Life, about=__doc__):
+    parser = argparse.ArgumentParser(description=about)
     parser.add_argument("altctl", nargs="?", default=str(Path(__file__).resolve().parents[2] / "altctl"))
     parser.add_argument("count", nargs="?", type=int, default=200)
     parser.add_argument("seed", nargs="?", type=int, default=int(time.time()))
@@ -164,7 +166,7 @@ def main():
         subprocess.run([given.altctl, "create", file, str(BLOCKS)], check=True, stdout=subprocess.DEVNULL)
         try:
             for number in range(given.count):
-                state = lived(given.altctl, file, chance, state, chance.random() < 0.8)
+                state = lived(given.altctl, file, chance, state, chance.random() < 0.8, life_of)
         except Failure as failure:
             print(f"seed {given.seed}, life {number}: {failure}")
             return 1

@@ -11,7 +11,7 @@ Refusals = dict[int, str]
 
 # Refusals that the help of `run` need not list: only the library answers them.
 UNLISTED = {17, 20}
-# The first number of those that the service has. A session with batches answers some of them, too.
+# The first number of those of the service. Sessions with batches answer some of them, and some of their own.
 OF_BATCHES = 90
 
 

@@ -224,10 +224,10 @@ def options_of(altctl: str, command: str) -> dict[str, bool]:
 
 def options_in_formats(command: str) -> list[str]:
     text = FORMATS.read_text()
-    row = find(rf"^\| `altctl {command} (.*?)` \|", text)[1]
-    if "[OPTIONS]" in row:
-        row = find(r"^OPTIONS are .*?^$", text, re.M | re.S)[0]
-    return re.findall(r"--[\w-]+", row)
+    rows = " ".join(re.findall(rf"^\| `altctl {command} (.*?)` \|", text, re.M))
+    if "[OPTIONS]" in rows:
+        rows += find(r"^OPTIONS are .*?^$", text, re.M | re.S)[0]
+    return re.findall(r"--[\w-]+", rows)
 
 
 def options_in_page(command: str) -> list[str]:
