@@ -2,6 +2,7 @@
 use Rattle.std.specs.Prelude.{◌≡◌, ℕ, Bool, false, true, List, [], Some, Result, IfErr, OnOk}
 use Rattle.vm_types.specs.State.{State}
 use Rattle.vm_store.specs.Store.{has_failed, GrowsOn}
+use Rattle.vm_cli.specs.Known.{streams_of}
 use Rattle.vm_cli.specs.Talk.{Serves, StoreFails}
 use Rattle.vm_cli.specs.declared.talk.Grouping.TheVariants.{Lines}
 use Rattle.vm_cli.specs.declared.talk.Manner.{Manner}
@@ -19,7 +20,7 @@ carrying_out on_refusal = record { on_command = CarryOut; on_refusal = on_refusa
 pub record Asks (lines : List ℕ) (on_refusal : OnRefusal) (result : Result Bool ServeFault) (old new : Session) : Type 0 where
   -- The lines are answered one after another, as the program answers them, from each state that the store stood for; and their answers
   -- are all that is kept.
-  pub answers : (s : State) → Serves old.store new.store s (carrying_out on_refusal) result (Some []) (Some new.answers.items) (Some lines)
+  pub answers : (s : State) → Serves old.store new.store s (carrying_out on_refusal) result (streams_of (Some lines) (Some []) (Some new.answers.items))
   -- The store gets no blocks but by a Grow that is carried out.
   pub goes : GrowsOn ⊥ old.store new.store
   -- It has not failed after a call that ends well. One that ends with Store has met a device call that failed; one that ends with Write may

@@ -8,7 +8,8 @@ use Rattle.vm_disk.specs.Disk.{DiskState}
 use Rattle.vm_disk.specs.declared.disk.Disk.{Ghosts}
 use Rattle.vm_store.specs.Store.{Holds, has_failed, disk_of}
 use Rattle.vm_store.specs.declared.store.Store.{Store}
-use Rattle.vm_cli.specs.Conversations.{Conversation, Course, EndsInput, EndsWithLine, HasTaken, ServesStream, SessionStreams, TakesEach}
+use Rattle.vm_cli.specs.Conversations.{Conversation, Course, EndsInput, EndsWithLine, HasTaken, ServesStream, TakesEach}
+use Rattle.vm_cli.specs.Known.{SessionStreams}
 use Rattle.vm_cli.specs.Conversations.Course.{over, proceeds, unwritten}
 use Rattle.vm_cli.specs.Keeps.{Keeps}
 use Rattle.vm_cli.specs.Rounds.{AllWhole, AreWholeBatches, Round, after_rounds, all_answers, all_commands}

@@ -16,6 +16,7 @@ use Rattle.vm_store.specs.declared.store.Store.{Store}
 use Rattle.vm_cli.specs.Sessions.{IsAnyStore}
 use Rattle.vm_cli.specs.Copies.{ComesBack, CopiesOnto, IsInUse, MakesCopy, NamesCopy, RefusesCopy, ToldOfCopy, used_of}
 use Rattle.vm_cli.specs.Exits.{Tells, copied_text, file_text, part_of, refused_text}
+use Rattle.vm_cli.specs.Known.{Written}
 use Rattle.vm_cli.specs.Places.{Creates, KeepsBut, Lacks, Links, PlaceState, Removes, TakesBack}
 use Rattle.vm_cli.specs.declared.program.Exit.{Exit}
 use Rattle.vm_cli.specs.declared.program.Exit.TheVariants.{Done, Refused}
@@ -43,19 +44,19 @@ part_apart to is =
     absurd (omega (arith, longer))
 
 -- what is told of a copy, of the source's disk from earlier on
-told_from : (Denied : Type 0) (to : Text) (seen : Seen) (used : ℕ) (found mid back start end : DiskState) (exit : Exit) (old new : PlaceState) (before after errors errors' : Option (List ℕ)) → Goes ⊥ found mid
-    → ToldOfCopy Denied to seen used mid back start end exit old new before after errors errors' → ToldOfCopy Denied to seen used found back start end exit old new before after errors errors'
-told_from Denied to seen used found mid back start end exit old new before after errors errors' goes (inl done) = inl done
-told_from Denied to seen used found mid back start end exit old new before after errors errors' goes (inr (kept, inl denied)) = inr (kept, inl denied)
-told_from Denied to seen used found mid back start end exit old new before after errors errors' goes (inr (kept, inr (inl refused))) = inr (kept, inr (inl refused))
-told_from Denied to seen used found mid back start end exit old new before after errors errors' goes (inr (kept, inr (inr (stopped, rose)))) =
+told_from : (Denied : Type 0) (to : Text) (seen : Seen) (used : ℕ) (found mid back start end : DiskState) (exit : Exit) (old new : PlaceState) (output errors : Written) → Goes ⊥ found mid
+    → ToldOfCopy Denied to seen used mid back start end exit old new output errors → ToldOfCopy Denied to seen used found back start end exit old new output errors
+told_from Denied to seen used found mid back start end exit old new output errors goes (inl done) = inl done
+told_from Denied to seen used found mid back start end exit old new output errors goes (inr (kept, inl denied)) = inr (kept, inl denied)
+told_from Denied to seen used found mid back start end exit old new output errors goes (inr (kept, inr (inl refused))) = inr (kept, inr (inl refused))
+told_from Denied to seen used found mid back start end exit old new output errors goes (inr (kept, inr (inr (stopped, rose)))) =
     inr (kept, inr (inr (stopped, omega (arith, goes.rising, rose))))
 
 -- so the whole
-pub copied_from : (Reads Opens : Type 0) (Denied : Text → Type 0) (to : Text) (seen : Seen) (used : ℕ) (found mid left back : DiskState) (exit : Exit) (old new : PlaceState) (before after errors errors' : Option (List ℕ))
-    → Goes ⊥ found mid → back ≡ left → MakesCopy Reads Opens Denied to seen used mid left exit old new before after errors errors' → MakesCopy Reads Opens Denied to seen used found back exit old new before after errors errors'
-copied_from Reads Opens Denied to seen used found mid left back exit old new before after errors errors' goes same makes =
-    subst (λ s. MakesCopy Reads Opens Denied to seen used found s exit old new before after errors errors') (sym same) (record {
+pub copied_from : (Reads Opens : Type 0) (Denied : Text → Type 0) (to : Text) (seen : Seen) (used : ℕ) (found mid left back : DiskState) (exit : Exit) (old new : PlaceState) (output errors : Written)
+    → Goes ⊥ found mid → back ≡ left → MakesCopy Reads Opens Denied to seen used mid left exit old new output errors → MakesCopy Reads Opens Denied to seen used found back exit old new output errors
+copied_from Reads Opens Denied to seen used found mid left back exit old new output errors goes same makes =
+    subst (λ s. MakesCopy Reads Opens Denied to seen used found s exit old new output errors) (sym same) (record {
       told = elim makes.told [
         | inl small ↦ inl small
         | inr (inl memory) ↦ inr (inl memory)
@@ -76,7 +77,7 @@ copied_from Reads Opens Denied to seen used found mid left back exit old new bef
               was = lays.copies.was;
               back = lays.copies.back;
               moments = lays.copies.moments;
-              told = told_from (Denied to) to seen used found mid left lays.start lays.copies.end exit old new before after errors errors' goes lays.copies.told;
+              told = told_from (Denied to) to seen used found mid left lays.start lays.copies.end exit old new output errors goes lays.copies.told;
             };
           },
         ))))
@@ -91,12 +92,12 @@ module _ (Denied Denied' : Type 0) (part to : Text) (first old mid new : PlaceSt
     (before_to : old.files to ≡ first.files to) (after_to : new.files to ≡ mid.files to) (after_part : new.files part ≡ mid.files part)
     (came_to : new.came to ≡ mid.came to) (came_part : new.came part ≡ mid.came part) where
   -- what is told of a copy
-  told_between : (seen : Seen) (used : ℕ) (s s' start end : DiskState) (exit : Exit) (before after errors errors' : Option (List ℕ))
-      → ToldOfCopy Denied to seen used s s' start end exit old mid before after errors errors' → ToldOfCopy Denied' to seen used s s' start end exit first new before after errors errors'
-  told_between seen used s s' start end exit before after errors errors' (inl (copy, absent, named, told)) =
+  told_between : (seen : Seen) (used : ℕ) (s s' start end : DiskState) (exit : Exit) (output errors : Written)
+      → ToldOfCopy Denied to seen used s s' start end exit old mid output errors → ToldOfCopy Denied' to seen used s s' start end exit first new output errors
+  told_between seen used s s' start end exit output errors (inl (copy, absent, named, told)) =
       inl (copy, sym before_to ∙ absent, record { holds = after_to ∙ named.holds; came = came_to ∙ named.came }, told)
-  told_between seen used s s' start end exit before after errors errors' (inr (kept, inl (copy, none, told))) = inr (after_to ∙ kept ∙ before_to, inl (copy, denied none, told))
-  told_between seen used s s' start end exit before after errors errors' (inr (kept, inr rest)) = inr (after_to ∙ kept ∙ before_to, inr rest)
+  told_between seen used s s' start end exit output errors (inr (kept, inl (copy, none, told))) = inr (after_to ∙ kept ∙ before_to, inl (copy, denied none, told))
+  told_between seen used s s' start end exit output errors (inr (kept, inr rest)) = inr (after_to ∙ kept ∙ before_to, inr rest)
 
   -- what came back
   back_between : (end : DiskState) → KeepsBut part to first new → ComesBack part to end old mid → ComesBack part to end first new
@@ -111,23 +112,23 @@ module _ (Denied Denied' : Type 0) (part to : Text) (first old mid new : PlaceSt
   }
 
   -- so the whole
-  pub onto_between : (seen : Seen) (used : ℕ) (s s' start : DiskState) (exit : Exit) (before after errors errors' : Option (List ℕ)) → KeepsBut part to first new
-      → CopiesOnto Denied part to seen used s s' start exit old mid before after errors errors' → CopiesOnto Denied' part to seen used s s' start exit first new before after errors errors'
-  onto_between seen used s s' start exit before after errors errors' others copies = record {
+  pub onto_between : (seen : Seen) (used : ℕ) (s s' start : DiskState) (exit : Exit) (output errors : Written) → KeepsBut part to first new
+      → CopiesOnto Denied part to seen used s s' start exit old mid output errors → CopiesOnto Denied' part to seen used s s' start exit first new output errors
+  onto_between seen used s s' start exit output errors others copies = record {
     end = copies.end;
     was = copies.was;
     back = back_between copies.end others copies.back;
     moments = copies.moments;
-    told = told_between seen used s s' start copies.end exit before after errors errors' copies.told;
+    told = told_between seen used s s' start copies.end exit output errors copies.told;
   }
 
 -- the source was found before, and came back behind it, under a name whose file is as it was
 pub copied_between : (Reads Opens Reads' Opens' : Type 0) (Denied Denied' : Text → Type 0) (from to : Text) (seen : Seen) (used : ℕ) (found back : DiskState) (exit : Exit) (first old mid new : PlaceState)
-    (before after errors errors' : Option (List ℕ)) (contents : Contents)
+    (output errors : Written) (contents : Contents)
     → (Reads → Reads') → (Opens → Opens') → ((n : Text) → Denied n → Denied' n)
     → ((other : List ℕ) → old.files other ≡ first.files other) → TakesBack from back mid new → first.files from ≡ Some contents → new.files from ≡ first.files from
-    → MakesCopy Reads Opens Denied to seen used found back exit old mid before after errors errors' → MakesCopy Reads' Opens' Denied' to seen used found back exit first new before after errors errors'
-copied_between Reads Opens Reads' Opens' Denied Denied' from to seen used found back exit first old mid new before after errors errors' contents reads opens denied same takes there kept makes = record {
+    → MakesCopy Reads Opens Denied to seen used found back exit old mid output errors → MakesCopy Reads' Opens' Denied' to seen used found back exit first new output errors
+copied_between Reads Opens Reads' Opens' Denied Denied' from to seen used found back exit first old mid new output errors contents reads opens denied same takes there kept makes = record {
   told = elim makes.told [
     | inl (read, few, as_before, told) ↦ inl (reads read, few, still as_before, told)
     | inr (inl (read, enough, as_before, told)) ↦ inr (inl (reads read, enough, still as_before, told))
@@ -150,7 +151,7 @@ copied_between Reads Opens Reads' Opens' Denied Denied' from to seen used found 
             fresh = lays.fresh;
             copies = onto_between (Denied to) (Denied' to) (part_of to) to first old mid new (denied to) (same to)
                 (takes.others to apart_to) (takes.others (part_of to) apart_part) (takes.others_came to apart_to) (takes.others_came (part_of to) apart_part)
-                seen used found back lays.start exit before after errors errors' others_kept lays.copies;
+                seen used found back lays.start exit output errors others_kept lays.copies;
           },
         ))))
   ];
@@ -186,16 +187,16 @@ copied_between Reads Opens Reads' Opens' Denied Denied' from to seen used found 
 
 -- a copy was to be made of a store in this state, in as many blocks as were asked for
 module _ (Reads Opens : Type 0) (Denied : Text → Type 0) (to : Text) (seen : Seen) (used : ℕ) (x x' : DiskState) (exit : Exit) (old new : PlaceState)
-    (before after errors errors' : Option (List ℕ)) where
+    (output errors : Written) where
   -- no file was asked for
   abbrev Unmade : Type 0
   Unmade = (other : List ℕ) → new.files other ≡ old.files other
 
   keeps_none : Unmade
-      → ((Reads × (seen.blocks < used) × (new.files to ≡ old.files to) × Tells Refused exit errors errors' (refused_text Full))
-      ⊎ ((Reads × (used ≤ seen.blocks) × (new.files to ≡ old.files to) × Tells Refused exit errors errors' (refused_text Memory))
-      ⊎ (Reads × (used ≤ seen.blocks) × (new.files to ≡ old.files to) × Denied to × Tells Refused exit errors errors' (file_text (codes "altctl: cannot create ") to))))
-      → MakesCopy Reads Opens Denied to seen used x x' exit old new before after errors errors'
+      → ((Reads × (seen.blocks < used) × (new.files to ≡ old.files to) × Tells Refused exit errors (refused_text Full))
+      ⊎ ((Reads × (used ≤ seen.blocks) × (new.files to ≡ old.files to) × Tells Refused exit errors (refused_text Memory))
+      ⊎ (Reads × (used ≤ seen.blocks) × (new.files to ≡ old.files to) × Denied to × Tells Refused exit errors (file_text (codes "altctl: cannot create ") to))))
+      → MakesCopy Reads Opens Denied to seen used x x' exit old new output errors
   keeps_none same told = record {
     told = elim told [
       | inl few ↦ inl few
@@ -208,17 +209,17 @@ module _ (Reads Opens : Type 0) (Denied : Text → Type 0) (to : Text) (seen : S
   }
 
   -- its name is taken
-  pub makes_taken : Reads → used ≤ seen.blocks → Unmade → Denied to → Tells Refused exit errors errors' (file_text (codes "altctl: cannot create ") to)
-      → MakesCopy Reads Opens Denied to seen used x x' exit old new before after errors errors'
+  pub makes_taken : Reads → used ≤ seen.blocks → Unmade → Denied to → Tells Refused exit errors (file_text (codes "altctl: cannot create ") to)
+      → MakesCopy Reads Opens Denied to seen used x x' exit old new output errors
   makes_taken reads enough same none told = keeps_none same (inr (inr (reads, enough, same to, none, told)))
 
   module _ (part : Text) (part_is : part ≡ part_of to) (looked : PlaceState) (lacks : Lacks to true old looked) where
     -- its file could not be made
     pub makes_unmade : Opens → used ≤ seen.blocks → Denied part → Creates part seen.blocks None looked new
-        → Tells Refused exit errors errors' (file_text (codes "altctl: cannot create ") part) → MakesCopy Reads Opens Denied to seen used x x' exit old new before after errors errors'
+        → Tells Refused exit errors (file_text (codes "altctl: cannot create ") part) → MakesCopy Reads Opens Denied to seen used x x' exit old new output errors
     makes_unmade opens enough none creates told =
-        subst (λ name. Denied name → Creates name seen.blocks None looked new → Tells Refused exit errors errors' (file_text (codes "altctl: cannot create ") name)
-        → MakesCopy Reads Opens Denied to seen used x x' exit old new before after errors errors') (sym part_is) (λ none creates told. record {
+        subst (λ name. Denied name → Creates name seen.blocks None looked new → Tells Refused exit errors (file_text (codes "altctl: cannot create ") name)
+        → MakesCopy Reads Opens Denied to seen used x x' exit old new output errors) (sym part_is) (λ none creates told. record {
           told = inr (inr (inr (inl (opens, enough, creates.others to (part_apart to) ∙ lacks.same to, none, told))));
           stays = λ contents there. creates.others to (part_apart to) ∙ lacks.same to ∙ there;
           part_stays = λ contents there. creates.stays contents (lacks.same (part_of to) ∙ there);
@@ -227,11 +228,11 @@ module _ (Reads Opens : Type 0) (Denied : Text → Type 0) (to : Text) (seen : S
 
     -- its file was made
     pub makes_laid : (start : DiskState) (made : PlaceState) (Denied' : Type 0) → (Denied' → Denied to) → Opens → used ≤ seen.blocks
-        → Creates part seen.blocks (Some start) looked made → CopiesOnto Denied' part to seen used x x' start exit made new before after errors errors'
-        → MakesCopy Reads Opens Denied to seen used x x' exit old new before after errors errors'
+        → Creates part seen.blocks (Some start) looked made → CopiesOnto Denied' part to seen used x x' start exit made new output errors
+        → MakesCopy Reads Opens Denied to seen used x x' exit old new output errors
     makes_laid start made Denied' denied opens enough =
-        subst (λ name. Creates name seen.blocks (Some start) looked made → CopiesOnto Denied' name to seen used x x' start exit made new before after errors errors'
-        → MakesCopy Reads Opens Denied to seen used x x' exit old new before after errors errors') (sym part_is) (λ creates copies.
+        subst (λ name. Creates name seen.blocks (Some start) looked made → CopiesOnto Denied' name to seen used x x' start exit made new output errors
+        → MakesCopy Reads Opens Denied to seen used x x' exit old new output errors) (sym part_is) (λ creates copies.
         let no_to : old.files to ≡ None = lacks.absent refl in
         let no_part : old.files (part_of to) ≡ None = sym (lacks.same (part_of to)) ∙ creates.absent in
         let blank = creates.blank copies.was in
@@ -249,7 +250,7 @@ module _ (Reads Opens : Type 0) (Denied : Text → Type 0) (to : Text) (seen : S
               blank = blank.1;
               fresh = creates.fresh;
               copies = onto_between Denied' (Denied to) (part_of to) to old made new new denied (creates.others to (part_apart to) ∙ lacks.same to)
-                  refl refl refl refl seen used x x' start exit before after errors errors' others_kept copies;
+                  refl refl refl refl seen used x x' start exit output errors others_kept copies;
             },
           ))));
           stays = λ contents there. let no : None ≡ Some contents = sym no_to ∙ there in absurd cc;
@@ -259,19 +260,19 @@ module _ (Reads Opens : Type 0) (Denied : Text → Type 0) (to : Text) (seen : S
 
 -- a copy of this many blocks, that uses so many, is one of as many as were asked for
 module _ (Reads Opens : Type 0) (Denied : Text → Type 0) (to : Text) (s : State) (blocks blocks' used used' : ℕ) (x x' : DiskState) (exit : Exit) (old new : PlaceState)
-    (before after errors errors' : Option (List ℕ)) (same_blocks : blocks ≡ blocks') (same_used : used ≡ used') where
-  pub as_asked : MakesCopy Reads Opens Denied to (in_blocks s blocks) used x x' exit old new before after errors errors'
-      → MakesCopy Reads Opens Denied to (in_blocks s blocks') used' x x' exit old new before after errors errors'
-  as_asked makes = subst (λ u. MakesCopy Reads Opens Denied to (in_blocks s blocks') u x x' exit old new before after errors errors') same_used
-      (subst (λ b. MakesCopy Reads Opens Denied to (in_blocks s b) used x x' exit old new before after errors errors') same_blocks makes)
+    (output errors : Written) (same_blocks : blocks ≡ blocks') (same_used : used ≡ used') where
+  pub as_asked : MakesCopy Reads Opens Denied to (in_blocks s blocks) used x x' exit old new output errors
+      → MakesCopy Reads Opens Denied to (in_blocks s blocks') used' x x' exit old new output errors
+  as_asked makes = subst (λ u. MakesCopy Reads Opens Denied to (in_blocks s blocks') u x x' exit old new output errors) same_used
+      (subst (λ b. MakesCopy Reads Opens Denied to (in_blocks s b) used x x' exit old new output errors) same_blocks makes)
 
 -- a copy came back, and its file got its name or did not
-pub names : (Denied : Type 0) (part to : Text) (blocks used : ℕ) (given : DiskState) (linked : Bool) (exit : Exit) (old back named new : PlaceState) (before after errors errors' : Option (List ℕ))
+pub names : (Denied : Type 0) (part to : Text) (blocks used : ℕ) (given : DiskState) (linked : Bool) (exit : Exit) (old back named new : PlaceState) (output errors : Written)
     → to ≢ part → TakesBack part given old back → Links part to linked back named → Removes part named new
-    → ((linked ≡ true) × Tells Done exit before after (copied_text blocks used))
-    ⊎ ((linked ≡ false) × Denied × Tells Refused exit errors errors' (file_text (codes "altctl: cannot create ") to))
-    → NamesCopy Denied part to blocks used given exit old new before after errors errors'
-names Denied part to blocks used given linked exit old back named new before after errors errors' apart takes links removes told = record {
+    → ((linked ≡ true) × Tells Done exit output (copied_text blocks used))
+    ⊎ ((linked ≡ false) × Denied × Tells Refused exit errors (file_text (codes "altctl: cannot create ") to))
+    → NamesCopy Denied part to blocks used given exit old new output errors
+names Denied part to blocks used given linked exit old back named new output errors apart takes links removes told = record {
   back = record {
     honest = takes.honest;
     came = removes.same_came part ∙ links.others_came part (λ is. apart (sym is)) ∙ takes.came;

@@ -11,6 +11,7 @@ use Rattle.vm_cli.specs.Carried.{WritesStart}
 use Rattle.vm_cli.specs.declared.answers.output.WriteFault.{WriteFault}
 use Rattle.vm_cli.specs.Branches.{drawing}
 use Rattle.vm_cli.specs.Exits.{AskTalk, Ends, IsHelp, IsJob, JobEnds, MayEnd, Tells, TellsRefused, check_text, copied_text, created_text, is_told, name_text, named_text, refused_text, status_of}
+use Rattle.vm_cli.specs.Known.{between, written_to}
 use Rattle.vm_cli.specs.Words.{Wanted, altctl}
 use Rattle.vm_cli.specs.Words.Wanted.{check, copy, create, draw}
 use Rattle.vm_cli.specs.declared.program.Exit.{Exit}
@@ -135,14 +136,14 @@ module _ {W F : Type 0} (in_output : W → Option (List ℕ)) (in_errors : F →
 
   -- help was to be shown
   pub helped : (kind : ErrorKind) (exit : Exit) → IsHelp kind → IsAmong kind (fault_of altctl words)
-      → (errors' ≡ errors) × ((text : List ℕ) × Tells Done exit (in_output output) (in_output output') text)
+      → (errors' ≡ errors) × ((text : List ℕ) × Tells Done exit (written_to in_output output output') text)
       → Ends in_output in_errors exit words output output' errors errors'
   helped kind exit help among (same, (text, inl (is, written))) = rw is (same, inl (text, inl (kind, help, among), written))
   helped kind exit help among (same, (text, inr (is, begun))) = rw is (inl (same, inr (inl (text, inl (kind, help, among), begun))))
 
   -- a mistake was to be shown
   pub mistaken : (kind : ErrorKind) (exit : Exit) → (¬ IsHelp kind) → IsAmong kind (fault_of altctl words)
-      → (output' ≡ output) × ((text : List ℕ) × Tells WrongWords exit (in_errors errors) (in_errors errors') text)
+      → (output' ≡ output) × ((text : List ℕ) × Tells WrongWords exit (written_to in_errors errors errors') text)
       → Ends in_output in_errors exit words output output' errors errors'
   mistaken kind exit wrong among (same, (text, inl (is, written))) = rw is (same, (kind, wrong, among), (text, written))
   mistaken kind exit wrong among (same, (text, inr (is, begun))) = rw is (inr (same, (text, inr (kind, wrong, among), begun)))
@@ -171,8 +172,8 @@ pub named_here : (told : Option ℕ) (marks : List Bool) (n : ℕ) → is_marked
 named_here told marks n marked other = named_if (is_marked marks n) (is_told told n) (refused_text (Damaged n)) marked other
 
 -- why a disk is refused was told, and more behind it
-pub tells_more : (a b c : Option (List ℕ)) (said : Result (Unit {0}) WriteFault) (exit : Exit) (text more : List ℕ) → Tells Refused Refused a b text → OnOk said (exit ≡ Refused) → OnErr said (exit ≡ Stopped) → OnOk said (Appends b c more) → OnErr said (WritesStart b c more)
-    → Tells Refused exit a c (text ++ more)
+pub tells_more : (a b c : Option (List ℕ)) (said : Result (Unit {0}) WriteFault) (exit : Exit) (text more : List ℕ) → Tells Refused Refused (between a b) text → OnOk said (exit ≡ Refused) → OnErr said (exit ≡ Stopped) → OnOk said (Appends b c more) → OnErr said (WritesStart b c more)
+    → Tells Refused exit (between a c) (text ++ more)
 tells_more a b c (Ok x) exit text more (inl told) ok err all begun = inl (ok, Appends-then a b c text more told.1 all)
 tells_more a b c (Err e) exit text more (inl told) ok err all begun = inr (err, file_then a b c text more told.1 begun)
 tells_more a b c said exit text more (inr stopped) ok err all begun = absurd (not_stopped stopped.0)
@@ -181,6 +182,6 @@ tells_more a b c said exit text more (inr stopped) ok err all begun = absurd (no
     not_stopped is = cc
 
 -- it was not told whole
-pub tells_less : (a b : Option (List ℕ)) (exit : Exit) (text more : List ℕ) → (exit ≡ Refused → ⊥) → Tells Refused exit a b text → Tells Refused exit a b (text ++ more)
+pub tells_less : (a b : Option (List ℕ)) (exit : Exit) (text more : List ℕ) → (exit ≡ Refused → ⊥) → Tells Refused exit (between a b) text → Tells Refused exit (between a b) (text ++ more)
 tells_less a b exit text more other (inl told) = absurd (other told.0)
 tells_less a b exit text more other (inr stopped) = inr (stopped.0, begins-more a b text more stopped.1)

@@ -21,6 +21,7 @@ use Rattle.vm_cli.specs.CachedLines.{buffer_for, IsNotServed, IsServed, answers_
 use Rattle.vm_cli.specs.DelayedLines.{IsRefusedLate, IsServedLate, answers_late, commands_late}
 use Rattle.vm_cli.specs.Exits.{IsJob, Tells}
 use Rattle.vm_cli.specs.Keeps.{Keeps}
+use Rattle.vm_cli.specs.Known.{ProgramStreams, SessionStreams, between, session_of, with_lines}
 use Rattle.vm_cli.specs.Served.{answers_by, commands_by}
 use Rattle.vm_cli.specs.Files.{Answers, Counts, Draws, Declines, Does, Duplicates, FindsFault, KeepsAll, Makes}
 use Rattle.vm_cli.specs.Places.{KeepsOthers, PlaceState}
@@ -57,7 +58,7 @@ enough_blocks blocks available count fine same = elim (cases_lt blocks 64) [
 ]
 
 -- a refusal, or a stop on the way to it, is not that all was done
-pub not_done : (exit : Exit) (before after : Option (List ℕ)) (text : List ℕ) → Tells Refused exit before after text → exit ≢ Done
+pub not_done : (exit : Exit) (before after : Option (List ℕ)) (text : List ℕ) → Tells Refused exit (between before after) text → exit ≢ Done
 not_done exit before after text (inl (is, written)) e = cc
 not_done exit before after text (inr (is, begun)) e = cc
 
@@ -92,7 +93,7 @@ no_fault kind words job asked among = subst (IsAmong kind) asked.0 among
 
 -- lines that were answered over a disk, or over a late disk over it, whose state is that of `delayed_state`
 module _ {D : Type 0} (members : Ghosts D) (late : Ghosts (DelayedDisk D members)) (same : (disk : DelayedDisk D members) → late.state disk ≡ delayed_state members.state disk)
-    (buffer : ℕ) (on : Manner) (found back : D) (exit : Exit) (input before after : Option (List ℕ)) (served : IsServedLate members late buffer on found back exit input before after) (honest : (members.state back).honest ≡ true) where
+    (buffer : ℕ) (on : Manner) (found back : D) (exit : Exit) (known : SessionStreams) (served : IsServedLate members late buffer on found back exit known) (honest : (members.state back).honest ≡ true) where
   -- the late disk was honest at its end
   honest_above : (last : DelayedDisk D members) → back ≡ below last → (late.state last).honest ≡ true
   honest_above last given = rw (same last) (subst (λ (d : D). (members.state d).honest ≡ true) given honest)
@@ -101,7 +102,7 @@ module _ {D : Type 0} (members : Ghosts D) (late : Ghosts (DelayedDisk D members
   pub was_honest_late : (members.state found).honest ≡ true
   was_honest_late = go served
     where
-      go : IsServedLate members late buffer on found back exit input before after → (members.state found).honest ≡ true
+      go : IsServedLate members late buffer on found back exit known → (members.state found).honest ≡ true
       go (inl served) = served.found.earlier (served.goes.earlier honest)
       go (inr over) =
           let first : (late.state over.first).honest ≡ true = over.done.found.earlier (over.done.goes.earlier (honest_above over.last over.given_back)) in
@@ -113,12 +114,12 @@ module _ {D : Type 0} (members : Ghosts D) (late : Ghosts (DelayedDisk D members
       → Keeps (members.state found) (members.state back) (opened seen) (commands_late members late served (opened seen)) (answers_late members late served (opened seen))
   kept_told_late fresh clean seen shows = go served
     where
-      go : (served : IsServedLate members late buffer on found back exit input before after)
+      go : (served : IsServedLate members late buffer on found back exit known)
           → Keeps (members.state found) (members.state back) (opened seen) (commands_late members late served (opened seen)) (answers_late members late served (opened seen))
       go (inl served) = served.kept honest seen (clean_leaves (λ x. Shows x seen) (members.state found).now clean shows)
       go (inr over) =
-          let commands = commands_by on.grouping over.done.first over.done.last (opened seen) on over.done.served before after input (over.done.serves (opened seen)) in
-          let answers = answers_by on.grouping over.done.first over.done.last (opened seen) on over.done.served before after input (over.done.serves (opened seen)) in
+          let commands = commands_by on.grouping over.done.first over.done.last (opened seen) on over.done.served known (over.done.serves (opened seen)) in
+          let answers = answers_by on.grouping over.done.first over.done.last (opened seen) on over.done.served known (over.done.serves (opened seen)) in
           let there = honest_above over.last over.given_back in
           let now : (late.state over.first).now ≡ (members.state found).now = rw (same over.first) over.idle.now in
           let above : Keeps (late.state over.first) (late.state over.last) (opened seen) commands answers =
@@ -171,8 +172,8 @@ module _ {D : Type 0} (members : Ghosts D) (cached : Ghosts (CachedDisk D member
     (same_late : (disk : DelayedDisk D members) → late.state disk ≡ delayed_state members.state disk)
     (same_above : (disk : DelayedDisk (CachedDisk D members) cached) → late_cached.state disk ≡ delayed_state cached.state disk)
     (in_memory : InMemory) (found back : D) where
-  module _ (on : Manner) (exit : Exit) (input before after : Option (List ℕ))
-      (served : IsServed members cached late late_cached in_memory on found back exit input before after) (honest : (members.state back).honest ≡ true) where
+  module _ (on : Manner) (exit : Exit) (known : SessionStreams)
+      (served : IsServed members cached late late_cached in_memory on found back exit known) (honest : (members.state back).honest ≡ true) where
     -- the cache was honest at its end
     cache_honest : (last : CachedDisk D members) → back ≡ inner_of last → (cached.state last).honest ≡ true
     cache_honest last given = rw (same last) (subst (λ (d : D). (members.state d).honest ≡ true) given honest)
@@ -181,25 +182,25 @@ module _ {D : Type 0} (members : Ghosts D) (cached : Ghosts (CachedDisk D member
     pub was_honest : (members.state found).honest ≡ true
     was_honest = go served
       where
-        go : IsServed members cached late late_cached in_memory on found back exit input before after → (members.state found).honest ≡ true
-        go (inl served) = was_honest_late members late same_late (buffer_for in_memory.buffer (members.state found).blocks) on found back exit input before after served honest
+        go : IsServed members cached late late_cached in_memory on found back exit known → (members.state found).honest ≡ true
+        go (inl served) = was_honest_late members late same_late (buffer_for in_memory.buffer (members.state found).blocks) on found back exit known served honest
         go (inr over) =
             honest_below members cached same found over.first over.empty.inner
-            (was_honest_late cached late_cached same_above (buffer_for in_memory.buffer (members.state found).blocks) on over.first over.last exit input before after over.done (cache_honest over.last over.given_back))
+            (was_honest_late cached late_cached same_above (buffer_for in_memory.buffer (members.state found).blocks) on over.first over.last exit known over.done (cache_honest over.last over.given_back))
 
     -- what a crash leaves at each moment, the commands so far keep
     pub kept_told : (members.state found).past ≡ [] → IsClean (members.state found).now → (seen : Seen) → Shows (members.state found).now.contents seen
         → Keeps (members.state found) (members.state back) (opened seen) (commands_told members cached late late_cached in_memory served (opened seen)) (answers_told members cached late late_cached in_memory served (opened seen))
     kept_told fresh clean seen shows = go served
       where
-        go : (served : IsServed members cached late late_cached in_memory on found back exit input before after)
+        go : (served : IsServed members cached late late_cached in_memory on found back exit known)
             → Keeps (members.state found) (members.state back) (opened seen) (commands_told members cached late late_cached in_memory served (opened seen)) (answers_told members cached late late_cached in_memory served (opened seen))
-        go (inl served) = kept_told_late members late same_late (buffer_for in_memory.buffer (members.state found).blocks) on found back exit input before after served honest fresh clean seen shows
+        go (inl served) = kept_told_late members late same_late (buffer_for in_memory.buffer (members.state found).blocks) on found back exit known served honest fresh clean seen shows
         go (inr over) =
             let commands = commands_late cached late_cached over.done (opened seen) in
             let answers = answers_late cached late_cached over.done (opened seen) in
             let above : Keeps (cached.state over.first) (cached.state over.last) (opened seen) commands answers =
-            kept_told_late cached late_cached same_above (buffer_for in_memory.buffer (members.state found).blocks) on over.first over.last exit input before after over.done (cache_honest over.last over.given_back)
+            kept_told_late cached late_cached same_above (buffer_for in_memory.buffer (members.state found).blocks) on over.first over.last exit known over.done (cache_honest over.last over.given_back)
             (fresh_above members cached same found over.first over.empty.inner fresh) (clean_above members cached same found over.first over.empty.inner clean)
             seen (shows_above members cached same found over.first over.empty.inner seen shows) in
             let kept : Keeps (cached_state members.state over.first) (cached_state members.state over.last) (opened seen) commands answers =
@@ -225,13 +226,13 @@ module _ {D : Type 0} (members : Ghosts D) (cached : Ghosts (CachedDisk D member
 
 module _ {D : Type 0} (members : Ghosts D) (cached : Ghosts (CachedDisk D members)) (late : Ghosts (DelayedDisk D members))
     (late_cached : Ghosts (DelayedDisk (CachedDisk D members) cached)) (Untouched Reads Opens : Type 0) (OpensFor : OnCommand → Type 0) (Denied : Text → Type 0) (words : List Text) (exit : Exit)
-    (old new : PlaceState) (input before after errors errors' : Option (List ℕ)) where
+    (old new : PlaceState) (known : ProgramStreams) where
   -- what was done
   abbrev Did : Type 0
-  Did = Does members cached late late_cached Untouched Reads Opens OpensFor Denied words exit old new input before after errors errors'
+  Did = Does members cached late late_cached Untouched Reads Opens OpensFor Denied words exit old new known
 
   -- a store was to be made
-  pub did_create : (name : Text) (blocks : ℕ) → IsJob words (create name blocks) → Opens → Makes members (Denied name) name blocks exit old new before after errors errors' → Did
+  pub did_create : (name : Text) (blocks : ℕ) → IsJob words (create name blocks) → Opens → Makes members (Denied name) name blocks exit old new known.output known.errors → Did
   did_create name blocks job opens makes = record {
     creates = λ other size asked. let same : create other size ≡ create name blocks = one_job words (create name blocks) (create other size) job asked in
         let name_is : other ≡ name = cc in
@@ -247,7 +248,7 @@ module _ {D : Type 0} (members : Ghosts D) (cached : Ghosts (CachedDisk D member
 
   -- lines were to be answered
   pub did_run : (name : Text) (in_memory : InMemory) (on : Manner) → IsJob words (run name in_memory on) → OpensFor on.on_command
-      → Answers members cached late late_cached name in_memory on exit old new input before after ⊎ Declines members (Denied name) name exit old new errors errors' → Did
+      → Answers members cached late late_cached name in_memory on exit old new (session_of known) ⊎ Declines members (Denied name) name exit old new known.errors → Did
   did_run name in_memory on job opens answers = record {
     creates = λ other size asked. let same : create other size ≡ run name in_memory on = one_job words (run name in_memory on) (create other size) job asked in absurd (cc);
     runs = λ other size refusal asked. let same : run other size refusal ≡ run name in_memory on = one_job words (run name in_memory on) (run other size refusal) job asked in
@@ -264,7 +265,7 @@ module _ {D : Type 0} (members : Ghosts D) (cached : Ghosts (CachedDisk D member
 
   -- lines that were given were to be answered
   pub did_lines : (name : Text) (lines : List ℕ) (in_memory : InMemory) (on : Manner) → IsJob words (do_lines name lines in_memory on) → OpensFor on.on_command
-      → Answers members cached late late_cached name in_memory on exit old new (Some lines) before after ⊎ Declines members (Denied name) name exit old new errors errors' → Did
+      → Answers members cached late late_cached name in_memory on exit old new (session_of (with_lines lines known)) ⊎ Declines members (Denied name) name exit old new known.errors → Did
   did_lines name lines in_memory on job opens answers = record {
     creates = λ other size asked. let same : create other size ≡ do_lines name lines in_memory on = one_job words (do_lines name lines in_memory on) (create other size) job asked in absurd (cc);
     runs = λ other size refusal asked. let same : run other size refusal ≡ do_lines name lines in_memory on = one_job words (do_lines name lines in_memory on) (run other size refusal) job asked in absurd (cc);
@@ -282,7 +283,7 @@ module _ {D : Type 0} (members : Ghosts D) (cached : Ghosts (CachedDisk D member
 
   -- a store was to be checked
   pub did_check : (name : Text) → IsJob words (check name) → Reads
-      → Counts members name exit old new before after ⊎ FindsFault members (Denied name) name exit old new errors errors' → Did
+      → Counts members name exit old new known.output ⊎ FindsFault members (Denied name) name exit old new known.errors → Did
   did_check name job reads counts = record {
     creates = λ other size asked. let same : create other size ≡ check name = one_job words (check name) (create other size) job asked in absurd (cc);
     runs = λ other in_memory on asked. let same : run other in_memory on ≡ check name = one_job words (check name) (run other in_memory on) job asked in absurd (cc);
@@ -295,14 +296,14 @@ module _ {D : Type 0} (members : Ghosts D) (cached : Ghosts (CachedDisk D member
     none = λ no. absurd (no (check name) job);
   }
     where
-      told : Counts members name exit old new before after ⊎ FindsFault members (Denied name) name exit old new errors errors'
-          → Counts members name exit old new before after ⊎ (FindsFault members (Denied name) name exit old new errors errors' ⊎ ((exit ≡ Stopped) × Untouched))
+      told : Counts members name exit old new known.output ⊎ FindsFault members (Denied name) name exit old new known.errors
+          → Counts members name exit old new known.output ⊎ (FindsFault members (Denied name) name exit old new known.errors ⊎ ((exit ≡ Stopped) × Untouched))
       told (inl counts) = inl counts
       told (inr declines) = inr (inl declines)
 
   -- a tree was to be drawn
   pub did_draw : (name : Text) → IsJob words (draw name) → Reads
-      → Draws members name exit old new before after ⊎ Declines members (Denied name) name exit old new errors errors' → Did
+      → Draws members name exit old new known.output ⊎ Declines members (Denied name) name exit old new known.errors → Did
   did_draw name job reads drawn = record {
     creates = λ other size asked. let same : create other size ≡ draw name = one_job words (draw name) (create other size) job asked in absurd (cc);
     runs = λ other in_memory on asked. let same : run other in_memory on ≡ draw name = one_job words (draw name) (run other in_memory on) job asked in absurd (cc);
@@ -315,14 +316,14 @@ module _ {D : Type 0} (members : Ghosts D) (cached : Ghosts (CachedDisk D member
     none = λ no. absurd (no (draw name) job);
   }
     where
-      told : Draws members name exit old new before after ⊎ Declines members (Denied name) name exit old new errors errors'
-          → Draws members name exit old new before after ⊎ (Declines members (Denied name) name exit old new errors errors' ⊎ ((exit ≡ Stopped) × Untouched))
+      told : Draws members name exit old new known.output ⊎ Declines members (Denied name) name exit old new known.errors
+          → Draws members name exit old new known.output ⊎ (Declines members (Denied name) name exit old new known.errors ⊎ ((exit ≡ Stopped) × Untouched))
       told (inl drawn) = inl drawn
       told (inr declines) = inr (inl declines)
 
   -- a store was to be copied
   pub did_copy : (name to : Text) (blocks : Option ℕ) → IsJob words (copy name to blocks)
-      → Duplicates members Reads Opens Denied name to blocks exit old new before after errors errors' ⊎ (Reads × Declines members (Denied name) name exit old new errors errors') → Did
+      → Duplicates members Reads Opens Denied name to blocks exit old new known.output known.errors ⊎ (Reads × Declines members (Denied name) name exit old new known.errors) → Did
   did_copy name to blocks job copied = record {
     creates = λ other size asked. let same : create other size ≡ copy name to blocks = one_job words (copy name to blocks) (create other size) job asked in absurd (cc);
     runs = λ other in_memory on asked. let same : run other in_memory on ≡ copy name to blocks = one_job words (copy name to blocks) (run other in_memory on) job asked in absurd (cc);
@@ -337,8 +338,8 @@ module _ {D : Type 0} (members : Ghosts D) (cached : Ghosts (CachedDisk D member
     none = λ no. absurd (no (copy name to blocks) job);
   }
     where
-      told : Duplicates members Reads Opens Denied name to blocks exit old new before after errors errors' ⊎ (Reads × Declines members (Denied name) name exit old new errors errors')
-          → Duplicates members Reads Opens Denied name to blocks exit old new before after errors errors' ⊎ ((Reads × Declines members (Denied name) name exit old new errors errors') ⊎ ((exit ≡ Stopped) × Untouched))
+      told : Duplicates members Reads Opens Denied name to blocks exit old new known.output known.errors ⊎ (Reads × Declines members (Denied name) name exit old new known.errors)
+          → Duplicates members Reads Opens Denied name to blocks exit old new known.output known.errors ⊎ ((Reads × Declines members (Denied name) name exit old new known.errors) ⊎ ((exit ≡ Stopped) × Untouched))
       told (inl copied) = inl copied
       told (inr declines) = inr (inl declines)
 
@@ -355,10 +356,10 @@ module _ {D : Type 0} (members : Ghosts D) (cached : Ghosts (CachedDisk D member
   }
 
 -- what holds on any place, by the job that the words ask for
-module _ {P D : Type 0} (over : Disks D) (denied : P → List Text) (place place' : P) (words : List Text) (exit : Exit) (input before after errors errors' : Option (List ℕ)) where
+module _ {P D : Type 0} (over : Disks D) (denied : P → List Text) (place place' : P) (words : List Text) (exit : Exit) (known : ProgramStreams) where
   -- lines were to be answered
   pub served_run : (name : Text) (in_memory : InMemory) (on : Manner) → IsJob words (run name in_memory on)
-      → ServesIn over denied place place' name in_memory on exit input before after errors errors' → ServesWords over denied place place' words exit input before after errors errors'
+      → ServesIn over denied place place' name in_memory on exit known → ServesWords over denied place place' words exit known
   served_run name in_memory on job serves = (
     (λ other size refusal asked.
         let same : run other size refusal ≡ run name in_memory on = one_job words (run name in_memory on) (run other size refusal) job asked in
@@ -371,7 +372,7 @@ module _ {P D : Type 0} (over : Disks D) (denied : P → List Text) (place place
 
   -- lines that were given were
   pub served_lines : (name : Text) (lines : List ℕ) (in_memory : InMemory) (on : Manner) → IsJob words (do_lines name lines in_memory on)
-      → ServesIn over denied place place' name in_memory on exit (Some lines) before after errors errors' → ServesWords over denied place place' words exit input before after errors errors'
+      → ServesIn over denied place place' name in_memory on exit (with_lines lines known) → ServesWords over denied place place' words exit known
   served_lines name lines in_memory on job serves = (
     (λ other size refusal asked. let same : run other size refusal ≡ do_lines name lines in_memory on = one_job words (do_lines name lines in_memory on) (run other size refusal) job asked in absurd (cc)),
     (λ other given size refusal asked.
@@ -386,13 +387,13 @@ module _ {P D : Type 0} (over : Disks D) (denied : P → List Text) (place place
   -- no lines were to be answered, or the program stopped before
   pub served_none : ((name : Text) (in_memory : InMemory) (on : Manner) → IsJob words (run name in_memory on) → (exit ≡ Stopped) × (place' ≡ place))
       → ((name : Text) (lines : List ℕ) (in_memory : InMemory) (on : Manner) → IsJob words (do_lines name lines in_memory on) → (exit ≡ Stopped) × (place' ≡ place))
-      → ServesWords over denied place place' words exit input before after errors errors'
+      → ServesWords over denied place place' words exit known
   served_none runs does = ((λ name in_memory on asked. inr (runs name in_memory on asked)), (λ name lines in_memory on asked. inr (does name lines in_memory on asked)))
 
   -- words that ask for something else
   pub served_other : (job : Wanted) → IsJob words job → ((name : Text) (in_memory : InMemory) (on : Manner) → run name in_memory on ≡ job → ⊥)
       → ((name : Text) (lines : List ℕ) (in_memory : InMemory) (on : Manner) → do_lines name lines in_memory on ≡ job → ⊥)
-      → ServesWords over denied place place' words exit input before after errors errors'
+      → ServesWords over denied place place' words exit known
   served_other job asked no_run no_lines = served_none
       (λ name in_memory on other. absurd (no_run name in_memory on (one_job words job (run name in_memory on) asked other)))
       (λ name lines in_memory on other. absurd (no_lines name lines in_memory on (one_job words job (do_lines name lines in_memory on) asked other)))

@@ -1,5 +1,5 @@
 -- A talk in which commands are refused only reads.
-use Rattle.std.proofs.Common.{◌≡◌, inl, inr, ℕ, Bool, true, false, List, [], ◌∷◌, Option, None, Result, Ok, Err, refl, ◌∙◌, subst}
+use Rattle.std.proofs.Common.{◌≡◌, inl, inr, ℕ, Bool, true, false, List, [], ◌∷◌, None, Result, Ok, Err, refl, ◌∙◌, subst}
 use Rattle.vm_types.specs.declared.answer.Answer.{Answer}
 use Rattle.vm_types.specs.declared.command.Command.{Command}
 use Rattle.vm_types.specs.declared.refusal.Refusal.{Refusal}
@@ -9,6 +9,7 @@ use Rattle.vm_store.specs.Store.{IsSameButDisk}
 use Rattle.vm_store.specs.declared.store.Store.{Store}
 use Rattle.vm_cli.specs.Asking.{Request}
 use Rattle.vm_cli.specs.Input.{without_return}
+use Rattle.vm_cli.specs.Known.{SessionStreams}
 use Rattle.vm_cli.specs.Requests.{asked_in, request_of}
 use Rattle.vm_cli.specs.Spaces.{words_of}
 use Rattle.vm_cli.specs.Talk.{Answered, AnsweredRequest, Done, EndsTalk, HandlesLine, Meets, Passes, Serves, Talks, after_line}
@@ -97,12 +98,12 @@ module _ {D : Type 0} {members : _} where
         (talks_pass ended.lines old ended.mid s ended.earlier ended.talked.commands ended.talked.answers ended.talked.refused ended.talked.talks)
         (line_passes ended.mid new _ on refuses ended.line ended.last ends ended.handled)
 
-    pub serves_pass : (old new : Store D members) (s : State) (result : Result Bool ServeFault) (before then known : Option (List ℕ)) → Serves old new s on result before then known → Passes old new None
-    serves_pass old new s (Ok refused) before then known serves =
+    pub serves_pass : (old new : Store D members) (s : State) (result : Result Bool ServeFault) (known : SessionStreams) → Serves old new s on result known → Passes old new None
+    serves_pass old new s (Ok refused) known serves =
         let talked = serves.served.1 in talks_pass _ old new s serves.served.0 talked.commands talked.answers talked.refused talked.talks
-    serves_pass old new s (Err fault.Read) before then known serves =
+    serves_pass old new s (Err fault.Read) known serves =
         let talked = serves.served.4 in talks_pass serves.served.1 old new s serves.served.0 talked.commands talked.answers talked.refused talked.talks
-    serves_pass old new s (Err fault.Unsure) before then known serves = absurd serves.served
-    serves_pass old new s (Err fault.Store) before then known serves = ended_passes old new s true _ serves.served.0 serves.served.1
-    serves_pass old new s (Err fault.Refused) before then known serves = ended_passes old new s false _ serves.served.0 serves.served.1
-    serves_pass old new s (Err fault.Write) before then known serves = ended_passes old new s serves.served.1 _ serves.served.0 serves.served.2
+    serves_pass old new s (Err fault.Unsure) known serves = absurd serves.served
+    serves_pass old new s (Err fault.Store) known serves = ended_passes old new s true _ serves.served.0 serves.served.1
+    serves_pass old new s (Err fault.Refused) known serves = ended_passes old new s false _ serves.served.0 serves.served.1
+    serves_pass old new s (Err fault.Write) known serves = ended_passes old new s serves.served.1 _ serves.served.0 serves.served.2

@@ -1,6 +1,6 @@
 -- Planners and their seats: those who have joined, in parts, and how one of them is found.
-use Rattle.std.proofs.Common.{◌≡◌, ◌≢◌, inl, ◌||◌, ◌+◌, ◌<◌, ◌≤◌, ◌++◌, ◌∙◌, ℕ, zero, suc, Bool, true, false, if◌then◌else◌, is_some, List, [], ◌∷◌, Option, None, Some, Result, Err, ap, sym, refl, subst, arith, append-nil, append_assoc, length, take, drop, get_or, set}
-use Rattle.std.proofs.lemmas.List.{drop_at, drop_more, get_or_at, length-append, set_at, take-append-drop, take_all, take_at, take_more}
+use Rattle.std.proofs.Common.{◌≡◌, ◌≢◌, inl, ◌||◌, ◌+◌, ◌<◌, ◌≤◌, ◌++◌, ◌∙◌, ℕ, zero, suc, Bool, true, false, if◌then◌else◌, is_some, List, [], ◌∷◌, Option, None, Some, Result, Err, ap, sym, refl, subst, arith, append-nil, append_assoc, length, take, drop, get_or}
+use Rattle.std.proofs.lemmas.List.{drop_at, drop_more, get_or_at, length-append, take-append-drop, take_all, take_at, take_more}
 use Rattle.std.specs.Io.KnownBytes.{Appends}
 use Rattle.vm_cli.specs.Carried.{WritesStart}
 use Rattle.vm_cli.specs.Conversations.{AnswersThen, counted_result, some_lines}

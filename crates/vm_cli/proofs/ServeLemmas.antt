@@ -6,6 +6,7 @@ use Rattle.std.specs.Io.KnownBytes.{Consumes, IsAtEnd}
 use Rattle.vm_types.specs.State.{State, after}
 use Rattle.vm_store.specs.declared.store.Store.{Store}
 use Rattle.vm_cli.specs.Feeds.{Fed, Writes}
+use Rattle.vm_cli.specs.Known.{streams_of}
 use Rattle.vm_cli.specs.Lines.{IsPart, lines_of, onto_first}
 use Rattle.vm_cli.specs.Input.{is_nil}
 use Rattle.vm_cli.specs.Talk.{HandlesLine, Serves, ServesLines}
@@ -44,7 +45,7 @@ module _ {D : Type 0} {members : _} (old mid : Store D members) (s : State) (on 
   cut-all = ap lines_of (sym (append-nil bytes)) ∙ f.cut []
 
   -- the input ended with a line's end
-  pub serves-all : (known : Option (List ℕ)) → IfSome known (λ own. own ≡ bytes) → is_nil to ≡ true → Serves old mid s on (Ok refused) a b known
+  pub serves-all : (known : Option (List ℕ)) → IfSome known (λ own. own ≡ bytes) → is_nil to ≡ true → Serves old mid s on (Ok refused) (streams_of known a b)
   serves-all known own e =
       let lines : lines_of bytes ≡ f.lines = cut-all ∙ ap (λ ls. f.lines ++ ls) (no-lines to e) ∙ append-nil f.lines in
       record {
@@ -55,7 +56,7 @@ module _ {D : Type 0} {members : _} (old mid : Store D members) (s : State) (on 
 
   -- it ended within a line
   pub serves-last : (new : Store D members) (c known : Option (List ℕ)) (r : Result Bool ServeFault) → IfSome known (λ own. own ≡ bytes) → IsPart to → is_nil to ≡ false
-      → Writes on (HandlesLine mid new (after s f.talked.commands f.talked.answers) on to) r b c → Serves old new s on (joined refused r) a c known
+      → Writes on (HandlesLine mid new (after s f.talked.commands f.talked.answers) on to) r b c → Serves old new s on (joined refused r) (streams_of known a c)
   serves-last new c known r own part e w =
       let lines : lines_of bytes ≡ f.lines ++ (to ∷ []) = cut-all ∙ ap (λ ls. f.lines ++ ls) (last-line to part e) in
       let line = serves-line mid new (after s f.talked.commands f.talked.answers) on to r b c [] (on_ok r refl) w in
@@ -68,7 +69,7 @@ module _ {D : Type 0} {members : _} (old mid : Store D members) (s : State) (on 
       }
 
   -- the reader failed
-  pub serves-read : (known left : Option (List ℕ)) → Consumes known left bytes → Serves old mid s on (Err fault.Read) a b known
+  pub serves-read : (known left : Option (List ℕ)) → Consumes known left bytes → Serves old mid s on (Err fault.Read) (streams_of known a b)
   serves-read known left read =
       let rest = read-some known left bytes read in
       record {
@@ -79,7 +80,7 @@ module _ {D : Type 0} {members : _} (old mid : Store D members) (s : State) (on 
 
 -- the talk ended among these bytes
 pub serves-some : {D : Type 0} {members : _} (old new : Store D members) (s : State) (on : Manner) (result : Result Bool ServeFault) (a c known left : Option (List ℕ)) (bytes : List ℕ) → Consumes known left bytes
-    → ((more : List ℕ) → ServesLines old new s on result a c (lines_of (bytes ++ more))) → Serves old new s on result a c known
+    → ((more : List ℕ) → ServesLines old new s on result a c (lines_of (bytes ++ more))) → Serves old new s on result (streams_of known a c)
 serves-some old new s on result a c known left bytes read ended =
     let rest = read-some known left bytes read in
     record { input = bytes ++ rest.0; own = rest.1; served = ended rest.0 }

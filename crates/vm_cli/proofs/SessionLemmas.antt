@@ -1,5 +1,5 @@
 -- What a crash leaves from the moment at which a disk is found to that at which it comes back.
-use Rattle.std.proofs.Common.{◌≡◌, inl, inr, ℕ, Bool, true, false, List, [], length, Option, Result, Ok, Err, refl, sym, ap, ◌∙◌, subst, arith}
+use Rattle.std.proofs.Common.{◌≡◌, inl, inr, Bool, true, false, [], length, Result, Ok, Err, refl, sym, ap, ◌∙◌, subst, arith}
 use Rattle.std.proofs.lemmas.List.{ext_get_or}
 use Rattle.vm_types.specs.State.{Seen, State, opened}
 use Rattle.vm_disk.specs.Disk as disk
@@ -13,6 +13,7 @@ use Rattle.vm_store.specs.Shown.{Shows}
 use Rattle.vm_store.specs.Store.{Holds, disk_of, has_failed}
 use Rattle.vm_store.specs.declared.store.Store.{Store}
 use Rattle.vm_cli.specs.Keeps.{Keeps}
+use Rattle.vm_cli.specs.Known.{SessionStreams}
 use Rattle.vm_cli.specs.Served.{IsWholeBy, ServesBy, answers_by, commands_by}
 use Rattle.vm_cli.specs.Exits.{MayEnd}
 use Rattle.vm_cli.specs.Sessions.{end_of, end_refused}
@@ -58,32 +59,32 @@ module _ (old new : DiskState) (seen : Seen) (leaves : Leaves (λ x. Shows x see
 
 -- a session keeps what its commands commit
 served_keeps : {D : Type 0} {members : _} (start : DiskState) (s : State) (old new : Store D members) → SoFar start s old [] [] → (members.state (disk_of new)).honest ≡ true → has_failed old ≡ false → Holds old s
-    → (grouping : Grouping) (on : Manner) (result : Result Bool ServeFault) (before then known : Option (List ℕ)) (serves : ServesBy grouping old new s on result before then known)
-    → Keeps start (members.state (disk_of new)) s (commands_by grouping old new s on result before then known serves) (answers_by grouping old new s on result before then known serves)
-served_keeps start s old new so_far honest sound holds Lines on result before then known serves = serves_keeps start s old new so_far honest sound holds on result before then known serves
-served_keeps start s old new so_far honest sound holds Batches on result before then known serves = stream_keeps batches_sound start s old new so_far honest sound holds on result _ serves
-served_keeps start s old new so_far honest sound holds Planners on result before then known serves = stream_keeps planners_sound start s old new so_far honest sound holds (telling on) result _ serves
+    → (grouping : Grouping) (on : Manner) (result : Result Bool ServeFault) (known : SessionStreams) (serves : ServesBy grouping old new s on result known)
+    → Keeps start (members.state (disk_of new)) s (commands_by grouping old new s on result known serves) (answers_by grouping old new s on result known serves)
+served_keeps start s old new so_far honest sound holds Lines on result known serves = serves_keeps start s old new so_far honest sound holds on result known serves
+served_keeps start s old new so_far honest sound holds Batches on result known serves = stream_keeps batches_sound start s old new so_far honest sound holds on result known serves
+served_keeps start s old new so_far honest sound holds Planners on result known serves = stream_keeps planners_sound start s old new so_far honest sound holds (telling on) result known serves
 
 -- and so does one on which lines were answered
 module _ {D : Type 0} {members : _} (old : DiskState) (first last : Store D members) (opens : (members.state (disk_of first)).honest ≡ true → OpensAs old.now.contents first)
     (synced : (members.state (disk_of first)).honest ≡ true → Throughout old (members.state (disk_of first)) (IsAtMostSynced old.now)) (well : has_failed first ≡ false) (goes : Grows ⊥ (members.state (disk_of first)) (members.state (disk_of last))) where
-  session_keeps : (on : Manner) (result : Result Bool ServeFault) (before then known : Option (List ℕ)) (serves : (s : State) → ServesBy on.grouping first last s on result before then known)
+  session_keeps : (on : Manner) (result : Result Bool ServeFault) (known : SessionStreams) (serves : (s : State) → ServesBy on.grouping first last s on result known)
       → (members.state (disk_of last)).honest ≡ true → (seen : Seen) → Leaves (λ x. Shows x seen) old.now
-      → Keeps old (members.state (disk_of last)) (opened seen) (commands_by on.grouping first last (opened seen) on result before then known (serves (opened seen))) (answers_by on.grouping first last (opened seen) on result before then known (serves (opened seen)))
-  session_keeps on result before then known serves honest seen leaves =
+      → Keeps old (members.state (disk_of last)) (opened seen) (commands_by on.grouping first last (opened seen) on result known (serves (opened seen))) (answers_by on.grouping first last (opened seen) on result known (serves (opened seen)))
+  session_keeps on result known serves honest seen leaves =
       let honest_first = goes.earlier honest in
       let at_first = (opens honest_first).stands seen (leaves_held (λ x. Shows x seen) old.now leaves) in
       served_keeps old (opened seen) first last (synced_keeping old (members.state (disk_of first)) seen leaves (synced honest_first)) honest well
-      at_first.holds on.grouping on result before then known (serves (opened seen))
+      at_first.holds on.grouping on result known (serves (opened seen))
 
   -- also on the disk that the store gives back
-  pub session_kept : (on : Manner) (result : Result Bool ServeFault) (before then known : Option (List ℕ)) (serves : (s : State) → ServesBy on.grouping first last s on result before then known)
+  pub session_kept : (on : Manner) (result : Result Bool ServeFault) (known : SessionStreams) (serves : (s : State) → ServesBy on.grouping first last s on result known)
       → (new : D) → new ≡ disk_of last → (members.state new).honest ≡ true → (seen : Seen)
       → Leaves (λ x. Shows x seen) old.now
-      → Keeps old (members.state new) (opened seen) (commands_by on.grouping first last (opened seen) on result before then known (serves (opened seen))) (answers_by on.grouping first last (opened seen) on result before then known (serves (opened seen)))
-  session_kept on result before then known serves new given honest seen leaves =
-      subst (λ d. Keeps old (members.state d) (opened seen) (commands_by on.grouping first last (opened seen) on result before then known (serves (opened seen))) (answers_by on.grouping first last (opened seen) on result before then known (serves (opened seen)))) (sym given)
-      (session_keeps on result before then known serves (subst (λ d. (members.state d).honest ≡ true) given honest) seen leaves)
+      → Keeps old (members.state new) (opened seen) (commands_by on.grouping first last (opened seen) on result known (serves (opened seen))) (answers_by on.grouping first last (opened seen) on result known (serves (opened seen)))
+  session_kept on result known serves new given honest seen leaves =
+      subst (λ d. Keeps old (members.state d) (opened seen) (commands_by on.grouping first last (opened seen) on result known (serves (opened seen))) (answers_by on.grouping first last (opened seen) on result known (serves (opened seen)))) (sym given)
+      (session_keeps on result known serves (subst (λ d. (members.state d).honest ≡ true) given honest) seen leaves)
 
 -- how the program may end after a talk in which a line was refused
 after_refusal : (on : OnRefusal) → MayEnd on (end_refused on)
@@ -92,27 +93,27 @@ after_refusal Tell = inr (inr (refl, λ e. cc))
 after_refusal Stop = inr (inr (refl, λ e. cc))
 
 -- the batches of a session are whole
-pub served_whole : {D : Type 0} {members : _} (first last : Store D members) (s : State) (grouping : Grouping) (on : Manner) (result : Result Bool ServeFault) (before then known : Option (List ℕ))
-    → (serves : ServesBy grouping first last s on result before then known) → IsWholeBy grouping first last s on result before then known serves
-served_whole first last s Lines on result before then known serves = tt
-served_whole first last s Batches on result before then known serves = stream_is_whole batches_sound on first last s result _ serves
-served_whole first last s Planners on result before then known serves = stream_is_whole planners_sound (telling on) first last s result _ serves
+pub served_whole : {D : Type 0} {members : _} (first last : Store D members) (s : State) (grouping : Grouping) (on : Manner) (result : Result Bool ServeFault) (known : SessionStreams)
+    → (serves : ServesBy grouping first last s on result known) → IsWholeBy grouping first last s on result known serves
+served_whole first last s Lines on result known serves = tt
+served_whole first last s Batches on result known serves = stream_is_whole batches_sound on first last s result known serves
+served_whole first last s Planners on result known serves = stream_is_whole planners_sound (telling on) first last s result known serves
 
 -- a refusal ends a session only where it is to
-refused_stops : {D : Type 0} {members : _} (first last : Store D members) (s : State) (grouping : Grouping) (on : Manner) (before then known : Option (List ℕ)) → ServesBy grouping first last s on (Err fault.Refused) before then known
+refused_stops : {D : Type 0} {members : _} (first last : Store D members) (s : State) (grouping : Grouping) (on : Manner) (known : SessionStreams) → ServesBy grouping first last s on (Err fault.Refused) known
     → on.on_refusal ≡ Stop
-refused_stops first last s Lines on before then known serves = serves.served.3
-refused_stops first last s Batches on before then known serves = serves.served.1
-refused_stops first last s Planners on before then known serves = let bad : Tell ≡ Stop = serves.served.1 in cc
+refused_stops first last s Lines on known serves = serves.served.3
+refused_stops first last s Batches on known serves = serves.served.1
+refused_stops first last s Planners on known serves = let bad : Tell ≡ Stop = serves.served.1 in cc
 
 -- how the program may end after a session
-pub may_end : {D : Type 0} {members : _} (first last : Store D members) (s : State) (on : Manner) (result : Result Bool ServeFault) (before then known : Option (List ℕ)) → ServesBy on.grouping first last s on result before then known
+pub may_end : {D : Type 0} {members : _} (first last : Store D members) (s : State) (on : Manner) (result : Result Bool ServeFault) (known : SessionStreams) → ServesBy on.grouping first last s on result known
     → MayEnd on.on_refusal (end_of on.on_refusal result)
-may_end first last s on (Ok false) before then known serves = inl refl
-may_end first last s on (Ok true) before then known serves = after_refusal on.on_refusal
-may_end first last s on (Err fault.Read) before then known serves = inr (inl refl)
-may_end first last s on (Err fault.Unsure) before then known serves = inr (inl refl)
-may_end first last s on (Err fault.Write) before then known serves = inr (inl refl)
-may_end first last s on (Err fault.Store) before then known serves = inr (inl refl)
-may_end first last s on (Err fault.Refused) before then known serves =
-    inr (inr (refl, λ ignored. let bad : Ignore ≡ Stop = sym ignored ∙ refused_stops first last s on.grouping on before then known serves in cc))
+may_end first last s on (Ok false) known serves = inl refl
+may_end first last s on (Ok true) known serves = after_refusal on.on_refusal
+may_end first last s on (Err fault.Read) known serves = inr (inl refl)
+may_end first last s on (Err fault.Unsure) known serves = inr (inl refl)
+may_end first last s on (Err fault.Write) known serves = inr (inl refl)
+may_end first last s on (Err fault.Store) known serves = inr (inl refl)
+may_end first last s on (Err fault.Refused) known serves =
+    inr (inr (refl, λ ignored. let bad : Ignore ≡ Stop = sym ignored ∙ refused_stops first last s on.grouping on known serves in cc))

@@ -7,7 +7,8 @@ use Rattle.vm_disk.specs.declared.disk.Disk.{Ghosts}
 use Rattle.vm_store.specs.Shown.{new_store}
 use Rattle.vm_store.specs.declared.store.Store.{Store}
 use Rattle.vm_cli.specs.Carried.{WritesStart}
-use Rattle.vm_cli.specs.Conversations.{AnswersThen, Conversation, Course, EndsInput, EndsWithLine, HasTaken, RunsStream, ServesInput, SessionStreams, TakesEach, TakesTo, Tells, counted_result, ended_lines, half_lines, some_lines, streams_of}
+use Rattle.vm_cli.specs.Conversations.{AnswersThen, Conversation, Course, EndsInput, EndsWithLine, HasTaken, RunsStream, ServesInput, TakesEach, TakesTo, Tells, counted_result, ended_lines, half_lines, some_lines}
+use Rattle.vm_cli.specs.Known.{SessionStreams, streams_of}
 use Rattle.vm_cli.specs.Conversations.Course.{over, proceeds}
 use Rattle.vm_cli.specs.Feeds.{TalksOn}
 use Rattle.vm_cli.specs.Input.{is_nil}

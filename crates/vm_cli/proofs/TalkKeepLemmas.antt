@@ -1,5 +1,5 @@
 -- What a crash leaves at each moment of a talk: one line after another.
-use Rattle.std.proofs.Common.{◌≡◌, ◌⊎◌, inl, inr, ℕ, Bool, true, false, List, [], ◌∷◌, ◌++◌, length, Option, Some, None, Result, Ok, Err, refl, sym, ap, ◌∙◌, subst, append_assoc, append-nil, arith}
+use Rattle.std.proofs.Common.{◌≡◌, ◌⊎◌, inl, inr, ℕ, Bool, true, false, List, [], ◌∷◌, ◌++◌, length, Some, None, Result, Ok, Err, refl, sym, ap, ◌∙◌, subst, append_assoc, append-nil, arith}
 use Rattle.std.proofs.lemmas.List.{length-append}
 use Rattle.vm_types.specs.declared.answer.Answer.{Answer}
 use Rattle.vm_types.specs.declared.command.Command.{Command}
@@ -14,6 +14,7 @@ use Rattle.vm_store.specs.declared.store.Store.{Store}
 use Rattle.vm_store.proofs.RunLemmas.{ShowsCommitted, rests_show}
 use Rattle.vm_cli.specs.Keeps.{Keeps, answers_of, commands_of}
 use Rattle.vm_cli.specs.Input.{without_return}
+use Rattle.vm_cli.specs.Known.{SessionStreams}
 use Rattle.vm_cli.specs.Requests.{asked_in, request_of}
 use Rattle.vm_cli.specs.Spaces.{words_of}
 use Rattle.vm_cli.specs.Talk.{Answered, AnsweredRequest, Done, EndsTalk, HasTalked, Passes, Serves, Talks, after_each, after_line, each_answer, each_command, with_answer, with_command}
@@ -237,11 +238,11 @@ module _ {D : Type 0} {members : _} where
     -- each talk
     pub serves_keeps : (old new : Store D members) → SoFar old [] [] → (members.state (disk_of new)).honest ≡ true
         → has_failed old ≡ false → Holds old s
-        → (on : Manner) (result : Result Bool ServeFault) (before then known : Option (List ℕ)) (serves : Serves old new s on result before then known)
+        → (on : Manner) (result : Result Bool ServeFault) (known : SessionStreams) (serves : Serves old new s on result known)
         → Keeps start (members.state (disk_of new)) s (commands_of serves) (answers_of serves)
-    serves_keeps old new so_far honest sound holds on (Ok refused) before then known serves = keeps start (members.state (disk_of new)) s _ _ (talked_keeping old new so_far honest sound holds on _ serves.served.0 serves.served.1)
-    serves_keeps old new so_far honest sound holds on (Err fault.Read) before then known serves = keeps start (members.state (disk_of new)) s _ _ (talked_keeping old new so_far honest sound holds on serves.served.1 serves.served.0 serves.served.4)
-    serves_keeps old new so_far honest sound holds on (Err fault.Unsure) before then known serves = absurd serves.served
-    serves_keeps old new so_far honest sound holds on (Err fault.Store) before then known serves = ended_keeps old new so_far honest sound holds on true _ serves.served.0 serves.served.1
-    serves_keeps old new so_far honest sound holds on (Err fault.Refused) before then known serves = ended_keeps old new so_far honest sound holds on false _ serves.served.0 serves.served.1
-    serves_keeps old new so_far honest sound holds on (Err fault.Write) before then known serves = ended_keeps old new so_far honest sound holds on serves.served.1 _ serves.served.0 serves.served.2
+    serves_keeps old new so_far honest sound holds on (Ok refused) known serves = keeps start (members.state (disk_of new)) s _ _ (talked_keeping old new so_far honest sound holds on _ serves.served.0 serves.served.1)
+    serves_keeps old new so_far honest sound holds on (Err fault.Read) known serves = keeps start (members.state (disk_of new)) s _ _ (talked_keeping old new so_far honest sound holds on serves.served.1 serves.served.0 serves.served.4)
+    serves_keeps old new so_far honest sound holds on (Err fault.Unsure) known serves = absurd serves.served
+    serves_keeps old new so_far honest sound holds on (Err fault.Store) known serves = ended_keeps old new so_far honest sound holds on true _ serves.served.0 serves.served.1
+    serves_keeps old new so_far honest sound holds on (Err fault.Refused) known serves = ended_keeps old new so_far honest sound holds on false _ serves.served.0 serves.served.1
+    serves_keeps old new so_far honest sound holds on (Err fault.Write) known serves = ended_keeps old new so_far honest sound holds on serves.served.1 _ serves.served.0 serves.served.2

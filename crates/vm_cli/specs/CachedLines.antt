@@ -10,6 +10,7 @@ use Rattle.vm_disk.specs.declared.cached.CachedDisk.{CachedDisk}
 use Rattle.vm_disk.specs.declared.delayed.DelayedDisk.{DelayedDisk}
 use Rattle.vm_disk.specs.declared.disk.Disk.{Ghosts}
 use Rattle.vm_cli.specs.DelayedLines.{IsRefusedLate, IsServedLate, answers_late, commands_late}
+use Rattle.vm_cli.specs.Known.{SessionStreams}
 use Rattle.vm_cli.specs.declared.program.Exit.{Exit}
 use Rattle.vm_cli.specs.declared.program.opening.NoStore.{NoStore}
 use Rattle.vm_cli.specs.declared.program.task.InMemory.{InMemory}
@@ -34,10 +35,10 @@ module _ {D : Type 0} (members : Ghosts D) where
 module _ {D : Type 0} (members : Ghosts D) (cached : Ghosts (CachedDisk D members)) (late : Ghosts (DelayedDisk D members))
     (late_cached : Ghosts (DelayedDisk (CachedDisk D members) cached)) where
   -- lines were answered over a disk, or over a cache of its blocks; either way with a delayed disk over that or without
-  abbrev pub IsServed : InMemory → Manner → D → D → Exit → Option (List ℕ) → Option (List ℕ) → Option (List ℕ) → Type 0
-  IsServed in_memory on old new exit input before after =
-      IsServedLate members late (buffer_for in_memory.buffer (members.state old).blocks) on old new exit input before after
-      ⊎ IsDoneOverCache members in_memory.cache (λ first last. IsServedLate cached late_cached (buffer_for in_memory.buffer (members.state old).blocks) on first last exit input before after) old new
+  abbrev pub IsServed : InMemory → Manner → D → D → Exit → SessionStreams → Type 0
+  IsServed in_memory on old new exit known =
+      IsServedLate members late (buffer_for in_memory.buffer (members.state old).blocks) on old new exit known
+      ⊎ IsDoneOverCache members in_memory.cache (λ first last. IsServedLate cached late_cached (buffer_for in_memory.buffer (members.state old).blocks) on first last exit known) old new
 
   -- a disk was refused, itself or with a cache of its blocks over it; either way with a delayed disk over that or without
   abbrev pub IsNotServed : InMemory → D → D → NoStore → Type 0
@@ -46,13 +47,13 @@ module _ {D : Type 0} (members : Ghosts D) (cached : Ghosts (CachedDisk D member
       ⊎ IsDoneOverCache members in_memory.cache (λ first last. IsRefusedLate cached late_cached (buffer_for in_memory.buffer (members.state old).blocks) first last why) old new
 
   -- the commands among these lines, if the store stood for this state at first
-  abbrev pub commands_told : (in_memory : InMemory) {on : Manner} {old new : D} {exit : Exit} {input before after : Option (List ℕ)}
-      → IsServed in_memory on old new exit input before after → State → List Command
+  abbrev pub commands_told : (in_memory : InMemory) {on : Manner} {old new : D} {exit : Exit} {known : SessionStreams}
+      → IsServed in_memory on old new exit known → State → List Command
   commands_told in_memory (inl served) s = commands_late members late served s
   commands_told in_memory (inr over) s = commands_late cached late_cached over.done s
 
   -- the answers to them
-  abbrev pub answers_told : (in_memory : InMemory) {on : Manner} {old new : D} {exit : Exit} {input before after : Option (List ℕ)}
-      → IsServed in_memory on old new exit input before after → State → List (Result Answer Refusal)
+  abbrev pub answers_told : (in_memory : InMemory) {on : Manner} {old new : D} {exit : Exit} {known : SessionStreams}
+      → IsServed in_memory on old new exit known → State → List (Result Answer Refusal)
   answers_told in_memory (inl served) s = answers_late members late served s
   answers_told in_memory (inr over) s = answers_late cached late_cached over.done s

@@ -6,6 +6,7 @@ use Rattle.vm_disk.specs.declared.disk.Disk.{Ghosts}
 use Rattle.vm_store.specs.declared.store.Store.{Store}
 use Rattle.vm_cli.specs.Carried.{WritesStart}
 use Rattle.vm_cli.specs.Feeds.{ServesOn}
+use Rattle.vm_cli.specs.Known.{SessionStreams}
 use Rattle.vm_cli.specs.Lines.{IsPart}
 use Rattle.vm_cli.specs.Rounds.{Round, after_rounds}
 use Rattle.vm_cli.specs.declared.answers.output.WriteFault.{WriteFault}
@@ -35,16 +36,7 @@ pub record Conversation (D : Type 0) (members : Ghosts D) : Type 1 where
   pub end_text : Stage → ℕ → List ℕ
   pub end_count : Stage → ℕ → ℕ
 
--- ---- an input and its streams
-
--- what is known of the streams of a session: what the reader had to give, and what the writer held before the session and holds after it
-pub record SessionStreams : Type 0 where
-  pub input : Option (List ℕ)
-  pub before : Option (List ℕ)
-  pub after : Option (List ℕ)
-
-abbrev pub streams_of : Option (List ℕ) → Option (List ℕ) → Option (List ℕ) → SessionStreams
-streams_of input before after = record { input = input; before = before; after = after }
+-- ---- an input
 
 -- lines, each with the line feed (10) at its end
 abbrev pub ended_lines : List (List ℕ) → List ℕ

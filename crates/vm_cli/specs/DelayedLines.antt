@@ -1,5 +1,5 @@
 -- What becomes of a disk while written blocks of it wait in memory.
-use Rattle.std.specs.Prelude.{◌≡◌, ◌⊎◌, ◌<◌, ℕ, true, List, Option, Result}
+use Rattle.std.specs.Prelude.{◌≡◌, ◌⊎◌, ◌<◌, ℕ, true, List, Result}
 use Rattle.std.proofs.Common.{inl, inr}
 use Rattle.vm_types.specs.declared.answer.Answer.{Answer}
 use Rattle.vm_types.specs.declared.command.Command.{Command}
@@ -8,6 +8,7 @@ use Rattle.vm_types.specs.State.{State}
 use Rattle.vm_disk.specs.Delayed.{FollowsBelow, IsIdleOver, delayed_state, inner_of}
 use Rattle.vm_disk.specs.declared.delayed.DelayedDisk.{DelayedDisk}
 use Rattle.vm_disk.specs.declared.disk.Disk.{Ghosts}
+use Rattle.vm_cli.specs.Known.{SessionStreams}
 use Rattle.vm_cli.specs.Served.{answers_by, commands_by}
 use Rattle.vm_cli.specs.Openings.{HasRefused}
 use Rattle.vm_cli.specs.Sessions.{HasServed}
@@ -35,19 +36,19 @@ module _ {D : Type 0} (members : Ghosts D) (late : Ghosts (DelayedDisk D members
 
 module _ {D : Type 0} (members : Ghosts D) (late : Ghosts (DelayedDisk D members)) where
   -- lines were answered over a disk itself, or over a delayed disk over it
-  abbrev pub IsServedLate : ℕ → Manner → D → D → Exit → Option (List ℕ) → Option (List ℕ) → Option (List ℕ) → Type 0
-  IsServedLate buffer on old new exit input before after =
-      HasServed members on old new exit input before after
-      ⊎ IsDoneLate members buffer (λ first last. HasServed late on first last exit input before after) old new
+  abbrev pub IsServedLate : ℕ → Manner → D → D → Exit → SessionStreams → Type 0
+  IsServedLate buffer on old new exit known =
+      HasServed members on old new exit known
+      ⊎ IsDoneLate members buffer (λ first last. HasServed late on first last exit known) old new
 
   -- the commands among these lines, if the store stood for this state at first
-  abbrev pub commands_late : {buffer : ℕ} {on : Manner} {old new : D} {exit : Exit} {input before after : Option (List ℕ)}
-      → IsServedLate buffer on old new exit input before after → State → List Command
-  commands_late {on = on} {input = input} {before = before} {after = after} (inl served) s = commands_by on.grouping served.first served.last s on served.served before after input (served.serves s)
-  commands_late {on = on} {input = input} {before = before} {after = after} (inr over) s = commands_by on.grouping over.done.first over.done.last s on over.done.served before after input (over.done.serves s)
+  abbrev pub commands_late : {buffer : ℕ} {on : Manner} {old new : D} {exit : Exit} {known : SessionStreams}
+      → IsServedLate buffer on old new exit known → State → List Command
+  commands_late {on = on} {known = known} (inl served) s = commands_by on.grouping served.first served.last s on served.served known (served.serves s)
+  commands_late {on = on} {known = known} (inr over) s = commands_by on.grouping over.done.first over.done.last s on over.done.served known (over.done.serves s)
 
   -- the answers to them
-  abbrev pub answers_late : {buffer : ℕ} {on : Manner} {old new : D} {exit : Exit} {input before after : Option (List ℕ)}
-      → IsServedLate buffer on old new exit input before after → State → List (Result Answer Refusal)
-  answers_late {on = on} {input = input} {before = before} {after = after} (inl served) s = answers_by on.grouping served.first served.last s on served.served before after input (served.serves s)
-  answers_late {on = on} {input = input} {before = before} {after = after} (inr over) s = answers_by on.grouping over.done.first over.done.last s on over.done.served before after input (over.done.serves s)
+  abbrev pub answers_late : {buffer : ℕ} {on : Manner} {old new : D} {exit : Exit} {known : SessionStreams}
+      → IsServedLate buffer on old new exit known → State → List (Result Answer Refusal)
+  answers_late {on = on} {known = known} (inl served) s = answers_by on.grouping served.first served.last s on served.served known (served.serves s)
+  answers_late {on = on} {known = known} (inr over) s = answers_by on.grouping over.done.first over.done.last s on over.done.served known (over.done.serves s)

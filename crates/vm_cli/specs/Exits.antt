@@ -14,6 +14,7 @@ use Rattle.vm_alloc.specs.Marks.{is_marked}
 use Rattle.vm_store.specs.NewStore.{IsOfFormat}
 use Rattle.vm_cli.specs.Carried.{WritesStart}
 use Rattle.vm_cli.specs.Branches.{Branch, drawing}
+use Rattle.vm_cli.specs.Known.{Written, written_to}
 use Rattle.vm_cli.specs.Openings.{told_of}
 use Rattle.vm_cli.specs.Words.{Wanted, altctl, asked_of}
 use Rattle.vm_cli.specs.Words.Wanted.{check, copy, create, do_lines, draw, run}
@@ -187,12 +188,12 @@ MayEnd on exit = (exit ≡ Done) ⊎ ((exit ≡ Stopped) ⊎ ((exit ≡ LineRefu
 -- ---- ends
 
 -- a text was meant for a writer, with this end: it was written whole, or begun when the program stopped
-abbrev pub Tells : Exit → Exit → Option (List ℕ) → Option (List ℕ) → List ℕ → Type 0
-Tells meant exit before after text = ((exit ≡ meant) × Appends before after text) ⊎ ((exit ≡ Stopped) × WritesStart before after text)
+abbrev pub Tells : Exit → Exit → Written → List ℕ → Type 0
+Tells meant exit written text = ((exit ≡ meant) × Appends written.before written.after text) ⊎ ((exit ≡ Stopped) × WritesStart written.before written.after text)
 
 -- the same, of a text that was meant for this writer
 abbrev pub TellsOn : {W : Type 0} → (W → Option (List ℕ)) → Exit → Exit → W → W → List ℕ → Type 0
-TellsOn contents meant exit writer writer' text = Tells meant exit (contents writer) (contents writer') text
+TellsOn contents meant exit writer writer' text = Tells meant exit (written_to contents writer writer') text
 
 -- the same, of a text that says why a file or its disk was refused
 abbrev pub RefusesOn : {W : Type 0} → (W → Option (List ℕ)) → Exit → W → W → List ℕ → Type 0

@@ -13,6 +13,7 @@ use Rattle.vm_cli.specs.Lines.{lines_of}
 use Rattle.vm_cli.specs.Replies.{ends_talk, is_error, reply_text}
 use Rattle.vm_store.specs.Store.{GoesOn, GrowsOn, has_failed}
 use Rattle.vm_cli.specs.Input.{HoldsLine}
+use Rattle.vm_cli.specs.Known.{streams_of}
 use Rattle.vm_cli.specs.Talk.{AnsweredRequest, Done, EndsBy, FailsByDevice, Handled, HandlesLine, HasTalked, Serves, ServesLines, StoreFails, Tries, error_text}
 use Rattle.vm_cli.specs.declared.lines.line.Line.{Line}
 use Rattle.vm_cli.specs.declared.answers.reply.Reply.{Reply}
@@ -178,7 +179,7 @@ module _ {D W : Type 0} {members : _} (contents : W → Option (List ℕ)) where
 
   -- a talk over what the reader has to give
   abbrev pub ServesEach : Manner → Result Bool ServeFault → Store D members → Store D members → Option (List ℕ) → W → W → Type 0
-  ServesEach on result old new known writer writer' = (s : State) → Serves old new s on result (contents writer) (contents writer') known
+  ServesEach on result old new known writer writer' = (s : State) → Serves old new s on result (streams_of known (contents writer) (contents writer'))
 
 -- a session goes on with the same store, writer and manner
 abbrev pub Stays : {D W : Type 0} {members : _} → Session W D members → Session W D members → Type 0

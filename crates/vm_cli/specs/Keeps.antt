@@ -1,5 +1,5 @@
 -- What a crash leaves at each moment of a talk.
-use Rattle.std.specs.Prelude.{◌≤◌, ℕ, Bool, List, [], ◌++◌, Option, Result, Ok, Err}
+use Rattle.std.specs.Prelude.{◌≤◌, ℕ, Bool, List, [], ◌++◌, Result, Ok, Err}
 use Rattle.vm_types.specs.declared.answer.Answer.{Answer}
 use Rattle.vm_types.specs.declared.command.Command.{Command}
 use Rattle.vm_types.specs.declared.refusal.Refusal.{Refusal}
@@ -9,6 +9,7 @@ use Rattle.vm_types.specs.State.{State}
 use Rattle.vm_disk.specs.Disk.{Contents, DiskState, LeftAt, moment}
 use Rattle.vm_store.specs.Shown.{Shows}
 use Rattle.vm_store.specs.declared.store.Store.{Store}
+use Rattle.vm_cli.specs.Known.{SessionStreams}
 use Rattle.vm_cli.specs.Talk.{EndsTalk, Serves, with_answer, with_command}
 use Rattle.vm_cli.specs.declared.talk.Manner.{Manner}
 use Rattle.vm_cli.specs.declared.talk.ServeFault.{ServeFault}
@@ -39,8 +40,8 @@ module _ {D : Type 0} {members : _} where
   answers_ended ended = ended.talked.answers ++ with_answer ended.handled.done []
 
   -- the commands among the lines that a talk answered, even the last one if its answer wasn't written whole
-  abbrev pub commands_of : {old new : Store D members} {s : State} {on : Manner} {result : Result Bool ServeFault}
-      {before after known : Option (List ℕ)} → Serves old new s on result before after known → List Command
+  abbrev pub commands_of : {old new : Store D members} {s : State} {on : Manner} {result : Result Bool ServeFault} {known : SessionStreams}
+      → Serves old new s on result known → List Command
   commands_of {result = Ok refused} serves = serves.served.1.commands
   commands_of {result = Err fault.Read} serves = serves.served.4.commands
   commands_of {result = Err fault.Unsure} serves = []
@@ -49,8 +50,8 @@ module _ {D : Type 0} {members : _} where
   commands_of {result = Err fault.Write} serves = commands_ended serves.served.2
 
   -- the answers to them
-  abbrev pub answers_of : {old new : Store D members} {s : State} {on : Manner} {result : Result Bool ServeFault}
-      {before after known : Option (List ℕ)} → Serves old new s on result before after known → List (Result Answer Refusal)
+  abbrev pub answers_of : {old new : Store D members} {s : State} {on : Manner} {result : Result Bool ServeFault} {known : SessionStreams}
+      → Serves old new s on result known → List (Result Answer Refusal)
   answers_of {result = Ok refused} serves = serves.served.1.answers
   answers_of {result = Err fault.Read} serves = serves.served.4.answers
   answers_of {result = Err fault.Unsure} serves = []

@@ -21,6 +21,7 @@ pub mod Replies
 pub mod Settlements
 pub mod Exits
 pub mod Carried
+pub mod Known
 pub mod Talk
 pub mod Feeds
 pub mod Keeps

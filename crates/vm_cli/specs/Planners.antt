@@ -5,7 +5,8 @@ use Rattle.vm_types.specs.declared.refusal.Refusal.TheVariants.{Memory}
 use Rattle.vm_types.specs.State.{State}
 use Rattle.vm_disk.specs.declared.disk.Disk.{Ghosts}
 use Rattle.vm_store.specs.declared.store.Store.{Store}
-use Rattle.vm_cli.specs.Conversations.{Conversation, Course, ServesStream, SessionStreams, some_lines}
+use Rattle.vm_cli.specs.Conversations.{Conversation, Course, ServesStream, some_lines}
+use Rattle.vm_cli.specs.Known.{SessionStreams}
 use Rattle.vm_cli.specs.Conversations.Course.{proceeds, unwritten}
 use Rattle.vm_cli.specs.Input.{without_return}
 use Rattle.vm_cli.specs.LineUses.{no_memory, use_of}

@@ -1,5 +1,5 @@
 -- What a job does to a place that is honest after it, by what is known of the place, and what lines are answered on any place.
-use Rattle.std.specs.Prelude.{◌≡◌, ◌≢◌, ◌⊎◌, ◌+◌, ◌∷◌, ℕ, true, List, Option, Some, codes}
+use Rattle.std.specs.Prelude.{◌≡◌, ◌≢◌, ◌⊎◌, ◌+◌, ◌∷◌, ℕ, true, List, Option, codes}
 use Rattle.clap.specs.Words.{Text}
 use Rattle.vm_disk.specs.declared.cached.CachedDisk.{CachedDisk}
 use Rattle.vm_disk.specs.declared.delayed.DelayedDisk.{DelayedDisk}
@@ -8,6 +8,7 @@ use Rattle.vm_cli.specs.CachedLines.{IsNotServed, IsServed}
 use Rattle.vm_cli.specs.Carried.{WritesStart}
 use Rattle.vm_cli.specs.Exits.{IsJob, Tells, TellsOn, file_text, no_store_text, status_of, stopped_text}
 use Rattle.vm_cli.specs.Files.{Answers, Counts, Declines, Does, Draws, Duplicates, FindsFault, Makes}
+use Rattle.vm_cli.specs.Known.{ProgramStreams, Written, program_streams, session_of, streams_of, with_lines, written_to}
 use Rattle.vm_cli.specs.Places.{PlaceState}
 use Rattle.vm_cli.specs.Words.{Wanted}
 use Rattle.vm_cli.specs.Words.Wanted.{check, copy, create, do_lines, draw, run}
@@ -36,7 +37,7 @@ module _ {D : Type 0} (over : Disks D) (old : D) (result : Exit × D) (in_memory
   -- they were, of the reader, to the writer
   abbrev pub AnswersInMemory : {R W : Type 0} → (R → Option (List ℕ)) → (W → Option (List ℕ)) → Manner → R → W → W → Type 0
   AnswersInMemory input_of contents on reader writer writer' =
-      IsServed over.own over.cached over.late over.late_cached in_memory on old result.1 result.0 (input_of reader) (contents writer) (contents writer')
+      IsServed over.own over.cached over.late over.late_cached in_memory on old result.1 result.0 (streams_of (input_of reader) (contents writer) (contents writer'))
 
   -- the disk was refused, and the errors are told why
   abbrev pub TellsRefusalInMemory : {F : Type 0} → (F → Option (List ℕ)) → F → F → Type 0
@@ -46,34 +47,34 @@ module _ {D : Type 0} (over : Disks D) (old : D) (result : Exit × D) (in_memory
 
 module _ {P D : Type 0} (own : Ghosts D) (state : P → PlaceState) (denied : P → List Text) (place place' : P) where
   -- the job was to make a file with a new store
-  abbrev pub MakesIn : Text → ℕ → Exit → Option (List ℕ) → Option (List ℕ) → Option (List ℕ) → Option (List ℕ) → Type 0
-  MakesIn name blocks exit before after errors errors' =
+  abbrev pub MakesIn : Text → ℕ → Exit → Written → Written → Type 0
+  MakesIn name blocks exit output errors =
       (state place').honest ≡ true
-      → Makes own (denied place' ≡ name ∷ denied place) name blocks exit (state place) (state place') before after errors errors'
+      → Makes own (denied place' ≡ name ∷ denied place) name blocks exit (state place) (state place') output errors
 
   -- no file changed, and it is told why
-  abbrev pub DeclinesIn : Text → Exit → Option (List ℕ) → Option (List ℕ) → Type 0
-  DeclinesIn name exit errors errors' = Declines own (denied place' ≡ name ∷ denied place) name exit (state place) (state place') errors errors'
+  abbrev pub DeclinesIn : Text → Exit → Written → Type 0
+  DeclinesIn name exit errors = Declines own (denied place' ≡ name ∷ denied place) name exit (state place) (state place') errors
 
   -- the job was to count the store in a file
-  abbrev pub CountsIn : Text → Exit → Option (List ℕ) → Option (List ℕ) → Option (List ℕ) → Option (List ℕ) → Type 0
-  CountsIn name exit before after errors errors' =
+  abbrev pub CountsIn : Text → Exit → Written → Written → Type 0
+  CountsIn name exit output errors =
       (state place').honest ≡ true
-      → Counts own name exit (state place) (state place') before after
-      ⊎ FindsFault own (denied place' ≡ name ∷ denied place) name exit (state place) (state place') errors errors'
+      → Counts own name exit (state place) (state place') output
+      ⊎ FindsFault own (denied place' ≡ name ∷ denied place) name exit (state place) (state place') errors
 
   -- the job was to draw the tree that a file showed
-  abbrev pub DrawsIn : Text → Exit → Option (List ℕ) → Option (List ℕ) → Option (List ℕ) → Option (List ℕ) → Type 0
-  DrawsIn name exit before after errors errors' =
+  abbrev pub DrawsIn : Text → Exit → Written → Written → Type 0
+  DrawsIn name exit output errors =
       (state place').honest ≡ true
-      → Draws own name exit (state place) (state place') before after ⊎ DeclinesIn name exit errors errors'
+      → Draws own name exit (state place) (state place') output ⊎ DeclinesIn name exit errors
 
   -- the job was to copy the store in a file to another
-  abbrev pub DuplicatesIn : (P → ℕ) → Text → Text → Option ℕ → Exit → Option (List ℕ) → Option (List ℕ) → Option (List ℕ) → Option (List ℕ) → Type 0
-  DuplicatesIn to_write name to asked exit before after errors errors' =
+  abbrev pub DuplicatesIn : (P → ℕ) → Text → Text → Option ℕ → Exit → Written → Written → Type 0
+  DuplicatesIn to_write name to asked exit output errors =
       (state place').honest ≡ true
-      → Duplicates own (to_write place' ≡ to_write place) (to_write place' ≡ to_write place + 1) (λ name. denied place' ≡ name ∷ denied place) name to asked exit (state place) (state place') before after errors errors'
-      ⊎ ((to_write place' ≡ to_write place) × DeclinesIn name exit errors errors')
+      → Duplicates own (to_write place' ≡ to_write place) (to_write place' ≡ to_write place + 1) (λ name. denied place' ≡ name ∷ denied place) name to asked exit (state place) (state place') output errors
+      ⊎ ((to_write place' ≡ to_write place) × DeclinesIn name exit errors)
 
 -- this status is that of an end of which this holds, and of what was said to the errors by then: all of it, unless the program stopped;
 -- then the errors also have the beginning of a message that says so
@@ -99,47 +100,47 @@ IsLook (copy file to blocks) = ⊥
 
 module _ {P D : Type 0} (over : Disks D) (state : P → PlaceState) (denied : P → List Text) (place place' : P) where
   -- the job was to answer lines over a file
-  abbrev pub AnswersIn : Text → InMemory → Manner → Exit → Option (List ℕ) → Option (List ℕ) → Option (List ℕ) → Option (List ℕ) → Option (List ℕ) → Type 0
-  AnswersIn name in_memory on exit input before after errors errors' =
+  abbrev pub AnswersIn : Text → InMemory → Manner → Exit → ProgramStreams → Type 0
+  AnswersIn name in_memory on exit known =
       (state place').honest ≡ true
-      → Answers over.own over.cached over.late over.late_cached name in_memory on exit (state place) (state place') input before after
-      ⊎ DeclinesIn over.own state denied place place' name exit errors errors'
+      → Answers over.own over.cached over.late over.late_cached name in_memory on exit (state place) (state place') (session_of known)
+      ⊎ DeclinesIn over.own state denied place place' name exit known.errors
 
   -- a run of the program with these words came to this end, before it is said that the program stopped
-  abbrev pub DoesIn : (P → ℕ) → List Text → Exit → Option (List ℕ) → Option (List ℕ) → Option (List ℕ) → Option (List ℕ) → Option (List ℕ) → Type 0
-  DoesIn to_write words exit input before after errors errors' =
+  abbrev pub DoesIn : (P → ℕ) → List Text → Exit → ProgramStreams → Type 0
+  DoesIn to_write words exit known =
       Does over.own over.cached over.late over.late_cached (place' ≡ place) (to_write place' ≡ to_write place) (to_write place' ≡ to_write place + 1) (λ on. AsksToWrite on (to_write place) (to_write place'))
-      (λ name. denied place' ≡ name ∷ denied place) words exit (state place) (state place') input before after errors errors'
+      (λ name. denied place' ≡ name ∷ denied place) words exit (state place) (state place') known
 
   -- a run of the program with these words gave this status
-  abbrev pub RunsIn : {F : Type 0} → (P → ℕ) → List Text → ℕ → Option (List ℕ) → Option (List ℕ) → Option (List ℕ) → (F → Option (List ℕ)) → F → F → Type 0
-  RunsIn to_write words status input before after in_errors errors errors' =
+  abbrev pub RunsIn : {F : Type 0} → (P → ℕ) → List Text → ℕ → Option (List ℕ) → Written → (F → Option (List ℕ)) → F → F → Type 0
+  RunsIn to_write words status input output in_errors errors errors' =
       (state place').honest ≡ true
-      → EndsAs in_errors status errors' (λ exit said. DoesIn to_write words exit input before after (in_errors errors) (in_errors said))
+      → EndsAs in_errors status errors' (λ exit said. DoesIn to_write words exit (program_streams input output (written_to in_errors errors said)))
 
 -- on any place, whether it and its disks kept their rules or not
 module _ {P D : Type 0} (over : Disks D) (denied : P → List Text) (place place' : P) where
   -- the job was to answer lines over a file: they were, over a disk that came back; or that was refused, and it is told why; or it is told
   -- that the place gave no disk of it
-  abbrev pub ServesIn : Text → InMemory → Manner → Exit → Option (List ℕ) → Option (List ℕ) → Option (List ℕ) → Option (List ℕ) → Option (List ℕ) → Type 0
-  ServesIn name in_memory on exit input before after errors errors' =
-      ((found : D) × (back : D) × IsServed over.own over.cached over.late over.late_cached in_memory on found back exit input before after)
+  abbrev pub ServesIn : Text → InMemory → Manner → Exit → ProgramStreams → Type 0
+  ServesIn name in_memory on exit known =
+      ((found : D) × (back : D) × IsServed over.own over.cached over.late over.late_cached in_memory on found back exit (session_of known))
       ⊎ (((found : D) × (back : D) × (why : NoStore) × IsNotServed over.own over.cached over.late over.late_cached in_memory found back why
-      × Tells Refused exit errors errors' (no_store_text why))
-      ⊎ ((denied place' ≡ name ∷ denied place) × Tells Refused exit errors errors' (file_text (codes "altctl: cannot open ") name)))
+      × Tells Refused exit known.errors (no_store_text why))
+      ⊎ ((denied place' ≡ name ∷ denied place) × Tells Refused exit known.errors (file_text (codes "altctl: cannot open ") name)))
 
   -- words that ask for that have it so, of the input or of their own lines, or the program stopped, and no call of the place was made
-  abbrev pub ServesWords : List Text → Exit → Option (List ℕ) → Option (List ℕ) → Option (List ℕ) → Option (List ℕ) → Option (List ℕ) → Type 0
-  ServesWords words exit input before after errors errors' =
+  abbrev pub ServesWords : List Text → Exit → ProgramStreams → Type 0
+  ServesWords words exit known =
       ((name : Text) (in_memory : InMemory) (on : Manner) → IsJob words (run name in_memory on)
-      → ServesIn name in_memory on exit input before after errors errors' ⊎ ((exit ≡ Stopped) × (place' ≡ place)))
+      → ServesIn name in_memory on exit known ⊎ ((exit ≡ Stopped) × (place' ≡ place)))
       × ((name : Text) (lines : List ℕ) (in_memory : InMemory) (on : Manner) → IsJob words (do_lines name lines in_memory on)
-      → ServesIn name in_memory on exit (Some lines) before after errors errors' ⊎ ((exit ≡ Stopped) × (place' ≡ place)))
+      → ServesIn name in_memory on exit (with_lines lines known) ⊎ ((exit ≡ Stopped) × (place' ≡ place)))
 
   -- a run of the program with these words gave this status
-  abbrev pub ServesRun : {F : Type 0} → List Text → ℕ → Option (List ℕ) → Option (List ℕ) → Option (List ℕ) → (F → Option (List ℕ)) → F → F → Type 0
-  ServesRun words status input before after in_errors errors errors' =
-      EndsAs in_errors status errors' (λ exit said. ServesWords words exit input before after (in_errors errors) (in_errors said))
+  abbrev pub ServesRun : {F : Type 0} → List Text → ℕ → Option (List ℕ) → Written → (F → Option (List ℕ)) → F → F → Type 0
+  ServesRun words status input output in_errors errors errors' =
+      EndsAs in_errors status errors' (λ exit said. ServesWords words exit (program_streams input output (written_to in_errors errors said)))
 
 -- on any place: if the words ask for a check or a drawing, or for lines that are answered with commands refused, it is asked for no disk
 -- that may be written, and if they ask for no job, for none at all

@@ -1,5 +1,5 @@
 -- What becomes of a disk on which a store is made, or lines are answered.
-use Rattle.std.specs.Prelude.{◌≡◌, ◌↔◌, ℕ, ◌≤◌, Bool, List, length, true, false, Option, None, Result, Ok, Err}
+use Rattle.std.specs.Prelude.{◌≡◌, ◌↔◌, ℕ, ◌≤◌, Bool, length, true, false, None, Result, Ok, Err}
 use Rattle.vm_types.specs.declared.sizes.TheConstants.{MIN_BLOCKS}
 use Rattle.vm_types.specs.declared.refusal.Refusal.{Refusal}
 use Rattle.vm_types.specs.declared.refusal.Refusal.TheVariants.{AlreadyAStore, BadSize, Device}
@@ -16,6 +16,7 @@ use Rattle.vm_store.specs.Store.{Holds, disk_of, has_failed}
 use Rattle.vm_store.specs.declared.store.Store.{Store}
 use Rattle.vm_cli.specs.StoreCounts.{IsCounted}
 use Rattle.vm_cli.specs.Keeps.{Keeps}
+use Rattle.vm_cli.specs.Known.{SessionStreams}
 use Rattle.vm_cli.specs.Served.{IsWholeBy, ServesBy, answers_by, commands_by}
 use Rattle.vm_cli.specs.Talk.{Passes}
 use Rattle.vm_cli.specs.declared.program.Exit.{Exit}
@@ -76,7 +77,7 @@ module _ {D : Type 0} (members : Ghosts D) where
   -- the store that the disk showed was opened, the lines of an input were answered, which is the reader's own if that is known,
   -- and the disk came back as the store left it: it shows what was committed. The talk is told for each state, so for that of the
   -- opening, and each part as long as the disk is honest
-  pub record HasServed (on : Manner) (old new : D) (exit : Exit) (input before after : Option (List ℕ)) : Type 0 where
+  pub record HasServed (on : Manner) (old new : D) (exit : Exit) (known : SessionStreams) : Type 0 where
     pub first : Store D members
     pub last : Store D members
     pub served : Result Bool ServeFault
@@ -84,8 +85,8 @@ module _ {D : Type 0} (members : Ghosts D) where
     pub goes : Grows ⊥ (members.state (disk_of first)) (members.state new)
     pub well : has_failed first ≡ false
     pub opens : (members.state (disk_of first)).honest ≡ true → OpensAs (members.state old).now.contents first
-    pub serves : (s : State) → ServesBy on.grouping first last s on served before after input
-    pub whole : (s : State) → IsWholeBy on.grouping first last s on served before after input (serves s)
+    pub serves : (s : State) → ServesBy on.grouping first last s on served known
+    pub whole : (s : State) → IsWholeBy on.grouping first last s on served known (serves s)
     -- if commands are refused the disk is only read
     pub reads : on.on_command ≡ Refuse → Passes first last None
     pub ends : exit ≡ end_of on.on_refusal served
@@ -98,5 +99,5 @@ module _ {D : Type 0} (members : Ghosts D) where
     -- if a crash before the opening leaves something shown, one at any moment since leaves what the commands so far keep
     pub kept : (members.state new).honest ≡ true → (seen : Seen) → Leaves (λ x. Shows x seen) (members.state old).now
         → Keeps (members.state old) (members.state new) (opened seen)
-        (commands_by on.grouping first last (opened seen) on served before after input (serves (opened seen)))
-        (answers_by on.grouping first last (opened seen) on served before after input (serves (opened seen)))
+        (commands_by on.grouping first last (opened seen) on served known (serves (opened seen)))
+        (answers_by on.grouping first last (opened seen) on served known (serves (opened seen)))

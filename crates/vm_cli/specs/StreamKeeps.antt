@@ -7,7 +7,8 @@ use Rattle.vm_types.specs.declared.refusal.Refusal.{Refusal}
 use Rattle.vm_types.specs.State.{State}
 use Rattle.vm_disk.specs.declared.disk.Disk.{Ghosts}
 use Rattle.vm_store.specs.declared.store.Store.{Store}
-use Rattle.vm_cli.specs.Conversations.{Conversation, Course, EndsInput, EndsWithLine, ServesStream, SessionStreams}
+use Rattle.vm_cli.specs.Conversations.{Conversation, Course, EndsInput, EndsWithLine, ServesStream}
+use Rattle.vm_cli.specs.Known.{SessionStreams}
 use Rattle.vm_cli.specs.Rounds.{Round, all_answers, all_commands}
 use Rattle.vm_cli.specs.declared.talk.Manner.{Manner}
 use Rattle.vm_cli.specs.declared.talk.ServeFault.{ServeFault}

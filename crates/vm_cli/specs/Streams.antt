@@ -9,7 +9,8 @@ use Rattle.vm_types.specs.State.{State, after}
 use Rattle.vm_store.specs.Commands.{CarriesOut}
 use Rattle.vm_store.specs.Store.{has_failed}
 use Rattle.vm_store.specs.declared.store.Store.{Store}
-use Rattle.vm_cli.specs.Conversations.{Conversation, Course, ServesStream, SessionStreams, refused_result, some_lines}
+use Rattle.vm_cli.specs.Conversations.{Conversation, Course, ServesStream, refused_result, some_lines}
+use Rattle.vm_cli.specs.Known.{SessionStreams}
 use Rattle.vm_cli.specs.Conversations.Course.{over, proceeds}
 use Rattle.vm_cli.specs.Input.{HoldsLine}
 use Rattle.vm_cli.specs.LineUses.{no_memory, use_of}

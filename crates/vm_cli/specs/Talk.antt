@@ -26,6 +26,7 @@ use Rattle.vm_store.specs.declared.store.Store.{Store}
 use Rattle.vm_store.specs.declared.tally.Tally.{Tally}
 use Rattle.vm_cli.specs.declared.lines.line.TheConstants.{MAX_BYTES}
 use Rattle.vm_cli.specs.Carried.{WritesStart}
+use Rattle.vm_cli.specs.Known.{SessionStreams}
 use Rattle.vm_cli.specs.Lines.{lines_of}
 use Rattle.vm_cli.specs.Listings.{alternative_text, change_text, checkpoint_text, conflict_text, record_text}
 use Rattle.vm_cli.specs.Input.{without_return}
@@ -384,7 +385,7 @@ module _ {D : Type 0} {members : _} where
   ServesLines old new s on (Err fault.Write) before after all = (text : List ℕ) × (ends : Bool) × EndsTalk old new s on ends all text × WritesStart before after text
 
   -- a talk over some input, which is what the reader had to give, if that is known
-  pub record Serves (old new : Store D members) (s : State) (on : Manner) (result : Result Bool ServeFault) (before after : Option (List ℕ)) (known : Option (List ℕ)) : Type 0 where
+  pub record Serves (old new : Store D members) (s : State) (on : Manner) (result : Result Bool ServeFault) (known : SessionStreams) : Type 0 where
     pub input : List ℕ
-    pub own : IfSome known (λ bytes. bytes ≡ input)
-    pub served : ServesLines old new s on result before after (lines_of input)
+    pub own : IfSome known.input (λ bytes. bytes ≡ input)
+    pub served : ServesLines old new s on result known.before known.after (lines_of input)

@@ -10,6 +10,7 @@ use Rattle.vm_store.specs.NewStore.{IsFormatting, IsOfFormat}
 use Rattle.vm_cli.specs.DelayedLines.{IsRefusedLate, IsServedLate}
 use Rattle.vm_cli.specs.Branches.{tree_text}
 use Rattle.vm_cli.specs.Exits.{TellsOn, check_text, created_text, no_store_text, refused_text, survey_text}
+use Rattle.vm_cli.specs.Known.{streams_of}
 use Rattle.vm_cli.specs.Openings.{HasRefused, NamesAll}
 use Rattle.vm_cli.specs.Sessions.{HasCounted, HasMade, HasMadeNone, HasServed, HasShown}
 use Rattle.vm_cli.specs.declared.program.Exit.{Exit}
@@ -66,11 +67,11 @@ module _ {D W : Type 0} (members : Ghosts D) (contents : W → Option (List ℕ)
 module _ {D R W : Type 0} (members : Ghosts D) (input_of : R → Option (List ℕ)) (contents : W → Option (List ℕ)) (on : Manner) (old : D) (result : Exit × D) where
   -- over the disk itself
   abbrev pub AnswersOver : R → W → W → Type 0
-  AnswersOver reader writer writer' = HasServed members on old result.1 result.0 (input_of reader) (contents writer) (contents writer')
+  AnswersOver reader writer writer' = HasServed members on old result.1 result.0 (streams_of (input_of reader) (contents writer) (contents writer'))
 
   -- over it, or over a delayed disk over it
   abbrev pub AnswersLate : Ghosts (DelayedDisk D members) → ℕ → R → W → W → Type 0
-  AnswersLate late buffer reader writer writer' = IsServedLate members late buffer on old result.1 result.0 (input_of reader) (contents writer) (contents writer')
+  AnswersLate late buffer reader writer writer' = IsServedLate members late buffer on old result.1 result.0 (streams_of (input_of reader) (contents writer) (contents writer'))
 
 -- why a disk was refused, itself or with a delayed disk over it
 module _ {D F : Type 0} (members : Ghosts D) (late : Ghosts (DelayedDisk D members)) (in_errors : F → Option (List ℕ)) where

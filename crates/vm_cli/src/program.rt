@@ -83,6 +83,7 @@ ghost use Rattle.vm_cli.specs.Carried.{Begins, Gains};
 ghost use Rattle.vm_types.specs.declared.refusal.Refusal.{Refusal as RefusalValue};
 ghost use Rattle.vm_disk.specs.Between.{IfHonest};
 ghost use Rattle.vm_cli.specs.Told.{AnswersOver, FormatsOnly, MakesStore, TellsCount, TellsDamage, TellsRefusal};
+ghost use Rattle.vm_cli.specs.Known.{program_streams, written_to};
 ghost use Rattle.vm_cli.specs.Places.{FindsIn, IsAsked};
 ghost use Rattle.vm_cli.specs.Runs.{AnswersIn, AsksToWrite, CountsIn, DoesIn, LooksOnly, MakesIn, RunsIn, ServesIn, ServesRun, ServesWords, disks};
 ghost use Rattle.vm_cli.specs.Exits.{Blames, Checks, Ends, EndsSaying, Helps, IsDone, IsLineRefused, IsRefused, IsStopped, IsWrong, JobEnds, RefusesLock, RefusesOn, RefusesWords, StopsUnsaid, TalkEnds, TellsOn, counts_text, created_text, file_text, named_text, refused_text, status_of, stopped_text};
@@ -110,13 +111,13 @@ pub fn run_words<P: Place, R: Read, W: Write, F: Write>(
     // them. If the program stopped, the errors say so or begin to, after what the job said.
     ensures files { RunsIn (disks P.D.Disk ⟦<CachedDisk<P::D> as Disk>⟧ ⟦<DelayedDisk<P::D> as Disk>⟧ ⟦<DelayedDisk<CachedDisk<P::D>> as Disk>⟧)
         P.state P.denied place.old place.new P.to_write (map string_bytes words.now) result
-        (R.remaining input.old) (W.contents output.old) (W.contents output.new) F.contents errors.old errors.new }
+        (R.remaining input.old) (written_to W.contents output.old output.new) F.contents errors.old errors.new }
     // On any place, whether its disks keep their rules or not, lines are answered as `serve`
     // promises for any disk; or the errors say, or begin to say, why its disk was refused, or that
     // the place gave none for that file.
     ensures served { ServesRun (disks P.D.Disk ⟦<CachedDisk<P::D> as Disk>⟧ ⟦<DelayedDisk<P::D> as Disk>⟧ ⟦<DelayedDisk<CachedDisk<P::D>> as Disk>⟧)
         P.denied place.old place.new (map string_bytes words.now) result
-        (R.remaining input.old) (W.contents output.old) (W.contents output.new) F.contents errors.old errors.new }
+        (R.remaining input.old) (written_to W.contents output.old output.new) F.contents errors.old errors.new }
 {
     match do_job(alloc, words, place, input, output, errors) {
         Exit::Stopped => stop(errors),
@@ -182,10 +183,10 @@ fn do_job<P: Place, R: Read, W: Write, F: Write>(
     ensures files { (P.state place.new).honest ≡ true
         → DoesIn (disks P.D.Disk ⟦<CachedDisk<P::D> as Disk>⟧ ⟦<DelayedDisk<P::D> as Disk>⟧ ⟦<DelayedDisk<CachedDisk<P::D>> as Disk>⟧)
         P.state P.denied place.old place.new P.to_write (map string_bytes words.now) result
-        (R.remaining input.old) (W.contents output.old) (W.contents output.new) (F.contents errors.old) (F.contents errors.new) }
+        (program_streams (R.remaining input.old) (written_to W.contents output.old output.new) (written_to F.contents errors.old errors.new)) }
     ensures served { ServesWords (disks P.D.Disk ⟦<CachedDisk<P::D> as Disk>⟧ ⟦<DelayedDisk<P::D> as Disk>⟧ ⟦<DelayedDisk<CachedDisk<P::D>> as Disk>⟧)
         P.denied place.old place.new (map string_bytes words.now) result
-        (R.remaining input.old) (W.contents output.old) (W.contents output.new) (F.contents errors.old) (F.contents errors.new) }
+        (program_streams (R.remaining input.old) (written_to W.contents output.old output.new) (written_to F.contents errors.old errors.new)) }
 {
     match job(alloc, words) {
         Ok(Job::Create { file, blocks }) => create(file, blocks, place, output, errors),
@@ -228,7 +229,7 @@ fn create<P: Place, W: Write, F: Write>(
         output.old output.new errors.old errors.new }
     ensures writes { P.to_write place.new ≡ P.to_write place.old + 1 }
     ensures files { MakesIn P.D.Disk P.state P.denied place.old place.new file.now blocks result
-        (W.contents output.old) (W.contents output.new) (F.contents errors.old) (F.contents errors.new) }
+        (written_to W.contents output.old output.new) (written_to F.contents errors.old errors.new) }
 {
     let Some(disk) = place.create(file, blocks) else {
         return no_file(b"altctl: cannot create ", file, errors);
@@ -274,10 +275,10 @@ fn run<P: Place, R: Read, W: Write, F: Write>(
     ensures writes { AsksToWrite manner.on_command (P.to_write place.old) (P.to_write place.new) }
     ensures files { AnswersIn (disks P.D.Disk ⟦<CachedDisk<P::D> as Disk>⟧ ⟦<DelayedDisk<P::D> as Disk>⟧ ⟦<DelayedDisk<CachedDisk<P::D>> as Disk>⟧)
         P.state P.denied place.old place.new file.now in_memory manner result
-        (R.remaining input.old) (W.contents output.old) (W.contents output.new) (F.contents errors.old) (F.contents errors.new) }
+        (program_streams (R.remaining input.old) (written_to W.contents output.old output.new) (written_to F.contents errors.old errors.new)) }
     ensures served { ServesIn (disks P.D.Disk ⟦<CachedDisk<P::D> as Disk>⟧ ⟦<DelayedDisk<P::D> as Disk>⟧ ⟦<DelayedDisk<CachedDisk<P::D>> as Disk>⟧)
         P.denied place.old place.new file.now in_memory manner result
-        (R.remaining input.old) (W.contents output.old) (W.contents output.new) (F.contents errors.old) (F.contents errors.new) }
+        (program_streams (R.remaining input.old) (written_to W.contents output.old output.new) (written_to F.contents errors.old errors.new)) }
 {
     let Some(disk) = opened(file, manner.on_command, place) else {
         return no_file(b"altctl: cannot open ", file, errors);
@@ -338,7 +339,7 @@ fn check<P: Place, W: Write, F: Write>(
         output.old output.new errors.old errors.new }
     ensures reads { P.to_write place.new ≡ P.to_write place.old }
     ensures files { CountsIn P.D.Disk P.state P.denied place.old place.new file.now result
-        (W.contents output.old) (W.contents output.new) (F.contents errors.old) (F.contents errors.new) }
+        (written_to W.contents output.old output.new) (written_to F.contents errors.old errors.new) }
 {
     let Some(disk) = place.look(file) else {
         return no_file(b"altctl: cannot open ", file, errors);

@@ -2,6 +2,7 @@
 ghost use Rattle.std.specs.Prelude.{◌≡◌, None};
 ghost use Rattle.vm_types.specs.State.{State};
 ghost use Rattle.vm_store.specs.Store.{GrowsOn};
+ghost use Rattle.vm_cli.specs.Known.{streams_of};
 ghost use Rattle.vm_cli.specs.Served.{ServesBy};
 ghost use Rattle.vm_cli.specs.Sessions.{end_of as end_of_talk};
 ghost use Rattle.vm_cli.specs.Talk.{Passes};
@@ -25,7 +26,7 @@ pub(crate) fn serve_by<D: Disk, R: Read, W: Write>(
 ) -> Result<bool, ServeFault>
     ensures goes { GrowsOn ⊥ store.old store.new }
     ensures answers { (s : State) → ServesBy manner.grouping store.old store.new s manner result
-        (W.contents output.old) (W.contents output.new) (R.remaining input.old) }
+        (streams_of (R.remaining input.old) (W.contents output.old) (W.contents output.new)) }
     ensures reads { manner.on_command ≡ OnCommand.Refuse → Passes store.old store.new None }
 {
     match manner.grouping {

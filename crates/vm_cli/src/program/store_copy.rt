@@ -5,6 +5,7 @@ ghost use Rattle.std.specs.String.{string_bytes};
 ghost use Rattle.vm_store.specs.Store.{GoesOn, IsHonest, ReadsAlone, disk_of, has_failed};
 ghost use Rattle.vm_cli.specs.Copies.{CopiesIn, CopiesTo, DropsIn, NamesIn, Sizes, TakesCopy};
 ghost use Rattle.vm_cli.specs.Exits.{CopyEnds, DropEnds, JobEnds, TellsOn, copied_text, part_of};
+ghost use Rattle.vm_cli.specs.Known.{written_to};
 ghost use Rattle.vm_cli.specs.Places.{WasHonest};
 ghost use Rattle.vm_cli.specs.Runs.{DuplicatesIn};
 ghost use Rattle.vm_cli.specs.Words.Wanted.{copy as copy_wanted};
@@ -40,7 +41,7 @@ pub(crate) fn copy<P: Place, W: Write, F: Write>(
     ensures says { JobEnds W.contents F.contents (copy_wanted file.now to.now blocks) result
         output.old output.new errors.old errors.new }
     ensures files { DuplicatesIn P.D.Disk P.state P.denied place.old place.new P.to_write file.now to.now blocks result
-        (W.contents output.old) (W.contents output.new) (F.contents errors.old) (F.contents errors.new) }
+        (written_to W.contents output.old output.new) (written_to F.contents errors.old errors.new) }
 {
     let Some(disk) = place.look(file) else {
         return no_file(b"altctl: cannot open ", file, errors);
@@ -63,7 +64,7 @@ fn copy_disk<P: Place, W: Write, F: Write>(
     ensures ends { CopyEnds W.contents F.contents to.now result.0 output.old output.new errors.old errors.new }
     ensures earlier { WasHonest (P.state place.old) (P.state place.new) }
     ensures copied { TakesCopy P.D.Disk P.state P.denied P.to_write place.old place.new disk result to.now blocks
-        (W.contents output.old) (W.contents output.new) (F.contents errors.old) (F.contents errors.new) }
+        (written_to W.contents output.old output.new) (written_to F.contents errors.old errors.new) }
 {
     match open_whole_store(alloc, disk) {
         Ok(mut store) => {
@@ -90,7 +91,7 @@ fn copy_store<S: Disk, P: Place, W: Write, F: Write>(
     ensures reads { IsHonest store.new → ReadsAlone store.old store.new }
     ensures earlier { WasHonest (P.state place.old) (P.state place.new) }
     ensures files { CopiesIn P.state P.denied P.to_write place.old place.new to.now blocks store.old store.new result
-        (W.contents output.old) (W.contents output.new) (F.contents errors.old) (F.contents errors.new) }
+        (written_to W.contents output.old output.new) (written_to F.contents errors.old errors.new) }
 {
     let size = match size_for(store, blocks) {
         Ok(size) => size,
@@ -150,7 +151,7 @@ fn copy_onto<S: Disk, P: Place, W: Write, F: Write>(
     ensures writes { P.to_write place.new ≡ P.to_write place.old }
     ensures earlier { WasHonest (P.state place.old) (P.state place.new) }
     ensures told { CopiesTo P.state P.denied place.old place.new part.now to.now store.old store.new size (P.D.Disk.state disk) result
-        (W.contents output.old) (W.contents output.new) (F.contents errors.old) (F.contents errors.new) }
+        (written_to W.contents output.old output.new) (written_to F.contents errors.old errors.new) }
 {
     match vm_store::copy(store, disk, size.blocks) {
         Ok(copy) => name_copy(copy, size, part, to, place, output, errors),
@@ -173,7 +174,7 @@ fn name_copy<P: Place, W: Write, F: Write>(
     ensures writes { P.to_write place.new ≡ P.to_write place.old }
     ensures earlier { WasHonest (P.state place.old) (P.state place.new) }
     ensures named { NamesIn P.state P.D.Disk.state P.denied place.old place.new copy size part.now to.now result
-        (W.contents output.old) (W.contents output.new) (F.contents errors.old) (F.contents errors.new) }
+        (written_to W.contents output.old output.new) (written_to F.contents errors.old errors.new) }
 {
     place.give_back(part, copy);
     let is_named = place.link(part, to);
@@ -198,7 +199,7 @@ fn drop_copy<P: Place, F: Write>(
     ensures writes { P.to_write place.new ≡ P.to_write place.old }
     ensures earlier { WasHonest (P.state place.old) (P.state place.new) }
     ensures dropped { DropsIn P.state P.D.Disk.state place.old place.new disk part.now refusal.now result
-        (F.contents errors.old) (F.contents errors.new) }
+        (written_to F.contents errors.old errors.new) }
 {
     place.give_back(part, disk);
     place.remove(part);

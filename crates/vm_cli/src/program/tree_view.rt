@@ -3,6 +3,7 @@ ghost use Rattle.std.specs.Prelude.{◌≡◌, ◌⊎◌, List, None, true, IfEr
 ghost use Rattle.vm_store.specs.Store.{FromState, GoesOn};
 ghost use Rattle.vm_cli.specs.Branches.{Branch, drawing};
 ghost use Rattle.vm_cli.specs.Exits.{DrawEnds, JobEnds, TellsOn};
+ghost use Rattle.vm_cli.specs.Known.{written_to};
 ghost use Rattle.vm_cli.specs.Runs.{DrawsIn};
 ghost use Rattle.vm_cli.specs.Told.{TellsRefusal, TellsTree};
 ghost use Rattle.vm_cli.specs.Standing.{GivesTree, IsDeviceOrMemory};
@@ -32,7 +33,7 @@ pub(crate) fn tree<P: Place, W: Write, F: Write>(
         output.old output.new errors.old errors.new }
     ensures reads { P.to_write place.new ≡ P.to_write place.old }
     ensures files { DrawsIn P.D.Disk P.state P.denied place.old place.new file.now result
-        (W.contents output.old) (W.contents output.new) (F.contents errors.old) (F.contents errors.new) }
+        (written_to W.contents output.old output.new) (written_to F.contents errors.old errors.new) }
 {
     let Some(disk) = place.look(file) else {
         return no_file(b"altctl: cannot open ", file, errors);

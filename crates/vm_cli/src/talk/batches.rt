@@ -2,7 +2,8 @@
 ghost use Rattle.std.specs.Prelude.{◌≡◌, ◌+◌, ◌<◌, ◌++◌, ℕ, List, Option, None, drop, false, IfErr, Ok, OnOk, true};
 ghost use Rattle.vm_types.specs.State.{State};
 ghost use Rattle.vm_store.specs.Store.{GrowsOn, has_failed};
-ghost use Rattle.vm_cli.specs.Conversations.{said_result, streams_of};
+ghost use Rattle.vm_cli.specs.Conversations.{said_result};
+ghost use Rattle.vm_cli.specs.Known.{streams_of};
 ghost use Rattle.vm_cli.specs.Feeds.{TalksOn};
 ghost use Rattle.vm_cli.specs.Replies.{reply_text};
 ghost use Rattle.vm_cli.specs.Rounds.{AreWholeBatches, Round};
@@ -85,7 +86,8 @@ pub(crate) struct BatchSession {
 
 impl BatchSession {
     ghost use Rattle.std.specs.Prelude.{◌≡◌, ◌+◌, ◌<◌, ◌++◌, Option, None, IfErr, Ok};
-    ghost use Rattle.vm_cli.specs.Conversations.{Puts, RunsStream, counted_result, streams_of};
+    ghost use Rattle.vm_cli.specs.Conversations.{Puts, RunsStream, counted_result};
+    ghost use Rattle.vm_cli.specs.Known.{streams_of};
     ghost use Rattle.vm_cli.specs.Replies.{reply_text};
     ghost use Rattle.vm_cli.specs.StreamCalls.{KeepsSession, SaysThen, SettlesBatch, TakesLine, TakesLineInside, TakesLineOutside, scene};
     ghost use Rattle.vm_cli.specs.Streams.{Held, IsStage, after_refusal, batch_text, batches, change_text, end_count, end_text, forgotten_text, ok_text, repeated, verdict_of, verdict_result, why_text};

@@ -5,7 +5,7 @@ ghost use Rattle.vm_store.specs.Store.{GrowsOn, has_failed};
 ghost use Rattle.vm_cli.specs.Planners.{ServesPlanners, telling};
 ghost use Rattle.vm_cli.specs.Rounds.{AreWholeBatches};
 ghost use Rattle.vm_cli.specs.StreamKeeps.{rounds_of};
-ghost use Rattle.vm_cli.specs.Conversations.{streams_of};
+ghost use Rattle.vm_cli.specs.Known.{streams_of};
 ghost use Rattle.vm_cli.specs.Talk.{Passes, StoreFails};
 
 use crate::answers::reply::Reply;
@@ -97,7 +97,8 @@ impl PlannersSession {
     ghost use Rattle.vm_cli.specs.Planners.{AreSeats, IsTold, Joins, Leaves, Seat, TakesOne, TakesSaying, planners, stream_end_count, stream_end_text};
     ghost use Rattle.vm_cli.specs.Replies.{reply_text};
     ghost use Rattle.vm_cli.specs.StreamCalls.{SaysThen};
-    ghost use Rattle.vm_cli.specs.Conversations.{RunsStream, counted_result, streams_of};
+    ghost use Rattle.vm_cli.specs.Conversations.{RunsStream, counted_result};
+    ghost use Rattle.vm_cli.specs.Known.{streams_of};
     ghost use Rattle.vm_cli.specs.Streams.{IsStage};
 
     /// Takes all lines of the input.

@@ -22,18 +22,18 @@ returns-in-Ok-clause-served g c =
       well = c.in-Ok.ensures.opened.well;
       opens = c.in-Ok.ensures.opened.opens;
       serves = c.serve_by-served.ensures.answers;
-      whole = λ s. served_whole first last s c.args.manner.grouping c.args.manner c.serve_by-served.result _ _ _ (c.serve_by-served.ensures.answers s);
+      whole = λ s. served_whole first last s c.args.manner.grouping c.args.manner c.serve_by-served.result _ (c.serve_by-served.ensures.answers s);
       reads = c.serve_by-served.ensures.reads;
       ends = c.end_of.ensures;
       given_back = given;
       shown = c.close.ensures.shown;
       left = c.close.ensures.crash;
       kept = session_kept old first last c.in-Ok.ensures.opened.opens c.in-Ok.ensures.opened.moments c.in-Ok.ensures.opened.well goes
-          c.args.manner c.serve_by-served.result _ _ _ c.serve_by-served.ensures.answers c.close.result given;
+          c.args.manner c.serve_by-served.result _ c.serve_by-served.ensures.answers c.close.result given;
     })
 
 pub returns-in-Ok-clause-ends : goal.returns-in-Ok-clause-ends
 returns-in-Ok-clause-ends g c =
     let first = c.in-Ok.store in
     let last = c.serve_by-served.new.store in
-    inl (refl, rw c.end_of.ensures (may_end first last (opened (new_store 64)) c.args.manner c.serve_by-served.result _ _ _ (c.serve_by-served.ensures.answers (opened (new_store 64)))))
+    inl (refl, rw c.end_of.ensures (may_end first last (opened (new_store 64)) c.args.manner c.serve_by-served.result _ (c.serve_by-served.ensures.answers (opened (new_store 64)))))

@@ -18,7 +18,7 @@ returns-clause-files g c honest =
     let others : KeepsOthers c.args.file.now before after = λ other apart. back.others other apart ∙ found.same other in
     elim c.answer_lines_in_memory-exit.ensures.served [
       | inl served ↦
-          let held = found.held (was_honest g.P.D.Disk _ _ _ (λ disk. refl) (λ disk. refl) (λ disk. refl) c.args.in_memory _ _ _ _ _ _ _ served back.honest) in
+          let held = found.held (was_honest g.P.D.Disk _ _ _ (λ disk. refl) (λ disk. refl) (λ disk. refl) c.args.in_memory _ _ _ _ _ served back.honest) in
           inl (record {
             found = c.in-Some.disk;
             back = c.answer_lines_in_memory-exit.result.1;
@@ -27,7 +27,7 @@ returns-clause-files g c honest =
             clean = held.1;
             lent = lent;
             others = others;
-            kept = kept_told g.P.D.Disk _ _ _ (λ disk. refl) (λ disk. refl) (λ disk. refl) c.args.in_memory _ _ _ _ _ _ _ served back.honest found.fresh held.1;
+            kept = kept_told g.P.D.Disk _ _ _ (λ disk. refl) (λ disk. refl) (λ disk. refl) c.args.in_memory _ _ _ _ _ served back.honest found.fresh held.1;
           })
       | inr refused ↦
           let cached : Ghosts (CachedDisk g.row.P-D.Denot g.P.D.Disk) = record { state = λ x. cached_state g.P.D.Disk.state x; hand = λ x. cached_hand x; does = λ call old new. cached_does g.P.D.Disk.state call old new } in

@@ -7,5 +7,5 @@ use Rattle.vm_cli.proofs.talk.serve.Goals as goal
 
 pub returns-clause-reads : goal.returns-clause-reads
 returns-clause-reads g c refuses =
-    let passes : Passes c.args.store.now c.run.new.self.store.now None = serves_pass c.args.manner refuses c.args.store.now c.run.new.self.store.now (opened (new_store 64)) _ _ _ _ (c.run.ensures.answers (opened (new_store 64))) in
+    let passes : Passes c.args.store.now c.run.new.self.store.now None = serves_pass c.args.manner refuses c.args.store.now c.run.new.self.store.now (opened (new_store 64)) _ _ (c.run.ensures.answers (opened (new_store 64))) in
     search (rules, passes)

@@ -25,7 +25,7 @@ returns-clause-files g c honest =
             used = used;
             shown = shown;
             in_use = in_use;
-            makes = copied_between _ _ _ _ _ _ c.args.file.now c.args.to.now _ used _ _ _ before _ _ after _ _ _ _ _
+            makes = copied_between _ _ _ _ _ _ c.args.file.now c.args.to.now _ used _ _ _ before _ _ after _ _ _
                 (λ reads. c.give_back.ensures.asked.writes ∙ reads ∙ c.in-Some.ensures.asked.writes)
                 (λ opens. c.give_back.ensures.asked.writes ∙ opens ∙ ap (λ n. n + 1) c.in-Some.ensures.asked.writes)
                 (λ n denied. c.give_back.ensures.asked.some refl ∙ denied ∙ ap (λ ns. n ∷ ns) (c.in-Some.ensures.asked.some refl))

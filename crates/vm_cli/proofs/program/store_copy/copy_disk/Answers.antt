@@ -28,5 +28,5 @@ returns-in-Ok-clause-copied g c place honest =
         moments = subst (λ d. Throughout old (g.P.D.Disk.state d) (IsAtMostSynced old.now)) (sym c.close.ensures.disk) (then_reads _ _ _ _ (c.in-Ok.ensures.opened.moments earlier) (c.copy_store-exit.ensures.reads there));
       },
       in_use_shown g.P.D.Disk _ store synced.same opens,
-      copied_from _ _ _ _ _ _ _ _ _ _ _ _ _ _ _ _ _ first (ap g.P.D.Disk.state c.close.ensures.disk) makes,
+      copied_from _ _ _ _ _ _ _ _ _ _ _ _ _ _ _ first (ap g.P.D.Disk.state c.close.ensures.disk) makes,
     )

@@ -16,8 +16,8 @@ pub returns-then-not-lacks-clause-files : goal.returns-then-not-lacks-clause-fil
 returns-then-not-lacks-clause-files g c honest there well s holds =
     let size = c.in-Ok.ensures well in
     let taken : c.lacks.result ≡ false = search rules in
-    as_asked _ _ _ c.args.to.now s _ _ _ _ _ _ _ _ _ _ _ _ _ (size.0.0 ∙ ap (blocks_for c.args.blocks) holds.rests.blocks) size.0.1
-    (makes_taken _ _ _ c.args.to.now _ _ _ _ _ _ _ _ _ _ _ c.lacks.ensures.asked.writes (omega (arith, size.0.1, size.0.2))
+    as_asked _ _ _ c.args.to.now s _ _ _ _ _ _ _ _ _ _ _ (size.0.0 ∙ ap (blocks_for c.args.blocks) holds.rests.blocks) size.0.1
+    (makes_taken _ _ _ c.args.to.now _ _ _ _ _ _ _ _ _ c.lacks.ensures.asked.writes (omega (arith, size.0.1, size.0.2))
     (c.lacks.ensures.honest honest).same (c.lacks.ensures.asked.none taken) (search rules))
 
 pub returns-in_default-create-clause-files : goal.returns-in_default-create-clause-files
@@ -27,8 +27,8 @@ returns-in_default-create-clause-files g c honest there well s holds =
     let free : c.lacks.result ≡ true = search rules in
     let lacks = subst (λ b. Lacks c.args.to.now b (g.P.Place.state c.args.place.now) (g.P.Place.state c.lacks.new.self)) free (c.lacks.ensures.honest looked) in
     let named = c.as_str-part.ensures.value ∙ c.in-Ok-part_name.ensures in
-    as_asked _ _ _ c.args.to.now s _ _ _ _ _ _ _ _ _ _ _ _ _ (size.0.0 ∙ ap (blocks_for c.args.blocks) holds.rests.blocks) size.0.1
-    (makes_unmade _ _ _ c.args.to.now _ _ _ _ _ _ _ _ _ _ _ _ named _ lacks
+    as_asked _ _ _ c.args.to.now s _ _ _ _ _ _ _ _ _ _ _ (size.0.0 ∙ ap (blocks_for c.args.blocks) holds.rests.blocks) size.0.1
+    (makes_unmade _ _ _ c.args.to.now _ _ _ _ _ _ _ _ _ _ named _ lacks
     (c.create.ensures.asked.writes ∙ ap (λ n. n + 1) c.lacks.ensures.asked.writes) (omega (arith, size.0.1, size.0.2))
     (search rules) (search rules) (search rules))
 
@@ -40,8 +40,8 @@ returns-clause-files g c honest there well s holds =
     let free : c.lacks.result ≡ true = search rules in
     let lacks = subst (λ b. Lacks c.args.to.now b (g.P.Place.state c.args.place.now) (g.P.Place.state c.lacks.new.self)) free (c.lacks.ensures.honest looked) in
     let named = c.as_str-part.ensures.value ∙ c.in-Ok-part_name.ensures in
-    as_asked _ _ _ c.args.to.now s _ _ _ _ _ _ _ _ _ _ _ _ _ (size.0.0 ∙ ap (blocks_for c.args.blocks) holds.rests.blocks) size.0.1
-    (makes_laid _ _ _ c.args.to.now _ _ _ _ _ _ _ _ _ _ _ _ named _ lacks _ _ _
+    as_asked _ _ _ c.args.to.now s _ _ _ _ _ _ _ _ _ _ _ (size.0.0 ∙ ap (blocks_for c.args.blocks) holds.rests.blocks) size.0.1
+    (makes_laid _ _ _ c.args.to.now _ _ _ _ _ _ _ _ _ _ named _ lacks _ _ _
     (λ denied. denied ∙ ap (λ ns. c.args.to.now ∷ ns) (c.in-Some.ensures.asked.some refl ∙ c.lacks.ensures.asked.some free))
     (c.copy_onto.ensures.writes ∙ c.in-Some.ensures.asked.writes ∙ ap (λ n. n + 1) c.lacks.ensures.asked.writes) (omega (arith, size.0.1, size.0.2)) (c.in-Some.ensures.honest made)
     (c.copy_onto.ensures.told size.0.2 (λ is. part_apart c.args.to.now (sym is ∙ named)) honest there well s holds))

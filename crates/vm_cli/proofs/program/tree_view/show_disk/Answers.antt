@@ -7,6 +7,7 @@ use Rattle.vm_disk.proofs.GoesLemmas.{goes_then}
 use Rattle.vm_disk.proofs.MomentLemmas.{then_reads}
 use Rattle.vm_store.specs.Refused.{IsAtMostSynced, IsRefused}
 use Rattle.vm_cli.specs.Exits.{Tells}
+use Rattle.vm_cli.specs.Known.{written_to}
 use Rattle.vm_cli.specs.declared.program.Exit.TheVariants.{Done}
 use Rattle.vm_cli.specs.declared.program.opening.NoStore.TheVariants.{Refused}
 use Rattle.vm_cli.proofs.OpeningLemmas.{device_untold, memory_untold}
@@ -16,16 +17,14 @@ use Rattle.vm_cli.proofs.program.tree_view.show_disk.Goals as goal
 
 pub returns-in-Ok-drawn-clause-ends : goal.returns-in-Ok-drawn-clause-ends
 returns-in-Ok-drawn-clause-ends g c =
-    let before = g.W.Write.contents c.args.output.now in
-    let after = g.W.Write.contents c.show.new.output in
+    let output = written_to g.W.Write.contents c.args.output.now c.show.new.output in
     let text = is_ok _ c.draw_store-drawn.result _ c.in-Ok-drawn.is c.draw_store-drawn.ensures.text in
-    inl (refl, (text.0, subst (λ t. Tells Done c.show.result before after t) (c.deref.ensures.value ∙ text.1) c.show.ensures))
+    inl (refl, (text.0, subst (λ t. Tells Done c.show.result output t) (c.deref.ensures.value ∙ text.1) c.show.ensures))
 
 pub returns-in-Ok-drawn-clause-told : goal.returns-in-Ok-drawn-clause-told
 returns-in-Ok-drawn-clause-told g c honest =
     let old = g.D.Disk.state c.args.disk in
-    let before = g.W.Write.contents c.args.output.now in
-    let after = g.W.Write.contents c.show.new.output in
+    let output = written_to g.W.Write.contents c.args.output.now c.show.new.output in
     let there = subst (λ d. (g.D.Disk.state d).honest ≡ true) c.close-disk.ensures.disk honest in
     let passes = c.draw_store-drawn.ensures.passes in
     let earlier = passes.goes.earlier there in
@@ -38,7 +37,7 @@ returns-in-Ok-drawn-clause-told g c honest =
         shown = opens.shown;
         moments = subst (λ d. Throughout old (g.D.Disk.state d) (IsAtMostSynced old.now)) (sym c.close-disk.ensures.disk) (then_reads _ _ _ _ (c.in-Ok.ensures.opened.moments earlier) (passes.reads there refl));
       },
-      subst (λ t. Tells Done c.show.result before after t) (c.deref.ensures.value ∙ text) c.show.ensures,
+      subst (λ t. Tells Done c.show.result output t) (c.deref.ensures.value ∙ text) c.show.ensures,
     )
 
 pub returns-in-Err-drawn-clause-told : goal.returns-in-Err-drawn-clause-told

@@ -1,5 +1,5 @@
 use Rattle.std.proofs.Common.{◌≡◌, ◌≤◌, []}
-use Rattle.vm_cli.specs.Conversations.{streams_of}
+use Rattle.vm_cli.specs.Known.{streams_of}
 use Rattle.vm_cli.specs.Input.{HoldsLine}
 use Rattle.vm_cli.specs.LineReading.{unread_of}
 use Rattle.vm_cli.specs.Streams.{IsStage, batches}
