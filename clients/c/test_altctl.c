@@ -755,7 +755,7 @@ static void errors_have_names(void)
     SAME_TEXT("ALT_IN_BATCH", alt_error_name(ALT_IN_BATCH));
     SAME_TEXT("ReadOnly", alt_error_name(ALT_READ_ONLY));
     SAME_TEXT("unknown", alt_error_name(25));
-    SAME_TEXT("unknown", alt_error_name(106));
+    SAME_TEXT("unknown", alt_error_name(108));
     SAME_TEXT("unknown", alt_error_name(-14));
     SAME_TEXT("another process has locked the file", alt_error_text(NULL, ALT_IN_USE));
     errno = ENOENT;

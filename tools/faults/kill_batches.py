@@ -19,7 +19,8 @@ from kill import BLOCKS, EMPTY, Failure, answered, change, part_query, unlike
 
 LONGEST_LIFE = 0.3
 MOST_LINES = 12
-OPTIONS = [[], ["--buffer", "1"], ["--cache", "0"], ["--grow"]]
+# Without --grow: how many blocks a state needs is no part of the model, so it cannot know when a store grows by itself.
+OPTIONS = [[], ["--buffer", "1"], ["--cache", "0"]]
 FULL = "error 13 Full"
 
 
