@@ -19,8 +19,7 @@ from kill import BLOCKS, EMPTY, Failure, answered, change, part_query, unlike
 
 LONGEST_LIFE = 0.3
 MOST_LINES = 12
-# Without --grow: how many blocks a state needs is no part of the model, so it cannot know when a store grows by itself.
-OPTIONS = [[], ["--buffer", "1"], ["--cache", "0"]]
+OPTIONS = [[], ["--buffer", "1"], ["--cache", "0"], ["--grow"]]
 FULL = "error 13 Full"
 
 
@@ -41,11 +40,17 @@ def refused(count, place, answer):
     return [others] * place + [answer] + [others] * (count - place)
 
 
-def turn(chance, state):
+def is_own_growth(grows, line):
+    """Whether a line changes the number of blocks of a store that grows by itself. When that is the model cannot know,
+    as it does not know how many blocks a state needs."""
+    return grows and line.startswith("grow ")
+
+
+def turn(chance, state, grows):
     """Lines to send, the answers that are due, and the state after them, or None for one that stays."""
     kind = chance.choices(["change", "batch", "query", "abort", "mixed", "word"], [30, 40, 15, 5, 5, 5])[0]
     line = change(chance, state, True)
-    if kind == "change" and line != "rollback":
+    if kind == "change" and line != "rollback" and not is_own_growth(grows, line):
         [answer], after = answered(state, line)
         return [line], [answer], after
     if kind == "query":
@@ -56,7 +61,7 @@ def turn(chance, state):
     lines, now = [], state
     for _ in range(chance.randrange(1, MOST_LINES)):
         line = change(chance, now, True)
-        if line != "rollback":
+        if line != "rollback" and not is_own_growth(grows, line):
             lines.append(line)
             now = answered(now, line)[1]
     if kind == "abort":
@@ -81,7 +86,9 @@ class Life:
 
     def __init__(self, altctl, file, chance, state, count):
         self.chance, self.state, self.count = chance, state, count
-        words = [altctl, *self.JOB, *chance.choice(OPTIONS), file]
+        options = chance.choice(OPTIONS)
+        self.grows = "--grow" in options
+        words = [altctl, *self.JOB, *options, file]
         self.process = subprocess.Popen(words, stdin=subprocess.PIPE, stdout=subprocess.PIPE)
         # The states after the last batch that was answered, and after those sent since.
         self.possible = [state]
@@ -98,7 +105,7 @@ class Life:
 
     def live(self):
         for _ in range(self.count):
-            lines, expected, after = turn(self.chance, self.state)
+            lines, expected, after = turn(self.chance, self.state, self.grows)
             self.possible = [self.state, after]
             try:
                 self.process.stdin.write("".join(f"{it}\n" for it in lines).encode())
@@ -122,18 +129,29 @@ class Life:
         self.process.wait()
 
 
-def seen(altctl, file, state):
-    """Where the file does not show this state."""
-    lines = ["alts", "blocks"]
+def grown_by_itself(state, blocks):
+    """The state with this number of blocks, if it comes of doubling its own, and else as it is."""
+    due = state.blocks
+    while due < blocks:
+        due *= 2
+    return state._replace(blocks=due) if due == blocks else state
+
+
+def seen(altctl, file, state, grows):
+    """Where the file does not show this state, and the state, with the file's blocks if it has grown by itself."""
+    lines = ["blocks", "alts"]
     for name in state.tree:
         lines += [f"list {name}", f"list {name}@", f"checks {name}"]
         lines += [f"list {name}@{it}" for it in state.tree[name].checkpoints]
-    due = []
-    for line in lines:
-        due += [f"blocks {state.blocks}"] if line == "blocks" else answered(state, line)[0]
     words = [altctl, "run", "--read-only", file]
-    came = subprocess.run(words, input="".join(f"{it}\n" for it in lines), stdout=subprocess.PIPE, text=True)
-    return unlike("after the kill", due, came.stdout.splitlines())
+    looked = subprocess.run(words, input="".join(f"{it}\n" for it in lines), stdout=subprocess.PIPE, text=True)
+    came = looked.stdout.splitlines()
+    if grows and came and came[0].startswith("blocks "):
+        state = grown_by_itself(state, int(came[0].split()[1]))
+    due = [f"blocks {state.blocks}"]
+    for line in lines[1:]:
+        due += answered(state, line)[0]
+    return unlike("after the kill", due, came), state
 
 
 def lived(altctl, file, chance, state, kills, life_of):
@@ -149,10 +167,11 @@ def lived(altctl, file, chance, state, kills, life_of):
         if kills:
             life.process.kill()
         life.end()
-    wrong = [seen(altctl, file, it) for it in life.possible]
-    if all(wrong):
-        raise Failure(f"{len(life.possible)} states may be shown, and none is\n" + "\n".join(wrong))
-    return life.possible[wrong.index("")]
+    looks = [seen(altctl, file, it, life.grows) for it in life.possible]
+    for wrong, shown in looks:
+        if not wrong:
+            return shown
+    raise Failure(f"{len(looks)} states may be shown, and none is\n" + "\n".join(wrong for wrong, _ in looks))
 
 
 def main(life_of=Life, about=__doc__):

@@ -15,7 +15,7 @@ from typing import NamedTuple
 sys.dont_write_bytecode = True
 sys.path.insert(0, str(Path(__file__).resolve().parent))
 from kill import Failure, answered, change, part_query, pick, unlike
-from kill_batches import Life, carried_out, is_full, main, refused
+from kill_batches import Life, carried_out, is_full, is_own_growth, main, refused
 
 NUMBERS = [1, 2, 3, 4, 5, 4294967295]
 # Up to so many lines are sent before they are answered.
@@ -98,8 +98,8 @@ class Stream:
 class Seats:
     """Who will have joined once all that was sent is taken, and whether each will have begun a batch."""
 
-    def __init__(self):
-        self.begun = {}
+    def __init__(self, grows):
+        self.begun, self.grows = {}, grows
 
     def next(self, chance, state):
         """A line to send."""
@@ -126,7 +126,8 @@ class Seats:
         kinds = inside if in_batch else outside
         kind = chance.choices(list(kinds), list(kinds.values()))[0]
         if kind == "change":
-            return change(chance, state, True)
+            line = change(chance, state, True)
+            return chance.choice(BLANK) if is_own_growth(self.grows, line) else line
         if kind == "query":
             return chance.choice(NO_CHANGES if in_batch else ["alts", part_query(chance, state.tree)])
         if kind == "word":
@@ -157,7 +158,7 @@ class PlannersLife(Life):
             pass  # It was killed.
 
     def live(self):
-        seats, sent = Seats(), deque()
+        seats, sent = Seats(self.grows), deque()
         for _ in range(self.count):
             if not sent or len(sent) < self.ahead // 2:
                 lines = [seats.next(self.chance, self.state) for _ in range(self.ahead - len(sent))]
