@@ -83,6 +83,8 @@ class Life:
     """One process, from its start until it is killed or ends."""
 
     JOB = ["serve"]
+    # How many blocks the stores have: as many lives are lived over each of them.
+    SIZES = [BLOCKS]
 
     def __init__(self, altctl, file, chance, state, count):
         self.chance, self.state, self.count = chance, state, count
@@ -167,11 +169,13 @@ def lived(altctl, file, chance, state, kills, life_of):
         if kills:
             life.process.kill()
         life.end()
-    looks = [seen(altctl, file, it, life.grows) for it in life.possible]
-    for wrong, shown in looks:
+    all_wrong = []
+    for it in life.possible:
+        wrong, shown = seen(altctl, file, it, life.grows)
         if not wrong:
             return shown
-    raise Failure(f"{len(looks)} states may be shown, and none is\n" + "\n".join(wrong for wrong, _ in looks))
+        all_wrong.append(wrong)
+    raise Failure(f"{len(all_wrong)} states may be shown, and none is\n" + "\n".join(all_wrong))
 
 
 def main(life_of=Life, about=__doc__):
@@ -182,11 +186,12 @@ def main(life_of=Life, about=__doc__):
     given = parser.parse_args()
     chance = random.Random(given.seed)
     with tempfile.TemporaryDirectory() as folder:
-        file, state = f"{folder}/map.alt", EMPTY
-        subprocess.run([given.altctl, "create", file, str(BLOCKS)], check=True, stdout=subprocess.DEVNULL)
         try:
-            for number in range(given.count):
-                state = lived(given.altctl, file, chance, state, chance.random() < 0.8, life_of)
+            for place, blocks in enumerate(life_of.SIZES):
+                file, state = f"{folder}/{place}.alt", EMPTY._replace(blocks=blocks)
+                subprocess.run([given.altctl, "create", file, str(blocks)], check=True, stdout=subprocess.DEVNULL)
+                for number in range(place, given.count, len(life_of.SIZES)):
+                    state = lived(given.altctl, file, chance, state, chance.random() < 0.8, life_of)
         except Failure as failure:
             print(f"seed {given.seed}, life {number}: {failure}")
             return 1

@@ -67,7 +67,7 @@ joined refused (Err fault) = Err fault
 
 module _ {D : Type 0} {members : _} where
   -- the state after further commands
-  after-join : (on : Manner) (old new : Store D members) (s : State) (lines : List (List ℕ)) (text : List ℕ) (commands later : List Command) (answers others : List (Result Answer Refusal)) (refused : Bool) → Talks old new s on lines text commands answers refused
+  pub after-join : (on : Manner) (old new : Store D members) (s : State) (lines : List (List ℕ)) (text : List ℕ) (commands later : List Command) (answers others : List (Result Answer Refusal)) (refused : Bool) → Talks old new s on lines text commands answers refused
       → after s (commands ++ later) (answers ++ others) ≡ after (after s commands answers) later others
   after-join on old new s [] text commands later answers others refused (d, e, f, g, h) = rw (f, g) refl
   after-join on old new s (line ∷ lines) text commands later answers others refused (mid, first, rest, later1, others1, step, e, f, g, again, h, talks) =
@@ -140,7 +140,7 @@ module _ {D : Type 0} {members : _} where
 
   -- further lines
   module _ (old mid new : Store D members) (s : State) (on : Manner) (lines : List (List ℕ)) (text : List ℕ) (first : HasTalked old mid s on lines text) where
-    state-then : (more : List (List ℕ)) (second : List ℕ) (then : HasTalked mid new (after s first.commands first.answers) on more second) → after s (first.commands ++ then.commands) (first.answers ++ then.answers) ≡ after (after s first.commands first.answers) then.commands then.answers
+    pub state-then : (more : List (List ℕ)) (second : List ℕ) (then : HasTalked mid new (after s first.commands first.answers) on more second) → after s (first.commands ++ then.commands) (first.answers ++ then.answers) ≡ after (after s first.commands first.answers) then.commands then.answers
     state-then more second then = after-join on old mid s lines text first.commands then.commands first.answers then.answers first.refused first.talks
 
     -- the store between stood for what the first lines leave, where this one did for what came before
@@ -159,6 +159,15 @@ module _ {D : Type 0} {members : _} where
       still = then.still ∙ first.still;
       holds = λ stood fine. subst (λ t. Holds new t) (sym (state-then more second then)) (then.holds (stood-then more second then stood fine) fine);
     }
+
+    -- what all of them carried out
+    pub commands-joined : (more : List (List ℕ)) (second : List ℕ) (then : HasTalked mid new (after s first.commands first.answers) on more second) → (talked-join more second then).commands ≡ first.commands ++ then.commands
+    unfolding talked-join
+    commands-joined more second then = refl
+
+    pub answers-joined : (more : List (List ℕ)) (second : List ℕ) (then : HasTalked mid new (after s first.commands first.answers) on more second) → (talked-join more second then).answers ≡ first.answers ++ then.answers
+    unfolding talked-join
+    answers-joined more second then = refl
 
   -- a talk that ends after further lines
   module _ (old mid new : Store D members) (s : State) (on : Manner) (lines : List (List ℕ)) (text : List ℕ) (first : HasTalked old mid s on lines text) where

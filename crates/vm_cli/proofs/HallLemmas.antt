@@ -1,26 +1,36 @@
 -- A line of a stream in which many planners speak.
-use Rattle.std.proofs.Common.{◌≡◌, inl, ◌+◌, ◌++◌, ◌≤◌, ℕ, zero, suc, Bool, true, false, List, [], ◌∷◌, Option, Result, Ok, ap, refl, subst, arith, length, take, ◌-◌, if◌then◌else◌}
+use Rattle.std.proofs.Common.{◌≡◌, inl, inr, ◌+◌, ◌++◌, ◌∙◌, ◌≤◌, ℕ, zero, suc, Bool, true, false, List, [], ◌∷◌, Option, None, Result, Ok, Err, ap, sym, refl, subst, arith, length, take, ◌-◌, if◌then◌else◌}
+use Rattle.std.specs.Io.KnownBytes.{Appends}
 use Rattle.vm_types.specs.State.{State}
 use Rattle.vm_disk.specs.declared.disk.Disk.{Ghosts}
 use Rattle.vm_store.specs.declared.store.Store.{Store}
 use Rattle.vm_cli.specs.Conversations.{AnswersThen, Course, Tells, counted_result, some_lines}
-use Rattle.vm_cli.specs.Conversations.Course.{proceeds}
+use Rattle.vm_cli.specs.Conversations.Course.{over, proceeds, unwritten}
 use Rattle.vm_cli.specs.Input.{KindHolds, ends_with_return, without_return}
 use Rattle.vm_cli.specs.Lines.{IsPart}
 use Rattle.vm_cli.specs.declared.lines.line.LineKind.{LineKind}
 use Rattle.vm_cli.specs.declared.lines.line.LineKind.TheVariants.{Kept}
 use Rattle.vm_cli.specs.declared.lines.line.TheConstants.{MAX_BYTES}
 use Rattle.vm_cli.specs.Feeds.{TalksOn}
+use Rattle.vm_cli.specs.PlannerLines.{Saying}
 use Rattle.vm_cli.specs.PlannerLines.Saying.{says}
-use Rattle.vm_cli.specs.PlannerCalls.{AnswersSeats, AreWithin, Hall, TakesInHall, hall}
-use Rattle.vm_cli.specs.Planners.{AreSeats, IsAnswered, IsPassedBy, Seat, Sits, TakesIts, TakesSaying, seat}
-use Rattle.vm_cli.specs.Rounds.{Round}
-use Rattle.vm_cli.specs.Streams.{Held}
+use Rattle.vm_cli.specs.PlannerCalls.{AnswersSeats, AreWaiting, AreWithin, Hall, IsGathering, SettlesQueue, TakesInHall, hall}
+use Rattle.vm_cli.specs.Planners.{AreSeats, Gathering, IsAnswered, IsLast, IsPassedBy, Seat, Sits, TakesAlone, TakesBehind, TakesSaying, TakesWhen, gathering, seat, settles_first, with_none_waiting}
+use Rattle.vm_cli.specs.Rounds.{Round, after_round, after_rounds}
+use Rattle.vm_cli.specs.StreamCalls.{scene}
+use Rattle.vm_cli.specs.Streams.{Held, IsStage}
+use Rattle.vm_cli.specs.Waiting.{SettlesWaiting, Waiting, then_course}
 use Rattle.vm_cli.specs.declared.talk.Manner.{Manner}
+use Rattle.vm_cli.specs.declared.talk.OnRefusal.TheVariants.{Stop, Tell}
 use Rattle.vm_cli.specs.declared.talk.ServeFault.{ServeFault}
+use Rattle.vm_cli.specs.declared.talk.ServeFault.TheVariants as fault
+use Rattle.vm_cli.specs.declared.talk.planner_line.When.{When}
 use Rattle.vm_cli.specs.declared.talk.planners.Planner.{Planner}
 use Rattle.vm_cli.specs.declared.talk.planners.PlannersSession.{PlannersSession}
-use Rattle.vm_cli.proofs.Known.{Appends-nil}
+use Rattle.vm_cli.proofs.CarriedLemmas.{begins-then}
+use Rattle.vm_cli.proofs.EndLemmas.{talks_then}
+use Rattle.vm_cli.proofs.FeedLemmas.{joined}
+use Rattle.vm_cli.proofs.Known.{Appends-nil, Appends-then}
 use Rattle.vm_cli.proofs.SeatLemmas.{within_first, within_joined, within_last, within_more}
 use Rattle.vm_cli.proofs.StreamLemmas.{counted_talks, tells_as, tells_counted}
 
@@ -36,71 +46,220 @@ within_around n before planner behind other within more =
 
 module _ {D : Type 0} {members : Ghosts D} (old new : Store D members) (s : State) (how : Manner) where
   -- a planner said a line, who sits there
-  pub said_told : (own : Manner) → own ≡ how → (number : ℕ) (part : List ℕ) (seats earlier later : List Seat) (stage : Option Held) → Sits number stage earlier later seats
-      → (P : Option Held → Type 0) (Q : List Seat → Type 0) → ((stage' : Option Held) → P stage' → Q (earlier ++ seat number stage' ∷ later))
+  pub said_told : (own : Manner) → own ≡ how → (when : When) (number : ℕ) (part : List ℕ) (at : Gathering) (earlier later : List Seat) (stage : Option Held) → Sits number stage earlier later at.seats
+      → (P : Option Held → Type 0) (R : List Waiting → Type 0) (Q : Gathering → Type 0)
+      → ((stage' : Option Held) (more : List Waiting) → P stage' → R more → Q (gathering (earlier ++ seat number stage' ∷ later) (at.waiting ++ more)))
       → (result : Result Bool ServeFault) (a b : Option (List ℕ))
-      → Tells own (λ text course. (stage' : Option Held) × (round : Round) × P stage' × TakesIts old new s own number stage part text course stage' round) result a b
-      → Tells how (λ text course. (seats' : List Seat) × (rounds : List Round) × Q seats' × TakesSaying old new s how (says number part) text course seats seats' rounds) result a b
-  said_told own same number part seats earlier later stage sits P Q of result a b told =
+      → Tells own (λ text course. (stage' : Option Held) × (round : Round) × (more : List Waiting) × P stage' × R more × TakesWhen when old new s own number stage part text course stage' round more) result a b
+      → Tells how (λ text course. (at' : Gathering) × (rounds : List Round) × Q at' × TakesAlone old new s how (says when number part) text course at at' rounds) result a b
+  said_told own same when number part at earlier later stage sits P R Q of result a b told =
       tells_as how
-      (λ text course. (stage' : Option Held) × (round : Round) × P stage' × TakesIts old new s how number stage part text course stage' round)
-      (λ text course. (seats' : List Seat) × (rounds : List Round) × Q seats' × TakesSaying old new s how (says number part) text course seats seats' rounds)
+      (λ text course. (stage' : Option Held) × (round : Round) × (more : List Waiting) × P stage' × R more × TakesWhen when old new s how number stage part text course stage' round more)
+      (λ text course. (at' : Gathering) × (rounds : List Round) × Q at' × TakesAlone old new s how (says when number part) text course at at' rounds)
       (λ text course it. (
-        earlier ++ seat number it.0 ∷ later,
+        gathering (earlier ++ seat number it.0 ∷ later) (at.waiting ++ it.2),
         it.1 ∷ [],
-        of it.0 it.2,
-        inl (record { stage = stage; stage' = it.0; before = earlier; behind = later; round = it.1; sits = sits; takes = it.3; seated = refl; came_so = refl }),
+        of it.0 it.2 it.3 it.4,
+        inl (record { stage = stage; stage' = it.0; before = earlier; behind = later; round = it.1; more = it.2; sits = sits; takes = it.5; seated = refl; waiting = refl; came_so = refl }),
       ))
       result a b
-      (subst (λ m. Tells m (λ text course. (stage' : Option Held) × (round : Round) × P stage' × TakesIts old new s m number stage part text course stage' round) result a b) same told)
+      (subst (λ m. Tells m (λ text course. (stage' : Option Held) × (round : Round) × (more : List Waiting) × P stage' × R more × TakesWhen when old new s m number stage part text course stage' round more) result a b) same told)
 
 -- the store was not asked
-pub answered_told : {D : Type 0} {members : Ghosts D} (store : Store D members) (how : Manner) (IsAnswer : List Seat → List ℕ → ℕ → List Seat → Type 0) (seats : List Seat) (P : List Seat → Type 0) (Q : List ℕ → Course → List Seat → List Round → Type 0)
-    → ((text : List ℕ) (course : Course) (seats' : List Seat) (rounds : List Round) → IsAnswered IsAnswer store store text course seats seats' rounds → Q text course seats' rounds)
+answered_told : {D : Type 0} {members : Ghosts D} (store : Store D members) (how : Manner) (IsAnswer : List Seat → List ℕ → ℕ → List Seat → Type 0) (at : Gathering) (P : List Seat → Type 0) (Q : Gathering → Type 0)
+    (IsSaid : List ℕ → Course → Gathering → List Round → Type 0) → ((seats' : List Seat) → P seats' → Q (gathering seats' at.waiting))
+    → ((text : List ℕ) (course : Course) (at' : Gathering) (rounds : List Round) → IsAnswered IsAnswer store store text course at at' rounds → IsSaid text course at' rounds)
     → (result : Result Bool ServeFault) (a b : Option (List ℕ))
-    → ((text : List ℕ) × (count : ℕ) × (seats' : List Seat) × P seats' × IsAnswer seats text count seats' × AnswersThen text (counted_result how.on_refusal count) result a b)
-    → Tells how (λ text course. (seats' : List Seat) × (rounds : List Round) × P seats' × Q text course seats' rounds) result a b
-answered_told store how IsAnswer seats P Q of result a b (text, count, seats', holds_so, answer, written) =
-    tells_counted how (λ text course. (seats' : List Seat) × (rounds : List Round) × P seats' × Q text course seats' rounds) text a b count result
-    (seats', [], holds_so, of text (proceeds (some_lines count)) seats' [] (record { count = count; answer = answer; same = refl; goes = refl; came_so = refl })) written
+    → ((text : List ℕ) × (count : ℕ) × (seats' : List Seat) × P seats' × IsAnswer at.seats text count seats' × AnswersThen text (counted_result how.on_refusal count) result a b)
+    → Tells how (λ text course. (at' : Gathering) × (rounds : List Round) × Q at' × IsSaid text course at' rounds) result a b
+answered_told store how IsAnswer at P Q IsSaid held of result a b (text, count, seats', holds_so, answer, written) =
+    tells_counted how (λ text course. (at' : Gathering) × (rounds : List Round) × Q at' × IsSaid text course at' rounds) text a b count result (
+      gathering seats' at.waiting,
+      [],
+      held seats' holds_so,
+      of text (proceeds (some_lines count)) (gathering seats' at.waiting) [] (record { count = count; answer = answer; waiting = refl; same = refl; goes = refl; came_so = refl }),
+    ) written
 
 -- so it is as it was
-pub answered_talks : {D : Type 0} {members : Ghosts D} (store : Store D members) (how : Manner) (IsAnswer : List Seat → List ℕ → ℕ → List Seat → Type 0) (seats : List Seat) (P : List Seat → Type 0) (result : Result Bool ServeFault) (a b : Option (List ℕ))
+answered_talks : {D : Type 0} {members : Ghosts D} (store : Store D members) (how : Manner) (IsAnswer : List Seat → List ℕ → ℕ → List Seat → Type 0) (seats : List Seat) (P : List Seat → Type 0) (result : Result Bool ServeFault) (a b : Option (List ℕ))
     → ((text : List ℕ) × (count : ℕ) × (seats' : List Seat) × P seats' × IsAnswer seats text count seats' × AnswersThen text (counted_result how.on_refusal count) result a b) → TalksOn result store store
 answered_talks store how IsAnswer seats P result a b (text, count, seats', holds_so, answer, written) = counted_talks store text a b how.on_refusal count result written
 
+-- what waits is as it was
+waits_on : (old new : PlannersSession) → new.waiting.items ≡ old.waiting.items → (at : Gathering) → IsGathering old at → (seats' : List Seat) → AreSeats new.planners.items seats' → IsGathering new (gathering seats' at.waiting)
+waits_on old new same at held seats' are = record { seats = are; waiting = subst (λ queue. AreWaiting queue at.waiting) (sym same) held.waiting }
+
 -- what was answered by nobody but the session, as a line of the stream is
 pub answered_hall : {D W : Type 0} {members : Ghosts D} (contents : W → Option (List ℕ)) (IsAnswer : List Seat → List ℕ → ℕ → List Seat → Type 0) (store : Store D members)
-    (IsSaid : State → List Seat → List ℕ → Course → List Seat → List Round → Type 0)
-    → ((s : State) (seats : List Seat) (text : List ℕ) (course : Course) (seats' : List Seat) (rounds : List Round) → IsAnswered IsAnswer store store text course seats seats' rounds → IsSaid s seats text course seats' rounds)
-    → (result : Result Bool ServeFault) (old new : PlannersSession) (writer writer' : W) → AnswersSeats IsAnswer result old new (contents writer) (contents writer')
+    (IsSaid : State → Gathering → List ℕ → Course → Gathering → List Round → Type 0) (result : Result Bool ServeFault) (old new : PlannersSession)
+    → ((s : State) (at : Gathering) → IsGathering old at → (text : List ℕ) (course : Course) (at' : Gathering) (rounds : List Round) → IsAnswered IsAnswer store store text course at at' rounds → IsSaid s at text course at' rounds)
+    → (writer writer' : W) → AnswersSeats IsAnswer result old new (contents writer) (contents writer')
     → TakesInHall contents IsSaid result (hall old store writer) (hall new store writer')
-answered_hall contents IsAnswer store IsSaid of result old new writer writer' done = record {
+answered_hall contents IsAnswer store IsSaid result old new of writer writer' done = record {
   stays = done.stays;
-  store = λ seats seated. answered_talks store old.session.manner IsAnswer seats (AreSeats new.planners.items) result _ _ (done.answered seats seated);
-  taken = λ s seats closed seated. answered_told store old.session.manner IsAnswer seats (AreSeats new.planners.items) (IsSaid s seats) (of s seats) result _ _ (done.answered seats seated);
+  store = λ at held. answered_talks store old.session.manner IsAnswer at.seats (AreSeats new.planners.items) result _ _ (done.answered at.seats held.seats);
+  taken = λ s at closed held.
+      answered_told store old.session.manner IsAnswer at (AreSeats new.planners.items) (IsGathering new) (IsSaid s at) (waits_on old new done.waiting at held) (of s at held) result _ _ (done.answered at.seats held.seats);
 }
 
 -- nothing was done
 pub passed_by : (session : PlannersSession) (a : Option (List ℕ)) → AnswersSeats IsPassedBy (Ok false) session session a a
 passed_by session a = record {
   stays = record { manner = refl; closed = λ is. is; count = λ n within. within_more n (n + 1) (omega arith) session.planners.items within };
+  waiting = refl;
   answered = λ seats seated. ([], 0, seats, seated, record { says = refl; refused = refl; seated = refl }, inl (refl, Appends-nil a));
 }
 
 -- what is told of a line is told of the line of the stream
-pub hall_as : {D W : Type 0} {members : Ghosts D} (contents : W → Option (List ℕ)) (P Q : State → List Seat → List ℕ → Course → List Seat → List Round → Type 0)
-    → ((s : State) (seats : List Seat) (text : List ℕ) (course : Course) (seats' : List Seat) (rounds : List Round) → P s seats text course seats' rounds → Q s seats text course seats' rounds)
-    → (result : Result Bool ServeFault) (old new : Hall D W members) → TakesInHall contents P result old new → TakesInHall contents Q result old new
-hall_as contents P Q of result old new done = record {
+pub hall_as : {D W : Type 0} {members : Ghosts D} (contents : W → Option (List ℕ)) (P Q : State → Gathering → List ℕ → Course → Gathering → List Round → Type 0) (result : Result Bool ServeFault) (old new : Hall D W members)
+    → ((s : State) (at : Gathering) → IsGathering old.session at → (text : List ℕ) (course : Course) (at' : Gathering) (rounds : List Round) → P s at text course at' rounds → Q s at text course at' rounds)
+    → TakesInHall contents P result old new → TakesInHall contents Q result old new
+hall_as contents P Q result old new of done = record {
   stays = done.stays;
   store = done.store;
-  taken = λ s seats closed seated.
+  taken = λ s at closed held.
       tells_as old.session.session.manner
-      (λ text course. (seats' : List Seat) × (rounds : List Round) × AreSeats new.session.planners.items seats' × P s seats text course seats' rounds)
-      (λ text course. (seats' : List Seat) × (rounds : List Round) × AreSeats new.session.planners.items seats' × Q s seats text course seats' rounds)
-      (λ text course it. (it.0, it.1, it.2, of s seats text course it.0 it.1 it.3)) result _ _ (done.taken s seats closed seated);
+      (λ text course. (at' : Gathering) × (rounds : List Round) × IsGathering new.session at' × P s at text course at' rounds)
+      (λ text course. (at' : Gathering) × (rounds : List Round) × IsGathering new.session at' × Q s at text course at' rounds)
+      (λ text course it. (it.0, it.1, it.2, of s at held text course it.0 it.1 it.3)) result _ _ (done.taken s at closed held);
 }
+
+-- ---- all that waits is carried out before it
+
+-- where a session ends that writes no more
+ended : Course → Course
+ended (proceeds refused) = unwritten
+ended over = over
+ended unwritten = unwritten
+
+ended-last : (course : Course) → IsLast (ended course)
+unfolding ended
+ended-last (proceeds refused) = tt
+ended-last over = tt
+ended-last unwritten = tt
+
+ended-then : (refused : Bool) (course : Course) → ended (then_course refused course) ≡ then_course refused (ended course)
+unfolding ended
+ended-then refused (proceeds again) = refl
+ended-then refused over = refl
+ended-then refused unwritten = refl
+
+-- the writer may have failed in any answer
+settles_ended : {D : Type 0} {members : Ghosts D} (how : Manner) (rounds : List Round) (old new : Store D members) (s : State) (waiting : List Waiting) (text : List ℕ) (course : Course) → SettlesWaiting old new s how waiting text course rounds
+    → SettlesWaiting old new s how waiting text (ended course) rounds
+unfolding ended
+settles_ended how [] old new s waiting text course (same, none, inl (empty, goes)) = (same, none, inr (ap ended goes))
+settles_ended how [] old new s waiting text course (same, none, inr goes) = (same, none, inr (ap ended goes))
+settles_ended how (round ∷ rounds) old new s waiting text course (inl (ends, none, goes)) = inl (ends, none, ap ended goes)
+settles_ended how (round ∷ rounds) old new s waiting text course (inr (mid, rest, said, more, refused, next, takes, texts, goes, settles)) =
+    inr (mid, rest, said, more, refused, ended next, takes, texts, ap ended goes ∙ ended-then refused next, settles_ended how rounds mid new (after_round s round) rest more next settles)
+
+-- no line that is refused ends such a session
+never_stops : (how : Manner) → how.on_refusal ≡ Tell → how.on_refusal ≡ Stop → ⊥
+never_stops how tells stops = let bad : Tell ≡ Stop = sym tells ∙ stops in cc
+
+-- a first text was written, and behind it what is told
+tells_then : (how : Manner) → how.on_refusal ≡ Tell → (P Q : List ℕ → Course → Type 0) (refused : Bool) (first : List ℕ) → ((said : List ℕ) (course : Course) → P said course → Q (first ++ said) (then_course refused course))
+    → (a b c : Option (List ℕ)) → Appends a b first → (result : Result Bool ServeFault) → Tells how P result b c → Tells how Q (joined refused result) a c
+tells_then how tells P Q refused first of a b c all (Ok last) (said, is_so, goes_on, written) =
+    (first ++ said, of said (proceeds last) is_so, (λ stops. absurd (never_stops how tells stops)), Appends-then a b c first said all written)
+tells_then how tells P Q refused first of a b c all (Err fault.Read) told = told
+tells_then how tells P Q refused first of a b c all (Err fault.Store) (said, is_so, written) = (first ++ said, of said over is_so, Appends-then a b c first said all written)
+tells_then how tells P Q refused first of a b c all (Err fault.Unsure) (said, is_so, written) = (first ++ said, of said over is_so, Appends-then a b c first said all written)
+tells_then how tells P Q refused first of a b c all (Err fault.Refused) (said, is_so, stops, written) = absurd (never_stops how tells stops)
+tells_then how tells P Q refused first of a b c all (Err fault.Write) (said, course, is_so, begun) =
+    (first ++ said, then_course refused course, of said course is_so, begins-then a b c said (first ++ said) (record { sent = first; split = refl; written = all }) begun)
+
+-- the session ends in it
+tells_last : (how : Manner) → how.on_refusal ≡ Tell → (P Q : List ℕ → Course → Type 0) → ((text : List ℕ) (course : Course) → P text course → Q text (ended course))
+    → (why : ServeFault) (a b : Option (List ℕ)) → Tells how P (Err why) a b → Tells how Q (Err why) a b
+unfolding ended
+tells_last how tells P Q of fault.Read a b told = told
+tells_last how tells P Q of fault.Store a b (text, is_so, written) = (text, of text over is_so, written)
+tells_last how tells P Q of fault.Unsure a b (text, is_so, written) = (text, of text over is_so, written)
+tells_last how tells P Q of fault.Refused a b (text, is_so, stops, written) = absurd (never_stops how tells stops)
+tells_last how tells P Q of fault.Write a b (text, course, is_so, begun) = (text, ended course, of text course is_so, begun)
+
+module _ {D W : Type 0} {members : Ghosts D} (contents : W → Option (List ℕ)) (saying : Saying) (old mid : PlannersSession) (tells : old.session.manner.on_refusal ≡ Tell) (store between : Store D members) (writer writer' : W)
+    (first : (at : Gathering) → IsGathering old at → settles_first saying at.waiting ≡ true) (planners : mid.planners.items ≡ old.planners.items) (none : mid.waiting.items ≡ []) where
+  abbrev Said : Store D members → State → Gathering → List ℕ → Course → Gathering → List Round → Type 0
+  Said new s at text course at' rounds = TakesSaying store new s old.session.manner saying text course at at' rounds
+
+  -- none waits any more
+  settled_at : (at : Gathering) → IsGathering old at → IsGathering mid (with_none_waiting at)
+  settled_at at held = record { seats = subst (λ them. AreSeats them at.seats) (sym planners) held.seats; waiting = subst (λ queue. AreWaiting queue []) (sym none) tt }
+
+  behind : (new : Store D members) (s : State) (at : Gathering) → IsGathering old at → (text : List ℕ) (course : Course) (at' : Gathering) (rounds : List Round)
+      → TakesBehind true store new s old.session.manner saying text course at at' rounds → Said new s at text course at' rounds
+  behind new s at held text course at' rounds takes = subst (λ b. TakesBehind b store new s old.session.manner saying text course at at' rounds) (sym (first at held)) takes
+
+  -- the session ends in what waits
+  pub hall_ends : (why : ServeFault) → SettlesQueue contents old.waiting.items (Err why) (scene old.session store writer) (scene mid.session between writer')
+      → TakesInHall contents (Said between) (Err why) (hall old store writer) (hall mid between writer')
+  hall_ends why settled = record {
+    stays = record {
+      manner = settled.manner;
+      closed = λ is. subst (λ batch. IsStage batch None) (sym settled.batch) is;
+      count = λ n all. subst (AreWithin (n + 1)) (sym planners) (within_more n (n + 1) (omega arith) old.planners.items all);
+    };
+    store = λ at held. settled.store;
+    taken = λ s at closed held.
+        tells_last old.session.manner tells
+        (λ text course. (rounds : List Round) × SettlesWaiting store between s old.session.manner at.waiting text course rounds)
+        (λ text course. (at' : Gathering) × (rounds : List Round) × IsGathering mid at' × Said between s at text course at' rounds)
+        (λ text course it. (
+          with_none_waiting at,
+          it.0,
+          settled_at at held,
+          behind between s at held text (ended course) (with_none_waiting at) it.0
+              (inr (record { settles = settles_ended old.session.manner it.0 store between s at.waiting text course it.1; last = ended-last course; held = refl })),
+        )) why _ _ (settled.settled s at.waiting held.waiting);
+  }
+
+  -- or a line is taken behind it
+  pub hall_then : (new : PlannersSession) (after : Store D members) (writer'' : W) (refused : Bool) → SettlesQueue contents old.waiting.items (Ok refused) (scene old.session store writer) (scene mid.session between writer')
+      → (result : Result Bool ServeFault) → TakesInHall contents (λ s at text course at' rounds. TakesAlone between after s mid.session.manner saying text course at at' rounds) result (hall mid between writer') (hall new after writer'')
+      → TakesInHall contents (Said after) (joined refused result) (hall old store writer) (hall new after writer'')
+  hall_then new after writer'' refused settled result done = record {
+    stays = record {
+      manner = done.stays.manner ∙ settled.manner;
+      closed = λ is. done.stays.closed (subst (λ batch. IsStage batch None) (sym settled.batch) is);
+      count = λ n all. done.stays.count n (subst (AreWithin n) (sym planners) all);
+    };
+    store = λ at held. talks_then store between after refused settled.store result (done.store (with_none_waiting at) (settled_at at held));
+    taken = λ s at closed held.
+        let first_told = settled.settled s at.waiting held.waiting in
+        let said = first_told.0 in
+        let rounds = first_told.1.0 in
+        let here = after_rounds s rounds in
+        tells_then old.session.manner tells
+        (λ text course. (at' : Gathering) × (later : List Round) × IsGathering new at' × TakesAlone between after here old.session.manner saying text course (with_none_waiting at) at' later)
+        (λ text course. (at' : Gathering) × (later : List Round) × IsGathering new at' × Said after s at text course at' later)
+        refused said
+        (λ more course it. (
+          it.0,
+          rounds ++ it.1,
+          it.2,
+          behind after s at held (said ++ more) (then_course refused course) it.0 (rounds ++ it.1)
+              (inl (record {
+                mid = between;
+                said = said;
+                more = more;
+                first = rounds;
+                later = it.1;
+                refused = refused;
+                next = course;
+                settles = first_told.1.1;
+                takes = it.3;
+                texts = refl;
+                goes = refl;
+                came_so = refl;
+              })),
+        ))
+        _ (contents writer') _ first_told.3 result
+        (subst (λ m. Tells m (λ text course. (at' : Gathering) × (later : List Round) × IsGathering new at' × TakesAlone between after here m saying text course (with_none_waiting at) at' later) result (contents writer') (contents writer'')) settled.manner
+        (done.taken here (with_none_waiting at) (subst (λ batch. IsStage batch None) (sym settled.batch) closed) (settled_at at held)));
+  }
 
 -- ---- a line without its carriage return
 

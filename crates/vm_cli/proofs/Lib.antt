@@ -49,7 +49,10 @@ pub mod CarryLemmas
 pub mod SettleLemmas
 pub mod StreamLemmas
 pub mod PlannerLemmas
+pub mod WaitingLemmas
 pub mod HallLemmas
+pub mod QueueLemmas
+pub mod LaterLemmas
 pub mod SeatLemmas
 pub mod RoundLemmas
 pub mod ConversationLemmas
@@ -61,4 +64,6 @@ mod Rows
 mod StreamKeepLemmas
 mod WholeLemmas
 mod SoundLemmas
+mod WaitingSoundLemmas
 pub mod PlannerSoundLemmas
+pub mod FairnessLemmas

@@ -1,5 +1,6 @@
 -- Many planners in one stream.
-use Rattle.std.proofs.Common.{◌≡◌, ◌⊎◌, inl, inr, ◌++◌, ◌∙◌, ℕ, Bool, true, false, List, [], Option, None, Some, Result, Ok, Err, ap, refl, subst}
+use Rattle.std.proofs.Common.{◌≡◌, ◌⊎◌, inl, inr, ◌+◌, ◌++◌, ◌∙◌, ℕ, Bool, true, false, List, [], Option, None, Some, Result, Ok, Err, ap, sym, refl, subst, arith, length}
+use Rattle.std.specs.Int.{from_bool}
 use Rattle.std.specs.Io.KnownBytes.{Appends}
 use Rattle.vm_types.specs.State.{State}
 use Rattle.vm_disk.specs.declared.disk.Disk.{Ghosts}
@@ -8,11 +9,14 @@ use Rattle.vm_cli.specs.Carried.{WritesStart}
 use Rattle.vm_cli.specs.Conversations.{AnswersThen, Course, Puts, Tells}
 use Rattle.vm_cli.specs.Conversations.Course.{over, proceeds, unwritten}
 use Rattle.vm_cli.specs.LineUses.{IsUse, no_memory, use_of}
-use Rattle.vm_cli.specs.Planners.{Seat, TakesItFor, TakesIts, is_heard, is_some, label, label_if, parting_text, seat}
+use Rattle.vm_cli.specs.Planners.{Seat, TakesItFor, TakesIts, is_heard, is_some, label_if, parting_text, seat}
 use Rattle.vm_cli.specs.Replies.{reply_text}
 use Rattle.vm_cli.specs.Rounds.{Round}
 use Rattle.vm_cli.specs.Rounds.Round.{idle}
+use Rattle.vm_cli.specs.PlannerCalls.{IsWaiting}
 use Rattle.vm_cli.specs.Streams.{Held, IsStage, TakesAs, TakesInside, TakesOutside, forgotten_text, repeated}
+use Rattle.vm_cli.specs.Streams.Held.{holds}
+use Rattle.vm_cli.specs.Waiting.{Waiting, label, owed}
 use Rattle.vm_cli.specs.declared.answers.reply.Reply.TheVariants as reply
 use Rattle.vm_cli.specs.declared.talk.Manner.{Manner}
 use Rattle.vm_cli.specs.declared.talk.ServeFault.{ServeFault}
@@ -20,10 +24,12 @@ use Rattle.vm_cli.specs.declared.talk.ServeFault.TheVariants as fault
 use Rattle.vm_cli.specs.declared.talk.batch.Batch.{Batch}
 use Rattle.vm_cli.specs.declared.talk.line_use.LineUse.{LineUse}
 use Rattle.vm_cli.specs.declared.talk.planners.Planner.{Planner}
+use Rattle.vm_cli.specs.declared.talk.waiting.WaitingBatch.{WaitingBatch}
 use Rattle.vm_cli.proofs.BatchLemmas.{held_count}
 use Rattle.vm_cli.proofs.CarriedLemmas.{begins-more, begins-then}
 use Rattle.vm_cli.proofs.Known.{Appends-then}
 use Rattle.vm_cli.proofs.PassLemmas.{never_both}
+use Rattle.vm_cli.proofs.RepeatedLemmas.{repeated-sum}
 
 -- ---- what is written
 
@@ -51,6 +57,20 @@ module _ (it : Seat) (planner : Planner) (named : planner.number ≡ it.number) 
 
   pub parts_text : planner.batch.is_open ≡ true → IsStage planner.batch it.stage → label planner.number ++ repeated planner.batch.count (reply_text reply.Aborted) ≡ parting_text it
   parts_text opened is = parts_some opened it.stage is
+
+-- ---- whose batch waits
+
+owed_of : (number count : ℕ) (begun : Bool) (lines : List (List ℕ)) → count ≡ length lines → owed (record { number = number; is_begun = begun; lines = lines }) ≡ count + from_bool begun
+owed_of number count true lines is = ap (λ n. n + 1) (sym is)
+owed_of number count false lines is = omega (arith, is)
+
+-- what is held of it is forgotten
+pub waiting_text : (own : WaitingBatch) (it : Waiting) → IsWaiting own it → (n : ℕ) → n ≡ from_bool own.batch.is_open
+    → label own.number ++ (repeated own.batch.count (reply_text reply.Aborted) ++ repeated n (reply_text reply.Aborted)) ≡ label it.number ++ forgotten_text (owed it)
+waiting_text own it is n n_is =
+    let all : owed it ≡ own.batch.count + n = owed_of it.number own.batch.count it.is_begun it.lines (held_count _ _ _ _ (holds it.lines) is.lines)
+    ∙ ap (λ k. own.batch.count + k) (ap from_bool (sym is.begun) ∙ sym n_is) in
+    ap (λ text. label own.number ++ text) (sym (repeated-sum own.batch.count n (reply_text reply.Aborted)) ∙ ap forgotten_text (sym all)) ∙ ap (λ k. label k ++ forgotten_text (owed it)) is.number
 
 -- ---- a line of a planner
 
@@ -87,7 +107,8 @@ module _ {D : Type 0} {members : Ghosts D} (old new : Store D members) (s : Stat
     abbrev Told : Option Held → Type 0
     Told stage = Tells how (λ text course. (stage' : Option Held) × (round : Round) × P stage' × TakesIts old new s how number stage part text course stage' round) result a c
 
-    told_as : (stage : Option Held) → heard ≡ is_heard (is_some stage) used
+    -- a line
+    pub told_as : (stage : Option Held) → heard ≡ is_heard (is_some stage) used
         → Tells own (λ text course. (stage' : Option Held) × (round : Round) × P stage' × TakesAs old new s own used stage part text course stage' round) result b c → Told stage
     told_as stage heard_is told =
         tells_behind how

@@ -4,9 +4,10 @@ use Rattle.std.specs.Prelude.{option_map, unwrap_or}
 use Rattle.std.specs.Str.{bytes_eq}
 use Rattle.vm_cli.specs.Lines.{IsPart}
 use Rattle.vm_cli.specs.Pieces.{before_mark, behind_mark}
-use Rattle.vm_cli.specs.PlannerLines.{Saying, SaysPart, after_word, first_planner, joins, leaves, lone_planner, said_by, saying_by, saying_of, says, strange, without_spaces}
+use Rattle.vm_cli.specs.PlannerLines.{Saying, SaysPart, after_word, first_planner, joins, leaves, lone_go, lone_planner, said_by, saying_by, saying_of, says, strange, without_spaces}
 use Rattle.vm_cli.specs.Requests.{is_comment}
 use Rattle.vm_cli.specs.Spaces.{words_of}
+use Rattle.vm_cli.specs.declared.talk.planner_line.When.TheVariants.{Later, Now}
 use Rattle.vm_cli.proofs.Spaces.{words_of-pieces}
 
 -- spaces at the front stand in no word
@@ -70,11 +71,17 @@ mapped-part : (say : ℕ → Saying) (planner : Option ℕ) → ((n : ℕ) → S
 mapped-part say None each = tt
 mapped-part say (Some n) each = each n
 
+go-part : (words : List (List ℕ)) → IsSaidPart (lone_go words)
+go-part [] = tt
+go-part (word ∷ words) = tt
+
 said_by-part : (verb : List ℕ) (words : List (List ℕ)) (rest : List ℕ) → IsPart rest → IsSaidPart (said_by verb words rest)
 said_by-part verb words rest part =
-    either-part (bytes_eq verb (codes "line")) _ _ (mapped-part (λ n. says n rest) (first_planner words) (λ n. part))
+    either-part (bytes_eq verb (codes "line")) _ _ (mapped-part (λ n. says Now n rest) (first_planner words) (λ n. part))
+    (either-part (bytes_eq verb (codes "later")) _ _ (mapped-part (λ n. says Later n rest) (first_planner words) (λ n. part))
+    (either-part (bytes_eq verb (codes "go")) _ _ (go-part words)
     (either-part (bytes_eq verb (codes "join")) _ _ (mapped-part joins (lone_planner words) (λ n. tt))
-    (either-part (bytes_eq verb (codes "leave")) _ None (mapped-part leaves (lone_planner words) (λ n. tt)) tt))
+    (either-part (bytes_eq verb (codes "leave")) _ None (mapped-part leaves (lone_planner words) (λ n. tt)) tt))))
 
 saying_by-part : (words : List (List ℕ)) (rest : List ℕ) → IsPart rest → SaysPart (saying_by words rest)
 saying_by-part [] rest part = tt

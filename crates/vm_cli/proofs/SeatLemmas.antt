@@ -5,10 +5,11 @@ use Rattle.std.specs.Io.KnownBytes.{Appends}
 use Rattle.vm_cli.specs.Carried.{WritesStart}
 use Rattle.vm_cli.specs.Conversations.{AnswersThen, counted_result, some_lines}
 use Rattle.vm_cli.specs.PlannerCalls.{AnswersSeats, AreWithin, IsPlaceOf, StaysAtRest}
-use Rattle.vm_cli.specs.Planners.{AreSeats, IsAbsent, IsPresent, IsTold, Joins, Leaves, Seat, Sits, half_text, hold_some, label, parting_count, parting_text, partings, seat, stream_end_count, stream_end_text}
+use Rattle.vm_cli.specs.Planners.{AreSeats, IsAbsent, IsDone, IsPresent, IsTold, Joins, Leaves, Seat, Sits, half_text, hold_some, parting_count, parting_text, partings, seat, seats_end_count, seats_end_text}
 use Rattle.vm_cli.specs.Replies.{reply_text}
 use Rattle.vm_cli.specs.StreamCalls.{KeepsSession}
 use Rattle.vm_cli.specs.Streams.{Held, IsStage, ok_text}
+use Rattle.vm_cli.specs.Waiting.{label}
 use Rattle.vm_cli.specs.declared.answers.reply.Reply.TheVariants as reply
 use Rattle.vm_cli.specs.declared.talk.Manner.{Manner}
 use Rattle.vm_cli.specs.declared.talk.ServeFault.{ServeFault}
@@ -193,28 +194,40 @@ module _ (old new : PlannersSession) (result : Result Bool ServeFault) (before a
       → AnswersSeats P result old new before after → AnswersSeats Q result old new before after
   seats_as P Q of answers = record {
     stays = answers.stays;
+    waiting = answers.waiting;
     answered = λ seats are.
         let told = answers.answered seats are in
         (told.0, told.1, told.2, told.3, of seats are told.0 told.1 told.2 told.4, told.5);
   }
 
   -- a planner is told a refusal
-  pub seats_told : (number : ℕ) (said : List ℕ) → KeepsSession old.session new.session → new.planners.items ≡ old.planners.items
+  pub seats_told : (number : ℕ) (said : List ℕ) → KeepsSession old.session new.session → new.planners.items ≡ old.planners.items → new.waiting.items ≡ old.waiting.items
       → AnswersThen (label number ++ said) (counted_result old.session.manner.on_refusal 1) result before after → AnswersSeats (IsTold number said) result old new before after
-  seats_told number said same planners answers = record {
+  seats_told number said same planners waiting answers = record {
     stays = rests_same old new same planners;
+    waiting = waiting;
     answered = λ seats are. (label number ++ said, 1, seats, subst (λ them. AreSeats them seats) (sym planners) are, record { says = refl; refused = refl; seated = refl }, answers);
   }
 
+  -- or that all is done
+  pub seats_done : KeepsSession old.session new.session → new.planners.items ≡ old.planners.items → new.waiting.items ≡ old.waiting.items
+      → AnswersThen (label 0 ++ ok_text) (counted_result old.session.manner.on_refusal 0) result before after → AnswersSeats IsDone result old new before after
+  seats_done same planners waiting answers = record {
+    stays = rests_same old new same planners;
+    waiting = waiting;
+    answered = λ seats are. (label 0 ++ ok_text, 0, seats, subst (λ them. AreSeats them seats) (sym planners) are, record { says = refl; refused = refl; seated = refl }, answers);
+  }
+
   -- the same session, as far as anybody asks
-  pub seats_from : (mid : PlannersSession) (P : List Seat → List ℕ → ℕ → List Seat → Type 0) → mid.planners.items ≡ old.planners.items → mid.session ≡ old.session
+  pub seats_from : (mid : PlannersSession) (P : List Seat → List ℕ → ℕ → List Seat → Type 0) → mid.planners.items ≡ old.planners.items → mid.waiting.items ≡ old.waiting.items → mid.session ≡ old.session
       → AnswersSeats P result mid new before after → AnswersSeats P result old new before after
-  seats_from mid P planners session answers = record {
+  seats_from mid P planners waiting session answers = record {
     stays = record {
       manner = answers.stays.manner ∙ ap (λ (it : BatchSession). it.manner) session;
       closed = λ is. answers.stays.closed (subst (λ (it : BatchSession). IsStage it.batch None) (sym session) is);
       count = λ n all. answers.stays.count n (subst (AreWithin n) (sym planners) all);
     };
+    waiting = answers.waiting ∙ waiting;
     answered = λ seats are.
         let told = answers.answered seats (subst (λ them. AreSeats them seats) (sym planners) are) in
         (told.0, told.1, told.2, told.3, told.4, subst (λ (it : BatchSession). AnswersThen told.0 (counted_result it.manner.on_refusal told.1) result before after) session told.5);
@@ -224,12 +237,13 @@ module _ (old new : PlannersSession) (result : Result Bool ServeFault) (before a
 
   -- it is new
   pub seats_more : (number : ℕ) (planner : Planner) → ((seats : List Seat) → AreSeats old.planners.items seats → IsAbsent number seats) → planner.number ≡ number → IsStage planner.batch None → planner.batch.count ≡ 0
-      → KeepsSession old.session new.session → new.planners.items ≡ old.planners.items ++ planner ∷ []
+      → KeepsSession old.session new.session → new.planners.items ≡ old.planners.items ++ planner ∷ [] → new.waiting.items ≡ old.waiting.items
       → AnswersThen (label number ++ ok_text) (counted_result old.session.manner.on_refusal 0) result before after → AnswersSeats (Joins number) result old new before after
-  seats_more number planner absent named none empty same planners answers = record {
+  seats_more number planner absent named none empty same planners waiting answers = record {
     stays = rests_kept old new same (λ n all.
         subst (AreWithin (n + 1)) (sym planners)
         (within_joined (n + 1) old.planners.items (planner ∷ []) (within_more n (n + 1) (omega arith) old.planners.items all) (omega (arith, empty), tt)));
+    waiting = waiting;
     answered = λ seats are. (
       label number ++ ok_text,
       0,
@@ -243,10 +257,10 @@ module _ (old new : PlannersSession) (result : Result Bool ServeFault) (before a
   -- ---- a planner leaves
 
   pub seats_less : (number place : ℕ) → IsPlaceOf number old.planners.items (Some place) → (left : Planner) → left ≡ get_or old.planners.items place left
-      → KeepsSession old.session new.session → new.planners.items ≡ take place old.planners.items ++ drop (place + 1) old.planners.items
+      → KeepsSession old.session new.session → new.planners.items ≡ take place old.planners.items ++ drop (place + 1) old.planners.items → new.waiting.items ≡ old.waiting.items
       → ((it : Seat) → left.number ≡ it.number → IsStage left.batch it.stage → AnswersThen (parting_text it) (counted_result old.session.manner.on_refusal left.batch.count) result before after)
       → AnswersSeats (Leaves number) result old new before after
-  seats_less number place (earlier, planner, later, split, at, named, only) left is same planners answers =
+  seats_less number place (earlier, planner, later, split, at, named, only) left is same planners waiting answers =
       let found : left ≡ planner = is ∙ planner_at earlier planner later old.planners.items place split at left in
       let rest : new.planners.items ≡ earlier ++ later = planners ∙ planner_cut earlier planner later old.planners.items place split at in
       record {
@@ -254,6 +268,7 @@ module _ (old new : PlannersSession) (result : Result Bool ServeFault) (before a
             let parts = subst (AreWithin n) split all in
             subst (AreWithin (n + 1)) (sym rest)
             (within_more n (n + 1) (omega arith) (earlier ++ later) (within_joined n earlier later (within_first n earlier (planner ∷ later) parts) (within_last n earlier (planner ∷ later) parts).1)));
+        waiting = waiting;
         answered = λ seats are.
             let sat = sits_at number earlier planner later named only old.planners.items split seats are in
             let held = subst (λ it. IsStage it.batch sat.stage) (sym found) sat.held in (
@@ -332,7 +347,7 @@ module _ (planners : List Planner) (place : ℕ) (half refused : ℕ) (a b c : O
 
   -- the writer fails in what one of them is told
   pub left_short : (why : ServeFault) → ((it : Seat) → planner.number ≡ it.number → IsStage planner.batch it.stage → (why ≡ fault.Write) × WritesStart b c (parting_text it))
-      → (seats : List Seat) → AreSeats planners seats → (goes : Result Bool ServeFault) → AnswersThen (stream_end_text seats half) goes (Err why) a c
+      → (seats : List Seat) → AreSeats planners seats → (goes : Result Bool ServeFault) → AnswersThen (seats_end_text seats half) goes (Err why) a c
   left_short why put seats are goes =
       let split = parted_at planners place planner within ∙ ap (λ it. take place planners ++ it ∷ drop (place + 1) planners) (sym is) in
       let cut = seats_cut (take place planners) planner (drop (place + 1) planners) seats (subst (λ them. AreSeats them seats) split are) in
@@ -346,16 +361,16 @@ module _ (planners : List Planner) (place : ℕ) (half refused : ℕ) (a b c : O
 -- all of them have left
 module _ (planners : List Planner) (place : ℕ) (half refused : ℕ) (a b c : Option (List ℕ)) (left : HaveLeft (take place planners) half refused a b) (whole : length planners ≤ place)
     (old new : Manner) (same : new ≡ old) (result : Result Bool ServeFault) (seats : List Seat) (are : AreSeats planners seats) where
-  left_then : AnswersThen (half_text half) (counted_result new.on_refusal refused) result b c → AnswersThen (stream_end_text seats half) (counted_result old.on_refusal (stream_end_count seats half)) result a c
+  left_then : AnswersThen (half_text half) (counted_result new.on_refusal refused) result b c → AnswersThen (seats_end_text seats half) (counted_result old.on_refusal (seats_end_count seats half)) result a c
   left_then answers =
       let taken = subst (λ them. AreSeats them seats) (sym (take_all place planners whole)) are in
-      subst (λ (manner : Manner). AnswersThen (stream_end_text seats half) (counted_result manner.on_refusal (stream_end_count seats half)) result a c) same
-      (subst (λ n. AnswersThen (stream_end_text seats half) (counted_result new.on_refusal n) result a c) (left.count seats taken)
+      subst (λ (manner : Manner). AnswersThen (seats_end_text seats half) (counted_result manner.on_refusal (seats_end_count seats half)) result a c) same
+      (subst (λ n. AnswersThen (seats_end_text seats half) (counted_result new.on_refusal n) result a c) (left.count seats taken)
       (written_behind a b c (partings seats) (half_text half) (counted_result new.on_refusal refused) result (left.said seats taken) answers))
 
   -- the input ends in the middle of a line
   pub left_within : 0 < half → AnswersThen (label 0 ++ reply_text reply.HalfLine) (counted_result new.on_refusal refused) result b c
-      → AnswersThen (stream_end_text seats half) (counted_result old.on_refusal (stream_end_count seats half)) result a c
+      → AnswersThen (seats_end_text seats half) (counted_result old.on_refusal (seats_end_count seats half)) result a c
   left_within some answers = left_then (subst (λ text. AnswersThen text (counted_result new.on_refusal refused) result b c) (sym (of half some)) answers)
     where
       of : (n : ℕ) → 0 < n → half_text n ≡ label 0 ++ reply_text reply.HalfLine
@@ -363,5 +378,5 @@ module _ (planners : List Planner) (place : ℕ) (half refused : ℕ) (a b c : O
       of (suc n) lt = refl
 
   -- or behind one
-  pub left_whole : half ≡ 0 → b ≡ c → result ≡ counted_result new.on_refusal refused → AnswersThen (stream_end_text seats half) (counted_result old.on_refusal (stream_end_count seats half)) result a c
+  pub left_whole : half ≡ 0 → b ≡ c → result ≡ counted_result new.on_refusal refused → AnswersThen (seats_end_text seats half) (counted_result old.on_refusal (seats_end_count seats half)) result a c
   left_whole none still is = left_then (inl (is, subst (Appends b c) (ap half_text (sym none)) (subst (λ end. Appends b end []) still (Appends-nil b))))

@@ -110,7 +110,7 @@ module _ {D : Type 0} {members : _} where
     refused_earlier : (last : Store D members) (lines : List (List ℕ)) (place : ℕ) (text : List ℕ) → StopsIn old last t how lines place text → (members.state (disk_of last)).honest ≡ true → WasHonest
     refused_earlier last lines place text stops honest_last = talked_earlier old stops.mid t (trying how) stops.before stops.earlier stops.carried (stops.handled.passes.goes.earlier honest_last)
 
-    settles_earlier : (lines : List (List ℕ)) (verdict : Verdict) (round : Round) → Settles old new t how lines verdict round → WasHonest
+    pub settles_earlier : (lines : List (List ℕ)) (verdict : Verdict) (round : Round) → Settles old new t how lines verdict round → WasHonest
     settles_earlier lines (succeeds text) round settles = talked_earlier old settles.mid t (trying how) lines text settles.carried (applies_earlier settles.mid new Commit (Ok settles.answer) settles.applies honest)
     settles_earlier lines (fails place text AsUnsure) round settles =
         talked_earlier old settles.mid t (trying how) lines settles.answers settles.carried (applies_earlier settles.mid new Commit (Err settles.refusal) settles.applies honest)
@@ -307,7 +307,7 @@ module _ {D : Type 0} {members : _} where
             (subst (λ (x : Store D members). Keeps start (members.state (disk_of x)) s ((commands ++ cs) ++ c) ((answers ++ rs) ++ r)) (sym same) all))
 
       -- how a batch came out
-      settles_kept : (lines : List (List ℕ)) (verdict : Verdict) (round : Round) → Settles old new t on lines verdict round → RoundKept (batch_course verdict) round
+      pub settles_kept : (lines : List (List ℕ)) (verdict : Verdict) (round : Round) → Settles old new t on lines verdict round → RoundKept (batch_course verdict) round
       settles_kept lines (succeeds text) round settles = keeps_commit lines text round settles
       settles_kept lines (fails place text AsUnsure) round settles = unsure_kept lines place text round settles
       settles_kept lines (fails place text GoOn) round settles =

@@ -23,7 +23,7 @@ use Rattle.vm_cli.proofs.PassLemmas.{passes_left}
 use Rattle.vm_cli.proofs.ReadOnlyLemmas.{line_passes}
 
 -- a line that is no change
-abbrev IsOther : LineUse → Type 0
+abbrev pub IsOther : LineUse → Type 0
 IsOther line.Nothing = Unit {0}
 IsOther line.Begin = Unit {0}
 IsOther line.Commit = Unit {0}
@@ -52,7 +52,7 @@ words_other words =
     (either_other (is_alone (codes "abort") words) line.Abort (use_of_request Refuse (request_of words)) tt (request_other (request_of words)))
 
 -- none is a change, where commands are refused
-use_other : (part : List ℕ) → IsOther (use_of Refuse part)
+pub use_other : (part : List ℕ) → IsOther (use_of Refuse part)
 use_other part = either_other (nat_lt MAX_BYTES (length part)) _ (use_of_words Refuse (words_of (without_return part))) tt (words_other (words_of (without_return part)))
 
 -- no line is held

@@ -151,7 +151,7 @@ module _ {D : Type 0} {members : _} where
 
 -- ---- lines that are held
 
-abbrev AllChanges : OnCommand → List (List ℕ) → Type 0
+abbrev pub AllChanges : OnCommand → List (List ℕ) → Type 0
 AllChanges on [] = Unit {0}
 AllChanges on (part ∷ parts) = (use_of on part ≡ line.Change) × AllChanges on parts
 
@@ -214,7 +214,7 @@ module _ {D : Type 0} {members : _} where
   undoes_whole old new batch AsFailed round (refusal, applies, came_so) whole = subst IsWholeRound (sym came_so) whole
   undoes_whole old new batch AsUnsure round undoes whole = absurd undoes
 
-  settles_whole : (how : Manner) (lines : List (List ℕ)) (old new : Store D members) (s : State) (verdict : Verdict) (round : Round) → Settles old new s how lines verdict round → AllChanges how.on_command lines → IsWholeRound round
+  pub settles_whole : (how : Manner) (lines : List (List ℕ)) (old new : Store D members) (s : State) (verdict : Verdict) (round : Round) → Settles old new s how lines verdict round → AllChanges how.on_command lines → IsWholeRound round
   settles_whole how lines old new s (succeeds text) round settles all = subst IsWholeRound (sym settles.came_so) (talked_whole (trying how) lines old settles.mid s text settles.carried all)
   settles_whole how lines old new s (fails place text AsUnsure) round settles all = subst IsWholeRound (sym settles.came_so) (talked_whole (trying how) lines old settles.mid s settles.answers settles.carried all)
   settles_whole how lines old new s (fails place text GoOn) round settles all = undoes_whole settles.last new (carried_by settles.stops) GoOn round settles.undoes (stops_whole how lines old settles.last s place text settles.stops all)

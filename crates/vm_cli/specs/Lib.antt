@@ -15,6 +15,8 @@ pub mod Requests
 pub mod Requested
 pub mod Spaces
 pub mod Given
+pub mod Waiting
+pub mod WaitingCalls
 pub mod Words
 pub mod Locks
 pub mod Replies
@@ -48,4 +50,5 @@ pub mod LineReading
 pub mod LineEndings
 pub mod StreamCalls
 pub mod StreamKeeps
+pub mod Fairness
 pub mod Served

@@ -6,15 +6,20 @@ use Rattle.vm_store.specs.declared.store.Store.{Store}
 use Rattle.vm_cli.specs.Conversations.{AnswersThen, Course, Tells, counted_result}
 use Rattle.vm_cli.specs.Feeds.{TalksOn}
 use Rattle.vm_cli.specs.Input.{HoldsLine}
-use Rattle.vm_cli.specs.Planners.{AreSeats, IsAbsent, Seat, TakesIts}
+use Rattle.vm_cli.specs.Planners.{AreSeats, Gathering, IsAbsent, Seat, TakesWhen}
 use Rattle.vm_cli.specs.Rounds.{Round}
 use Rattle.vm_cli.specs.StreamCalls.{Scene, TellsLine}
-use Rattle.vm_cli.specs.Streams.{Held, IsStage}
+use Rattle.vm_cli.specs.Streams.{Held, IsHeld, IsStage}
+use Rattle.vm_cli.specs.Streams.Held.{holds}
+use Rattle.vm_cli.specs.Waiting.{SettlesWaiting, Waiting}
 use Rattle.vm_cli.specs.declared.lines.line.Line.{Line}
 use Rattle.vm_cli.specs.declared.talk.ServeFault.{ServeFault}
 use Rattle.vm_cli.specs.declared.talk.batch.Batch.{Batch}
+use Rattle.vm_cli.specs.declared.talk.batches.BatchSession.{BatchSession}
+use Rattle.vm_cli.specs.declared.talk.planner_line.When.{When}
 use Rattle.vm_cli.specs.declared.talk.planners.Planner.{Planner}
 use Rattle.vm_cli.specs.declared.talk.planners.PlannersSession.{PlannersSession}
+use Rattle.vm_cli.specs.declared.talk.waiting.WaitingBatch.{WaitingBatch}
 
 -- a planner with this batch
 abbrev pub holding : Planner → Batch → Planner
@@ -24,6 +29,31 @@ holding planner batch = record { number = planner.number; batch = batch }
 abbrev pub AreWithin : ℕ → List Planner → Type 0
 AreWithin n [] = Unit {0}
 AreWithin n (planner ∷ planners) = (planner.batch.count ≤ n) × AreWithin n planners
+
+-- a batch as it waits: whose it is, whether a line began it, and its lines
+pub record IsWaiting (own : WaitingBatch) (it : Waiting) : Type 0 where
+  pub number : own.number ≡ it.number
+  pub begun : own.batch.is_open ≡ it.is_begun
+  pub lines : IsHeld own.batch (holds it.lines)
+
+abbrev pub AreWaiting : List WaitingBatch → List Waiting → Type 0
+AreWaiting [] [] = Unit {0}
+AreWaiting [] (it ∷ waiting) = ⊥
+AreWaiting (own ∷ queue) [] = ⊥
+AreWaiting (own ∷ queue) (it ∷ waiting) = IsWaiting own it × AreWaiting queue waiting
+
+-- the batch of a session was put behind those that wait, as it has lines, and the session holds none
+pub record PutsBehind (number : ℕ) (queue queue' : List WaitingBatch) (old new : BatchSession) : Type 0 where
+  pub manner : new.manner ≡ old.manner
+  pub closed : IsStage new.batch None
+  pub none : new.batch.count ≡ 0
+  pub waits : (held : Held) → IsHeld old.batch held → (first : List ℕ) × (lines : List (List ℕ)) × (held ≡ holds (first ∷ lines))
+      × ((waiting : List Waiting) → AreWaiting queue waiting → AreWaiting queue' (waiting ++ record { number = number; is_begun = old.batch.is_open; lines = first ∷ lines } ∷ []))
+
+-- what a session holds between lines
+pub record IsGathering (session : PlannersSession) (at : Gathering) : Type 0 where
+  pub seats : AreSeats session.planners.items at.seats
+  pub waiting : AreWaiting session.waiting.items at.waiting
 
 -- a session with its store and where its answers go, before a call or after it
 pub record Hall (D W : Type 0) (members : Ghosts D) : Type 0 where
@@ -43,26 +73,36 @@ pub record StaysAtRest (old new : PlannersSession) : Type 0 where
 -- those who have joined were only answered: the text, how many lines were refused, and who has joined then
 pub record AnswersSeats (IsAnswer : List Seat → List ℕ → ℕ → List Seat → Type 0) (result : Result Bool ServeFault) (old new : PlannersSession) (before after : Option (List ℕ)) : Type 0 where
   pub stays : StaysAtRest old new
+  pub waiting : new.waiting.items ≡ old.waiting.items
   pub answered : (seats : List Seat) → AreSeats old.planners.items seats
       → (text : List ℕ) × (count : ℕ) × (seats' : List Seat) × AreSeats new.planners.items seats' × IsAnswer seats text count seats'
       × AnswersThen text (counted_result old.session.manner.on_refusal count) result before after
 
 module _ {D W : Type 0} {members : Ghosts D} (contents : W → Option (List ℕ)) where
-  -- a line of a planner was taken as one of its own session
-  pub record TakesLineOf (number : ℕ) (line : Line) (result : Result Bool ServeFault) (old new : Scene D W members) : Type 0 where
+  -- a line of a planner was taken as one of its own session, or its batch was put behind those that wait
+  pub record TakesLineOf (when : When) (number : ℕ) (line : Line) (result : Result Bool ServeFault) (queue queue' : List WaitingBatch) (old new : Scene D W members) : Type 0 where
     pub manner : new.session.manner ≡ old.session.manner
     pub store : TalksOn result old.store new.store
     pub count : new.session.batch.count ≤ old.session.batch.count + 1
     pub taken : (s : State) (stage : Option Held) (part : List ℕ) → IsStage old.session.batch stage → HoldsLine line part
-        → TellsLine contents (λ text course. (stage' : Option Held) × (round : Round) × IsStage new.session.batch stage'
-        × TakesIts old.store new.store s old.session.manner number stage part text course stage' round) result old new
+        → TellsLine contents (λ text course. (stage' : Option Held) × (round : Round) × (more : List Waiting) × IsStage new.session.batch stage'
+        × ((waiting : List Waiting) → AreWaiting queue waiting → AreWaiting queue' (waiting ++ more))
+        × TakesWhen when old.store new.store s old.session.manner number stage part text course stage' round more) result old new
+
+  -- all that waits was carried out, and answered
+  pub record SettlesQueue (queue : List WaitingBatch) (result : Result Bool ServeFault) (old new : Scene D W members) : Type 0 where
+    pub manner : new.session.manner ≡ old.session.manner
+    pub batch : new.session.batch ≡ old.session.batch
+    pub store : TalksOn result old.store new.store
+    pub settled : (s : State) (waiting : List Waiting) → AreWaiting queue waiting
+        → TellsLine contents (λ text course. (rounds : List Round) × SettlesWaiting old.store new.store s old.session.manner waiting text course rounds) result old new
 
   -- a line of the stream was taken
-  pub record TakesInHall (IsAnswer : State → List Seat → List ℕ → Course → List Seat → List Round → Type 0) (result : Result Bool ServeFault) (old new : Hall D W members) : Type 0 where
+  pub record TakesInHall (IsAnswer : State → Gathering → List ℕ → Course → Gathering → List Round → Type 0) (result : Result Bool ServeFault) (old new : Hall D W members) : Type 0 where
     pub stays : StaysAtRest old.session new.session
-    pub store : (seats : List Seat) → AreSeats old.session.planners.items seats → TalksOn result old.store new.store
-    pub taken : (s : State) (seats : List Seat) → IsStage old.session.session.batch None → AreSeats old.session.planners.items seats
-        → Tells old.session.session.manner (λ text course. (seats' : List Seat) × (rounds : List Round) × AreSeats new.session.planners.items seats' × IsAnswer s seats text course seats' rounds)
+    pub store : (at : Gathering) → IsGathering old.session at → TalksOn result old.store new.store
+    pub taken : (s : State) (at : Gathering) → IsStage old.session.session.batch None → IsGathering old.session at
+        → Tells old.session.session.manner (λ text course. (at' : Gathering) × (rounds : List Round) × IsGathering new.session at' × IsAnswer s at text course at' rounds)
         result (contents old.writer) (contents new.writer)
 
 -- where the planner of this number stands, if it has joined
@@ -76,5 +116,6 @@ IsPlaceOf number planners (Some place) =
 -- the batch of the session and that of the planner at this place were exchanged
 pub record Exchanges (place : ℕ) (old new : PlannersSession) : Type 0 where
   pub manner : new.session.manner ≡ old.session.manner
+  pub waiting : new.waiting.items ≡ old.waiting.items
   pub exchanged : (before : List Planner) (planner : Planner) (behind : List Planner) → old.planners.items ≡ before ++ planner ∷ behind → place ≡ length before
       → (new.planners.items ≡ before ++ holding planner old.session.batch ∷ behind) × (new.session.batch ≡ planner.batch)

@@ -11,6 +11,7 @@ pub mod line_use;
 pub mod planner_line;
 pub mod planners;
 pub mod queries;
+pub mod waiting;
 
 ghost use Rattle.std.specs.Prelude.{◌≡◌, ◌+◌, ◌≤◌, ◌++◌, ◌∷◌, [], length, true, false, None, IfErr, OnErr, OnOk};
 ghost use Rattle.std.specs.Io.KnownBytes.{IsAtEnd};

@@ -350,7 +350,7 @@ effect as a whole or not at all, and is durable before it is answered.";
 /// What `--planners` does.
 pub const PLANNERS: &str = "\
 Lines of many planners, each with its number before it:
-join N, line N LINE, leave N";
+join N, line N LINE, later N LINE, go, leave N";
 
 /// The lines that `serve` answers.
 pub const SERVE_AFTER: &str = "\
@@ -374,6 +374,15 @@ one shows whether the batch was committed.
 With --planners each planner N has batches of its own, and is answered behind a
 line @N; @0 is nobody. 106 NoSuchPlanner answers one who has not joined, and 107
 PlannerExists a second join. --strict then ends nothing, but makes the status 4.
+
+  line N LINE   takes LINE, with the answers above
+  later N LINE  the same, but the batch that LINE ends waits, with no answer yet
+  go            carries out all that waits, with one commit, and answers it;
+                then ok to @0
+
+All that waits is carried out before any line of a planner whose batch waits,
+too. If one batch is refused, the others are committed all the same. If the
+input ends, what waits is forgotten: 92 Aborted to each line and commit.
 
 A session, where each line after > is typed, and its answer stands below it:
 

@@ -77,7 +77,7 @@ pub(crate) struct BatchSession {
     // What is held of a batch.
     pub batch: Batch,
     // The answers to the lines of a batch, while it is carried out.
-    answers: Vec<u8>,
+    pub answers: Vec<u8>,
     // Answers are composed in it. Nothing is kept in it from line to line.
     pub text: Text,
     // Values of words are read into this buffer. Nothing is kept in it from line to line.
@@ -85,12 +85,12 @@ pub(crate) struct BatchSession {
 }
 
 impl BatchSession {
-    ghost use Rattle.std.specs.Prelude.{◌≡◌, ◌+◌, ◌<◌, ◌++◌, Option, None, IfErr, Ok};
+    ghost use Rattle.std.specs.Prelude.{◌≡◌, ◌+◌, ◌<◌, ◌++◌, ℕ, List, Option, None, IfErr};
     ghost use Rattle.vm_cli.specs.Conversations.{Puts, RunsStream, counted_result};
     ghost use Rattle.vm_cli.specs.Known.{streams_of};
     ghost use Rattle.vm_cli.specs.Replies.{reply_text};
     ghost use Rattle.vm_cli.specs.StreamCalls.{KeepsSession, SaysThen, SettlesBatch, TakesLine, TakesLineInside, TakesLineOutside, scene};
-    ghost use Rattle.vm_cli.specs.Streams.{Held, IsStage, after_refusal, batch_text, batches, change_text, end_count, end_text, forgotten_text, ok_text, repeated, verdict_of, verdict_result, why_text};
+    ghost use Rattle.vm_cli.specs.Streams.{Held, IsStage, batches, end_count, end_text, forgotten_text, ok_text, repeated, settled_text, verdict_of, verdict_result, why_text};
 
     /// A session in which nothing is held.
     pub(crate) fn new(alloc: Global, manner: Manner) -> BatchSession
@@ -229,7 +229,7 @@ impl BatchSession {
     }
 
     /// Carries out the batch, and answers its lines. One that a line began has an answer more.
-    fn settle<W: Write, D: Disk>(
+    pub(crate) fn settle<W: Write, D: Disk>(
         &mut self,
         is_begun: bool,
         writer: &mut W,
@@ -247,50 +247,70 @@ impl BatchSession {
         );
         let count = self.batch.count;
         self.batch.clear();
-        if is_begun {
-            self.answer_batch(settled, count, writer)
-        } else {
-            self.answer_change(settled, writer)
-        }
+        self.put_settled(is_begun, settled, count, writer)?;
+        self.go_on_after(settled)
     }
 
-    /// Answers that many lines of a batch, and its commit.
-    fn answer_batch<W: Write>(
+    /// Writes the answers to the lines of a batch of so many, and to its commit if a line began it.
+    pub(crate) fn put_settled<W: Write>(
         &mut self,
+        is_begun: bool,
         settled: Result<(), Stop>,
         count: usize,
         writer: &mut W,
-    ) -> Result<bool, ServeFault>
+    ) -> Result<(), ServeFault>
         requires { IfErr settled (λ stop. stop.place < usize.MAX) }
-        ensures said { let verdict = verdict_of settled self.old.answers.items in
-            SaysThen W.contents (batch_text count verdict) (verdict_result self.old.manner verdict)
-            result writer.old writer.new }
+        ensures put { Puts (settled_text is_begun count (verdict_of settled self.old.answers.items)) result
+            (W.contents writer.old) (W.contents writer.new) }
         ensures same { KeepsSession self.old self.new }
     {
         match settled {
-            Ok(()) => self.answer_done(1, writer),
+            Ok(()) => {
+                self.put_why(Why::Answer(0), writer)?;
+                self.put_repeated(Reply::Done, usize::from(is_begun), writer)
+            }
             Err(stop) => {
-                let behind = count.saturating_sub(stop.place);
-                self.answer_refused(&stop, stop.place, behind, writer)
+                if is_begun {
+                    self.put_refused(&stop, stop.place, count.saturating_sub(stop.place), writer)
+                } else {
+                    self.put_refused(&stop, 0, 0, writer)
+                }
             }
         }
     }
 
-    /// Answers a change that is a batch of its own.
-    fn answer_change<W: Write>(
+    /// Writes the answers to the lines of a batch of which one was refused, with that many before
+    /// and behind it.
+    fn put_refused<W: Write>(
         &mut self,
-        settled: Result<(), Stop>,
+        stop: &Stop,
+        before: usize,
+        behind: usize,
         writer: &mut W,
-    ) -> Result<bool, ServeFault>
-        requires { IfErr settled (λ stop. stop.place < usize.MAX) }
-        ensures said { let verdict = verdict_of settled self.old.answers.items in
-            SaysThen W.contents (change_text verdict) (verdict_result self.old.manner verdict)
-            result writer.old writer.new }
+    ) -> Result<(), ServeFault>
+        requires { stop.now.place < usize.MAX }
+        ensures put { let other = reply_text (Reply.NotDone (stop.now.place + 1)) in
+            Puts (repeated before other ++ (why_text stop.now.why self.old.answers.items ++ repeated behind other)) result
+            (W.contents writer.old) (W.contents writer.new) }
         ensures same { KeepsSession self.old self.new }
     {
+        let other = Reply::NotDone(stop.place + 1);
+        self.put_repeated(other, before, writer)?;
+        self.put_why(stop.why, writer)?;
+        self.put_repeated(other, behind, writer)
+    }
+
+    /// How the session goes on after a batch.
+    fn go_on_after(&self, settled: Result<(), Stop>) -> Result<bool, ServeFault>
+        ensures { (answers : List ℕ) → result ≡ verdict_result self.now.manner (verdict_of settled answers) }
+    {
         match settled {
-            Ok(()) => self.answer_done(0, writer),
-            Err(stop) => self.answer_refused(&stop, 0, 0, writer),
+            Ok(()) => Ok(false),
+            Err(stop) => match stop.then {
+                Then::GoOn => self.go_on(1),
+                Then::Failed => Err(ServeFault::Store),
+                Then::Unsure => Err(ServeFault::Unsure),
+            },
         }
     }
 
@@ -325,43 +345,6 @@ impl BatchSession {
         let count = self.batch.count + half;
         self.put_repeated(reply, count, writer)?;
         self.go_on(count)
-    }
-
-    /// Answers the lines of a batch that was committed.
-    fn answer_done<W: Write>(&mut self, more: usize, writer: &mut W) -> Result<bool, ServeFault>
-        ensures said { SaysThen W.contents (self.old.answers.items ++ repeated more ok_text) (Ok false)
-            result writer.old writer.new }
-        ensures same { KeepsSession self.old self.new }
-    {
-        self.put_why(Why::Answer(0), writer)?;
-        self.put_repeated(Reply::Done, more, writer)?;
-        Ok(false)
-    }
-
-    /// Answers the lines of a batch of which one was refused, with that many before and behind it.
-    fn answer_refused<W: Write>(
-        &mut self,
-        stop: &Stop,
-        before: usize,
-        behind: usize,
-        writer: &mut W,
-    ) -> Result<bool, ServeFault>
-        requires { stop.now.place < usize.MAX }
-        ensures said { let other = reply_text (Reply.NotDone (stop.now.place + 1)) in
-            SaysThen W.contents
-            (repeated before other ++ (why_text stop.now.why self.old.answers.items ++ repeated behind other))
-            (after_refusal self.old.manner stop.now.then) result writer.old writer.new }
-        ensures same { KeepsSession self.old self.new }
-    {
-        let other = Reply::NotDone(stop.place + 1);
-        self.put_repeated(other, before, writer)?;
-        self.put_why(stop.why, writer)?;
-        self.put_repeated(other, behind, writer)?;
-        match stop.then {
-            Then::GoOn => self.go_on(1),
-            Then::Failed => Err(ServeFault::Store),
-            Then::Unsure => Err(ServeFault::Unsure),
-        }
     }
 
     /// Writes the answer to the line that was refused.

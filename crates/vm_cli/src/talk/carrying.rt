@@ -68,7 +68,7 @@ pub(crate) fn settle<D: Disk>(
 }
 
 /// Commits what the lines of a batch did.
-fn commit<D: Disk>(place: usize, store: &mut Store<D>) -> Result<(), Stop>
+pub(crate) fn commit<D: Disk>(place: usize, store: &mut Store<D>) -> Result<(), Stop>
     ensures { CommitsOrNot store.old store.new place result }
 {
     match store.apply(&Command::Commit) {
@@ -82,7 +82,7 @@ fn commit<D: Disk>(place: usize, store: &mut Store<D>) -> Result<(), Stop>
 }
 
 /// Undoes what the lines of a batch did, if the store carries out anything.
-fn undo<D: Disk>(store: &mut Store<D>) -> Then
+pub(crate) fn undo<D: Disk>(store: &mut Store<D>) -> Then
     ensures { (batch : Commanded) → (round : Round) × Undoes store.old store.new batch result round }
 {
     match store.apply(&Command::Rollback) {
@@ -92,7 +92,7 @@ fn undo<D: Disk>(store: &mut Store<D>) -> Then
 }
 
 /// Carries out the lines of a batch one after another, up to the first that is refused.
-fn carry_out<D: Disk>(
+pub(crate) fn carry_out<D: Disk>(
     alloc: Global,
     manner: Manner,
     lines: &[Line],

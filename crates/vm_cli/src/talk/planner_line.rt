@@ -1,12 +1,22 @@
 //! A line of a stream in which many planners speak to one store.
 ghost use Rattle.std.specs.Prelude.{◌≡◌, [], IfSome, MatchOption, option_map};
 ghost use Rattle.vm_cli.specs.Lines.{IsPart};
-ghost use Rattle.vm_cli.specs.PlannerLines.{SaysPart, after_word, lone_planner as lone_planner_of, planner_of, said_by, saying, saying_of, without_spaces};
+ghost use Rattle.vm_cli.specs.PlannerLines.{SaysPart, after_word, first_planner, lone_planner as lone_planner_of, planner_of, said_by, saying, saying_of, without_spaces};
+ghost use Rattle.vm_cli.specs.PlannerLines.Saying.{says};
 ghost use Rattle.vm_cli.specs.Spaces.{BeginsWith, words_of};
 
 use crate::lines::arguments::ends;
 use crate::lines::number::number;
 use crate::lines::pieces::{first_piece, first_word};
+
+/// When a batch is carried out that ends with a line.
+#[derive(Clone, Copy)]
+pub enum When {
+    /// At once.
+    Now,
+    /// It waits until all that waits is carried out together.
+    Later,
+}
 
 /// What a line is of a stream in which planners speak.
 #[derive(Clone, Copy)]
@@ -18,7 +28,9 @@ pub enum PlannerLine<'a> {
     /// The planner of this number leaves.
     Leave(u32),
     /// The planner of this number says this line.
-    Says(u32, &'a [u8]),
+    Says(When, u32, &'a [u8]),
+    /// All that waits is carried out.
+    Go,
     /// It is none of the known ones.
     Strange,
 }
@@ -47,14 +59,24 @@ fn said<'a>(verb: &[u8], rest: &'a [u8]) -> Option<PlannerLine<'a>>
     ensures { option_map saying result ≡ said_by verb.now (words_of rest.now) (after_word rest.now) }
 {
     match verb {
-        _ if verb == b"line".as_slice() => {
-            let (word, line) = word_and_rest(rest)?;
-            Some(PlannerLine::Says(planner(word)?, line))
+        _ if verb == b"line".as_slice() => planner_says(When::Now, rest),
+        _ if verb == b"later".as_slice() => planner_says(When::Later, rest),
+        _ if verb == b"go".as_slice() => {
+            ends(rest)?;
+            Some(PlannerLine::Go)
         }
         _ if verb == b"join".as_slice() => Some(PlannerLine::Join(lone_planner(rest)?)),
         _ if verb == b"leave".as_slice() => Some(PlannerLine::Leave(lone_planner(rest)?)),
         _ => None,
     }
+}
+
+/// `N LINE`
+fn planner_says<'a>(when: When, rest: &'a [u8]) -> Option<PlannerLine<'a>>
+    ensures { option_map saying result ≡ option_map (λ n. says when n (after_word rest.now)) (first_planner (words_of rest.now)) }
+{
+    let (word, line) = word_and_rest(rest)?;
+    Some(PlannerLine::Says(when, planner(word)?, line))
 }
 
 /// `N`

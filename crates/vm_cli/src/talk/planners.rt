@@ -2,6 +2,7 @@
 ghost use Rattle.std.specs.Prelude.{◌≡◌, None, false, IfErr, Ok, OnOk, true};
 ghost use Rattle.vm_types.specs.State.{State};
 ghost use Rattle.vm_store.specs.Store.{GrowsOn, has_failed};
+ghost use Rattle.vm_cli.specs.Fairness.{AllWaitOnce, gatherings_of};
 ghost use Rattle.vm_cli.specs.Planners.{ServesPlanners, telling};
 ghost use Rattle.vm_cli.specs.Rounds.{AreWholeBatches};
 ghost use Rattle.vm_cli.specs.StreamKeeps.{rounds_of};
@@ -14,7 +15,8 @@ use crate::lines::mistake::Mistake;
 use crate::talk::batch::Batch;
 use crate::talk::batches::BatchSession;
 use crate::talk::line_reader::{Ending, LineReader};
-use crate::talk::planner_line::{PlannerLine, planner_line};
+use crate::talk::planner_line::{PlannerLine, When, planner_line};
+use crate::talk::waiting::WaitingBatch;
 use crate::talk::{Manner, OnCommand, OnRefusal, ServeFault};
 use std::alloc::Global;
 use std::io::{Read, Write};
@@ -25,8 +27,9 @@ use vm_types::Refusal;
 
 /// Reads the lines of many planners to the end of the input, each line with the number of its
 /// planner. Each planner has a session with batches of its own, as `serve_batches` has one: its
-/// lines are answered in order, behind a line with its number. A line that is refused ends nothing.
-/// An `Ok` says whether any was.
+/// lines are answered in order, behind a line with its number. Batches may wait, and are then
+/// carried out and committed together. A line that is refused ends nothing. An `Ok` says whether
+/// any was.
 pub fn serve_planners<R: Read, W: Write, D: Disk>(
     alloc: Global,
     reader: &mut R,
@@ -44,8 +47,8 @@ pub fn serve_planners<R: Read, W: Write, D: Disk>(
     // The lines of the input are taken one after another. What a planner says is taken as a line of
     // its own session with batches, whatever others say between its lines. So a batch is carried out
     // whole at its commit, by the state that the batches before it leave, of whichever planners; and
-    // a query is answered by that state, all of which is committed. A planner whose batch is carried
-    // out waits for nobody else's.
+    // a query is answered by that state, all of which is committed. A batch that waits is carried out
+    // with all others that do, and no line of its planner is taken before.
     ensures answers { (s : State) → ServesPlanners store.old store.new s (telling manner) result
         (streams_of (R.remaining reader.old) (W.contents writer.old) (W.contents writer.new)) }
 
@@ -54,6 +57,12 @@ pub fn serve_planners<R: Read, W: Write, D: Disk>(
     ensures whole { (s : State) (serves : ServesPlanners store.old store.new s (telling manner) result
         (streams_of (R.remaining reader.old) (W.contents writer.old) (W.contents writer.new)))
         → AreWholeBatches s (rounds_of serves) }
+
+    // At most one batch of each planner waits at any time, and all that waits is carried out
+    // together: so nobody waits for more than one batch of each other one.
+    ensures fair { (s : State) (serves : ServesPlanners store.old store.new s (telling manner) result
+        (streams_of (R.remaining reader.old) (W.contents writer.old) (W.contents writer.new)))
+        → AllWaitOnce (gatherings_of serves) }
 
     // If commands are refused, the disk is only read: it is never written or synced, and the store
     // is left as it was.
@@ -66,6 +75,7 @@ pub fn serve_planners<R: Read, W: Write, D: Disk>(
     };
     let mut session = PlannersSession {
         planners: Vec::new(alloc),
+        waiting: Vec::new(alloc),
         session: BatchSession::new(alloc, manner),
     };
     session.run(reader, writer, store)
@@ -82,6 +92,8 @@ pub(crate) struct Planner {
 #[derive(Drop)]
 pub(crate) struct PlannersSession {
     planners: Vec<Planner>,
+    // The batches that wait, in the order in which they ended.
+    waiting: Vec<WaitingBatch>,
     // The session in which a line is taken, with the batch of its planner. Between lines it holds
     // none.
     session: BatchSession,
@@ -91,12 +103,13 @@ impl PlannersSession {
     ghost use Rattle.std.specs.Prelude.{◌≡◌, ◌-◌, ◌<◌, ℕ, List, [], vec_len};
     ghost use Rattle.vm_cli.specs.Input.{HoldsLine};
     ghost use Rattle.vm_cli.specs.Lines.{IsPart};
-    ghost use Rattle.vm_cli.specs.PlannerCalls.{AnswersSeats, AreWithin, Exchanges, IsPlaceOf, StaysAtRest, TakesInHall, hall};
-    ghost use Rattle.vm_cli.specs.PlannerLines.{saying_of};
+    ghost use Rattle.vm_cli.specs.PlannerCalls.{AnswersSeats, AreWaiting, AreWithin, Exchanges, IsGathering, IsPlaceOf, SettlesQueue, StaysAtRest, TakesInHall, hall};
+    ghost use Rattle.vm_cli.specs.PlannerLines.{SaysPart, saying, saying_of};
     ghost use Rattle.vm_cli.specs.PlannerLines.Saying.{says};
-    ghost use Rattle.vm_cli.specs.Planners.{AreSeats, IsTold, Joins, Leaves, Seat, TakesOne, TakesSaying, planners, stream_end_count, stream_end_text};
+    ghost use Rattle.vm_cli.specs.Planners.{AreSeats, Gathering, IsTold, Joins, Leaves, Seat, TakesAlone, TakesOne, TakesSaying, planners, seats_end_count, seats_end_text, settles_first as settles_first_of, stream_end_count, stream_end_text};
     ghost use Rattle.vm_cli.specs.Replies.{reply_text};
-    ghost use Rattle.vm_cli.specs.StreamCalls.{SaysThen};
+    ghost use Rattle.vm_cli.specs.StreamCalls.{SaysThen, scene};
+    ghost use Rattle.vm_cli.specs.Waiting.{Waiting, waits as waits_of};
     ghost use Rattle.vm_cli.specs.Conversations.{RunsStream, counted_result};
     ghost use Rattle.vm_cli.specs.Known.{streams_of};
     ghost use Rattle.vm_cli.specs.Streams.{IsStage};
@@ -109,7 +122,9 @@ impl PlannersSession {
         store: &mut Store<D>,
     ) -> Result<bool, ServeFault>
         requires nobody { self.old.planners.items ≡ [] }
+        requires nothing { self.old.waiting.items ≡ [] }
         requires closed { IsStage self.old.session.batch None }
+        requires telling { self.old.session.manner.on_refusal ≡ OnRefusal.Tell }
         ensures { RunsStream planners self.old.session.manner result store.old store.new
             (streams_of (R.remaining reader.old) (W.contents writer.old) (W.contents writer.new)) }
     {
@@ -146,8 +161,9 @@ impl PlannersSession {
     ) -> Result<bool, ServeFault>
         requires held { (part : List ℕ) × HoldsLine line.now part }
         requires room { AreWithin (usize.MAX - 1) self.old.planners.items }
+        requires telling { self.old.session.manner.on_refusal ≡ OnRefusal.Tell }
         ensures { (part : List ℕ) → HoldsLine line.now part → TakesInHall W.contents
-            (λ s seats text course seats' rounds. TakesOne store.old store.new s self.old.session.manner seats part text course seats' rounds) result
+            (λ s at text course at' rounds. TakesOne store.old store.new s self.old.session.manner at part text course at' rounds) result
             (hall self.old store.old writer.old) (hall self.new store.new writer.new) }
     {
         match line.kind {
@@ -166,16 +182,85 @@ impl PlannersSession {
     ) -> Result<bool, ServeFault>
         requires part { IsPart line.now }
         requires room { AreWithin (usize.MAX - 1) self.old.planners.items }
+        requires telling { self.old.session.manner.on_refusal ≡ OnRefusal.Tell }
         ensures { TakesInHall W.contents
-            (λ s seats text course seats' rounds. TakesSaying store.old store.new s self.old.session.manner (saying_of line.now) text course seats seats' rounds) result
+            (λ s at text course at' rounds. TakesSaying store.old store.new s self.old.session.manner (saying_of line.now) text course at at' rounds) result
             (hall self.old store.old writer.old) (hall self.new store.new writer.new) }
     {
-        match planner_line(line) {
+        let said = planner_line(line);
+        if !self.settles_first(said) {
+            return self.take_alone(said, writer, store);
+        }
+        let refused = self.settle(writer, store)?;
+        let last = self.take_alone(said, writer, store)?;
+        Ok(refused | last)
+    }
+
+    /// Whether all that waits is carried out before this line is taken.
+    fn settles_first(&self, said: PlannerLine) -> bool
+        ensures { (at : Gathering) → IsGathering self.now at → result ≡ settles_first_of (saying said.entry) at.waiting }
+    {
+        match said {
+            PlannerLine::Nothing => false,
+            PlannerLine::Strange => false,
+            PlannerLine::Join(number) => self.waits(number),
+            PlannerLine::Leave(number) => self.waits(number),
+            PlannerLine::Says(_, number, _) => self.waits(number),
+            PlannerLine::Go => true,
+        }
+    }
+
+    /// Whether a batch of the planner of this number waits.
+    fn waits(&self, number: u32) -> bool
+        ensures { (waiting : List Waiting) → AreWaiting self.now.waiting.items waiting → result ≡ waits_of number waiting }
+    {
+        for place in 0..self.waiting.len() {
+            if self.waiting[place].number == number {
+                return true;
+            }
+        }
+        false
+    }
+
+    /// Carries out all that waits, and answers it.
+    fn settle<W: Write, D: Disk>(
+        &mut self,
+        writer: &mut W,
+        store: &mut Store<D>,
+    ) -> Result<bool, ServeFault>
+        requires telling { self.old.session.manner.on_refusal ≡ OnRefusal.Tell }
+        ensures settled { SettlesQueue W.contents self.old.waiting.items result
+            (scene self.old.session store.old writer.old) (scene self.new.session store.new writer.new) }
+        ensures planners { self.new.planners.items ≡ self.old.planners.items }
+        ensures none { self.new.waiting.items ≡ [] }
+    {
+        let settled = self
+            .session
+            .settle_waiting(&mut self.waiting, writer, store);
+        self.waiting.clear();
+        settled
+    }
+
+    /// Takes a line for what it is.
+    fn take_alone<W: Write, D: Disk>(
+        &mut self,
+        said: PlannerLine,
+        writer: &mut W,
+        store: &mut Store<D>,
+    ) -> Result<bool, ServeFault>
+        requires part { SaysPart (saying said) }
+        requires room { AreWithin (usize.MAX - 1) self.old.planners.items }
+        ensures { TakesInHall W.contents
+            (λ s at text course at' rounds. TakesAlone store.old store.new s self.old.session.manner (saying said.entry) text course at at' rounds) result
+            (hall self.old store.old writer.old) (hall self.new store.new writer.new) }
+    {
+        match said {
             PlannerLine::Nothing => Ok(false),
             PlannerLine::Strange => self.tell(0, Reply::BadLine(Mistake::NoSuchLine), writer),
             PlannerLine::Join(number) => self.join(number, writer),
             PlannerLine::Leave(number) => self.leave(number, writer),
-            PlannerLine::Says(number, said) => self.say(number, said, writer, store),
+            PlannerLine::Says(when, number, line) => self.say(when, number, line, writer, store),
+            PlannerLine::Go => self.session.tell(0, Reply::Done, 0, writer),
         }
     }
 
@@ -211,6 +296,7 @@ impl PlannersSession {
     /// A planner says a line.
     fn say<W: Write, D: Disk>(
         &mut self,
+        when: When,
         number: u32,
         said: &[u8],
         writer: &mut W,
@@ -219,7 +305,7 @@ impl PlannersSession {
         requires part { IsPart said.now }
         requires room { AreWithin (usize.MAX - 1) self.old.planners.items }
         ensures { TakesInHall W.contents
-            (λ s seats text course seats' rounds. TakesSaying store.old store.new s self.old.session.manner (says number said.now) text course seats seats' rounds) result
+            (λ s at text course at' rounds. TakesAlone store.old store.new s self.old.session.manner (says when number said.now) text course at at' rounds) result
             (hall self.old store.old writer.old) (hall self.new store.new writer.new) }
     {
         let Some(place) = self.place_of(number) else {
@@ -228,7 +314,9 @@ impl PlannersSession {
         let mut line = Line::new(self.session.alloc);
         line.extend(said);
         self.exchange(place);
-        let taken = self.session.take_of(number, &mut line, writer, store);
+        let taken = self
+            .session
+            .take_of(when, number, &mut line, &mut self.waiting, writer, store);
         self.exchange(place);
         taken
     }
@@ -241,11 +329,27 @@ impl PlannersSession {
         mem::swap(&mut self.session.batch, &mut self.planners[place].batch);
     }
 
-    /// The input has ended, in the middle of that many lines. All planners leave.
+    /// The input has ended, in the middle of that many lines. What waits is forgotten, and all
+    /// planners leave.
     fn end<W: Write>(&mut self, half: usize, writer: &mut W) -> Result<bool, ServeFault>
+        requires telling { self.old.session.manner.on_refusal ≡ OnRefusal.Tell }
+        ensures said { (at : Gathering) → IsGathering self.old at
+            → SaysThen W.contents (stream_end_text at half)
+            (counted_result self.old.session.manner.on_refusal (stream_end_count at half)) result writer.old writer.new }
+    {
+        for place in 0..self.waiting.len() {
+            self.session.put_forgotten(&self.waiting[place], writer)?;
+        }
+        let forgotten = !self.waiting.is_empty();
+        let last = self.end_seats(half, writer)?;
+        Ok(forgotten | last)
+    }
+
+    /// All planners leave, as the input has ended, in the middle of that many lines.
+    fn end_seats<W: Write>(&mut self, half: usize, writer: &mut W) -> Result<bool, ServeFault>
         ensures said { (seats : List Seat) → AreSeats self.old.planners.items seats
-            → SaysThen W.contents (stream_end_text seats half)
-            (counted_result self.old.session.manner.on_refusal (stream_end_count seats half)) result writer.old writer.new }
+            → SaysThen W.contents (seats_end_text seats half)
+            (counted_result self.old.session.manner.on_refusal (seats_end_count seats half)) result writer.old writer.new }
         ensures stays { StaysAtRest self.old self.new }
     {
         let mut refused = half;

@@ -1,7 +1,7 @@
 use Rattle.std.proofs.Common.{◌≡◌, ◌∙◌, ◌++◌, ◌∷◌, [], ap, sym, subst}
 use Rattle.std.specs.Fmt.{decimal}
 use Rattle.vm_cli.specs.Conversations.{Puts}
-use Rattle.vm_cli.specs.Planners.{label}
+use Rattle.vm_cli.specs.Waiting.{label}
 use Rattle.vm_cli.proofs.StreamLemmas.{puts_put}
 use Rattle.vm_cli.proofs.talk.batches.BatchSession.put_label.Goals as goal
 

@@ -1,8 +1,8 @@
 use Rattle.std.proofs.Common.{subst, sym}
 use Rattle.vm_cli.specs.Conversations.{Puts}
-use Rattle.vm_cli.specs.Planners.{label}
 use Rattle.vm_cli.specs.Replies.{reply_text}
 use Rattle.vm_cli.specs.Streams.{repeated}
+use Rattle.vm_cli.specs.Waiting.{label}
 use Rattle.vm_cli.specs.declared.answers.reply.Reply.TheVariants as reply
 use Rattle.vm_cli.proofs.CarriedLemmas.{passed_on}
 use Rattle.vm_cli.proofs.PlannerLemmas.{parts_text, puts_behind, puts_short}

@@ -1,7 +1,7 @@
 use Rattle.std.proofs.Common.{subst}
 use Rattle.vm_cli.specs.Conversations.{Puts}
-use Rattle.vm_cli.specs.Planners.{label}
 use Rattle.vm_cli.specs.Replies.{reply_text}
+use Rattle.vm_cli.specs.Waiting.{label}
 use Rattle.vm_cli.proofs.CarriedLemmas.{passed_on}
 use Rattle.vm_cli.proofs.PlannerLemmas.{puts_behind, puts_short}
 use Rattle.vm_cli.proofs.StreamLemmas.{repeated-one}

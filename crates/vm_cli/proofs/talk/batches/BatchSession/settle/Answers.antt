@@ -1,52 +1,51 @@
-use Rattle.std.proofs.Common.{◌≡◌, ◌∙◌, None, ap, sym, subst}
-use Rattle.vm_cli.specs.Conversations.{AnswersThen}
-use Rattle.vm_cli.specs.Streams.{IsStage, batch_text, count_of, verdict_of, verdict_result}
+use Rattle.std.proofs.Common.{◌≡◌, ◌∙◌, inl, ℕ, Bool, List, Option, None, Result, ap, sym, subst}
+use Rattle.vm_types.specs.State.{State}
+use Rattle.vm_disk.specs.declared.disk.Disk.{Ghosts}
+use Rattle.vm_cli.specs.Feeds.{TalksOn}
+use Rattle.vm_cli.specs.Rounds.{Round}
+use Rattle.vm_cli.specs.StreamCalls.{SaysThen, Scene, SettlesBatch, scene}
+use Rattle.vm_cli.specs.Streams.{Held, IsHeld, IsStage, SettlesHeld, Verdict, result_of, settled_text, verdict_of, verdict_result}
+use Rattle.vm_cli.specs.declared.talk.ServeFault.{ServeFault}
 use Rattle.vm_cli.specs.declared.talk.batch.Batch.{Batch}
 use Rattle.vm_cli.proofs.BatchLemmas.{held_count}
+use Rattle.vm_cli.proofs.CarriedLemmas.{passed_on}
+use Rattle.vm_cli.proofs.PlannerLemmas.{says_put}
 use Rattle.vm_cli.proofs.StreamLemmas.{verdict_talks}
 use Rattle.vm_cli.proofs.talk.batches.BatchSession.settle.Goals as goal
 
-pub returns-then-is_begun : goal.returns-then-is_begun
-returns-then-is_begun g c =
-    let how = c.args.self.now.manner in
-    let old = c.args.store.now in
-    let new = c.settle_batch-settled.new.store in
-    let verdict = verdict_of c.settle_batch-settled.result c.settle_batch-settled.new.answers.items in
-    let kept = c.answer_batch.ensures.same in
-    let before = g.W.Write.contents c.args.writer.now in
-    let after = g.W.Write.contents c.answer_batch.new.writer in
-    rw c.if-is_begun.true
-    (record {
-      manner = kept.manner;
-      store = verdict_talks how old new _ before after verdict c.answer_batch.result c.answer_batch.ensures.said c.settle_batch-settled.ensures.store;
-      closed = subst (λ b. IsStage b None) (sym kept.batch) c.clear.ensures.stage;
-      none = ap (λ (b : Batch). b.count) kept.batch ∙ c.clear.ensures.none;
-      settled = λ s held is.
-          let round = c.settle_batch-settled.ensures.settled s held is in
-          let all : c.args.self.now.batch.count ≡ count_of held = held_count _ _ _ _ held is in (
-            verdict,
-            round.0,
-            round.1,
-            subst (λ n. AnswersThen (batch_text n verdict) (verdict_result how verdict) c.answer_batch.result before after) all c.answer_batch.ensures.said,
-          );
-    })
+-- the batch came out so, and was answered so
+module _ {D W : Type 0} {members : Ghosts D} (contents : W → Option (List ℕ)) (is_begun : Bool) (old new : Scene D W members) where
+  settles_so : (result : Result Bool ServeFault) (verdict : Verdict) → new.session.manner ≡ old.session.manner → IsStage new.session.batch None → new.session.batch.count ≡ 0 → TalksOn (result_of verdict) old.store new.store
+      → ((s : State) (held : Held) → IsHeld old.session.batch held → (round : Round) × SettlesHeld old.store new.store s old.session.manner held verdict round)
+      → SaysThen contents (settled_text is_begun old.session.batch.count verdict) (verdict_result old.session.manner verdict) result old.writer new.writer → SettlesBatch contents is_begun result old new
+  settles_so result verdict manner closed none talks settles said = record {
+    manner = manner;
+    store = verdict_talks old.session.manner old.store new.store (settled_text is_begun old.session.batch.count verdict) _ _ verdict result said talks;
+    closed = closed;
+    none = none;
+    settled = λ s held is.
+        let round = settles s held is in (
+          verdict,
+          round.0,
+          round.1,
+          subst (λ n. SaysThen contents (settled_text is_begun n verdict) (verdict_result old.session.manner verdict) result old.writer new.writer) (held_count _ _ _ _ held is) said,
+        );
+  }
 
-pub returns-else-is_begun : goal.returns-else-is_begun
-returns-else-is_begun g c =
-    let how = c.args.self.now.manner in
-    let old = c.args.store.now in
-    let new = c.settle_batch-settled.new.store in
+pub returns-in_err-put_settled : goal.returns-in_err-put_settled
+returns-in_err-put_settled g c =
     let verdict = verdict_of c.settle_batch-settled.result c.settle_batch-settled.new.answers.items in
-    let kept = c.answer_change.ensures.same in
-    let before = g.W.Write.contents c.args.writer.now in
-    let after = g.W.Write.contents c.answer_change.new.writer in
-    rw c.if-is_begun.false
-    (record {
-      manner = kept.manner;
-      store = verdict_talks how old new _ before after verdict c.answer_change.result c.answer_change.ensures.said c.settle_batch-settled.ensures.store;
-      closed = subst (λ b. IsStage b None) (sym kept.batch) c.clear.ensures.stage;
-      none = ap (λ (b : Batch). b.count) kept.batch ∙ c.clear.ensures.none;
-      settled = λ s held is.
-          let round = c.settle_batch-settled.ensures.settled s held is in
-          (verdict, round.0, round.1, c.answer_change.ensures.said);
-    })
+    let kept = c.put_settled.ensures.same in
+    rw (passed_on _ c.from_residual.ensures.1)
+    (settles_so g.W.Write.contents c.args.is_begun (scene c.args.self.now c.args.store.now c.args.writer.now) (scene c.put_settled.new.self c.settle_batch-settled.new.store c.put_settled.new.writer) _ verdict
+    kept.manner (subst (λ b. IsStage b None) (sym kept.batch) c.clear.ensures.stage) (ap (λ (b : Batch). b.count) kept.batch ∙ c.clear.ensures.none) c.settle_batch-settled.ensures.store c.settle_batch-settled.ensures.settled
+    (says_put _ _ (settled_text c.args.is_begun c.args.self.now.batch.count verdict) (verdict_result c.args.self.now.manner verdict) _ c.in_err-put_settled.ensures.put))
+
+pub returns : goal.returns
+returns g c =
+    let answers = c.settle_batch-settled.new.answers.items in
+    let verdict = verdict_of c.settle_batch-settled.result answers in
+    let kept = c.put_settled.ensures.same in
+    settles_so g.W.Write.contents c.args.is_begun (scene c.args.self.now c.args.store.now c.args.writer.now) (scene c.put_settled.new.self c.settle_batch-settled.new.store c.put_settled.new.writer) _ verdict
+    kept.manner (subst (λ b. IsStage b None) (sym kept.batch) c.clear.ensures.stage) (ap (λ (b : Batch). b.count) kept.batch ∙ c.clear.ensures.none) c.settle_batch-settled.ensures.store c.settle_batch-settled.ensures.settled
+    (inl (c.go_on_after.ensures answers ∙ ap (λ m. verdict_result m verdict) kept.manner, c.in_ok-put_settled.ensures.put))

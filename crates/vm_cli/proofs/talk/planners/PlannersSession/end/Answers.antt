@@ -1,60 +1,62 @@
-use Rattle.std.proofs.Common.{◌∙◌, ◌<◌, Vec, ap, refl, arith, get_or, length}
+use Rattle.std.proofs.Common.{◌==◌, ◌∙◌, ◌<◌, Vec, ap, refl, sym, subst, arith, get_or, length, vec_len}
+use Rattle.std.proofs.lemmas.List.{take_all}
+use Rattle.vm_cli.specs.Planners.{AreSeats, seats_end_count, seats_end_text}
+use Rattle.vm_cli.specs.declared.talk.Manner.{Manner}
 use Rattle.vm_cli.specs.declared.talk.planners.Planner.{Planner}
+use Rattle.vm_cli.specs.declared.talk.waiting.WaitingBatch.{WaitingBatch}
 use Rattle.vm_cli.proofs.CarriedLemmas.{passed_on}
-use Rattle.vm_cli.proofs.SeatLemmas.{keeps_then, left_more, left_none, left_short, left_whole, left_within, rests_same}
+use Rattle.vm_cli.proofs.QueueLemmas.{AreForgotten, end_short, end_then, forgotten_more, forgotten_none, forgotten_short}
+use Rattle.vm_cli.proofs.SeatLemmas.{keeps_then}
 use Rattle.vm_cli.proofs.talk.planners.PlannersSession.end.Goals as goal
-use Rattle.vm_cli.proofs.talk.planners.PlannersSession.end.Goals.{then-planner-gt0, else-planner-gt0}
 
 pub loop-place-init : goal.loop-place-init
-loop-place-init g c = record { planners = refl; same = record { batch = refl; answers = refl; manner = refl }; left = left_none c.args.half (g.W.Write.contents c.args.writer.now) }
+loop-place-init g c = record { planners = refl; waiting = refl; same = record { batch = refl; answers = refl; manner = refl }; forgotten = forgotten_none (g.W.Write.contents c.args.writer.now) }
 
 pub loop-place-preserved : goal.loop-place-preserved
 loop-place-preserved g c =
     let so_far = c.loop-place.invariant in
-    let planners = c.args.self.now.planners.items in
-    let planner = c.index-planner.result.now in
-    let is = c.index-planner.ensures ∙ ap (λ (them : Vec Planner _). get_or them.items c.loop-place.place planner) so_far.planners in
-    let within : c.loop-place.place < length planners = omega (arith, c.args.self.now.planners.ok.0) in
-    let put = c.in_ok-put_parting.ensures in
+    let queue = c.args.self.now.waiting.items in
+    let own = c.index.result.now in
+    let is = c.index.ensures ∙ ap (λ (them : Vec WaitingBatch _). get_or them.items c.loop-place.place own) so_far.waiting in
+    let within : c.loop-place.place < length queue = omega (arith, c.args.self.now.waiting.ok.0) in
+    let put = c.in_ok-put_forgotten.ensures in
     record {
       planners = so_far.planners;
+      waiting = so_far.waiting;
       same = keeps_then _ _ _ so_far.same put.same;
-      left =
-          left_more planners c.loop-place.place c.args.half c.loop-place.refused _ _ _ so_far.left planner is within c.if-planner-gt0.refused
-          (λ none. elim c.if-planner-gt0.branch [ then-planner-gt0 w ↦ absurd (omega arith) | else-planner-gt0 w ↦ w.refused-is ])
-          (λ some. elim c.if-planner-gt0.branch [ then-planner-gt0 w ↦ w.refused-is | else-planner-gt0 w ↦ absurd (omega arith) ])
-          put.put;
+      forgotten = forgotten_more queue c.loop-place.place own is within _ _ _ so_far.forgotten put.put;
     }
 
-pub returns-in_err-put_parting : goal.returns-in_err-put_parting
-returns-in_err-put_parting g c =
+pub returns-in_err-put_forgotten : goal.returns-in_err-put_forgotten
+returns-in_err-put_forgotten g c =
     let so_far = c.loop-place.invariant in
-    let planners = c.args.self.now.planners.items in
-    let planner = c.index-planner.result.now in
-    let is = c.index-planner.ensures ∙ ap (λ (them : Vec Planner _). get_or them.items c.loop-place.place planner) so_far.planners in
-    let within : c.loop-place.place < length planners = omega (arith, c.args.self.now.planners.ok.0) in
-    let put = c.in_err-put_parting.ensures in
+    let queue = c.args.self.now.waiting.items in
+    let own = c.index.result.now in
+    let is = c.index.ensures ∙ ap (λ (them : Vec WaitingBatch _). get_or them.items c.loop-place.place own) so_far.waiting in
+    let within : c.loop-place.place < length queue = omega (arith, c.args.self.now.waiting.ok.0) in
     rw (passed_on _ c.from_residual.ensures.1)
-    (record {
-      said = λ seats are. left_short planners c.loop-place.place c.args.half c.loop-place.refused _ _ _ so_far.left planner is within _ put.put seats are _;
-      stays = rests_same _ _ (keeps_then _ _ _ so_far.same put.same) (ap (λ (them : Vec Planner _). them.items) so_far.planners);
-    })
+    (record { said = λ at held. forgotten_short queue c.loop-place.place own is within _ _ _ so_far.forgotten _ c.in_err-put_forgotten.ensures.put at.waiting held.waiting (seats_end_text at.seats c.args.half) _ })
 
-pub returns-then-half-gt0 : goal.returns-then-half-gt0
-returns-then-half-gt0 g c =
+pub returns-in_err-last : goal.returns-in_err-last
+returns-in_err-last g c =
     let so_far = c.loop-place.invariant in
-    let planners = c.args.self.now.planners in
-    let told = c.tell.ensures in
-    record {
-      said = λ seats are. left_within planners.items c.loop-place.place c.args.half _ _ _ _ so_far.left (omega (arith, planners.ok.0)) _ _ so_far.same.manner c.tell.result seats are c.if-half-gt0.true told.said;
-      stays = rests_same _ _ (keeps_then _ _ _ so_far.same told.same) (ap (λ (them : Vec Planner _). them.items) so_far.planners);
-    }
+    let own = c.args.self.now in
+    let forgotten = subst (λ queue. AreForgotten queue (g.W.Write.contents c.args.writer.now) (g.W.Write.contents c.loop-place.writer)) (take_all c.loop-place.place own.waiting.items (omega (arith, own.waiting.ok.0))) so_far.forgotten in
+    rw (passed_on _ c.from_residual-in_err-last.ensures.1)
+    (record {
+      said = λ at held.
+          end_short own.waiting.items _ _ _ forgotten _ _ (ap (λ (how : Manner). how.on_refusal) so_far.same.manner) c.requires.telling at.waiting held.waiting (seats_end_text at.seats c.args.half) (seats_end_count at.seats c.args.half) _ _
+          (c.in_err-last.ensures.said at.seats (subst (λ (them : Vec Planner _). AreSeats them.items at.seats) (sym so_far.planners) held.seats));
+    })
 
 pub returns : goal.returns
 returns g c =
     let so_far = c.loop-place.invariant in
-    let planners = c.args.self.now.planners in
+    let own = c.args.self.now in
+    let forgotten = subst (λ queue. AreForgotten queue (g.W.Write.contents c.args.writer.now) (g.W.Write.contents c.loop-place.writer)) (take_all c.loop-place.place own.waiting.items (omega (arith, own.waiting.ok.0))) so_far.forgotten in
     record {
-      said = λ seats are. left_whole planners.items c.loop-place.place c.args.half _ _ _ _ so_far.left (omega (arith, planners.ok.0)) _ _ so_far.same.manner c.go_on.result seats are (omega arith) refl c.go_on.ensures;
-      stays = rests_same _ _ so_far.same (ap (λ (them : Vec Planner _). them.items) so_far.planners);
+      said = λ at held.
+          end_then own.waiting.items _ _ _ forgotten _ _ (ap (λ (how : Manner). how.on_refusal) so_far.same.manner) c.requires.telling at.waiting held.waiting (seats_end_text at.seats c.args.half) (seats_end_count at.seats c.args.half)
+          c.is_empty-forgotten.result (c.is_empty-forgotten.ensures ∙ ap (λ (them : Vec WaitingBatch _). vec_len them == 0) so_far.waiting ∙ ap (λ n. n == 0) own.waiting.ok.0) c.in_ok-last.last
+          (c.in_ok-last.ensures.said at.seats (subst (λ (them : Vec Planner _). AreSeats them.items at.seats) (sym so_far.planners) held.seats));
     }

@@ -8,6 +8,7 @@ use Rattle.vm_cli.proofs.talk.planners.PlannersSession.exchange.Goals as goal
 pub returns : goal.returns
 returns c = record {
   manner = refl;
+  waiting = refl;
   exchanged = λ before planner behind cut at.
       let it = c.index_mut.result.now in
       let found : it ≡ planner =

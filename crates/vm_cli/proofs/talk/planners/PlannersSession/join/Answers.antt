@@ -15,9 +15,9 @@ returns-then-is_some g c =
 pub returns-in_default : goal.returns-in_default
 returns-in_default g c =
     let why = IsTold c.args.number (error_text Memory) in
-    seats_as _ _ _ _ _ why (Joins c.args.number) (λ seats are text count seats' told. inr (inl told)) (seats_from _ _ _ _ _ _ why c.in_default.ensures.items refl c.tell-in_default.ensures)
+    seats_as _ _ _ _ _ why (Joins c.args.number) (λ seats are text count seats' told. inr (inl told)) (seats_from _ _ _ _ _ _ why c.in_default.ensures.items refl refl c.tell-in_default.ensures)
 
 pub returns : goal.returns
 returns g c =
     let none = absent_at c.args.number c.args.self.now.planners.items c.place_of.result (sym c.is_some.ensures ∙ c.if-is_some.false) c.place_of.ensures in
-    seats_more _ _ _ _ _ c.args.number _ none refl c.new.ensures.stage c.new.ensures.none c.tell-2.ensures.same c.in-Ok.ensures.items c.tell-2.ensures.said
+    seats_more _ _ _ _ _ c.args.number _ none refl c.new.ensures.stage c.new.ensures.none c.tell-2.ensures.same c.in-Ok.ensures.items refl c.tell-2.ensures.said

@@ -1,9 +1,10 @@
-use Rattle.std.proofs.Common.{◌≡◌, ◌∙◌, ◌-◌, [], refl, subst, sym, arith}
+use Rattle.std.proofs.Common.{◌≡◌, ◌∙◌, ◌-◌, [], ap, refl, subst, sym, arith}
 use Rattle.std.below.core.specs.declared.int.usize.TheConstants.{MAX}
 use Rattle.vm_types.specs.State.{opened}
 use Rattle.vm_store.specs.Shown.{new_store}
-use Rattle.vm_cli.specs.PlannerCalls.{AreWithin}
+use Rattle.vm_cli.specs.PlannerCalls.{AreWaiting, AreWithin, IsGathering}
 use Rattle.vm_cli.specs.Planners.{AreSeats, planners}
+use Rattle.vm_cli.specs.declared.talk.Manner.{Manner}
 use Rattle.vm_cli.specs.declared.talk.ServeFault.TheVariants as fault
 use Rattle.vm_cli.proofs.CarriedLemmas.{passed_on}
 use Rattle.vm_cli.proofs.SeatLemmas.{within_more}
@@ -16,7 +17,8 @@ loop-init g c = record {
   closed = c.requires.closed;
   count = subst (AreWithin 0) (sym c.requires.nobody) tt;
   line = c.new-line.ensures;
-  runs = runs_none planners (AreSeats c.args.self.now.planners.items) c.args.store.now c.args.self.now.session.manner _ _ _ (subst (λ ps. AreSeats ps []) (sym c.requires.nobody) tt) c.new-input.ensures;
+  runs = runs_none planners (IsGathering c.args.self.now) c.args.store.now c.args.self.now.session.manner _ _ _
+      (record { seats = subst (λ ps. AreSeats ps []) (sym c.requires.nobody) tt; waiting = subst (λ queue. AreWaiting queue []) (sym c.requires.nothing) tt }) c.new-input.ensures;
 }
 
 pub returns-in_err-ending : goal.returns-in_err-ending
@@ -39,6 +41,15 @@ take-requires-clause-held g c =
 pub take-requires-clause-room : goal.take-requires-clause-room
 take-requires-clause-room g c = within_more _ (MAX - 1) (omega arith) _ c.loop.invariant.count
 
+pub take-requires-clause-telling : goal.take-requires-clause-telling
+take-requires-clause-telling g c = ap (λ (how : Manner). how.on_refusal) c.loop.invariant.manner ∙ c.requires.telling
+
+pub end-requires-in-Input : goal.end-requires-in-Input
+end-requires-in-Input g c = record { telling = ap (λ (how : Manner). how.on_refusal) c.loop.invariant.manner ∙ c.requires.telling }
+
+pub end-requires : goal.end-requires
+end-requires g c = record { telling = ap (λ (how : Manner). how.on_refusal) c.loop.invariant.manner ∙ c.requires.telling }
+
 pub returns-in_err-refused-in-Line : goal.returns-in_err-refused-in-Line
 returns-in_err-refused-in-Line g c =
     let so_far = c.loop.invariant in
@@ -47,7 +58,7 @@ returns-in_err-refused-in-Line g c =
     let took = c.in_err-refused-in-Line.ensures read.0 read.1 in
     let here = so_far.runs.served (opened (new_store 64)) in
     rw (passed_on _ c.from_residual-in_err-refused-in-Line.ensures.1)
-    (serves_line so_far.runs _ so_far.manner _ _ _ read.0 _ read.2 (AreSeats c.take.new.self.planners.items) _ (took.store here.stage here.held) (λ s seats seated. took.taken s seats so_far.closed seated))
+    (serves_line so_far.runs _ so_far.manner _ _ _ read.0 _ read.2 (IsGathering c.take.new.self) _ (took.store here.stage here.held) (λ s at held. took.taken s at so_far.closed held))
 
 pub loop-preserved : goal.loop-preserved
 loop-preserved g c =
@@ -61,7 +72,7 @@ loop-preserved g c =
       closed = took.stays.closed so_far.closed;
       count = took.stays.count c.loop.counter so_far.count;
       line = c.clear.ensures;
-      runs = takes_on so_far.runs _ so_far.manner _ _ _ read.0 _ read.2 (AreSeats c.take.new.self.planners.items) _ (took.store here.stage here.held) (λ s seats seated. took.taken s seats so_far.closed seated);
+      runs = takes_on so_far.runs _ so_far.manner _ _ _ read.0 _ read.2 (IsGathering c.take.new.self) _ (took.store here.stage here.held) (λ s at held. took.taken s at so_far.closed held);
     }
 
 pub returns-in-HalfLine : goal.returns-in-HalfLine

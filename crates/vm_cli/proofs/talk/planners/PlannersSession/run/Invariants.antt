@@ -2,8 +2,8 @@ use Rattle.std.proofs.Common.{◌≡◌, [], None}
 use Rattle.vm_cli.specs.Known.{streams_of}
 use Rattle.vm_cli.specs.Input.{HoldsLine}
 use Rattle.vm_cli.specs.LineReading.{unread_of}
-use Rattle.vm_cli.specs.PlannerCalls.{AreWithin}
-use Rattle.vm_cli.specs.Planners.{AreSeats, planners}
+use Rattle.vm_cli.specs.PlannerCalls.{AreWithin, IsGathering}
+use Rattle.vm_cli.specs.Planners.{planners}
 use Rattle.vm_cli.specs.Streams.{IsStage}
 use Rattle.vm_cli.proofs.StreamEndLemmas.{RunsSoFar}
 use Rattle.vm_cli.proofs.talk.planners.PlannersSession.run.Given as goal
@@ -15,6 +15,6 @@ invariant-loop g l = record {
   closed : IsStage l.self.session.batch None;
   count : AreWithin l.counter l.self.planners.items;
   line : HoldsLine l.line [];
-  runs : RunsSoFar planners (AreSeats l.self.planners.items) l.fn.store l.store l.fn.self.session.manner
+  runs : RunsSoFar planners (IsGathering l.self) l.fn.store l.store l.fn.self.session.manner
       (streams_of (g.R.Read.remaining l.fn.reader) (g.W.Write.contents l.fn.writer) (g.W.Write.contents l.writer)) (g.R.Read.remaining l.reader) (unread_of l.input) l.refused;
 }

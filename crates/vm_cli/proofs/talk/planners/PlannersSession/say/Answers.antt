@@ -1,12 +1,13 @@
-use Rattle.std.proofs.Common.{inr, ◌∙◌, ◌+◌, ◌-◌, ◌++◌, ◌∷◌, [], None, ap, sym, subst, arith}
+use Rattle.std.proofs.Common.{inr, ◌∙◌, ◌+◌, ◌-◌, ◌++◌, ◌∷◌, List, [], None, ap, sym, subst, arith}
 use Rattle.std.below.core.specs.declared.int.usize.TheConstants.{MAX}
-use Rattle.vm_cli.specs.PlannerCalls.{AreWithin, IsPlaceOf, holding}
+use Rattle.vm_cli.specs.PlannerCalls.{AreWaiting, AreWithin, IsGathering, IsPlaceOf, holding}
 use Rattle.vm_cli.specs.PlannerLines.Saying.{says}
-use Rattle.vm_cli.specs.Planners.{AreSeats, IsTold, TakesSaying, seat}
+use Rattle.vm_cli.specs.Planners.{AreSeats, IsTold, TakesAlone, seat}
 use Rattle.vm_cli.specs.Replies.{reply_text}
 use Rattle.vm_cli.specs.Streams.{IsStage}
+use Rattle.vm_cli.specs.Waiting.{Waiting}
 use Rattle.vm_cli.specs.declared.answers.reply.Reply.TheVariants.{NoSuchPlanner}
-use Rattle.vm_cli.proofs.HallLemmas.{answered_talks, answered_told, said_told, within_around}
+use Rattle.vm_cli.proofs.HallLemmas.{answered_hall, said_told, within_around}
 use Rattle.vm_cli.proofs.SeatLemmas.{seats_around, seats_cut, within_last}
 use Rattle.vm_cli.proofs.talk.planners.PlannersSession.say.Goals as goal
 
@@ -30,14 +31,17 @@ returns g c =
         count = λ n within.
             subst (AreWithin (n + 1)) (sym second.0) (within_around n before planner behind (holding (holding planner own) batch) (subst (AreWithin n) found.3 within) (λ m le. omega (arith, taken.count, le, ap (λ b. b.count) first.1)));
       };
-      store = λ seats seated. taken.store;
-      taken = λ s seats closed seated.
-          let seat_of = seats_cut before planner behind seats (subst (λ ps. AreSeats ps seats) found.3 seated) in
-          said_told c.args.store.now c.take_of-taken.new.store s session.session.manner c.exchange.new.self.session.manner c.exchange.ensures.manner c.args.number c.args.said.now seats seat_of.earlier seat_of.later seat_of.stage
+      store = λ at held. taken.store;
+      taken = λ s at closed held.
+          let seat_of = seats_cut before planner behind at.seats (subst (λ ps. AreSeats ps at.seats) found.3 held.seats) in
+          said_told c.args.store.now c.take_of-taken.new.store s session.session.manner c.exchange.new.self.session.manner c.exchange.ensures.manner c.args.when c.args.number c.args.said.now at seat_of.earlier seat_of.later seat_of.stage
           (record { only = found.6 seat_of.earlier seat_of.first; cut = seat_of.cut ∙ ap (λ n. seat_of.earlier ++ seat n seat_of.stage ∷ seat_of.later) found.5 })
-          (IsStage batch) (AreSeats after)
-          (λ stage' is. subst (λ ps. AreSeats ps (seat_of.earlier ++ seat c.args.number stage' ∷ seat_of.later)) (sym second.0)
-          (seats_around before (holding (holding planner own) batch) behind seat_of.earlier c.args.number stage' seat_of.later seat_of.first found.5 is seat_of.last))
+          (IsStage batch) (λ more. (waiting : List Waiting) → AreWaiting c.exchange.new.self.waiting.items waiting → AreWaiting c.take_of-taken.new.waiting.items (waiting ++ more)) (IsGathering c.exchange-2.new.self)
+          (λ stage' more is waits. record {
+            seats = subst (λ ps. AreSeats ps (seat_of.earlier ++ seat c.args.number stage' ∷ seat_of.later)) (sym second.0)
+                (seats_around before (holding (holding planner own) batch) behind seat_of.earlier c.args.number stage' seat_of.later seat_of.first found.5 is seat_of.last);
+            waiting = subst (λ queue. AreWaiting queue (at.waiting ++ more)) (sym c.exchange-2.ensures.waiting) (waits at.waiting (subst (λ queue. AreWaiting queue at.waiting) (sym c.exchange.ensures.waiting) held.waiting));
+          })
           c.take_of-taken.result _ _
           (taken.taken s seat_of.stage c.args.said.now (subst (λ b. IsStage b seat_of.stage) (sym first.1) seat_of.held) (c.extend.ensures [] c.new-line.ensures));
     }
@@ -45,17 +49,11 @@ returns g c =
 pub returns-in_default : goal.returns-in_default
 returns-in_default g c =
     let absent = subst (IsPlaceOf c.args.number c.args.self.now.planners.items) c.in_default.is c.place_of.ensures in
-    let done = c.tell.ensures in
-    let told = IsTold c.args.number (reply_text NoSuchPlanner) in
-    record {
-      stays = done.stays;
-      store = λ seats seated. answered_talks c.args.store.now c.args.self.now.session.manner told seats (AreSeats c.tell.new.self.planners.items) c.tell.result _ _ (done.answered seats seated);
-      taken = λ s seats closed seated.
-          answered_told c.args.store.now c.args.self.now.session.manner told seats (AreSeats c.tell.new.self.planners.items)
-          (λ text course seats' rounds. TakesSaying c.args.store.now c.args.store.now s c.args.self.now.session.manner (says c.args.number c.args.said.now) text course seats seats' rounds)
-          (λ text course seats' rounds it. inr (record { count = it.count; answer = record { absent = absent seats seated; told = it.answer }; same = it.same; goes = it.goes; came_so = it.came_so }))
-          c.tell.result _ _ (done.answered seats seated);
-    }
+    answered_hall g.W.Write.contents (IsTold c.args.number (reply_text NoSuchPlanner)) c.args.store.now
+    (λ s at text course at' rounds. TakesAlone c.args.store.now c.args.store.now s c.args.self.now.session.manner (says c.args.when c.args.number c.args.said.now) text course at at' rounds)
+    c.tell.result c.args.self.now c.tell.new.self
+    (λ s at held text course at' rounds it. inr (record { count = it.count; answer = record { absent = absent at.seats held.seats; told = it.answer }; waiting = it.waiting; same = it.same; goes = it.goes; came_so = it.came_so }))
+    c.args.writer.now c.tell.new.writer c.tell.ensures
 
 pub take_of-taken-requires : goal.take_of-taken-requires
 take_of-taken-requires g c =

@@ -14,14 +14,14 @@ pub returns-in-Long : goal.returns-in-Long
 returns-in-Long g c = λ part holds.
     let long = subst (λ k. KindHolds k c.args.line.now.bytes.items part) c.in-Long.is holds.kind in
     answered_hall g.W.Write.contents (IsTold 0 (reply_text LongLine)) c.args.store.now
-    (λ s seats text course seats' rounds. TakesOne c.args.store.now c.args.store.now s c.args.self.now.session.manner seats part text course seats' rounds)
-    (λ s seats text course seats' rounds it. inr (inl (long, it))) c.tell.result c.args.self.now c.tell.new.self c.args.writer.now c.tell.new.writer c.tell.ensures
+    (λ s at text course at' rounds. TakesOne c.args.store.now c.args.store.now s c.args.self.now.session.manner at part text course at' rounds)
+    c.tell.result c.args.self.now c.tell.new.self (λ s at held text course at' rounds it. inr (inl (long, it))) c.args.writer.now c.tell.new.writer c.tell.ensures
 
 pub returns-in-NoMemory : goal.returns-in-NoMemory
 returns-in-NoMemory g c = λ part holds.
     answered_hall g.W.Write.contents (IsTold 0 (error_text Memory)) c.args.store.now
-    (λ s seats text course seats' rounds. TakesOne c.args.store.now c.args.store.now s c.args.self.now.session.manner seats part text course seats' rounds)
-    (λ s seats text course seats' rounds it. inl it) c.tell-in-NoMemory.result c.args.self.now c.tell-in-NoMemory.new.self c.args.writer.now c.tell-in-NoMemory.new.writer c.tell-in-NoMemory.ensures
+    (λ s at text course at' rounds. TakesOne c.args.store.now c.args.store.now s c.args.self.now.session.manner at part text course at' rounds)
+    c.tell-in-NoMemory.result c.args.self.now c.tell-in-NoMemory.new.self (λ s at held text course at' rounds it. inl it) c.args.writer.now c.tell-in-NoMemory.new.writer c.tell-in-NoMemory.ensures
 
 pub returns-in-Kept : goal.returns-in-Kept
 returns-in-Kept g c = λ part holds.
@@ -29,10 +29,10 @@ returns-in-Kept g c = λ part holds.
     let text : c.text.result.now ≡ without_return part = c.text.ensures ∙ kept.0 in
     let how = c.args.self.now.session.manner in
     let new = c.take_saying.new.store in
-    hall_as g.W.Write.contents (λ s seats said course seats' rounds. TakesSaying c.args.store.now new s how (saying_of c.text.result.now) said course seats seats' rounds)
-    (λ s seats said course seats' rounds. TakesOne c.args.store.now new s how seats part said course seats' rounds)
-    (λ s seats said course seats' rounds it. inr (inr (kept.1, subst (λ bytes. TakesSaying c.args.store.now new s how (saying_of bytes) said course seats seats' rounds) text it)))
-    c.take_saying.result _ _ c.take_saying.ensures
+    hall_as g.W.Write.contents (λ s at said course at' rounds. TakesSaying c.args.store.now new s how (saying_of c.text.result.now) said course at at' rounds)
+    (λ s at said course at' rounds. TakesOne c.args.store.now new s how at part said course at' rounds) c.take_saying.result _ _
+    (λ s at held said course at' rounds it. inr (inr (kept.1, subst (λ bytes. TakesSaying c.args.store.now new s how (saying_of bytes) said course at at' rounds) text it)))
+    c.take_saying.ensures
 
 pub take_saying-requires-clause-part : goal.take_saying-requires-clause-part
 take_saying-requires-clause-part g c =
