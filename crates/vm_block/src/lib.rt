@@ -1,6 +1,6 @@
-//! The forms of a store's blocks: the header, the selector, leaves and inner blocks of trees, slots
-//! with their entries, and blocks of long values. Nothing else in the store writes or tests one,
-//! except that `vm_catalog` knows the cells of a slot.
+//! The forms of a store's blocks: the header, the selector, leaves and inner blocks of trees, and
+//! slots with their entries. Nothing else in the store writes or tests one, except that
+//! `vm_catalog` knows the cells of a slot.
 //!
 //! It stands on `vm_types` for keys, values and names, on `byteorder` for numbers as bytes, on
 //! `arrayvec` for inline lists, and on no disk. Its one promise: a block is read exactly when its
