@@ -1,6 +1,6 @@
 """A batch: lines of one planner that take effect together or not at all."""
 import time
-from typing import Dict, List, Optional
+from typing import Dict, List, Optional, Tuple
 
 from service import limits
 from service.limits import refusal
@@ -9,6 +9,15 @@ from service.limits import refusal
 class Batch:
     """Lines of one planner. In the end it has the answers to all of them, or the position and the answer of the one
     that was refused; the position after the last line stands for `commit`."""
+
+    answers: Optional[List[bytes]] = None
+    refused: Optional[Tuple[int, bytes]] = None
+    # Whether it was refused and has a line `merge`.
+    may_merge = False
+    # What its lines count for among all that is held.
+    held = 0
+    # It is tried by itself first if one of the last batches of its planner had others carried out again.
+    is_doubtful, is_alone, has_disturbed = False, False, False
 
     def __init__(
         self, person, lines=(), is_explicit=False, rules=None, source=None, seen: Optional[Dict[str, int]] = None
@@ -20,15 +29,8 @@ class Batch:
         self.source = self if source is None else source
         self.count, self.begun = len(self.lines), time.monotonic()
         self.bytes = sum(map(len, self.lines))
-        self.answers, self.refused = None, None
         # The rules that have allowed its lines. They are looked at again if others are in force when it is carried out.
         self.rules = rules
-        # Whether it was refused and has a line `merge`.
-        self.may_merge = False
-        # What its lines count for among all that is held.
-        self.held = 0
-        # It is tried by itself first if one of the last batches of its planner had others carried out again.
-        self.is_doubtful, self.is_alone, self.has_disturbed = False, False, False
 
     def hold(self, line: bytes) -> None:
         """Adds a line. If an earlier one was refused, the line is only counted."""
@@ -36,6 +38,12 @@ class Batch:
         if self.refused is None:
             self.lines.append(line)
             self.bytes += len(line)
+
+    def hold_all(self, lines: List[bytes], size: int) -> None:
+        """Adds lines of this size to a batch of which none was refused."""
+        self.count += len(lines)
+        self.lines += lines
+        self.bytes += size
 
     def refuse(self, place: int, answer: bytes) -> None:
         """Notes the refused line, and forgets all lines."""
@@ -54,14 +62,14 @@ class Batch:
 
     def is_small(self) -> bool:
         """Whether it may share its commit with others."""
-        return len(self.lines) <= limits.SMALL_LINES and self.bytes <= max(
-            limits.SMALL_BYTES, limits.LINE_BYTES * (self.count == 1)
+        return len(self.lines) <= limits.SMALL_LINES and (
+            self.bytes <= limits.SMALL_BYTES or self.count == 1 and self.bytes <= limits.LINE_BYTES
         )
 
     def text(self) -> bytes:
         """The answer to the planner."""
         if self.refused is None:
-            return b"".join([b"%s\n" % it for it in self.answers or []]) + b"ok\n" * self.is_explicit
+            return b"\n".join([*(self.answers or []), *[b"ok"] * self.is_explicit, b""])
         place, answer = self.refused
         if not self.is_explicit:
             return answer + b"\n"
@@ -71,4 +79,7 @@ class Batch:
 
 def refused_place(answers: List[bytes]) -> Optional[int]:
     """The position of the first answer that is a refusal."""
-    return next((place for place, it in enumerate(answers) if it.startswith(b"error ")), None)
+    for place, it in enumerate(answers):
+        if it.startswith(b"error "):
+            return place
+    return None

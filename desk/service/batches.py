@@ -164,10 +164,12 @@ class Batches:
         """Carries out batches and commits them together. All of them are settled then, even if it raises Fatal."""
         try:
             for it in batches:
-                self._look_at_rights(it)
-                self.look_at_changes(it)
+                if it.rules is not self.rules:
+                    self._look_at_rights(it)
+                if it.seen:
+                    self.look_at_changes(it)
             self._look_at_disk(open_ones(batches))
-            doubtful = [it for it in open_ones(batches) if it.is_doubtful]
+            doubtful = [it for it in batches if it.is_doubtful and not it.is_settled()]
             for it in doubtful if len(batches) > 1 else ():
                 # One that is refused would have all others carried out again.
                 self._try(self._probe, [it])
@@ -186,8 +188,6 @@ class Batches:
 
     def _look_at_rights(self, batch: Batch) -> None:
         """Refuses a batch whose planner no longer has a right that it needs."""
-        if batch.rules is self.rules:
-            return
         for place, line in enumerate(batch.lines):
             refused = self.rules.refusal_of(batch.person, line.split(b" ", 3), {})
             if refused is not None:
@@ -204,10 +204,11 @@ class Batches:
 
     def _look_at_disk(self, batches: List[Batch]) -> None:
         """Refuses batches for which the disk is likely to have no room, before they are carried out."""
-        wanted = {it: sum(line.split(b" ", 1)[0] in TAKING for line in it.lines) for it in batches}
-        if not any(wanted.values()) or self._lacking(sum(wanted.values())) is None:
+        wanted = sum([line.startswith(TAKING) for it in batches for line in it.lines])
+        if not wanted or self._lacking(wanted) is None:
             return
-        for batch, changes in wanted.items():
+        for batch in batches:
+            changes = sum([line.startswith(TAKING) for line in batch.lines])
             fault = self._lacking(changes) if changes else None
             if fault is not None and self._mark():
                 fault = self._lacking(changes)
@@ -429,7 +430,7 @@ def stamp_of(number: int) -> List[bytes]:
 
 
 def open_ones(batches: Iterable[Batch]) -> List[Batch]:
-    return [it for it in batches if not it.is_settled()]
+    return [it for it in batches if it.answers is None and it.refused is None]
 
 
 def refuse_all(done: Iterable[Done], answer: bytes) -> None:

@@ -42,8 +42,8 @@ PLENTY, FRESH = 4 << 30, 0.5
 MOST = 16_384, 65_536
 # The most blocks that a change takes, and how many one takes that is as most are: one for each level of its tree.
 MARGIN, MOSTLY = 17, 4
-# Lines that take blocks, and those that ask how many there are.
-TAKING, ROOM = {b"put", b"remove", b"merge", b"back"}, (b"blocks", b"free")
+# How lines begin that take blocks, and the lines that ask how many there are.
+TAKING, ROOM = (b"put ", b"remove ", b"merge ", b"back "), (b"blocks", b"free")
 # File systems on which a block that has room needs no more when it is written. Others may put it elsewhere then.
 FIRM = {"ext4", "tmpfs"}
 # What a system answers if it cannot hold room at all.
@@ -165,7 +165,7 @@ class Uses:
 
     def note(self, lines: Sequence[bytes], answers: Sequence[bytes], told: List[bytes]) -> None:
         """Notes that lines were carried out, after which the lines ROOM were answered so."""
-        counts = [int(it.split()[1]) for it in told if it.split()[0] in ROOM]
+        counts = [int(it[1]) for it in map(bytes.split, told) if it[0] in ROOM]
         if len(counts) < len(ROOM):
             self.is_known = False
             return
@@ -191,7 +191,6 @@ class Uses:
 
 def changes_of(line: bytes, answer: bytes) -> int:
     """How many changes a line makes that may take blocks, so far as it is known."""
-    verb = line.split(b" ", 1)[0]
-    if verb == b"merge" and answer.startswith(b"ok "):
+    if line.startswith(b"merge ") and answer.startswith(b"ok "):
         return int(answer.split()[1])
-    return verb in TAKING
+    return line.startswith(TAKING)

@@ -2,6 +2,7 @@
 import json
 import os
 from collections import Counter
+from copy import copy
 from typing import Dict, List, NamedTuple, Optional, Set, Tuple
 
 from service.batch import Batch
@@ -17,7 +18,8 @@ Makers = Dict[str, Dict[str, str]]
 ITSELF = ""
 
 
-# Verbs of lines that make or remove alternatives and checkpoints.
+# Verbs of lines that change one record, and of those that make or remove alternatives and checkpoints.
+OF_A_RECORD = {b"put", b"remove"}
 MAKERS = {b"new", b"drop", b"checkpoint", b"uncheck"}
 
 
@@ -39,27 +41,39 @@ class Entries:
         self.counts = Counter(it for names in self.makers.values() for it in names.values())
         # How often a maker was noted or forgotten.
         self.changes = 0
+        # Whether another one has the same tables.
+        self.is_shared = False
 
     def copy(self) -> "Entries":
-        copied = Entries(dict(self.parents))
-        copied.makers = {name: dict(names) for name, names in self.makers.items()}
-        copied.counts, copied.changes = Counter(self.counts), self.changes
+        """A copy, of which nothing is copied until it is changed. This one must not be changed before that."""
+        copied = copy(self)
+        copied.is_shared = True
         return copied
+
+    def _own(self) -> None:
+        """Has tables of its own from now on."""
+        self.is_shared = False
+        self.parents, self.counts = dict(self.parents), Counter(self.counts)
+        self.makers = {name: dict(names) for name, names in self.makers.items()}
 
     # --- what a batch changes ---------------------------------------------------------------------
 
     def take(self, batch: Batch, answers: List[bytes], rules) -> Effect:
         """Takes in what a batch has changed. Only now is it known which parents its alternatives have, so a line may
         still need a right that its planner lacks. The caller then drops what was taken in."""
-        touched, records, who = set(), 0, word(author(batch))
+        touched: Set[str] = set()
+        records, who = 0, ""
         for place, (line, answer) in enumerate(zip(batch.lines, answers)):
             verb, *words = line.split(b" ", 3)
-            touched |= changed_by(verb, words, self.parents)
-            if verb in (b"put", b"remove"):
+            if verb in OF_A_RECORD:
+                touched.add(words[0].decode())
                 records += 1
-            elif verb == b"merge":
+                continue
+            touched |= changed_by(verb, words, self.parents)
+            if verb == b"merge":
                 records += int(answer.split(b" ")[1])
             elif verb == b"post" or verb in MAKERS:
+                who = who or word(author(batch))
                 refused = self._take(verb, words, batch.person, who, rules)
                 if refused is not None:
                     return Effect((place, refused), touched, records)
@@ -76,6 +90,8 @@ class Entries:
         """Notes what somebody's line has made or removed."""
         if verb not in MAKERS:
             return
+        if self.is_shared:
+            self._own()
         name = words[0].decode()
         if verb == b"new":
             self.parents[words[0]] = words[1]

@@ -15,16 +15,18 @@ from service.lines import printable
 from service.locking import lock_on_volume
 from service.renewals import author
 
-# The line of a batch up to its own lines.
+# Who did it in which alternatives, in the line of a batch, and that line up to its own lines.
+WHO = rb'"uid":(?P<uid>\d+),"who":(?P<who>"[^"\\]*(?:\\.[^"\\]*)*"),"alternatives":\[(?P<alternatives>[^\]]*)\],'
 HEAD = re.compile(
-    rb'\{"batch":(?P<number>\d+),"time":"(?P<time>[^"]*)","uid":(?P<uid>\d+),"who":(?P<who>"[^"\\]*(?:\\.[^"\\]*)*"),'
-    rb'"alternatives":\[(?P<alternatives>[^\]]*)\],"records":(?P<records>\d+),"lines":\['
+    rb'\{"batch":(?P<number>\d+),"time":"(?P<time>[^"]*)",' + WHO + rb'"records":(?P<records>\d+),"lines":\['
 )
 DONE = re.compile(rb'\{"done":(\d+)\}')
 OPENED = re.compile(rb'\{"opened":"[^"]*","last":(\d+),"next":(\d+)\}')
 # The end of the line of a batch.
-TAIL = b"]}\n"
+TAIL = "]}\n"
 PART = 128 << 10
+# How many lines of a batch are spelled at once: one may have a megabyte.
+PORTION = 16
 
 
 class Broken(Exception):
@@ -160,15 +162,19 @@ class Journal:
 
 def parts_of(at: str, batches: Iterable[Tuple[int, Batch, Iterable[str], int]]) -> Iterator[bytes]:
     """The lines of batches, in parts."""
+    text = ""
     for number, batch, touched, records in batches:
-        names = ",".join(quoted(it) for it in sorted(touched))
-        who = f'"time":"{at}","uid":{batch.person.uid},"who":{quoted(author(batch))}'
-        yield f'{{"batch":{number},{who},"alternatives":[{names}],"records":{records},"lines":['.encode("ascii")
-        separator = ""
-        for line in batch.lines:
-            yield f"{separator}{quoted(printable(line))}".encode("ascii")
-            separator = ","
-        yield TAIL
+        who, names = quoted(author(batch)), ",".join(map(quoted, sorted(touched)))
+        text += f'{{"batch":{number},"time":"{at}","uid":{batch.person.uid},"who":{who},"alternatives":[{names}],'
+        text += f'"records":{records},"lines":['
+        for place in range(0, len(batch.lines), PORTION):
+            if len(text) > PART:
+                yield text.encode("ascii")
+                text = ""
+            lines = [quoted(printable(it)) for it in batch.lines[place : place + PORTION]]
+            text += ("," if place else "") + ",".join(lines)
+        text += TAIL
+    yield text.encode("ascii")
 
 
 def sync_folder(path: str) -> None:
@@ -210,7 +216,7 @@ def is_line(file: int, begin: int, end: int) -> bool:
     text = os.pread(file, min(end - begin, PART), begin)
     if DONE.match(text) or OPENED.match(text):
         return text.endswith(b"}\n")
-    if HEAD.match(text) is None or os.pread(file, len(TAIL), end - len(TAIL)) != TAIL:
+    if HEAD.match(text) is None or os.pread(file, len(TAIL), end - len(TAIL)) != TAIL.encode("ascii"):
         return False
     # A crash may leave other bytes where a line was not synced.
     return all(b"\0" not in os.pread(file, min(PART, end - at), at) for at in range(begin, end, PART))

@@ -7,7 +7,7 @@ import struct
 import zlib
 from typing import Callable, Iterator, List, NamedTuple, Optional, Sequence, Set, Tuple
 
-from service.journal import HEAD, OPENED, PART, line_feed_before
+from service.journal import HEAD, OPENED, PART, WHO, line_feed_before
 
 # Where a part begins and ends, the highest batch so far, a checksum of both ends, and whether it has a line `opened`.
 FORM = struct.Struct("<QQQII")
@@ -25,6 +25,7 @@ WIDE = b"*"
 Groups = Sequence[Sequence[Sequence[int]]]
 # Patterns that begin with fixed bytes are found much quicker.
 RECORDS = [re.compile(rb'"%s [^ "]+ 0*(\d+) 0*(\d+)' % verb) for verb in (b"put", b"remove")]
+AUTHORS = re.compile(WHO)
 # Verbs of lines that may change any record of an alternative.
 WIDE_VERBS = (b"merge", b"post", b"back", b"new", b"drop")
 BATCH = re.compile(rb'\{"batch":(\d+),')
@@ -106,8 +107,7 @@ def keys_of(text: bytes) -> Set[bytes]:
     keys = {b"r%s:%s" % it for pattern in RECORDS for it in pattern.findall(text)}
     if any(b'"%s ' % verb in text for verb in WIDE_VERBS):
         keys.add(WIDE)
-    heads = {it.group("uid", "who", "alternatives") for it in HEADS.finditer(text)}
-    for uid, who, names in heads:
+    for uid, who, names in set(AUTHORS.findall(text)):
         keys |= {b"p" + uid, b"p" + who.strip(b'"'), *(b"a" + it.strip(b'"') for it in names.split(b","))}
     return keys
 

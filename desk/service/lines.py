@@ -45,6 +45,8 @@ SINGLE = {verb for verb, line in LINES.items() if line.kind == "query"}
 ROWS = {verb for verb, line in LINES.items() if line.kind == "rows"}
 RIGHTS = {verb: line.right for verb, line in LINES.items() if line.kind == "change"}
 OF_THE_STORE = {"reclaim", "grow", "backup", "archive", "act"}
+# Changes whose verb and alternative tell who may make them. What others need depends on more words, or on parents.
+BY_ALTERNATIVE = {b"put", b"remove", b"back", b"merge", b"drop"}
 
 # Lines that the service itself answers.
 OWN_WORDS = {b"begin", b"commit", b"abort", b"rollback"}
@@ -59,12 +61,15 @@ MARK = re.compile(OFFICE.pattern + rb"\.[A-Za-z0-9_.-]+")
 # under the name of its alternative the service itself stands in the journal.
 PERSON = re.compile(rb"(?![0-9]+$|%s$)[A-Za-z0-9_.-][A-Za-z0-9_.@+-]{0,63}" % re.escape(OWN))
 SEEN = re.compile(rb"([A-Za-z0-9_.-]{1,32})=([0-9]{1,19})")
+UNPRINTABLE = re.compile(rb"[^ -~]")
 
 
 def words_of(line: bytes) -> List[bytes]:
     """The words of a line, as the program reads it: one CR at its end does not count, and only spaces separate words.
     None if the line has no answer."""
-    words = [it for it in line.removesuffix(b"\r").split(b" ") if it]
+    words = line.removesuffix(b"\r").split(b" ")
+    if b"" in words:
+        words = [it for it in words if it]
     return [] if words and words[0].startswith(b"#") else words
 
 
@@ -122,7 +127,10 @@ def office_of(words: List[bytes]) -> Optional[bytes]:
 def printable(line: bytes) -> str:
     """A line for the program as text. Bytes that are not printable, which only a value can have, are written with
     `%`."""
-    return re.sub(rb"[^ -~]", lambda it: b"%%%02X" % it[0][0], line.removesuffix(b"\r")).decode("ascii")
+    line = line.removesuffix(b"\r")
+    if not (line.isascii() and line.decode("ascii").isprintable()):
+        line = UNPRINTABLE.sub(lambda it: b"%%%02X" % it[0][0], line)
+    return line.decode("ascii")
 
 
 def word(text: str) -> str:

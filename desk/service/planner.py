@@ -3,24 +3,31 @@ import selectors
 import socket
 import time
 from collections import Counter
-from typing import Dict, List, Optional, Union
+from typing import Callable, List, Optional, Union
 
 from service import limits
 from service.batch import Batch
 from service.limits import BAD_LINE, LONG_LINE, NO_SUCH_LINE, refusal
-from service.lines import OWN_WORDS, PERSON, RIGHTS, ROWS, SINGLE
-from service.lines import alternative_of, line_of, office_of, printable, seen_of, why_bad, words_of
+from service.lines import BY_ALTERNATIVE, OWN_WORDS, PERSON, RIGHTS, ROWS, SINGLE
+from service.lines import alternative_of, line_of, printable, seen_of, why_bad, words_of
 from service.rules import acted_for
 from service.unread import Unread
 
+# With that much text or less nothing of it counts among what waits.
+MUCH = limits.RECEIVED_BYTES // 2
 # How many decisions on rights are remembered for a planner.
 MOST_ALLOWED = 1000
 # For how many batches a planner of whom one was refused is doubtful.
 DOUBT = 16
 # How much of a line is told.
 TOLD = 100
+# The lines that end a batch.
+ENDS = {b"commit", b"abort", b"rollback"}
 # How many lines are looked at for a request at once: each costs time that others wait for.
 LOOK, LOOK_LONG = 16, 256
+# The turns in which requests are carried out: those whose answer is known already, or one line that the program gives
+# at once; batches that may share a commit; and what takes longer.
+SHORT, SMALL, LONG = range(3)
 
 
 class Query:
@@ -47,6 +54,17 @@ class Forgotten:
 
 # A planner waits for one of these, or for an answer that is known already, with its line feed.
 Request = Union[bytes, Batch, Forgotten, Query, Word]
+# Whether a request may be carried out now.
+Admits = Callable[[Request], bool]
+
+
+def turn_of(request: Request) -> int:
+    """The turn in which a request is carried out."""
+    if isinstance(request, Batch):
+        return SHORT if not request.lines else SMALL if request.is_small() else LONG
+    if isinstance(request, Query):
+        return LONG if request.has_rows else SHORT
+    return LONG if isinstance(request, Word) and request.words != [b"batches"] else SHORT
 
 
 class Planner:
@@ -61,7 +79,9 @@ class Planner:
         self.skips: Optional[bytes] = None
         # No more lines come; all lines are taken; nobody reads the answers; all is over.
         self.has_ended, self.has_finished, self.is_deaf, self.is_closed = False, False, False, False
+        # The request that waits, and its turn.
         self.first: Optional[Request] = None
+        self.turn: Optional[int] = None
         self.batch: Optional[Batch] = None
         self.allowed, self.allowed_by = {}, None
         self.unread, self.read_last = Unread(server.users, person.uid), 0.0
@@ -70,12 +90,15 @@ class Planner:
         self.had = Counter()
 
     def handle(self, events: int) -> None:
-        if events & selectors.EVENT_READ and self.first is None and self.is_exhausted():
+        if not events & selectors.EVENT_READ:
+            self.send()
+        elif self.first is None and self.is_exhausted():
             self.receive()
             # What is watched is set at the end of the round: most have their answer by then.
             self.server.touched[self] = None
         else:
-            self.send()
+            # More lines have come, or the end. They wait there.
+            self.server.watch(self, self.watched & ~selectors.EVENT_READ)
 
     # --- lines that arrive ------------------------------------------------------------------------
 
@@ -93,10 +116,12 @@ class Planner:
             end = came.find(b"\n")
             came = came[end:] if end >= 0 else b""
         self.text += came
+        is_much = len(self.text) > MUCH
         self.look()
         if self.first is None and self.skips is None and self.is_exhausted():
             self._limit_line()
-        self._count_text()
+        if is_much or self.counted:
+            self._count_text()
 
     def _limit_line(self) -> None:
         """Keeps nothing of an unfinished line that is too long, or too much beside all that its user has waiting."""
@@ -125,7 +150,7 @@ class Planner:
             + (first.bytes if isinstance(first, Batch) and not first.is_explicit else len(line))
         )
         size = size if size > limits.RECEIVED_BYTES else 0
-        self.server.users.hold(self.person.uid, size - self.counted)
+        self.server.users.count_held(self.person.uid, size - self.counted)
         self.counted = size
 
     def is_exhausted(self) -> bool:
@@ -135,17 +160,21 @@ class Planner:
     def look(self, count: int = LOOK) -> None:
         """Looks at the next lines, up to one that makes a request. If there are many, the server has the rest looked at
         later."""
-        while self.first is None and not self.is_closed and not self.is_exhausted():
-            if not count:
-                self.server.unseen[self] = None
-                return
-            count -= 1
+        while self.first is None and not self.is_closed:
             end = self.text.find(b"\n", self.sought)
             if end < 0:
                 self.sought = len(self.text)
-                if self.has_ended:
+                if self.has_ended and not self.has_finished:
                     self._finish()
                 return
+            if not count:
+                self.server.unseen[self] = None
+                return
+            held = self._hold_plain_lines(count) if self.batch is not None and self.skips is None else 0
+            if held:
+                count -= held
+                continue
+            count -= 1
             line = bytes(self.text[self.at : end])
             self.at = self.sought = end + 1
             if self.skips is not None:
@@ -176,13 +205,16 @@ class Planner:
             return  # It would only be answered.
         elif verb in RIGHTS:
             refused = self._refusal_of(words)
-            self._tell(refused, line)
-            self._add(self._batch([line_of(words)], False) if refused is None else refused + b"\n")
+            if refused is None:
+                self._add(Batch(self.person, [line_of(words)], False, self.server.rules, self))
+            else:
+                self._tell(refused, line)
+                self._add(refused + b"\n")
         elif verb in SINGLE or verb in ROWS:
             self._add(Query(line_of(words), verb in ROWS))
         elif verb == b"begin":
             self._begin(words[1:])
-        elif words in ([b"commit"], [b"abort"], [b"rollback"]):
+        elif verb in ENDS and len(words) == 1:
             # Each earlier line was a batch of its own, so it is committed, and nothing can be taken back.
             self._add(b"ok\n")
         elif verb == b"for" and len(words) == 2 and PERSON.fullmatch(words[1]):
@@ -203,9 +235,6 @@ class Planner:
         self.person, self.allowed = acted_for(self.user, name), {}
         return b"ok"
 
-    def _batch(self, lines: List[bytes], is_explicit: bool, seen: Optional[Dict[str, int]] = None) -> Batch:
-        return Batch(self.person, lines, is_explicit, self.server.rules, self, seen)
-
     def _begin(self, words: List[bytes]) -> None:
         """Begins a batch. What its planner saw is held like its lines."""
         seen = seen_of(words)
@@ -213,11 +242,8 @@ class Planner:
             self._add(BAD_LINE + b"\n")
             return
         size = sum(len(it) + limits.LINE_COST for it in words)
-        fits = not size or self.server.users.may_hold(self.person.uid, size)
-        self.batch = self._batch([], True, seen if fits else None)
-        if fits:
-            self._keep(self.batch, size)
-        else:
+        self.batch = Batch(self.person, [], True, self.server.rules, self, seen)
+        if size and not self._keep(self.batch, size):
             self.batch.refuse(0, refusal(94))
         self._add(b"ok\n")
 
@@ -225,26 +251,50 @@ class Planner:
         """A line within a batch."""
         batch, line = self.batch, line_of(words)
         size = len(line) + limits.LINE_COST
-        if words == [b"commit"]:
-            self.batch = None
-            self._add(batch)
-        elif words in ([b"abort"], [b"rollback"]):
-            self._forget(refusal(92), b"ok\n")
+        if verb in ENDS and len(words) == 1:
+            self._end(verb)
         elif batch.refused is not None:
             self._refuse(batch.refused[1])
         elif verb not in RIGHTS:
             self._refuse(refusal(93) if verb in SINGLE or verb in ROWS or verb in OWN_WORDS else NO_SUCH_LINE)
         elif batch.count >= limits.BATCH_LINES or batch.bytes + len(line) > limits.BATCH_BYTES:
             self._refuse(refusal(94))
-        elif not self.server.users.may_hold(self.person.uid, size):
+        elif not self._keep(batch, size):
             self._refuse(refusal(94))
         else:
             refused = self._refusal_of(words, batch)
-            if refused is not None:
+            if refused is None:
+                batch.hold(line)
+            else:
                 self._refuse(refused)
-                return
-            batch.hold(line)
-            self._keep(batch, size)
+
+    def _hold_plain_lines(self, count: int) -> int:
+        """Holds the next lines of a batch, as long as they are as most are: one space between words, and a right that
+        is remembered. Returns how many those are: none if all of them together would be too much."""
+        batch, held, size = self.batch, [], 0
+        if batch.refused is not None or self.allowed_by is not self.server.rules:
+            return 0
+        # What follows the last line feed is not a whole line.
+        for line in bytes(self.text[self.at : self.at + limits.RECEIVED_BYTES]).split(b"\n", count)[:-1]:
+            words = line.split(b" ")
+            if b"" in words or line.endswith(b"\r") or self.allowed.get(tuple(words[:2]), b"") is not None:
+                break
+            held.append(line)
+            size += len(line)
+        fits = batch.count + len(held) <= limits.BATCH_LINES and batch.bytes + size <= limits.BATCH_BYTES
+        if not held or not fits or not self._keep(batch, size + limits.LINE_COST * len(held)):
+            return 0
+        batch.hold_all(held, size)
+        self.at = self.sought = self.at + size + len(held)
+        return len(held)
+
+    def _end(self, verb: bytes) -> None:
+        """Ends the batch that is held."""
+        if verb == b"commit":
+            request, self.batch = self.batch, None
+            self._add(request)
+        else:
+            self._forget(refusal(92), b"ok\n")
 
     def _refuse(self, answer: bytes) -> None:
         """Refuses a line, and the batch that it belongs to."""
@@ -258,14 +308,15 @@ class Planner:
         if batch.count > 2 * limits.BATCH_LINES:
             self.close()
 
-    def _keep(self, batch: Batch, size: int) -> None:
-        """What was added to it counts among what is held."""
-        batch.held += size
-        self.server.users.hold(self.person.uid, size)
+    def _keep(self, batch: Batch, size: int) -> bool:
+        """What is added to it counts among what is held, unless that is too much."""
+        fits = self.server.users.hold(self.person.uid, size)
+        batch.held += size if fits else 0
+        return fits
 
     def _release(self, batch: Batch) -> None:
         """Its lines no longer count among those that are held."""
-        self.server.users.hold(self.person.uid, -batch.held)
+        self.server.users.count_held(self.person.uid, -batch.held)
         batch.held = 0
 
     def _forget(self, answer: bytes, last: bytes = b"") -> None:
@@ -282,38 +333,44 @@ class Planner:
 
     def _refusal_of(self, words: List[bytes], batch: Optional[Batch] = None) -> Optional[bytes]:
         """Why the service refuses a change: its form, or a rule. None if the program is to decide."""
-        alternative = alternative_of(words)
-        if alternative == b"":
-            return BAD_LINE + b" " + why_bad(words)
-        if self.allowed_by is not self.server.rules or len(self.allowed) > MOST_ALLOWED:
+        if self.allowed_by is not self.server.rules:
             self.allowed, self.allowed_by = {}, self.server.rules
-        # Parents change, so what depends on them is not remembered.
-        key = (RIGHTS[words[0]], alternative, office_of(words)) if words[0] not in (b"new", b"post") else None
-        if key is None or key not in self.allowed:
-            parents = self.server.batches.store.entries.parents if batch is None else {}
-            refused = self.server.rules.refusal_of(self.person, words, parents)
-            if key is None:
-                return refused
+        key = tuple(words[:2])
+        if key in self.allowed:
+            return self.allowed[key]
+        if alternative_of(words) == b"":
+            return BAD_LINE + b" " + why_bad(words)
+        parents = self.server.batches.store.entries.parents if batch is None else {}
+        refused = self.server.rules.refusal_of(self.person, words, parents)
+        # Of other lines it depends on parents, which change, or on more words.
+        if words[0] in BY_ALTERNATIVE:
+            if len(self.allowed) >= MOST_ALLOWED:
+                self.allowed.clear()
             self.allowed[key] = refused
-        return self.allowed[key]
+        return refused
 
     def _add(self, request: Request) -> None:
-        self.first = request
+        self.first, self.turn = request, turn_of(request)
         self.server.waiting[self] = None
 
     # --- requests that are carried out ------------------------------------------------------------
 
-    def is_ready(self) -> bool:
-        """Whether the next line can be carried out. A planner who has many answers to read has to read them first."""
-        return self.first is not None and self.job is None and self.unread.file is None
+    def is_ready(self, admits: Optional[Admits] = None) -> bool:
+        """Whether the next line can be carried out, and is admitted. A planner who has many answers to read has to read
+        them first."""
+        if self.first is None or self.job is not None or self.unread.file is not None:
+            return False
+        return admits is None or admits(self.first)
 
     def next_request(self) -> Request:
         """Takes the first request, and looks for the next one."""
-        request, self.first = self.first, None
+        request, self.first, self.turn = self.first, None, None
         if isinstance(request, Batch):
             request.is_doubtful = self.doubt > 0
-            self._release(request)
-        self.look()
+            if request.held:
+                self._release(request)
+        if not self.is_exhausted():
+            self.look()
         if self.counted:
             self._count_text()
         return request
@@ -360,15 +417,20 @@ class Planner:
         self.watch()
 
     def watch(self) -> None:
-        """Tells the server which events matter now: lines, if none waits, and answers, if some wait."""
-        if self.is_closed:
+        """Tells the server which events matter now: lines, if none waits or no more have come, and answers, if some
+        wait."""
+        if self.is_closed or self.watched == selectors.EVENT_READ and not self.unread and not self.has_ended:
             return
         has_line = self.first is not None or not self.is_exhausted()
         if self.has_finished and not has_line and self.job is None and not self.unread:
             self.close()
             return
-        reads = selectors.EVENT_READ if not has_line and self.unread.file is None and not self.has_ended else 0
-        self.server.watch(self, reads | (selectors.EVENT_WRITE if self.unread else 0))
+        reads = self.watched & selectors.EVENT_READ if has_line else selectors.EVENT_READ
+        if self.has_ended or self.unread.file is not None:
+            reads = 0
+        events = reads | (selectors.EVENT_WRITE if self.unread else 0)
+        if events != self.watched:
+            self.server.watch(self, events)
 
     def close_if_late(self, now: float) -> None:
         """Closes the connection if the planner does not read."""
@@ -384,7 +446,7 @@ class Planner:
         for it in (self.first, self.batch):
             if isinstance(it, Batch):
                 self._release(it)
-        self.server.users.hold(self.person.uid, -self.counted)
-        self.first = self.batch = None
+        self.server.users.count_held(self.person.uid, -self.counted)
+        self.first = self.turn = self.batch = None
         self.unread.clear()
         self.server.forget(self)

@@ -43,10 +43,7 @@ class Program:
         between and at the end, and `note` is called with the lines so far, their answers, and those to `also`."""
         answers, at = [], 0
         while at < len(lines):
-            end, size = at, 0
-            while end < len(lines) and (end == at or size + len(lines[end]) < PORTION):
-                size += len(lines[end]) + 1
-                end += 1
+            end = portion_end(lines, at)
             try:
                 came = self._ask([*lines[at:end], *also])
             except Ended as ended:
@@ -86,3 +83,14 @@ class Program:
                 text = text[os.write(self.into, text) :]
         except BrokenPipeError:
             pass  # It has ended: the answers will be missing.
+
+
+def portion_end(lines, at):
+    """Where the lines end that are written at once, from a line on."""
+    if at == 0 and sum(map(len, lines)) + len(lines) <= PORTION:
+        return len(lines)
+    end, size = at, 0
+    while end < len(lines) and (end == at or size + len(lines[end]) < PORTION):
+        size += len(lines[end]) + 1
+        end += 1
+    return end

@@ -19,7 +19,9 @@ PUT = re.compile(rb"put \.places 65[01][0-9]{2} ")
 
 def is_renewal(lines: List[bytes]) -> bool:
     """Whether these lines make the index anew, and do nothing else."""
-    at = 1 if lines[:1] == [DROP] else 0
+    if not lines or lines[0] not in (DROP, NEW):
+        return False
+    at = 1 if lines[0] == DROP else 0
     return lines[at : at + 1] == [NEW] and all(map(PUT.match, lines[at + 1 :]))
 
 

@@ -16,7 +16,7 @@ from service.batch import Batch
 from service.batches import Batches
 from service.journal_log import filter_of
 from service.limits import BAD_LINE, refusal
-from service.planner import LOOK_LONG, Forgotten, Planner, Query, Request, Word
+from service.planner import LONG, LOOK_LONG, SHORT, SMALL, Forgotten, Planner, Query, Request, Word
 from service.rules import Person, Rules, Unreadable, person_of
 from service.signals import Signals
 from service.status import Disk, Value, memory, status_lines
@@ -47,7 +47,7 @@ class Server:
         # in turns.
         self.waiting, self.unseen, self.touched, self.logs = {}, {}, {}, deque()
         # Whose turn it is: queries with one line of answer, groups of batches, and what takes longer.
-        self.queries, self.groups, self.long, self.pace = Turns(), Turns(work_of), Turns(), Pace()
+        self.queries, self.groups, self.long, self.pace = Turns(SHORT), Turns(SMALL, work_of), Turns(LONG), Pace()
         # The backup that is under way, and those that are wanted, this one first.
         self.copy: Optional[Copy] = None
         self.wanted = deque()
@@ -179,11 +179,11 @@ class Server:
 
     def _gathers(self) -> bool:
         """Whether more planners are likely to join the next group."""
-        ready = [it for it in self.waiting if it.is_ready()]
-        return 0 < len(ready) < self.expected and all(is_small(it.first) for it in ready)
+        turns = [it.turn for it in self.waiting if it.is_ready()]
+        return 0 < len(turns) < self.expected and turns.count(SMALL) == len(turns)
 
     def _answer_queries(self) -> None:
-        asked = self.queries.take(self.waiting, is_short, self.pace.work())
+        asked = self.queries.take(self.waiting, self.pace.work())
         answers = iter(self.batches.ask([it.line for _, it in asked if isinstance(it, Query)]))
         for planner, it in asked:
             if isinstance(it, Batch):
@@ -203,7 +203,6 @@ class Server:
         group = self._group()
         if not group:
             return
-        work = sum(work_of(batch) for _, batch in group)
         try:
             self._carry_out([batch for _, batch in group])
         finally:
@@ -211,7 +210,7 @@ class Server:
                 planner.settled(batch)
         now, seconds = time.monotonic(), commits.seconds - seconds
         if commits.count > count:
-            self.pace.note(work, now - begun - seconds, seconds / (commits.count - count))
+            self.pace.note(self.groups.taken, now - begun - seconds, seconds / (commits.count - count))
         # A planner with an answer often sends the next line at once. Waiting a little for it avoids two groups that
         # alternate.
         self.expected = len({planner for planner, _ in group} | self.waiting.keys())
@@ -220,11 +219,10 @@ class Server:
     def _group(self) -> List[Taken]:
         """Small batches whose turn it is, if they may be carried out now."""
         if self.copy is None:
-            return self.groups.take(self.waiting, is_small, self.pace.work())
+            return self.groups.take(self.waiting, self.pace.work())
         copy, group = self.copy, []
         if copy.may_commit():
-            fits = lambda it: is_small(it) and copy.admits(it)  # noqa: E731
-            group = self.groups.take(self.waiting, fits, copy.work(self.pace.work()))
+            group = self.groups.take(self.waiting, copy.work(self.pace.work()), copy.admits)
         if not group and any(it.is_ready() and isinstance(it.first, Batch) for it in self.waiting):
             time.sleep(HELD_SECONDS)
         return group
@@ -233,12 +231,10 @@ class Server:
         """Carries out one request that does not belong in a group."""
         copy = self.copy
         may_commit = copy is None or copy.may_commit()
-        fits = lambda it: (  # noqa: E731
-            not is_short(it)
-            and not is_small(it)
-            and (not isinstance(it, Batch) or may_commit and (copy is None or copy.admits(it)))
+        admits = lambda it: (  # noqa: E731
+            not isinstance(it, Batch) or may_commit and (copy is None or copy.admits(it))
         )
-        for planner, request in self.long.take(self.waiting, fits, 1):
+        for planner, request in self.long.take(self.waiting, 1, admits):
             if isinstance(request, Batch):
                 try:
                     self._carry_out([request])
@@ -421,22 +417,3 @@ class Server:
 
 def ended(request: Request) -> bytes:
     return request if isinstance(request, bytes) else refusal(99) + b"\n"
-
-
-def is_short(request: Request) -> bool:
-    """Whether its answer is known already, or one line that the program gives at once."""
-    if isinstance(request, Query):
-        return not request.has_rows
-    return (
-        isinstance(request, (bytes, Forgotten)) or is_empty(request)
-        or isinstance(request, Word) and request.words == [b"batches"]
-    )
-
-
-def is_empty(request: Request) -> bool:
-    """Whether it is a batch that has nothing to carry out."""
-    return isinstance(request, Batch) and not request.lines
-
-
-def is_small(request: Request) -> bool:
-    return isinstance(request, Batch) and bool(request.lines) and request.is_small()

@@ -1,13 +1,12 @@
 """Whose requests come next, and how much work a group of them may be."""
 import math
-from collections import Counter
-from heapq import heapify, heappop, heappush
-from typing import Callable, Dict, List, Tuple
+from heapq import heappop, heappush
+from typing import Callable, Dict, List, Optional, Tuple
 
 from service import limits
 from service.batch import Batch
 from service.limits import of_one_user
-from service.planner import Planner, Request
+from service.planner import Admits, Planner, Request
 
 # How much of the time of its commit a group may take, and how many seconds in any case: with less, a quick disk would
 # have a commit for few lines.
@@ -18,6 +17,8 @@ CHANGE = 0.1
 AHEAD = limits.SMALL_LINES
 # A request that has its turn, and its planner.
 Taken = Tuple[Planner, Request]
+# A planner in a queue: how much work it had, how much its next request is, and its place among those who wait.
+Place = Tuple[int, int, int, Planner]
 
 
 def work_of(request: Request) -> int:
@@ -30,40 +31,53 @@ class Turns:
     request is the smallest. `now` is the most that one who was next had; whoever had less counts as little less, so
     nobody can save up turns."""
 
-    def __init__(self, work_of: Callable[[Request], int] = lambda _: 1):
-        self.work_of, self.now = work_of, 0
+    def __init__(self, turn: int, work_of: Callable[[Request], int] = lambda _: 1):
+        self.turn, self.work_of, self.now = turn, work_of, 0
+        # How much work those are that were taken last.
+        self.taken = 0
 
-    def take(self, waiting: Dict[Planner, None], fits: Callable[[Request], bool], work: int) -> List[Taken]:
-        """Takes first requests that fit, until they are that much work. While others wait no user has more than a
-        quarter of it. Whoever had a turn is last in `waiting` then."""
+    def take(self, waiting: Dict[Planner, None], work: int, admits: Optional[Admits] = None) -> List[Taken]:
+        """Takes first requests that have this turn, until they are that much work. While others wait no user has more
+        than a quarter of it. Whoever had a turn is last in `waiting` then."""
         taken: List[Taken] = []
-        counts, of_users = Counter(), Counter()
+        counts: Dict[Planner, int] = {}
+        of_users: Dict[int, int] = {}
         quarter: float = max(1, of_one_user(work))
-        fitting = [it for it in waiting if it.is_ready() and fits(it.first)]
-        least = self.now - AHEAD
-        queue = [(max(it.had[self], least), self.work_of(it.first), place, it) for place, it in enumerate(fitting)]
-        heapify(queue)
-        later: List[Tuple[int, int, int, Planner]] = []
-        while work > 0 and (queue or later):
-            if not queue:
-                queue, later, quarter = later, [], math.inf
-            had, size, place, planner = turn = heappop(queue)
+        queue = self._queue([it for it in waiting if it.turn == self.turn and it.is_ready(admits)])
+        # Those who wait for a second turn, a heap; and those of users who had a quarter.
+        again: List[Place] = []
+        later: List[Place] = []
+        self.taken = 0
+        while work > self.taken and (queue or again or later):
+            if not queue and not again:
+                queue, later, quarter = later[::-1], [], math.inf
+            is_next = not again or bool(queue) and queue[-1] < again[0]
+            had, size, place, planner = turn = queue.pop() if is_next else heappop(again)
             uid = planner.person.uid
-            if of_users[uid] >= quarter:
+            of_user, count = of_users.get(uid, 0), counts.get(planner, 0) + 1
+            if of_user >= quarter:
                 later.append(turn)
                 continue
             taken.append((planner, planner.next_request()))
             self.now, planner.had[self] = max(self.now, had), had + size
-            work, of_users[uid], counts[planner] = work - size, of_users[uid] + size, counts[planner] + 1
+            of_users[uid], counts[planner] = of_user + size, count
+            self.taken += size
             # Where one batch may be refused, the next one may need to know.
-            may_more = counts[planner] < limits.GROUP_OF_ONE and not planner.doubt
-            if may_more and planner.is_ready() and fits(planner.first):
-                heappush(queue, (had + size, self.work_of(planner.first), place, planner))
+            may_more = planner.turn == self.turn and count < limits.GROUP_OF_ONE and not planner.doubt
+            if may_more and planner.is_ready(admits):
+                heappush(again, (had + size, self.work_of(planner.first), place, planner))
         for planner in counts:
             waiting.pop(planner, None)
             if planner.first is not None:
                 waiting[planner] = None
         return taken
+
+    def _queue(self, planners: List[Planner]) -> List[Place]:
+        """Planners in the order of their turns, the next one last."""
+        least = self.now - AHEAD
+        queue = [(max(it.had[self], least), self.work_of(it.first), place, it) for place, it in enumerate(planners)]
+        queue.sort(reverse=True)
+        return queue
 
 
 class Pace:

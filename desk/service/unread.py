@@ -19,10 +19,9 @@ class Unread:
 
     def add(self, text: bytes) -> None:
         """Adds answers. Raises OSError if there is no space for them."""
-        size = len(self.memory) + len(text)
-        if self.file is None and size <= limits.UNREAD_BYTES and self.users.may_keep(self.uid, len(text)):
+        size = len(text)
+        if self.file is None and len(self.memory) + size <= limits.UNREAD_BYTES and self.users.keep(self.uid, size):
             self.memory += text
-            self.users.keep(self.uid, len(text))
             return
         if not self.users.file(self.uid, len(text)):
             raise OSError(errno.ENOSPC, "too many unread answers")
@@ -41,7 +40,7 @@ class Unread:
     def send(self, connection: socket.socket) -> int:
         """Sends what the other end takes now, and returns how many bytes that was."""
         total = 0
-        while self:
+        while self.memory or self.file is not None:
             if not self.memory:
                 self._refill()
             try:
@@ -49,14 +48,14 @@ class Unread:
             except BlockingIOError:
                 break
             del self.memory[:sent]
-            self.users.keep(self.uid, -sent)
+            self.users.count_kept(self.uid, -sent)
             total += sent
         return total
 
     def _refill(self) -> None:
         self.file.seek(self.begin)
         self.memory += self.file.read(min(limits.UNREAD_BYTES, self.end - self.begin))
-        self.users.keep(self.uid, len(self.memory))
+        self.users.count_kept(self.uid, len(self.memory))
         self.begin += len(self.memory)
         if self.begin == self.end:
             self._drop_file()
@@ -69,6 +68,6 @@ class Unread:
 
     def clear(self) -> None:
         """Forgets all of it."""
-        self.users.keep(self.uid, -len(self.memory))
+        self.users.count_kept(self.uid, -len(self.memory))
         self.memory.clear()
         self._drop_file()

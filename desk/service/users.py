@@ -35,8 +35,17 @@ class Users:
         if not user.planners:
             del self.by_number[uid]
 
-    def hold(self, uid: int, size: int) -> None:
-        """Counts the size of lines that are held, or no longer are."""
+    def hold(self, uid: int, size: int) -> bool:
+        """Counts the size of lines that are held, unless it is too much."""
+        user, most = self.by_number[uid], limits.HELD_BYTES
+        if user.held + size > of_one_user(most) or self.held + size > most:
+            return False
+        user.held += size
+        self.held += size
+        return True
+
+    def count_held(self, uid: int, size: int) -> None:
+        """Counts the size of lines that are held all the same, or no longer are."""
         self.by_number[uid].held += size
         self.held += size
 
@@ -46,13 +55,17 @@ class Users:
             self.by_number[uid].held + size <= of_one_user(limits.HELD_BYTES) and self.held + size <= limits.HELD_BYTES
         )
 
-    def may_keep(self, uid: int, size: int) -> bool:
-        """Whether that much more of unread answers may be kept in memory for a user."""
-        most = limits.UNREAD_BYTES_OF_ALL
-        return self.by_number[uid].in_memory + size <= of_one_user(most) and self.in_memory + size <= most
+    def keep(self, uid: int, size: int) -> bool:
+        """Counts the size of unread answers in memory, unless it is too much."""
+        user, most = self.by_number[uid], limits.UNREAD_BYTES_OF_ALL
+        if user.in_memory + size > of_one_user(most) or self.in_memory + size > most:
+            return False
+        user.in_memory += size
+        self.in_memory += size
+        return True
 
-    def keep(self, uid: int, size: int) -> None:
-        """Counts the size of unread answers that are kept in memory, or no longer are."""
+    def count_kept(self, uid: int, size: int) -> None:
+        """Counts the size of unread answers that are in memory all the same, or no longer are."""
         self.by_number[uid].in_memory += size
         self.in_memory += size
 

@@ -1,4 +1,5 @@
 """Old entries of the journal, moved into archives."""
+import glob
 import itertools
 import json
 import os
@@ -165,7 +166,7 @@ class ArchiveTests(ArchiveCase):
             self.until(other.is_read)
         with self.planner() as one:
             self.assertEqual(["ok"], one.ask("put top 1 99 a"))
-            self.until(lambda: not [it for it in os.listdir(f"{self.file}.archives") if it[0] == "."])
+            self.until(lambda: not glob.glob(f"{self.file}.archives/.*"))
             rows = one.rows("log")
         self.assertEqual(61, len(rows) - 1 + 50 * os.path.exists(self.path("a")))
         self.assertFalse(os.path.exists(f"{self.journal}.new"))

@@ -64,12 +64,7 @@ class UsersTests(unittest.TestCase):
         self.assertEqual([2, 2, 2, 2, 0], self.taken(limits.HELD_BYTES, hold))
 
     def test_unread_answers(self):
-        def keep(uid, size):
-            fits = self.users.may_keep(uid, size)
-            self.users.keep(uid, size if fits else 0)
-            return fits
-
-        self.assertEqual([2, 2, 2, 2, 0], self.taken(limits.UNREAD_BYTES_OF_ALL, keep))
+        self.assertEqual([2, 2, 2, 2, 0], self.taken(limits.UNREAD_BYTES_OF_ALL, self.users.keep))
         self.assertEqual([2, 2, 2, 2, 0], self.taken(limits.UNREAD_FILES, self.users.file))
 
     def test_connections(self):

@@ -5,6 +5,7 @@ from types import SimpleNamespace
 
 from service import limits
 from service.batch import Batch
+from service.planner import SMALL
 from service.turns import Pace, Turns, work_of
 
 
@@ -16,6 +17,8 @@ def batch_of(lines, size=10):
 class Waiting:
     """A planner who waits with requests, one at a time. One that floods has endless ones."""
 
+    turn = SMALL
+
     def __init__(self, name, *requests, uid=1, floods=False):
         self.name, self.person, self.requests, self.floods = name, SimpleNamespace(uid=uid), list(requests), floods
         self.doubt, self.had = 0, Counter()
@@ -24,7 +27,7 @@ class Waiting:
     def first(self):
         return self.requests[0] if self.requests else None
 
-    def is_ready(self):
+    def is_ready(self, _=None):
         return self.first is not None
 
     def next_request(self):
@@ -38,7 +41,7 @@ def flood(name, lines, uid=1):
 def taken(turns, waiting, work):
     """The names of those who have turns in a group, in order. `waiting` becomes who waits after it."""
     who = {it: None for it in waiting if it.is_ready()}
-    found = turns.take(who, lambda _: True, work)
+    found = turns.take(who, work)
     waiting[:] = who
     return [it.name for it, _ in found]
 
@@ -50,10 +53,10 @@ class TurnsTests(unittest.TestCase):
 
     def test_one_of_each_then_a_second_one(self):
         waiting = [flood(it, 1) for it in "abc"]
-        self.assertEqual([*"abcabca"], taken(Turns(work_of), waiting, 7))
+        self.assertEqual([*"abcabca"], taken(Turns(SMALL, work_of), waiting, 7))
 
     def test_a_group_ends_with_the_batch_that_fills_it(self):
-        turns, waiting = Turns(work_of), [flood("a", 60)]
+        turns, waiting = Turns(SMALL, work_of), [flood("a", 60)]
         self.assertEqual(["a"] * 2, taken(turns, waiting, 100))
         self.assertEqual(["a"] * 2, taken(turns, waiting, 120))
         self.assertEqual(["a"], taken(turns, waiting, 1))
@@ -61,7 +64,7 @@ class TurnsTests(unittest.TestCase):
     def test_whoever_waits_is_in_the_next_group_beside_floods(self):
         """64 planners, of whom 20 flood: each line of the 44 others is in the first group after it came."""
         for lines in (1, 2, 16, 64):
-            turns, waiting = Turns(work_of), [flood(f"flood {it}", lines) for it in range(20)]
+            turns, waiting = Turns(SMALL, work_of), [flood(f"flood {it}", lines) for it in range(20)]
             for _ in range(20):
                 taken(turns, waiting, 200)
             others = [Waiting(f"other {it}") for it in range(44)]
@@ -75,7 +78,8 @@ class TurnsTests(unittest.TestCase):
                 self.assertLess(sum(lines if it.startswith("flood") else 1 for it in names), 200 + lines)
 
     def test_those_who_flood_have_equal_shares_of_the_work(self):
-        turns, sizes = Turns(work_of), {f"{lines} lines, {it}": lines for lines in (1, 3, 20, 64) for it in range(5)}
+        turns = Turns(SMALL, work_of)
+        sizes = {f"{lines} lines, {it}": lines for lines in (1, 3, 20, 64) for it in range(5)}
         waiting, had = [flood(name, lines) for name, lines in sizes.items()], Counter()
         for _ in range(200):
             for name in taken(turns, waiting, 100):
@@ -85,7 +89,7 @@ class TurnsTests(unittest.TestCase):
         self.assertLessEqual(max(had.values()) - min(had.values()), 64 + 64)
 
     def test_many_single_lines_do_not_keep_a_batch_waiting(self):
-        turns, large = Turns(work_of), Waiting("large", batch_of(64))
+        turns, large = Turns(SMALL, work_of), Waiting("large", batch_of(64))
         others = [Waiting(f"other {it}") for it in range(1000)]
         waiting, groups = [large], 0
         while large.is_ready():
@@ -99,7 +103,7 @@ class TurnsTests(unittest.TestCase):
         self.assertLessEqual(groups, 1000 // 100 + 1)
 
     def test_who_comes_late_is_little_ahead(self):
-        turns, waiting, had = Turns(work_of), [flood("early", 1)], Counter()
+        turns, waiting, had = Turns(SMALL, work_of), [flood("early", 1)], Counter()
         for _ in range(50):
             taken(turns, waiting, 100)
         waiting.append(flood("late", 1))
@@ -109,7 +113,7 @@ class TurnsTests(unittest.TestCase):
         self.assertIn(had["late"] - had["early"], range(limits.SMALL_LINES + 3))
 
     def test_a_user_has_a_quarter_while_others_wait(self):
-        turns = Turns(work_of)
+        turns = Turns(SMALL, work_of)
         waiting = [flood(f"many {it}", 1, uid=1) for it in range(60)]
         waiting += [flood(f"{uid}", 1, uid=uid) for uid in (2, 3, 4)]
         found = Counter(it.split()[0] for it in taken(turns, waiting, 80))
@@ -121,7 +125,7 @@ class TurnsTests(unittest.TestCase):
         self.assertEqual(1, found["one"])
 
     def test_how_many_batches_of_one_planner(self):
-        turns, waiting = Turns(work_of), [flood("a", 1), flood("b", 1)]
+        turns, waiting = Turns(SMALL, work_of), [flood("a", 1), flood("b", 1)]
         waiting[1].doubt = 1
         found = Counter(taken(turns, waiting, 1000))
         self.assertEqual({"a": limits.GROUP_OF_ONE, "b": 1}, found)

@@ -5,12 +5,14 @@ they wait, beside PostgreSQL and SQLite with as many writers:
     tools/measure/measure_service.py [--seconds N] [--rounds N] [--planners N ..] [--processors N]
         [--slow MICROSECONDS] [--flood N] [ALTCTL]
 
-It writes two tables. With `--flood` it writes another one instead: how long a line takes beside that many of the
+It writes three tables, the last one of the processor time that the service itself takes, which tells more than rates
+on a busy machine. With `--flood` it writes another one instead: how long a line takes beside that many of the
 planners, who flood the service. With `--slow` each sync of all three takes that much longer, as on a slower disk; with
 `--processors` all of them, and what asks them, share the first N. Times are looked at, never tested.
 
-Each commit changes one record of 10,000, or two in a batch, and is durable before it is answered: in PostgreSQL by an
-UPDATE of one row with fsync on, in SQLite by one in WAL mode with synchronous=FULL. What is not installed is skipped,
+Each commit changes one record of 10,000, or two or ten in a batch, and is durable before it is answered: in PostgreSQL
+by an UPDATE of one row, or ten in a transaction that is sent at once, with fsync on, in SQLite by one in WAL mode with
+synchronous=FULL. What is not installed is skipped,
 with a line that says so."""
 import argparse
 import contextlib
@@ -56,10 +58,12 @@ SHARES = (500, 990, 999)
 
 
 class Found(NamedTuple):
-    """How many answers came a second, and how long they took, in milliseconds, if that is known."""
+    """How many answers came a second, and if that is known, how long they took, in milliseconds, and how many seconds
+    of a processor the service took for one."""
 
     rate: float
     times: List[float] = []
+    processor: float = 0.0
 
 
 def in_processes(count, work):
@@ -138,12 +142,18 @@ def put():
     return b"put top 7 %d value-%d\n" % (random.randrange(RECORDS), random.randrange(1 << 30))
 
 
-def two_puts():
-    return b"begin\n" + put() + put() + b"commit\n"
+def batch_of(count):
+    return b"begin\n" + b"".join(put() for _ in range(count)) + b"commit\n"
 
 
 def get():
     return b"get top 7 %d\n" % random.randrange(RECORDS)
+
+
+def processor_seconds(process):
+    """How long a process has had a processor."""
+    words = Path(f"/proc/{process.pid}/stat").read_text().rpartition(")")[2].split()
+    return (int(words[11]) + int(words[12])) / os.sysconf("SC_CLK_TCK")
 
 
 def until_served(process, said):
@@ -163,7 +173,7 @@ def until_alone(file):
 
 @contextlib.contextmanager
 def service(altctl, folder, variables):
-    """A service over a store with the records. Gives what measures commits, batches of two lines, and gets."""
+    """A service over a store with the records. Gives what measures commits, batches of two and ten lines, and gets."""
     file = f"{folder}/map.alt"
     subprocess.run([altctl, "create", file, "16384"], check=True, stdout=subprocess.DEVNULL)
     lines = "".join(f"put top 7 {number} value\n" for number in range(RECORDS)) + "commit\n"
@@ -173,17 +183,24 @@ def service(altctl, folder, variables):
 
     def measure(text, due):
         def planners(count, seconds):
-            loaders = min(LOADERS, count)
+            loaders, taken = min(LOADERS, count), processor_seconds(process)
             found = in_processes(loaders, lambda _: load(f"{file}.sock", count // loaders, seconds, text, due))
+            taken = processor_seconds(process) - taken
             until_alone(file)
             times = [it for part in found for it in part]
-            return Found(len(times) / seconds, times)
+            # The first answer to each planner has no time.
+            return Found(len(times) / seconds, times, taken / (len(times) + count))
 
         return planners
 
     try:
         until_served(process, f"{folder}/said")
-        yield {"commits": measure(put, 1), "batches of two": measure(two_puts, 4), "gets": measure(get, 1)}
+        yield {
+            "commits": measure(put, 1),
+            "batches of two": measure(lambda: batch_of(2), 4),
+            "batches of ten": measure(lambda: batch_of(10), 12),
+            "gets": measure(get, 1),
+        }
     finally:
         process.terminate()
         process.wait()
@@ -220,9 +237,44 @@ def beside_floods(said):
             yield shown(what, [", ".join(f"{it:.0f}" for it in waited) or "none", *told])
 
 
+def changes(count):
+    """A script of pgbench that changes so many rows in one transaction, in the order of their numbers, so that no two
+    transactions wait for each other in a circle."""
+    each = RECORDS // count
+    numbers = "".join(f"\\set number{it} random({it * each}, {it * each + each - 1})\n" for it in range(count))
+    updates = "".join(
+        f"UPDATE map SET value = 'value-' || :value WHERE number = :number{it};\n" for it in range(count)
+    )
+    if count > 1:
+        updates = f"\\startpipeline\nBEGIN;\n{updates}COMMIT;\n\\endpipeline\n"
+    return f"{numbers}\\set value random(0, 1000000000)\n{updates}"
+
+
+def by_pgbench(data, run, rows):
+    """What measures transactions that change so many rows."""
+    script = f"{data}/{rows}.sql"
+    Path(script).write_text(changes(rows))
+
+    def commits(count, seconds):
+        clients = [
+            "-c", str(count), "-j", str(min(LOADERS, count)), "-T", str(seconds), "-l", f"--log-prefix={data}/times"
+        ]
+        words = ["-h", data, "-n", "-M", "prepared", "-f", script, *clients, "postgres"]
+        text = run(str(POSTGRES[0] / "pgbench"), *words)
+        times = []
+        for it in Path(data).glob("times.*"):
+            times += [int(line.split()[2]) / 1000 for line in it.read_text().splitlines()]
+            it.unlink()
+        # It tells no rate if connecting took all of the time.
+        told = re.search(r"^tps = ([0-9.]+)", text, re.M)
+        return Found(float(told[1]) if told else 0.0, times)
+
+    return commits
+
+
 @contextlib.contextmanager
 def postgres(folder, variables):
-    """A server of PostgreSQL. Gives what measures commits, by pgbench."""
+    """A server of PostgreSQL. Gives what measures commits and transactions of ten changes, by pgbench."""
     data = f"{folder}/postgres"
     os.makedirs(data)
     as_user = []
@@ -237,7 +289,7 @@ def postgres(folder, variables):
             raise RuntimeError(f"{words}: {ran.stderr.decode()}")
         return ran.stdout.decode()
 
-    initdb, pg_ctl, psql, pgbench = (str(POSTGRES[0] / it) for it in ("initdb", "pg_ctl", "psql", "pgbench"))
+    initdb, pg_ctl, psql = (str(POSTGRES[0] / it) for it in ("initdb", "pg_ctl", "psql"))
     run(initdb, "-D", f"{data}/it", "-A", "trust")
     control = [pg_ctl, "-D", f"{data}/it", "-w", "-l", f"{data}/log"]
     run(*control, "-o", f"-k {data} -c listen_addresses= -c max_connections={MOST}", "start", env=variables)
@@ -247,27 +299,7 @@ def postgres(folder, variables):
             f"INSERT INTO map SELECT number, 'value' FROM generate_series(0, {RECORDS - 1}) number",
         ):
             run(psql, "-h", data, "-d", "postgres", "-c", sql)
-        script = f"{data}/update.sql"
-        Path(script).write_text(
-            f"\\set number random(0, {RECORDS - 1})\n\\set value random(0, 1000000000)\n"
-            "UPDATE map SET value = 'value-' || :value WHERE number = :number;\n"
-        )
-
-        def commits(count, seconds):
-            clients = [
-                "-c", str(count), "-j", str(min(LOADERS, count)), "-T", str(seconds), "-l",
-                f"--log-prefix={data}/times",
-            ]
-            text = run(pgbench, "-h", data, "-n", "-M", "prepared", "-f", script, *clients, "postgres")
-            times = []
-            for it in Path(data).glob("times.*"):
-                times += [int(line.split()[2]) / 1000 for line in it.read_text().splitlines()]
-                it.unlink()
-            # It tells no rate if connecting took all of the time.
-            told = re.search(r"^tps = ([0-9.]+)", text, re.M)
-            return Found(float(told[1]) if told else 0.0, times)
-
-        yield commits
+        yield {"commits": by_pgbench(data, run, 1), "batches of ten": by_pgbench(data, run, 10)}
     finally:
         run(*control, "-m", "fast", "stop")
 
@@ -341,6 +373,15 @@ def waits(found, planners):
             yield shown(what, columns)
 
 
+def processor_times(found, planners):
+    """How long the service had a processor for each answer."""
+    yield shown("Processor microseconds for each", map(str, planners)) + "\n" + "|---" * (len(planners) + 1) + "|"
+    for what, by_count in found.items():
+        medians = [1e6 * median(it.processor for it in by_count[count]) for count in planners]
+        if any(medians):
+            yield shown(what, [f"{it:,.0f}" for it in medians])
+
+
 def slowed(said, folder):
     """The variables of programs whose syncs take as much longer as was said."""
     return preloaded(compiled("slow_calls", folder), slow_sync=said.slow) if said.slow else dict(os.environ)
@@ -353,7 +394,8 @@ def measured(said, planners):
         kinds = stack.enter_context(service(said.altctl, folder, variables))
         measures = {f"altserve: {what}": measure for what, measure in kinds.items()}
         if POSTGRES:
-            measures["PostgreSQL: commits"] = stack.enter_context(postgres(folder, variables))
+            kinds = stack.enter_context(postgres(folder, variables))
+            measures.update({f"PostgreSQL: {what}": measure for what, measure in kinds.items()})
         else:
             print("PostgreSQL is not installed (postgresql), and skipped")
         if planners[-1] <= 64:
@@ -395,7 +437,8 @@ def main():
     load_seen = f"load {min(loads):.0f} to {max(loads):.0f}"
     processors = len(os.sched_getaffinity(0))
     print(f"{processors} processors, {load_seen}; {sync}; the median of {said.rounds} times {said.seconds} s")
-    print(*rates(found, said.planners), "", *waits(found, said.planners), sep="\n")
+    tables = rates(found, said.planners), waits(found, said.planners), processor_times(found, said.planners)
+    print("\n\n".join("\n".join(it) for it in tables))
 
 
 if __name__ == "__main__":
