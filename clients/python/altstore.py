@@ -12,7 +12,7 @@ something in, a store for tests. Nothing is durable before `save`; for a durable
         store.save("copy.alt")
 
 Each method sends a line of docs/FORMATS.md, and `ask` sends any lines. A store is used by one thread at a time. Needs
-Python 3.8 or later, and the shared library: by its path in ALTSTORE_LIBRARY, beside this file, or where the system
+Python 3.9 or later, and the shared library: by its path in ALTSTORE_LIBRARY, beside this file, or where the system
 looks.
 """
 from __future__ import annotations
