@@ -20,3 +20,4 @@ pub mod Step
 pub mod Texts
 pub mod Tree
 pub mod Versions
+pub mod Walked
