@@ -1156,14 +1156,14 @@ def random_lines(store, editor, count):
 def session(altctl, rng, options, file, store, editor):
     """Runs a session of random lines, in some of them with a copy of the file between two lines. Gives the number of
     lines, the lines, and what differs from the model."""
-    count, talk = rng.choice([10, 100, 400]), Session(altctl, options, file)
+    count, running = rng.choice([10, 100, 400]), Session(altctl, options, file)
     first = rng.randrange(count) if not editor.is_plain and rng.random() < 0.3 else count
     lines, answers = random_lines(store, editor, first)
-    talk.say(lines.encode("latin-1"), len(answers))
+    running.say(lines.encode("latin-1"), len(answers))
     why = copies(altctl, rng, file, store, ["--no-lock"]) if first < count else None
     more, due = random_lines(store, editor, count - first)
-    talk.say(more.encode("latin-1"), len(answers + due))
-    came = talk.end()
+    running.say(more.encode("latin-1"), len(answers + due))
+    came = running.end()
     if came != (0, answers + due, b""):
         why = f"the answers differ: {difference(answers + due, came)}"
     return count, lines + more, why

@@ -208,7 +208,7 @@ def exchange(program, store, line, words):
         raise Failure(unlike(line[:-1], expected, came or []))
 
 
-def talk(chance, editor, file, options, variables, count):
+def session(chance, editor, file, options, variables, count):
     """Has the program run random lines over a file, and gives the commits. The first is the one that the file showed at
     first."""
     store = opened(blocks_of(read(file)))
@@ -232,7 +232,7 @@ def talk(chance, editor, file, options, variables, count):
 
 
 class Crashes:
-    """The crashes of one talk."""
+    """The crashes of one session."""
 
     def __init__(self, chance, commits, image, most, count):
         self.chance, self.commits, self.image, self.most, self.count = chance, commits, image, most, count
@@ -385,7 +385,7 @@ def run_session(seed, folder, library, said, count):
     for number in range(1, ROUNDS + 1):
         try:
             disk = Disk(read(file), said.broken)
-            commits = talk(chance, editor, file, options, preloaded(library, store=file, recorded=record), count)
+            commits = session(chance, editor, file, options, preloaded(library, store=file, recorded=record), count)
             crashes = Crashes(chance, commits, image, said.i, count)
             crashes.try_calls(disk, recorded(record))
             if read(file) != disk.text():

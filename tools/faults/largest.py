@@ -60,7 +60,7 @@ def expect_sparse(what, file):
         raise Failure(f"{what} takes {found.st_blocks * 512} bytes")
 
 
-class Talk:
+class Session:
     """Lines and their answers, beside the model: what it has now, and what was committed."""
 
     def __init__(self, altctl, file, state, count):
@@ -113,7 +113,7 @@ class Talk:
     def look(self, file=None):
         """Opens a file, and compares all that it shows."""
         of_names = [f"{verb} {name}" for name in self.committed.tree for verb in ("list", "checks", "changes")]
-        Talk(self.altctl, file or self.file, self.committed, self.count).run(["alts", *of_names])
+        Session(self.altctl, file or self.file, self.committed, self.count).run(["alts", *of_names])
 
 
 def checked(altctl, file, tree):
@@ -125,18 +125,18 @@ def checked(altctl, file, tree):
     return MOST - int(output.split()[-1])
 
 
-def try_copies(talk, folder):
+def try_copies(session, folder):
     """Checks and copies a store, and looks at the copies."""
-    used = checked(talk.altctl, talk.file, talk.committed.tree)
+    used = checked(session.altctl, session.file, session.committed.tree)
     for blocks in MOST, used + 100:
         to = os.path.join(folder, "copy")
-        came = started(talk.altctl, "copy", talk.file, to, str(blocks))
+        came = started(session.altctl, "copy", session.file, to, str(blocks))
         expect("a copy", (0, f"copied {blocks}, {used} used\n", ""), came)
-        talk.look(to)
+        session.look(to)
         if blocks == MOST:
             expect_sparse("a copy", to)
         os.remove(to)
-    talk.count["copies"] += 2
+    session.count["copies"] += 2
 
 
 def make_far(chance, file):
@@ -171,34 +171,34 @@ def created(altctl, chance, file, count):
     create(altctl, file, MOST)
     print(f"largest: {MOST:,} blocks were created in {time.monotonic() - begun:.2f} seconds")
     expect_sparse("a new store", file)
-    return Talk(altctl, file, EMPTY._replace(blocks=MOST), count)
+    return Session(altctl, file, EMPTY._replace(blocks=MOST), count)
 
 
 def grown(altctl, chance, file, count):
     """A store that grows from the fewest blocks to the most, is rolled back, and grows again."""
     create(altctl, file, 64)
-    talk = Talk(altctl, file, EMPTY._replace(blocks=64), count)
-    talk.run(["put top 1 1 a", "commit", f"grow {MOST + 1}", f"grow {MOST}", "put top 1 2 b", "rollback", "list top"])
-    talk.run(["list top", f"grow {MOST}", f"grow {MOST}", "new x top", "put x 1 3 c", "commit"])
-    return talk
+    session = Session(altctl, file, EMPTY._replace(blocks=64), count)
+    session.run(["put top 1 1 a", "commit", f"grow {MOST + 1}", f"grow {MOST}", "put top 1 2 b", "rollback", "list top"])
+    session.run(["list top", f"grow {MOST}", f"grow {MOST}", "new x top", "put x 1 3 c", "commit"])
+    return session
 
 
 def far(altctl, chance, file, count):
     """A store that is written by hand."""
-    return Talk(altctl, file, make_far(chance, file), count)
+    return Session(altctl, file, make_far(chance, file), count)
 
 
-def try_store(talk, chance, folder, batches):
+def try_store(session, chance, folder, batches):
     """Works on a store, and looks at it, and at copies of it if there is memory for them."""
-    talk.look()
-    talk.work(chance, batches)
-    talk.look()
-    expect_sparse("a store", talk.file)
+    session.look()
+    session.work(chance, batches)
+    session.look()
+    expect_sparse("a store", session.file)
     if memory() > MEMORY:
-        try_copies(talk, folder)
+        try_copies(session, folder)
     else:
         print(f"largest: checks and copies are skipped: they need {MEMORY >> 20:,} MiB of memory", file=sys.stderr)
-    os.remove(talk.file)
+    os.remove(session.file)
 
 
 def main():
@@ -215,8 +215,8 @@ def main():
         try:
             for number, make in enumerate(stores):
                 chance = random.Random(f"{said.s} {number}")
-                talk = make(os.path.abspath(said.altctl), chance, os.path.join(folder, "store"), count)
-                try_store(talk, chance, folder, said.n)
+                session = make(os.path.abspath(said.altctl), chance, os.path.join(folder, "store"), count)
+                try_store(session, chance, folder, said.n)
         except Failure as failure:
             print(f"largest: {make.__name__}, seed {said.s}: {failure}", file=sys.stderr)
             return 1

@@ -358,10 +358,10 @@ do_all_lines() {
 
 # Has a session lock the store, until the descriptor 5 is closed.
 hold_lock() {
-    mkfifo "$room/talk"
-    "$program" run "$room/store" <"$room/talk" >"$room/held" 2>&1 &
+    mkfifo "$room/typed"
+    "$program" run "$room/store" <"$room/typed" >"$room/held" 2>&1 &
     holder=$!
-    exec 5>"$room/talk"
+    exec 5>"$room/typed"
     echo free >&5
     until [ -s "$room/held" ]; do sleep 0.1; done
 }

@@ -58,7 +58,7 @@ def groups(lines, pattern, mark):
 
 def records_of(crate):
     """The records of a crate: the name, the comment above it, and the groups of its fields."""
-    for path in sorted((TOP / "crates" / crate / "specs").glob("*.antt")):
+    for path in sorted((TOP / "crates" / crate / "specs").rglob("*.antt")):
         lines = path.read_text().split("\n")
         for at, line in enumerate(lines):
             if it := RECORD.match(line):

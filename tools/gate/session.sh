@@ -1263,10 +1263,10 @@ compare 'a reader that is gone: standard error' faults faults.came
 # --- the lock of the file --------------------------------------------------------------------------
 
 create locked 64
-mkfifo talk
-"$altctl" run locked <talk >answers.came 2>&1 &
+mkfifo typed
+"$altctl" run locked <typed >answers.came 2>&1 &
 holder=$!
-exec 9>talk
+exec 9>typed
 echo 'put top 1 1 a' >&9
 # The first answer comes behind the lock.
 until [ -s answers.came ]; do sleep 0.1; done

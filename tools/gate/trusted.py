@@ -21,9 +21,23 @@ BY_NAME = re.compile(r"`(\w+)`: ((?:`\w+`(?:, )?)+)")
 
 
 def file_of(crate, modules):
-    """The file of these modules of a crate's definitions. What the code declares has none."""
-    place = ROOT / "crates" / crate / "specs" / f"{modules.split('.')[0]}.antt"
-    return place if place.exists() else None
+    """The file of these modules of a crate's definitions, which may lie in a folder. What the code declares has none."""
+    place, found = ROOT / "crates" / crate / "specs", None
+    for name in modules.split("."):
+        if (place / f"{name}.antt").exists():
+            found = place / f"{name}.antt"
+        place = place / name
+    return found
+
+
+def files_named(crate, names):
+    """The files of a crate's definitions with these names, in whichever folder they lie."""
+    specs = ROOT / "crates" / crate / "specs"
+    for name in names:
+        found = [it for it in specs.rglob("*.antt") if it.stem == name]
+        if len(found) != 1:
+            sys.exit(f"docs/TRUST.md: {len(found)} files {name} in {specs.relative_to(ROOT)}")
+        yield str(found[0].relative_to(ROOT))
 
 
 def imports_of(lines):
@@ -78,7 +92,7 @@ def main():
     trust = (ROOT / "docs" / "TRUST.md").read_text()
     listed = set(LISTED.findall(trust))
     for crate, names in BY_NAME.findall(trust):
-        listed.update(f"crates/{crate}/specs/{it}.antt" for it in re.findall(r"\w+", names))
+        listed.update(files_named(crate, re.findall(r"\w+", names)))
     for it in sorted(it for it in listed if not (ROOT / it).exists()):
         sys.exit(f"docs/TRUST.md: no file {it}")
     missing = {str(it.relative_to(ROOT)): names for it, names in reached.items() if names}

@@ -1900,7 +1900,7 @@ static void carry_out(struct line line)
     refuse(BAD_LINE);
 }
 
-/* Answers a line, given without its line feed. The talk ends where the file failed. */
+/* Answers a line, given without its line feed. The session ends where the file failed. */
 static void answer_line(const char *bytes, size_t length)
 {
     if (setjmp(refused) == 0) {

@@ -1,8 +1,8 @@
 -- What the calls of C do.
 use Rattle.std.specs.Prelude.{◌≡◌, ◌⊎◌, ℕ, Bool, IfSome, IsSome, List, None, Option, Result, Some}
-use Rattle.vm_cli.specs.Carried.{Gains}
-use Rattle.vm_cli.specs.declared.talk.OnRefusal.{OnRefusal}
-use Rattle.vm_cli.specs.declared.talk.ServeFault.{ServeFault}
+use Rattle.vm_cli.specs.answers.Carried.{Gains}
+use Rattle.vm_cli.specs.declared.session.OnRefusal.{OnRefusal}
+use Rattle.vm_cli.specs.declared.session.ServeFault.{ServeFault}
 use Rattle.vm_types.specs.declared.refusal.Refusal.{Refusal}
 use Rattle.altstore.specs.declared.outcome.TheConstants.{CLOSED, DONE, MEMORY, OPEN, UNREAD, UNWRITTEN}
 use Rattle.altstore.specs.declared.session.Session.{Session}

@@ -2,14 +2,14 @@
 use Rattle.std.specs.Prelude.{◌≡◌, ℕ, Bool, false, true, List, [], Some, Result, IfErr, OnOk}
 use Rattle.vm_types.specs.State.{State}
 use Rattle.vm_store.specs.Store.{has_failed, GrowsOn}
-use Rattle.vm_cli.specs.Known.{streams_of}
-use Rattle.vm_cli.specs.Talk.{Serves, StoreFails}
-use Rattle.vm_cli.specs.declared.talk.Grouping.TheVariants.{Lines}
-use Rattle.vm_cli.specs.declared.talk.Manner.{Manner}
-use Rattle.vm_cli.specs.declared.talk.OnCommand.TheVariants.{CarryOut}
-use Rattle.vm_cli.specs.declared.talk.OnRefusal.{OnRefusal}
-use Rattle.vm_cli.specs.declared.talk.OnRefusal.TheVariants.{Ignore, Stop}
-use Rattle.vm_cli.specs.declared.talk.ServeFault.{ServeFault}
+use Rattle.vm_cli.specs.session.Known.{streams_of}
+use Rattle.vm_cli.specs.session.Session.{Serves, StoreFails}
+use Rattle.vm_cli.specs.declared.session.Grouping.TheVariants.{Lines}
+use Rattle.vm_cli.specs.declared.session.Manner.{Manner}
+use Rattle.vm_cli.specs.declared.session.OnCommand.TheVariants.{CarryOut}
+use Rattle.vm_cli.specs.declared.session.OnRefusal.{OnRefusal}
+use Rattle.vm_cli.specs.declared.session.OnRefusal.TheVariants.{Ignore, Stop}
+use Rattle.vm_cli.specs.declared.session.ServeFault.{ServeFault}
 use Rattle.altstore.specs.declared.session.Session.{Session}
 
 -- commands are carried out, and a refused line means this

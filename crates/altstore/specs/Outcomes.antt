@@ -1,7 +1,7 @@
 -- The numbers by which calls tell how they ended.
 use Rattle.std.specs.Prelude.{ℕ, Bool, false, true, Result, Ok, Err}
-use Rattle.vm_cli.specs.declared.talk.ServeFault.{ServeFault}
-use Rattle.vm_cli.specs.declared.talk.ServeFault.TheVariants as fault
+use Rattle.vm_cli.specs.declared.session.ServeFault.{ServeFault}
+use Rattle.vm_cli.specs.declared.session.ServeFault.TheVariants as fault
 use Rattle.altstore.specs.declared.outcome.TheConstants.{DONE, FAILED, LINE_REFUSED, MEMORY, UNREAD}
 
 -- of one that asked lines

@@ -1,6 +1,6 @@
 //! The image of a store: its blocks with their checksums, one after another, as a file holds them.
 ghost use Rattle.std.specs.Prelude.{◌≡◌, ◌/◌, ◌≤◌, ◌<◌, ◌^◌, ◌+◌, IfErr, IfOk, OnErr, OnOk, length, take, []};
-ghost use Rattle.vm_cli.specs.Carried.{Gains};
+ghost use Rattle.vm_cli.specs.answers.Carried.{Gains};
 ghost use Rattle.vm_disk.specs.Between.{Between};
 ghost use Rattle.vm_disk.specs.Memory.{memory_state, room_of};
 ghost use Rattle.vm_types.specs.declared.sizes.TheConstants.{BLOCK_SIZE};

@@ -1,6 +1,6 @@
 //! A session with a new store, and the end of one.
 ghost use Rattle.std.specs.Prelude.{◌≡◌, OnOk};
-ghost use Rattle.vm_cli.specs.Carried.{Gains};
+ghost use Rattle.vm_cli.specs.answers.Carried.{Gains};
 ghost use Rattle.altstore.specs.Images.{Creates, OpensBlocks, blocks_of, image_of};
 
 use crate::image::{SaveFault, open_session, write_blocks};

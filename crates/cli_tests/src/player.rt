@@ -21,7 +21,7 @@ pub(crate) fn play(alloc: Global, mut case: Case<'_>) -> Result<String> {
         bail!("a case has no steps or no title");
     }
     match case.store {
-        Some(passes) => play_talks(alloc, passes, case.steps.as_mut_slice())?,
+        Some(passes) => play_sessions(alloc, passes, case.steps.as_mut_slice())?,
         None => {
             let mut files = Files::new(alloc);
             for step in &mut case.steps {
@@ -131,7 +131,7 @@ fn buffers(alloc: Global, in_memory: InMemory) -> Result<String> {
 }
 
 /// Plays sessions over a new store of 64 blocks. Its device fails once, after this many calls.
-fn play_talks(alloc: Global, passes: u32, steps: &mut [Step]) -> Result<()> {
+fn play_sessions(alloc: Global, passes: u32, steps: &mut [Step]) -> Result<()> {
     let disk = match format(MemDisk::new(alloc, 64)?, 64) {
         Ok(disk) => disk,
         Err((_, refusal)) => bail!("{refusal}"),
@@ -144,7 +144,7 @@ fn play_talks(alloc: Global, passes: u32, steps: &mut [Step]) -> Result<()> {
     let mut played = Ok(());
     for step in steps {
         if played.is_ok() {
-            played = talk(alloc, &mut store, step);
+            played = play_session(alloc, &mut store, step);
         }
     }
     let _disk = store.close();
@@ -177,7 +177,7 @@ fn manner(words: &[String]) -> Result<Manner> {
         [verb, meaning, more] if verb.as_str() == "serve" && more.as_str() == "planners" => {
             (meaning, OnCommand::CarryOut, Grouping::Planners)
         }
-        _ => bail!("a step over a store is a talk"),
+        _ => bail!("a step over a store is a session"),
     };
     let on_refusal = match meaning.as_str() {
         "ignore" => OnRefusal::Ignore,
@@ -193,7 +193,7 @@ fn manner(words: &[String]) -> Result<Manner> {
 }
 
 /// Plays a session.
-fn talk(alloc: Global, store: &mut Store<FuseDisk<MemDisk>>, step: &mut Step) -> Result<()> {
+fn play_session(alloc: Global, store: &mut Store<FuseDisk<MemDisk>>, step: &mut Step) -> Result<()> {
     let manner = manner(step.words.as_slice())?;
     let mut input = Input {
         bytes: step.input.as_bytes(),
@@ -208,7 +208,7 @@ fn talk(alloc: Global, store: &mut Store<FuseDisk<MemDisk>>, step: &mut Step) ->
     step.end = match served {
         Ok(false) => String::from_str(alloc, "0")?,
         Ok(true) => String::from_str(alloc, "a line was refused")?,
-        Err(fault) => format!(in alloc; "the talk ended: {fault}")?,
+        Err(fault) => format!(in alloc; "the session ended: {fault}")?,
     };
     Ok(())
 }

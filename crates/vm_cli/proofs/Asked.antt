@@ -22,11 +22,11 @@ use Rattle.clap.specs.Faults.{fault_of, level_fault, values_fault}
 use Rattle.clap.specs.declared.builder.value_parser.ValueParser.TheVariants as vp
 use Rattle.clap.specs.declared.builder.value_parser.ValueParser.{ValueParser}
 use Rattle.clap.proofs.ValueTestLemmas.{Accepts-accepts, accepts-Accepts}
-use Rattle.vm_cli.specs.Words.{Wanted, altctl, asked_of, blocks_rule, buffer_rule, cache_rule, check_app, command_with, copy_app, create_app, do_app, file_rule, grow_rule, grow_to_rule, grouping_by, buffer_by, is_set, line_rule, no_lock_rule, number_by, number_in, planners_rule, read_only_rule, refusal_by, run_app, serve_app, strict_rule, tree_app, wait_rule}
-use Rattle.vm_cli.specs.Given.{input_of}
-use Rattle.vm_cli.specs.Words.Wanted.{check, copy, create, do_lines, draw, run}
-use Rattle.vm_cli.specs.declared.talk.Grouping.TheVariants.{Lines}
-use Rattle.vm_cli.specs.declared.talk.OnRefusal.TheVariants.{Ignore, Tell}
+use Rattle.vm_cli.specs.program.Words.{Wanted, altctl, asked_of, blocks_rule, buffer_rule, cache_rule, check_app, command_with, copy_app, create_app, do_app, file_rule, grow_rule, grow_to_rule, grouping_by, buffer_by, is_set, line_rule, no_lock_rule, number_by, number_in, planners_rule, read_only_rule, refusal_by, run_app, serve_app, strict_rule, tree_app, wait_rule}
+use Rattle.vm_cli.specs.program.Given.{input_of}
+use Rattle.vm_cli.specs.program.Words.Wanted.{check, copy, create, do_lines, draw, run}
+use Rattle.vm_cli.specs.declared.session.Grouping.TheVariants.{Lines}
+use Rattle.vm_cli.specs.declared.session.OnRefusal.TheVariants.{Ignore, Tell}
 use Rattle.vm_cli.proofs.FaultFree.{Every, every-found, neither, nothing_wanting}
 use Rattle.vm_cli.proofs.Levels.{IsFilled, IsKnown, each_given, given_row, has-default, has-stays, held_row, level_rows, no-default}
 use Rattle.vm_cli.proofs.Entered.{entered_one}

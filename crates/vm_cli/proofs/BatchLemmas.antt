@@ -3,15 +3,15 @@ use Rattle.std.proofs.Common.{◌≡◌, inl, inr, ◌+◌, ℕ, suc, true, fals
 use Rattle.std.proofs.lemmas.List.{length-append}
 use Rattle.std.proofs.lemmas.List.Sums.{sum_by-append}
 use Rattle.vm_types.specs.declared.refusal.Refusal.TheVariants.{Memory}
-use Rattle.vm_cli.specs.Input.{HoldsLine, KindHolds}
+use Rattle.vm_cli.specs.lines.Input.{HoldsLine, KindHolds}
 use Rattle.vm_cli.specs.declared.lines.line.LineKind.TheVariants.{Kept}
-use Rattle.vm_cli.specs.Replies.{reply_text}
-use Rattle.vm_cli.specs.Streams.{Adds, Held, HoldsLines, IsHeldBy, IsTooLarge, count_of, losing}
-use Rattle.vm_cli.specs.Streams.Held.{holds, lost}
-use Rattle.vm_cli.specs.Talk.{error_text}
+use Rattle.vm_cli.specs.answers.Replies.{reply_text}
+use Rattle.vm_cli.specs.session.Streams.{Adds, Held, HoldsLines, IsHeldBy, IsTooLarge, count_of, losing}
+use Rattle.vm_cli.specs.session.Streams.Held.{holds, lost}
+use Rattle.vm_cli.specs.session.Session.{error_text}
 use Rattle.vm_cli.specs.declared.answers.reply.Reply.TheVariants as reply
 use Rattle.vm_cli.specs.declared.lines.line.Line.{Line}
-use Rattle.vm_cli.specs.declared.talk.batch.Lost.{Lost}
+use Rattle.vm_cli.specs.declared.session.batch.Lost.{Lost}
 
 -- as many lines are held
 pub held_length : (lines : List Line) (parts : List (List ℕ)) → HoldsLines lines parts → length lines ≡ length parts

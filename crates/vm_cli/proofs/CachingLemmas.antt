@@ -7,12 +7,12 @@ use Rattle.vm_types.specs.State.{State}
 use Rattle.vm_disk.specs.Cached.{cached_state, inner_of}
 use Rattle.vm_disk.specs.declared.cached.CachedDisk.{CachedDisk}
 use Rattle.vm_disk.specs.declared.disk.Disk.{Ghosts}
-use Rattle.vm_cli.specs.Keeps.{Keeps}
-use Rattle.vm_cli.specs.Openings.{HasRefused}
+use Rattle.vm_cli.specs.session.Keeps.{Keeps}
+use Rattle.vm_cli.specs.program.Openings.{HasRefused}
 use Rattle.vm_cli.specs.declared.program.opening.NoStore.{NoStore}
 
 module _ {D : Type 0} (members : Ghosts D) (first last : CachedDisk D members) where
-  -- what a talk keeps
+  -- what a session keeps
   pub keeps_below : (s : State) (commands : List Command) (answers : List (Result Answer Refusal))
       → Keeps (cached_state members.state first) (cached_state members.state last) s commands answers
       → Keeps (members.state (inner_of first)) (members.state (inner_of last)) s commands answers

@@ -1,7 +1,7 @@
 -- Texts that are written in part.
 use Rattle.std.proofs.Common.{◌≡◌, ◌<◌, ◌+◌, ◌++◌, ◌∙◌, ℕ, zero, suc, List, [], ◌∷◌, Option, Result, Ok, Err, IsErrAnd, OnErr, OnOk, flat_map, slice_index_or, ap, sym, refl, arith, add-one, subst, append-nil, append_assoc, length, take, drop, take-append-drop}
 use Rattle.std.specs.Io.KnownBytes.{Appends}
-use Rattle.vm_cli.specs.Carried.{WritesStart, Carries}
+use Rattle.vm_cli.specs.answers.Carried.{WritesStart, Carries}
 use Rattle.vm_cli.proofs.Known.{Appends-nil, Appends-then}
 
 -- nothing was written

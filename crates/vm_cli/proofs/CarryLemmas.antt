@@ -3,16 +3,16 @@ use Rattle.std.proofs.Common.{◌≡◌, inl, inr, ◌<◌, ◌+◌, ◌++◌, �
 use Rattle.std.proofs.Math.Seq.{drop-append_seam}
 use Rattle.vm_types.specs.State.{State, after}
 use Rattle.vm_store.specs.declared.store.Store.{Store}
-use Rattle.vm_cli.specs.Feeds.{Writes}
-use Rattle.vm_cli.specs.Input.{HoldsLine}
-use Rattle.vm_cli.specs.Streams.{HoldsLines, StopsIn, answer_after, trying, why_text}
-use Rattle.vm_cli.specs.Talk.{HandlesLine, HasTalked}
+use Rattle.vm_cli.specs.session.Feeds.{Writes}
+use Rattle.vm_cli.specs.lines.Input.{HoldsLine}
+use Rattle.vm_cli.specs.session.Streams.{HoldsLines, StopsIn, answer_after, trying, why_text}
+use Rattle.vm_cli.specs.session.Session.{HandlesLine, HasAnswered}
 use Rattle.vm_cli.specs.declared.lines.line.Line.{Line}
-use Rattle.vm_cli.specs.declared.talk.Manner.{Manner}
-use Rattle.vm_cli.specs.declared.talk.ServeFault.{ServeFault}
-use Rattle.vm_cli.specs.declared.talk.ServeFault.TheVariants as fault
+use Rattle.vm_cli.specs.declared.session.Manner.{Manner}
+use Rattle.vm_cli.specs.declared.session.ServeFault.{ServeFault}
+use Rattle.vm_cli.specs.declared.session.ServeFault.TheVariants as fault
 use Rattle.vm_cli.proofs.BatchLemmas.{held_length}
-use Rattle.vm_cli.proofs.FeedLemmas.{talked-join, talked-line}
+use Rattle.vm_cli.proofs.FeedLemmas.{answered-join, answered-line}
 
 -- one of the lines, those before it, and those behind it
 pub record IsAt (line : Line) (parts : List (List ℕ)) (i : ℕ) : Type 0 where
@@ -49,60 +49,60 @@ pub held_count : (lines : List Line) (parts : List (List ℕ)) → HoldsLines li
 held_count lines parts h = sym (held_length lines parts h)
 
 module _ {D : Type 0} {members : _} (old mid new : Store D members) (s : State) (how : Manner) (parts : List (List ℕ)) (i : ℕ) (line : Line) (text : List ℕ)
-    (talked : HasTalked old mid s (trying how) (take i parts) text) (at : IsAt line parts i) where
+    (answered : HasAnswered old mid s (trying how) (take i parts) text) (at : IsAt line parts i) where
   -- one more line was carried out
-  pub talks_more : (refused : Bool) (items : List ℕ) → Writes (trying how) (HandlesLine mid new (after s talked.commands talked.answers) (trying how) at.part) (Ok refused) (Some text) (Some items)
-      → HasTalked old new s (trying how) (take (i + 1) parts) items
-  talks_more refused items (said, handled, same, goes_on, written) =
-      subst (λ ls. HasTalked old new s (trying how) ls items) (sym at.more)
-      (subst (HasTalked old new s (trying how) (take i parts ++ at.part ∷ [])) (sym written)
-      (talked-join old mid new s (trying how) (take i parts) text talked (at.part ∷ []) said
-      (talked-line mid new (after s talked.commands talked.answers) (trying how) at.part said handled (λ stop. sym same ∙ goes_on stop))))
+  pub lines_more : (refused : Bool) (items : List ℕ) → Writes (trying how) (HandlesLine mid new (after s answered.commands answered.answers) (trying how) at.part) (Ok refused) (Some text) (Some items)
+      → HasAnswered old new s (trying how) (take (i + 1) parts) items
+  lines_more refused items it =
+      subst (λ ls. HasAnswered old new s (trying how) ls items) (sym at.more)
+      (subst (HasAnswered old new s (trying how) (take i parts ++ at.part ∷ [])) (sym it.written)
+      (answered-join old mid new s (trying how) (take i parts) text answered (at.part ∷ []) it.text
+      (answered-line mid new (after s answered.commands answered.answers) (trying how) at.part it.text it.says (λ stop. sym it.told ∙ it.goes_on stop))))
 
   -- it was the last
-  pub talks_stop : (why : ServeFault) (items : List ℕ) → Writes (trying how) (HandlesLine mid new (after s talked.commands talked.answers) (trying how) at.part) (Err why) (Some text) (Some items)
+  pub lines_stop : (why : ServeFault) (items : List ℕ) → Writes (trying how) (HandlesLine mid new (after s answered.commands answered.answers) (trying how) at.part) (Err why) (Some text) (Some items)
       → (n : ℕ) → n ≡ length text → StopsIn old new s how parts i (why_text (answer_after why n) items)
-  talks_stop fault.Read items writes n is = absurd writes
-  talks_stop fault.Unsure items writes n is = absurd writes
-  talks_stop fault.Refused items (said, handled, error, stop, written) n is = record {
+  lines_stop fault.Read items writes n is = absurd writes
+  lines_stop fault.Unsure items writes n is = absurd writes
+  lines_stop fault.Refused items it n is = record {
     mid = mid;
     before = take i parts;
     line = at.part;
     behind = at.behind;
     earlier = text;
-    said = said;
+    said = it.text;
     ends = false;
     cut = at.cut;
     at = at.place;
-    carried = talked;
-    handled = handled;
-    says = inl (rw (written, is) (drop-append_seam text said), inl error);
+    carried = answered;
+    handled = it.says;
+    says = inl (rw (it.written, is) (drop-append_seam text it.text), inl it.refused);
   }
-  talks_stop fault.Store items (said, handled, written) n is = record {
+  lines_stop fault.Store items it n is = record {
     mid = mid;
     before = take i parts;
     line = at.part;
     behind = at.behind;
     earlier = text;
-    said = said;
+    said = it.text;
     ends = true;
     cut = at.cut;
     at = at.place;
-    carried = talked;
-    handled = handled;
-    says = inl (rw (written, is) (drop-append_seam text said), inr refl);
+    carried = answered;
+    handled = it.says;
+    says = inl (rw (it.written, is) (drop-append_seam text it.text), inr refl);
   }
-  talks_stop fault.Write items (said, ends, handled, written) n is = record {
+  lines_stop fault.Write items it n is = record {
     mid = mid;
     before = take i parts;
     line = at.part;
     behind = at.behind;
     earlier = text;
-    said = said;
-    ends = ends;
+    said = it.whole;
+    ends = it.ends;
     cut = at.cut;
     at = at.place;
-    carried = talked;
-    handled = handled;
+    carried = answered;
+    handled = it.says;
     says = inr refl;
   }

@@ -10,8 +10,8 @@ use Rattle.vm_store.specs.Commands.{CarriesOut}
 use Rattle.vm_store.specs.Store.{Holds, blocks_of, disk_of, has_failed}
 use Rattle.vm_store.specs.declared.store.Store.{Store}
 use Rattle.vm_store.proofs.QueryLemmas.{still_holds}
-use Rattle.vm_cli.specs.Feeds.{TriesSome}
-use Rattle.vm_cli.specs.Talk.{FailsInLast, GrowsFirst, Passes, Tries, after_each, answer_text, error_text, larger}
+use Rattle.vm_cli.specs.session.Feeds.{TriesSome}
+use Rattle.vm_cli.specs.session.Session.{FailsInLast, GrowsFirst, Passes, Tries, after_each, answer_text, error_text, larger}
 use Rattle.vm_cli.proofs.PassLemmas.{failed_or, grows_any, grows_both, grows_none, never_both, passes_none}
 
 -- the number that was given is the one that is counted

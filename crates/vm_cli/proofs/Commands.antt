@@ -4,7 +4,7 @@ use Rattle.std.proofs.lemmas.Result.{IfOk-weaker}
 use Rattle.clap.specs.Words.{AddsArg, App, Rule, app_of, rule_of, with_rule, with_subcommand}
 use Rattle.clap.specs.declared.builder.arg.Arg.{Arg}
 use Rattle.clap.specs.declared.builder.command.Command.{Command}
-use Rattle.vm_cli.specs.Words.{AddsTask, IsLocal}
+use Rattle.vm_cli.specs.program.Words.{AddsTask, IsLocal}
 
 -- one more argument, of this rule
 pub with_arg : (old : Command) (a : Arg) (new : Command) (before : App) (rule : Rule) → AddsArg old a new → app_of old ≡ before → rule_of a ≡ rule → a.global ≡ false

@@ -13,11 +13,11 @@ use Rattle.vm_store.specs.NewStore.{IsBadSize}
 use Rattle.vm_store.specs.Recovery.{OpensWhole}
 use Rattle.vm_store.specs.Store.{disk_of}
 use Rattle.vm_store.specs.declared.store.Store.{Store}
-use Rattle.vm_cli.specs.Sessions.{IsAnyStore}
-use Rattle.vm_cli.specs.Copies.{ComesBack, CopiesOnto, IsInUse, MakesCopy, NamesCopy, RefusesCopy, ToldOfCopy, used_of}
-use Rattle.vm_cli.specs.Exits.{Tells, copied_text, file_text, part_of, refused_text}
-use Rattle.vm_cli.specs.Known.{Written}
-use Rattle.vm_cli.specs.Places.{Creates, KeepsBut, Lacks, Links, PlaceState, Removes, TakesBack}
+use Rattle.vm_cli.specs.program.DiskUses.{IsAnyStore}
+use Rattle.vm_cli.specs.program.Copies.{ComesBack, CopiesOnto, IsInUse, MakesCopy, NamesCopy, RefusesCopy, ToldOfCopy, used_of}
+use Rattle.vm_cli.specs.program.Exits.{Tells, copied_text, file_text, part_of, refused_text}
+use Rattle.vm_cli.specs.session.Known.{Written}
+use Rattle.vm_cli.specs.program.Places.{Creates, KeepsBut, Lacks, Links, PlaceState, Removes, TakesBack}
 use Rattle.vm_cli.specs.declared.program.Exit.{Exit}
 use Rattle.vm_cli.specs.declared.program.Exit.TheVariants.{Done, Refused}
 

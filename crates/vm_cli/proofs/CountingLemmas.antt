@@ -25,7 +25,7 @@ use Rattle.vm_store.proofs.MovedLemmas.{standing_length}
 use Rattle.vm_store.proofs.SlotLemmas.{slot-length}
 use Rattle.vm_store.proofs.TurnLemmas.{in_order}
 use Rattle.vm_store.proofs.VersionLemmas.{standing}
-use Rattle.vm_cli.specs.StoreCounts.{IsCounted, checkpoint_count}
+use Rattle.vm_cli.specs.program.StoreCounts.{IsCounted, checkpoint_count}
 use Rattle.vm_cli.specs.declared.program.store_counts.Counts.{Counts}
 
 -- no alternative is called like an earlier one

@@ -18,8 +18,8 @@ use Rattle.vm_disk.proofs.LaidLemmas.{clean_same}
 use Rattle.vm_disk.proofs.MomentLemmas.{weaken}
 use Rattle.vm_store.specs.Refused.{IsAtMostSynced, IsRefused}
 use Rattle.vm_store.specs.Shown.{Shows}
-use Rattle.vm_cli.specs.Keeps.{Keeps}
-use Rattle.vm_cli.specs.Openings.{HasRefused, TellsEarlier, refusal_of}
+use Rattle.vm_cli.specs.session.Keeps.{Keeps}
+use Rattle.vm_cli.specs.program.Openings.{HasRefused, TellsEarlier, refusal_of}
 use Rattle.vm_cli.specs.declared.program.opening.NoStore.{NoStore}
 
 -- what was made for some blocks was made for more than none
@@ -87,7 +87,7 @@ module _ (above below : DiskState) (follows : Follows above below) where
   at_first : IsMeanwhile follows.time 0 0
   at_first = let first = follows.first in record { from = omega (arith, first); until = inl (sym first) }
 
-  -- each call of a talk keeps below what it keeps above
+  -- each call of a session keeps below what it keeps above
   kept_below : (s : State) (before : List Command) (told : List (Result Answer Refusal)) (start : ℕ) (commands : List Command) (answers : List (Result Answer Refusal)) (end : ℕ)
       → end ≤ moment above → KeptBetween Shows (LeftAt above) s before told start commands answers end
       → KeptBetween Shows (LeftAt below) s before told (follows.time start) commands answers (follows.time end)
@@ -103,7 +103,7 @@ module _ (above below : DiskState) (follows : Follows above below) where
   kept_below s before told start [] (answer ∷ answers) end within kept = absurd kept
   kept_below s before told start (command ∷ commands) [] end within kept = absurd kept
 
-  -- what a talk keeps above from the first moment on, it keeps below
+  -- what a session keeps above from the first moment on, it keeps below
   pub keeps_follows : (old old' : DiskState) → moment old ≡ 0 → moment old' ≡ 0 → (s : State) (commands : List Command) (answers : List (Result Answer Refusal))
       → Keeps old above s commands answers → Keeps old' below s commands answers
   keeps_follows old old' none none' s commands answers kept =
@@ -166,7 +166,7 @@ module _ {D : Type 0} (members : Ghosts D) (first last : DelayedDisk D members) 
   none_below : moment (members.state (inner_of first)) ≡ 0
   none_below = ap (λ (ms : List Medium). length ms) fresh
 
-  -- what a talk keeps
+  -- what a session keeps
   pub keeps_late : (s : State) (commands : List Command) (answers : List (Result Answer Refusal)) → (delayed_state members.state last).honest ≡ true
       → Keeps (delayed_state members.state first) (delayed_state members.state last) s commands answers
       → Keeps (members.state (inner_of first)) (members.state (inner_of last)) s commands answers

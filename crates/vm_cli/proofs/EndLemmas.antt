@@ -1,4 +1,4 @@
--- When a talk ends, on any disk.
+-- When a session ends, on any disk.
 use Rattle.std.proofs.Common.{◌≡◌, ◌⊎◌, inl, inr, ◌∙◌, ℕ, Bool, List, Option, true, false, Result, Ok, Err, IfErr, refl, subst, sym, arith}
 use Rattle.vm_types.specs.declared.answer.Answer.{Answer}
 use Rattle.vm_types.specs.declared.command.Command.{Command}
@@ -7,20 +7,20 @@ use Rattle.vm_types.specs.declared.refusal.Refusal.TheVariants.{Device}
 use Rattle.vm_store.specs.Store.{GrowsOn, has_failed}
 use Rattle.vm_store.specs.declared.store.Store.{Store}
 use Rattle.vm_store.proofs.LongerLemmas.{goes_grow}
-use Rattle.vm_cli.specs.Feeds.{AnswersLine, EndsIfFailed, FeedsLine, NeverEnds, ServesOn, Stays, TalkGoesOn, TalksOn}
-use Rattle.vm_cli.specs.Replies.{ends_talk}
-use Rattle.vm_cli.specs.Talk.{EndsBy, Failing, FailsByDevice, StoreFails}
+use Rattle.vm_cli.specs.session.Feeds.{AnswersLine, EndsIfFailed, FeedsLine, NeverEnds, ServesOn, Stays, SessionGoesOn, FeedsOn}
+use Rattle.vm_cli.specs.answers.Replies.{ends_session}
+use Rattle.vm_cli.specs.session.Session.{EndsBy, Failing, FailsByDevice, StoreFails}
 use Rattle.vm_cli.specs.declared.answers.output.WriteFault.{WriteFault}
 use Rattle.vm_cli.specs.declared.answers.reply.Reply.{Reply}
 use Rattle.vm_cli.specs.declared.lines.line.Line.{Line}
-use Rattle.vm_cli.specs.declared.talk.Manner.{Manner}
-use Rattle.vm_cli.specs.declared.talk.ServeFault.{ServeFault}
-use Rattle.vm_cli.specs.declared.talk.Session.{Session}
-use Rattle.vm_cli.specs.declared.talk.ServeFault.TheVariants as fault
+use Rattle.vm_cli.specs.declared.session.Manner.{Manner}
+use Rattle.vm_cli.specs.declared.session.ServeFault.{ServeFault}
+use Rattle.vm_cli.specs.declared.session.Session.{Session}
+use Rattle.vm_cli.specs.declared.session.ServeFault.TheVariants as fault
 use Rattle.vm_cli.proofs.FeedLemmas.{joined}
 use Rattle.vm_cli.proofs.HandledLemmas.{Applied, applied_fails, applied_goes}
 use Rattle.vm_cli.proofs.PassLemmas.{failed_or, goes_none, grows_both, grows_none, left_again, never_both}
-use Rattle.vm_cli.proofs.TalkLemmas.{last-is}
+use Rattle.vm_cli.proofs.SessionLemmas.{last-is}
 
 -- a session goes on through two calls
 pub stays_then : {D W : Type 0} {members : _} (old mid new : Session W D members) → Stays old mid → Stays mid new → Stays old new
@@ -36,8 +36,8 @@ pub answers_as : {D W : Type 0} {members : _} (contents : W → Option (List ℕ
 answers_as contents on on' {line} {result} {old} {new} is answers = subst (λ o. AnswersLine contents o line result old new) is answers
 
 module _ {D : Type 0} {members : _} where
-  -- a reply that ends no talk, where the store was asked nothing
-  pub nothing_asked : (store : Store D members) (reply : Reply) → ends_talk reply ≡ false → EndsIfFailed (Ok reply) store store
+  -- a reply that ends no session, where the store was asked nothing
+  pub nothing_asked : (store : Store D members) (reply : Reply) → ends_session reply ≡ false → EndsIfFailed (Ok reply) store store
   nothing_asked store reply goes_on = record {
     goes = grows_none _;
     last = λ sound. goes_on ∙ sym sound;
@@ -46,7 +46,7 @@ module _ {D : Type 0} {members : _} where
   }
 
   -- a query that leaves the store as it was
-  pub never_ends : (store : Store D members) (reply : Reply) → (has_failed store ≡ false → ends_talk reply ≡ false) → NeverEnds reply store store
+  pub never_ends : (store : Store D members) (reply : Reply) → (has_failed store ≡ false → ends_session reply ≡ false) → NeverEnds reply store store
   never_ends store reply goes_on = record {
     goes = goes_none _;
     failed = refl;
@@ -64,11 +64,11 @@ module _ {D : Type 0} {members : _} where
   }
 
   -- a command that was carried out
-  pub applied_ends : (old new : Store D members) (command : Command) (answer : Result Answer Refusal) → Applied old new command answer → (reply : Reply) → TalkGoesOn answer reply → (answer ≡ Err Device → ends_talk reply ≡ true)
+  pub applied_ends : (old new : Store D members) (command : Command) (answer : Result Answer Refusal) → Applied old new command answer → (reply : Reply) → SessionGoesOn answer reply → (answer ≡ Err Device → ends_session reply ≡ true)
       → EndsIfFailed (Ok reply) old new
   applied_ends old new command answer applied reply goes_on device = record {
     goes = applied_goes old new command answer applied;
-    last = λ sound. last-is (ends_talk reply) (has_failed new) answer (applied.done sound).failed (applied.done sound).performs.only_then device goes_on;
+    last = λ sound. last-is (ends_session reply) (has_failed new) answer (applied.done sound).failed (applied.done sound).performs.only_then device goes_on;
     failing = applied_fails old new command answer applied;
     left = λ failed. (applied.refused failed).1;
   }
@@ -85,9 +85,9 @@ module _ {D : Type 0} {members : _} where
       rises : Failing mid new → Failing old new
       rises more = omega (arith, goes.rising, more)
 
-  -- the talk goes on after a line
-  pub talks_on : (old new : Store D members) (reply : Reply) → EndsIfFailed (Ok reply) old new → ends_talk reply ≡ false → (refused : Bool) → TalksOn (Ok refused) old new
-  talks_on old new reply by goes_on refused = record {
+  -- the session goes on after a line
+  pub feeds_on : (old new : Store D members) (reply : Reply) → EndsIfFailed (Ok reply) old new → ends_session reply ≡ false → (refused : Bool) → FeedsOn (Ok refused) old new
+  feeds_on old new reply by goes_on refused = record {
     goes = by.goes;
     ok = λ sound. sym (by.last sound) ∙ goes_on;
     err = λ sound. tt;
@@ -96,8 +96,8 @@ module _ {D : Type 0} {members : _} where
   }
 
   -- it ends with the answer
-  pub talks_ended : (old new : Store D members) (reply : Reply) → EndsIfFailed (Ok reply) old new → ends_talk reply ≡ true → TalksOn (Err fault.Store) old new
-  talks_ended old new reply by ends = record {
+  pub feeds_ended : (old new : Store D members) (reply : Reply) → EndsIfFailed (Ok reply) old new → ends_session reply ≡ true → FeedsOn (Err fault.Store) old new
+  feeds_ended old new reply by ends = record {
     goes = by.goes;
     ok = λ sound. tt;
     err = λ sound. let failed : has_failed new ≡ true = sym (by.last sound) ∙ ends in (failed, by.failing sound failed);
@@ -106,8 +106,8 @@ module _ {D : Type 0} {members : _} where
   }
 
   -- it ends for a reason that the store has not given
-  pub talks_stopped : (old new : Store D members) (result : Result Reply WriteFault) → EndsIfFailed result old new → (why : ServeFault) → EndsBy old new why → TalksOn (Err why) old new
-  talks_stopped old new result by why ends = record {
+  pub feeds_stopped : (old new : Store D members) (result : Result Reply WriteFault) → EndsIfFailed result old new → (why : ServeFault) → EndsBy old new why → FeedsOn (Err why) old new
+  feeds_stopped old new result by why ends = record {
     goes = by.goes;
     ok = λ sound. tt;
     err = λ sound. ends;
@@ -116,8 +116,8 @@ module _ {D : Type 0} {members : _} where
   }
 
   -- no bytes
-  pub talks_none : (store : Store D members) (refused : Bool) → TalksOn (Ok refused) store store
-  talks_none store refused = record {
+  pub feeds_none : (store : Store D members) (refused : Bool) → FeedsOn (Ok refused) store store
+  feeds_none store refused = record {
     goes = grows_none _;
     ok = λ sound. sound;
     err = λ sound. tt;
@@ -134,15 +134,15 @@ module _ {D : Type 0} {members : _} where
       by (inr bad) = let more : Failing old mid = fails sound bad in omega (arith, second.rising, more)
 
   -- bytes after others
-  pub talks_then : (old mid new : Store D members) (refused : Bool) → TalksOn (Ok refused) old mid → (result : Result Bool ServeFault) → TalksOn result mid new → TalksOn (joined refused result) old new
-  talks_then old mid new refused first (Ok again) second = record {
+  pub feeds_then : (old mid new : Store D members) (refused : Bool) → FeedsOn (Ok refused) old mid → (result : Result Bool ServeFault) → FeedsOn result mid new → FeedsOn (joined refused result) old new
+  feeds_then old mid new refused first (Ok again) second = record {
     goes = grows_both _ _ _ first.goes second.goes;
     ok = λ sound. second.ok (first.ok sound);
     err = λ sound. tt;
     failing = fails_then old mid new first.goes second.goes first.failing second.failing;
     left = left_again old mid new first.left second.left;
   }
-  talks_then old mid new refused first (Err why) second = record {
+  feeds_then old mid new refused first (Err why) second = record {
     goes = grows_both _ _ _ first.goes second.goes;
     ok = λ sound. tt;
     err = λ sound. ends_then why (second.err (first.ok sound));
@@ -158,16 +158,16 @@ module _ {D : Type 0} {members : _} where
       ends_then fault.Store (failed, rises) = (failed, omega (arith, first.goes.rising, rises))
 
   -- whatever ended it, a line is told to have been refused
-  pub talks_refused : (old new : Store D members) (result : Result Bool ServeFault) → TalksOn result old new → TalksOn (Err fault.Refused) old new
-  talks_refused old new result talks = record { goes = talks.goes; ok = λ sound. tt; err = λ sound. tt; failing = talks.failing; left = talks.left }
+  pub feeds_refused : (old new : Store D members) (result : Result Bool ServeFault) → FeedsOn result old new → FeedsOn (Err fault.Refused) old new
+  feeds_refused old new result feeds = record { goes = feeds.goes; ok = λ sound. tt; err = λ sound. tt; failing = feeds.failing; left = feeds.left }
 
   -- or that none was
-  pub talks_fine : (old new : Store D members) (refused : Bool) → TalksOn (Ok refused) old new → (again : Bool) → TalksOn (Ok again) old new
-  talks_fine old new refused talks again = record { goes = talks.goes; ok = talks.ok; err = λ sound. tt; failing = talks.failing; left = talks.left }
+  pub feeds_fine : (old new : Store D members) (refused : Bool) → FeedsOn (Ok refused) old new → (again : Bool) → FeedsOn (Ok again) old new
+  feeds_fine old new refused feeds again = record { goes = feeds.goes; ok = feeds.ok; err = λ sound. tt; failing = feeds.failing; left = feeds.left }
 
-  -- a whole talk
-  pub serves_on : (old new : Store D members) (result : Result Bool ServeFault) → TalksOn result old new → ServesOn result old new
-  serves_on old new result talks = record { goes = talks.goes; ok = talks.ok; err = λ sound. fails result (talks.err sound); left = talks.left }
+  -- a whole session
+  pub serves_on : (old new : Store D members) (result : Result Bool ServeFault) → FeedsOn result old new → ServesOn result old new
+  serves_on old new result feeds = record { goes = feeds.goes; ok = feeds.ok; err = λ sound. fails result (feeds.err sound); left = feeds.left }
     where
       fails : (result : Result Bool ServeFault) → IfErr result (EndsBy old new) → IfErr result (StoreFails old new)
       fails (Ok refused) ends = tt
@@ -178,10 +178,10 @@ module _ {D : Type 0} {members : _} where
       fails (Err fault.Store) ends = λ is. ends
 
   -- one after which the reader failed
-  pub serves_unread : (old new : Store D members) (refused : Bool) → TalksOn (Ok refused) old new → ServesOn (Err fault.Read) old new
-  serves_unread old new refused talks = record {
-    goes = talks.goes;
+  pub serves_unread : (old new : Store D members) (refused : Bool) → FeedsOn (Ok refused) old new → ServesOn (Err fault.Read) old new
+  serves_unread old new refused feeds = record {
+    goes = feeds.goes;
     ok = λ sound. tt;
     err = λ sound is. cc;
-    left = talks.left;
+    left = feeds.left;
   }

@@ -7,7 +7,7 @@ use Rattle.std.specs.Prelude.{IfSome, IsNone, IsSome, codes, nat_le}
 use Rattle.std.specs.Str.{bytes_eq}
 use Rattle.std.proofs.lemmas.List.{take_rest}
 use Rattle.memchr.specs.Find.{IsFirstByte, is_byte}
-use Rattle.vm_cli.specs.Escapes.{byte_of, hex_digit, short_enough, unescaped, value_of, with_front}
+use Rattle.vm_cli.specs.lines.Escapes.{byte_of, hex_digit, short_enough, unescaped, value_of, with_front}
 
 -- a byte that stands for itself
 pub unescaped-literal : (word : List ℕ) → 0 < length word → (get_or word 0 0 ≡ 37 → ⊥)

@@ -7,16 +7,19 @@ use Rattle.clap.specs.declared.error.kind.ErrorKind.{ErrorKind}
 use Rattle.clap.specs.declared.error.kind.ErrorKind.TheVariants.{DisplayHelp, DisplayVersion}
 use Rattle.vm_alloc.specs.Marks.{is_marked}
 use Rattle.vm_types.specs.declared.refusal.Refusal.TheVariants.{Damaged}
-use Rattle.vm_cli.specs.Carried.{WritesStart}
+use Rattle.vm_cli.specs.answers.Carried.{WritesStart}
 use Rattle.vm_cli.specs.declared.answers.output.WriteFault.{WriteFault}
-use Rattle.vm_cli.specs.Branches.{drawing}
-use Rattle.vm_cli.specs.Exits.{AskTalk, Ends, IsHelp, IsJob, JobEnds, MayEnd, Tells, TellsRefused, check_text, copied_text, created_text, is_told, name_text, named_text, refused_text, status_of}
-use Rattle.vm_cli.specs.Known.{between, written_to}
-use Rattle.vm_cli.specs.Words.{Wanted, altctl}
-use Rattle.vm_cli.specs.Words.Wanted.{check, copy, create, draw}
+use Rattle.vm_cli.specs.program.Exits.{AskSession, Ends, IsDoneOr, IsHelp, IsJob, IsNews, JobEnds, MayEnd, Tells, TellsRefused, TellsSome, is_told, name_text, named_text, refused_text, status_of}
+use Rattle.vm_cli.specs.program.Exits.HasAll.{has_answers, has_text}
+use Rattle.vm_cli.specs.program.Exits.IsNews.{copied as copied_to, counted, created, drawn as drawing_of, help}
+use Rattle.vm_cli.specs.program.Exits.MayEnd.{stopping, well, with_refusal}
+use Rattle.vm_cli.specs.program.Exits.Stops.{answering, blaming, refusing, telling, untold}
+use Rattle.vm_cli.specs.session.Known.{IsUntouched, Writers, between, written}
+use Rattle.vm_cli.specs.program.Words.{Wanted, altctl}
+use Rattle.vm_cli.specs.program.Words.Wanted.{check, copy, create, draw}
 use Rattle.vm_cli.specs.declared.program.Exit.{Exit}
 use Rattle.vm_cli.specs.declared.program.Exit.TheVariants.{Done, LineRefused, Refused, WrongWords, Stopped}
-use Rattle.vm_cli.specs.declared.talk.Manner.{Manner}
+use Rattle.vm_cli.specs.declared.session.Manner.{Manner}
 use Rattle.vm_cli.proofs.CarriedLemmas.{begins-more, begins-then}
 use Rattle.vm_cli.proofs.Known.{Appends-nil, Appends-then}
 
@@ -82,71 +85,64 @@ help_or_mistake DisplayHelp = inl (inl refl)
 help_or_mistake DisplayVersion = inl (inr refl)
 help_or_mistake kind = inr (λ h. elim h [ inl e ↦ cc | inr e ↦ cc ])
 
-module _ {W F : Type 0} (in_output : W → Option (List ℕ)) (in_errors : F → Option (List ℕ)) (words : List Text) (output output' : W) (errors errors' : F) where
+module _ {W F : Type 0} (words : List Text) (to : Writers W F) where
+  -- a job was refused, and that was told
+  refused : (job : Wanted) (exit : Exit) → IsJob words job → IsUntouched to.output → TellsRefused job exit (written to.errors) → Ends exit words to
+  refused job exit asked empty (text, says, inl (is, said)) = rw is (record { empty = empty; text = text; refusal = (job, asked, says); said = said })
+  refused job exit asked empty (text, says, inr (is, begun)) = rw is (refusing empty text (job, asked, says) begun)
+
+  -- news were told
+  news : (text : List ℕ) (exit : Exit) → IsNews words text → IsUntouched to.errors → Tells Done exit (written to.output) text → Ends exit words to
+  news text exit says quiet (inl (is, all)) = rw is (record { quiet = quiet; has = has_text text says all })
+  news text exit says quiet (inr (is, begun)) = rw is (telling quiet text says begun)
+
   -- a store was to be made
-  pub made : (file : Text) (blocks : ℕ) (exit : Exit) → IsJob words (create file blocks)
-      → JobEnds in_output in_errors (create file blocks) exit output output' errors errors' → Ends in_output in_errors exit words output output' errors errors'
-  made file blocks exit job (inl (same, inl (is, written))) = rw is (same, inl (created_text blocks, inr (inl (file, blocks, job, refl)), written))
-  made file blocks exit job (inl (same, inr (is, begun))) = rw is (inl (same, inr (inl (created_text blocks, inr (inl (file, blocks, job, refl)), begun))))
-  made file blocks exit job (inr (same, (text, says, inl (is, written)))) = rw is (same, (text, (create file blocks, job, says), written))
-  made file blocks exit job (inr (same, (text, says, inr (is, begun)))) = rw is (inr (same, (text, inl (create file blocks, job, says), begun)))
+  pub made : (file : Text) (blocks : ℕ) (exit : Exit) → IsJob words (create file blocks) → JobEnds (create file blocks) exit to → Ends exit words to
+  made file blocks exit job (inl (quiet, tells)) = news _ exit (created file blocks job) quiet tells
+  made file blocks exit job (inr (empty, tells)) = refused (create file blocks) exit job empty tells
+
+  -- lines were answered
+  session_ends : (on : Manner) (exit : Exit) → AskSession words on → IsUntouched to.errors → MayEnd on.on_refusal exit → Ends exit words to
+  session_ends on exit asks quiet (well is) = rw is (record { quiet = quiet; has = has_answers (on, asks) })
+  session_ends on exit asks quiet (stopping is) = rw is (answering quiet (on, asks))
+  session_ends on exit asks quiet (with_refusal is told) = rw is (record { quiet = quiet; asked = (on, told, asks) })
 
   -- lines were to be answered
-  pub talked : (job : Wanted) (on : Manner) (exit : Exit) → IsJob words job → AskTalk words on
-      → ((errors' ≡ errors) × MayEnd on.on_refusal exit) ⊎ ((output' ≡ output) × TellsRefused in_output in_errors job exit errors errors')
-      → Ends in_output in_errors exit words output output' errors errors'
-  talked job on exit asked asks (inl (same, inl is)) = rw is (same, inr (on, asks))
-  talked job on exit asked asks (inl (same, inr (inl is))) = rw is (inl (same, inr (inr (on, asks))))
-  talked job on exit asked asks (inl (same, inr (inr (is, told)))) = rw is (same, (on, told, asks))
-  talked job on exit asked asks (inr (same, (text, says, inl (is, written)))) = rw is (same, (text, (job, asked, says), written))
-  talked job on exit asked asks (inr (same, (text, says, inr (is, begun)))) = rw is (inr (same, (text, inl (job, asked, says), begun)))
+  pub answered : (job : Wanted) (on : Manner) (exit : Exit) → IsJob words job → AskSession words on
+      → IsDoneOr (MayEnd on.on_refusal exit) (TellsRefused job exit (written to.errors)) to → Ends exit words to
+  answered job on exit asked asks (inl (quiet, may)) = session_ends on exit asks quiet may
+  answered job on exit asked asks (inr (empty, tells)) = refused job exit asked empty tells
 
   -- a store was to be checked
-  pub checked : (file : Text) (exit : Exit) → IsJob words (check file)
-      → JobEnds in_output in_errors (check file) exit output output' errors errors' → Ends in_output in_errors exit words output output' errors errors'
-  checked file exit job (inl (same, (alternatives, checkpoints, free, inl (is, written)))) =
-      rw is (same, inl (check_text alternatives checkpoints free, inr (inr (inl (file, alternatives, checkpoints, free, job, refl))), written))
-  checked file exit job (inl (same, (alternatives, checkpoints, free, inr (is, begun)))) =
-      rw is (inl (same, inr (inl (check_text alternatives checkpoints free, inr (inr (inl (file, alternatives, checkpoints, free, job, refl))), begun))))
-  checked file exit job (inr (same, (text, says, inl (is, written)))) = rw is (same, (text, (check file, job, says), written))
-  checked file exit job (inr (same, (text, says, inr (is, begun)))) = rw is (inr (same, (text, inl (check file, job, says), begun)))
+  pub checked : (file : Text) (exit : Exit) → IsJob words (check file) → JobEnds (check file) exit to → Ends exit words to
+  checked file exit job (inl (quiet, (alternatives, checkpoints, free, tells))) = news _ exit (counted file alternatives checkpoints free job) quiet tells
+  checked file exit job (inr (empty, tells)) = refused (check file) exit job empty tells
 
   -- a tree was to be drawn
-  pub drawn : (file : Text) (exit : Exit) → IsJob words (draw file)
-      → JobEnds in_output in_errors (draw file) exit output output' errors errors' → Ends in_output in_errors exit words output output' errors errors'
-  drawn file exit job (inl (same, (branches, inl (is, written)))) = rw is (same, inl (drawing branches, inr (inr (inr (inl (file, branches, job, refl)))), written))
-  drawn file exit job (inl (same, (branches, inr (is, begun)))) = rw is (inl (same, inr (inl (drawing branches, inr (inr (inr (inl (file, branches, job, refl)))), begun))))
-  drawn file exit job (inr (same, (text, says, inl (is, written)))) = rw is (same, (text, (draw file, job, says), written))
-  drawn file exit job (inr (same, (text, says, inr (is, begun)))) = rw is (inr (same, (text, inl (draw file, job, says), begun)))
+  pub drawn : (file : Text) (exit : Exit) → IsJob words (draw file) → JobEnds (draw file) exit to → Ends exit words to
+  drawn file exit job (inl (quiet, (branches, tells))) = news _ exit (drawing_of file branches job) quiet tells
+  drawn file exit job (inr (empty, tells)) = refused (draw file) exit job empty tells
 
   -- a store was to be copied
-  pub copied : (file to : Text) (asked : Option ℕ) (exit : Exit) → IsJob words (copy file to asked)
-      → JobEnds in_output in_errors (copy file to asked) exit output output' errors errors' → Ends in_output in_errors exit words output output' errors errors'
-  copied file to asked exit job (inl (same, inl (blocks, used, inl (is, written)))) =
-      rw is (same, inl (copied_text blocks used, inr (inr (inr (inr (file, to, asked, blocks, used, job, refl)))), written))
-  copied file to asked exit job (inl (same, inl (blocks, used, inr (is, begun)))) =
-      rw is (inl (same, inr (inl (copied_text blocks used, inr (inr (inr (inr (file, to, asked, blocks, used, job, refl)))), begun))))
-  copied file to asked exit job (inl (same, inr (is, out))) = rw is (inl (same, inl out))
-  copied file to asked exit job (inr (same, (text, says, inl (is, written)))) = rw is (same, (text, (copy file to asked, job, says), written))
-  copied file to asked exit job (inr (same, (text, says, inr (is, begun)))) = rw is (inr (same, (text, inl (copy file to asked, job, says), begun)))
+  pub copied : (file name : Text) (asked : Option ℕ) (exit : Exit) → IsJob words (copy file name asked) → JobEnds (copy file name asked) exit to → Ends exit words to
+  copied file name asked exit job (inl (quiet, inl (blocks, used, tells))) = news _ exit (copied_to file name asked blocks used job) quiet tells
+  copied file name asked exit job (inl (quiet, inr (is, empty))) = rw is (untold quiet empty)
+  copied file name asked exit job (inr (empty, tells)) = refused (copy file name asked) exit job empty tells
 
   -- memory was wanting
-  pub no_memory : (exit : Exit) → exit ≡ Stopped → output' ≡ output → errors' ≡ errors → Ends in_output in_errors exit words output output' errors errors'
-  no_memory exit is out same = rw is (inl (same, inl out))
+  pub no_memory : (exit : Exit) → exit ≡ Stopped → IsUntouched to.output → IsUntouched to.errors → Ends exit words to
+  no_memory exit is empty quiet = rw is (untold quiet empty)
 
   -- help was to be shown
-  pub helped : (kind : ErrorKind) (exit : Exit) → IsHelp kind → IsAmong kind (fault_of altctl words)
-      → (errors' ≡ errors) × ((text : List ℕ) × Tells Done exit (written_to in_output output output') text)
-      → Ends in_output in_errors exit words output output' errors errors'
-  helped kind exit help among (same, (text, inl (is, written))) = rw is (same, inl (text, inl (kind, help, among), written))
-  helped kind exit help among (same, (text, inr (is, begun))) = rw is (inl (same, inr (inl (text, inl (kind, help, among), begun))))
+  pub helped : (kind : ErrorKind) (exit : Exit) → IsHelp kind → IsAmong kind (fault_of altctl words) → IsUntouched to.errors × TellsSome Done exit (written to.output)
+      → Ends exit words to
+  helped kind exit helps among (quiet, (text, tells)) = news text exit (help text (kind, helps, among)) quiet tells
 
   -- a mistake was to be shown
-  pub mistaken : (kind : ErrorKind) (exit : Exit) → (¬ IsHelp kind) → IsAmong kind (fault_of altctl words)
-      → (output' ≡ output) × ((text : List ℕ) × Tells WrongWords exit (written_to in_errors errors errors') text)
-      → Ends in_output in_errors exit words output output' errors errors'
-  mistaken kind exit wrong among (same, (text, inl (is, written))) = rw is (same, (kind, wrong, among), (text, written))
-  mistaken kind exit wrong among (same, (text, inr (is, begun))) = rw is (inr (same, (text, inr (kind, wrong, among), begun)))
+  pub mistaken : (kind : ErrorKind) (exit : Exit) → (¬ IsHelp kind) → IsAmong kind (fault_of altctl words) → IsUntouched to.output × TellsSome WrongWords exit (written to.errors)
+      → Ends exit words to
+  mistaken kind exit wrong among (empty, (text, inl (is, said))) = rw is (record { empty = empty; wrong = (kind, wrong, among); text = text; said = said })
+  mistaken kind exit wrong among (empty, (text, inr (is, begun))) = rw is (blaming empty text (kind, wrong, among) begun)
 
 -- ---- damaged blocks
 

@@ -1,25 +1,27 @@
 -- At most one batch of each planner waits.
-use Rattle.std.proofs.Common.{◌≡◌, ◌==◌, ◌||◌, ◌⊎◌, inl, inr, ◌++◌, ◌∙◌, ℕ, Bool, true, false, List, [], ◌∷◌, Option, Result, Ok, Err, ap, sym, refl, subst, append-nil, arith}
+use Rattle.std.proofs.Common.{◌≡◌, ◌==◌, ◌||◌, inl, inr, ◌++◌, ◌∙◌, ℕ, Bool, true, false, List, [], ◌∷◌, Option, Result, Ok, Err, ap, sym, refl, subst, append-nil, arith}
 use Rattle.std.proofs.lemmas.Bool.Decides.{nat_tests}
 use Rattle.vm_types.specs.State.{State}
 use Rattle.vm_disk.specs.declared.disk.Disk.{Ghosts}
 use Rattle.vm_store.specs.declared.store.Store.{Store}
-use Rattle.vm_cli.specs.Conversations.{Course, EndsInput, EndsWithLine, HasTaken, ServesStream, TakesEach}
-use Rattle.vm_cli.specs.Conversations.Course.{proceeds}
-use Rattle.vm_cli.specs.Fairness.{AllWaitOnce, WaitOnce, gatherings_after, gatherings_in, gatherings_of}
-use Rattle.vm_cli.specs.Input.{without_return}
-use Rattle.vm_cli.specs.Known.{SessionStreams}
-use Rattle.vm_cli.specs.PlannerLines.{Saying, saying_of}
-use Rattle.vm_cli.specs.PlannerLines.Saying.{joins, leaves, nothing, releases, says, strange}
-use Rattle.vm_cli.specs.Planners.{Gathering, TakesAlone, TakesBehind, TakesOne, TakesWhen, gathering, planners, settles_first, with_none_waiting}
-use Rattle.vm_cli.specs.Rounds.{Round, after_rounds}
-use Rattle.vm_cli.specs.Streams.{Held}
-use Rattle.vm_cli.specs.Waiting.{Waiting, waits}
-use Rattle.vm_cli.specs.declared.talk.Manner.{Manner}
-use Rattle.vm_cli.specs.declared.talk.ServeFault.{ServeFault}
-use Rattle.vm_cli.specs.declared.talk.ServeFault.TheVariants as fault
-use Rattle.vm_cli.specs.declared.talk.planner_line.When.{When}
-use Rattle.vm_cli.specs.declared.talk.planner_line.When.TheVariants.{Later, Now}
+use Rattle.vm_cli.specs.session.SessionKinds.{Course, HasTaken, LastAnswered, LastRefused, ServesStream, TakesEach}
+use Rattle.vm_cli.specs.session.SessionKinds.LastAnswered.{end_answered, line_answered}
+use Rattle.vm_cli.specs.session.SessionKinds.LastRefused.{end_refuses, line_refused}
+use Rattle.vm_cli.specs.session.SessionKinds.Course.{proceeds}
+use Rattle.vm_cli.specs.session.Fairness.{AllWaitOnce, WaitOnce, gatherings_after, gatherings_in, gatherings_of}
+use Rattle.vm_cli.specs.lines.Input.{without_return}
+use Rattle.vm_cli.specs.session.Known.{SessionStreams}
+use Rattle.vm_cli.specs.session.PlannerLines.{Saying, saying_of}
+use Rattle.vm_cli.specs.session.PlannerLines.Saying.{joins, leaves, nothing, releases, says, strange}
+use Rattle.vm_cli.specs.session.Planners.{Gathering, TakesAlone, TakesBehind, TakesOne, TakesWhen, gathering, planners, settles_first, with_none_waiting}
+use Rattle.vm_cli.specs.session.Rounds.{Round, after_rounds}
+use Rattle.vm_cli.specs.session.Streams.{Held}
+use Rattle.vm_cli.specs.session.Waiting.{Waiting, waits}
+use Rattle.vm_cli.specs.declared.session.Manner.{Manner}
+use Rattle.vm_cli.specs.declared.session.ServeFault.{ServeFault}
+use Rattle.vm_cli.specs.declared.session.ServeFault.TheVariants as fault
+use Rattle.vm_cli.specs.declared.session.planner_line.When.{When}
+use Rattle.vm_cli.specs.declared.session.planner_line.When.TheVariants.{Later, Now}
 
 -- ---- one more batch waits
 
@@ -107,9 +109,9 @@ module _ {D : Type 0} {members : Ghosts D} where
   each_once : (old new : Store D members) (s : State) (how : Manner) (at : Gathering) (parts : List (List ℕ)) (text : List ℕ) (at' : Gathering) (rounds : List Round) (again : Bool)
       (each : TakesEach planners old new s how at parts text at' rounds again) → WaitOnce at.waiting → AllWaitOnce (gatherings_after old new s how at parts text at' rounds again each)
   each_once old new s how at [] text at' rounds again each once = tt
-  each_once old new s how at (part ∷ parts) text at' rounds again (mid, next, said, rest, first, later, refused, others, takes, texts, came_so, again_is, each) once =
-      let here = line_once old mid s how at part said (proceeds refused) next first takes once in
-      (here, each_once mid new (after_rounds s first) how next parts rest at' later others each here)
+  each_once old new s how at (part ∷ parts) text at' rounds again it once =
+      let here = line_once old it.mid s how at part it.said (proceeds it.refused) it.next it.first it.takes once in
+      (here, each_once it.mid new (after_rounds s it.first) how it.next parts it.rest at' it.later it.others it.more here)
 
 module _ {D : Type 0} {members : Ghosts D} (old new : Store D members) (s : State) (how : Manner) where
   taken_once : (mid : Store D members) (parts : List (List ℕ)) (text : List ℕ) (at : Gathering) (again : Bool) (taken : HasTaken planners old mid s how parts text at again) → AllWaitOnce (gatherings_in taken)
@@ -117,19 +119,19 @@ module _ {D : Type 0} {members : Ghosts D} (old new : Store D members) (s : Stat
 
   -- so it is in a whole session
   pub stream_once : (result : Result Bool ServeFault) (known : SessionStreams) (serves : ServesStream planners old new s how result known) → AllWaitOnce (gatherings_of serves)
-  stream_once (Ok refused) known serves = let it = serves.served.3 in taken_once new it.parts it.earlier it.stage serves.served.1 it.taken
-  stream_once (Err fault.Read) known serves = taken_once new serves.served.1 serves.served.0 serves.served.3 serves.served.4 serves.served.6
-  stream_once (Err fault.Store) known serves = let it = serves.served.1 in taken_once it.mid it.parts it.earlier it.stage it.again it.taken
-  stream_once (Err fault.Unsure) known serves = let it = serves.served.1 in taken_once it.mid it.parts it.earlier it.stage it.again it.taken
-  stream_once (Err fault.Refused) known serves = by serves.served.2
+  stream_once (Ok refused) known serves = let it = serves.served.ended in taken_once new it.parts it.earlier it.stage serves.served.again it.taken
+  stream_once (Err fault.Read) known serves = let it = serves.served in taken_once new it.parts it.text it.stage it.again it.taken
+  stream_once (Err fault.Store) known serves = let it = serves.served.ended in taken_once it.mid it.parts it.earlier it.stage it.again it.taken
+  stream_once (Err fault.Unsure) known serves = let it = serves.served.ended in taken_once it.mid it.parts it.earlier it.stage it.again it.taken
+  stream_once (Err fault.Refused) known serves = by serves.served.last
     where
-      by : (all : EndsWithLine planners old new s how (proceeds true) serves.input serves.served.0 ⊎ ((again : Bool) × EndsInput planners old new s how serves.input serves.served.0 again true))
-          → AllWaitOnce (elim all [ inl ended ↦ gatherings_in ended.taken | inr taken ↦ gatherings_in taken.1.taken ])
-      by (inl it) = taken_once it.mid it.parts it.earlier it.stage it.again it.taken
-      by (inr all) = let it = all.1 in taken_once new it.parts it.earlier it.stage all.0 it.taken
-  stream_once (Err fault.Write) known serves = by serves.served.1
+      by : (all : LastRefused planners old new s how serves.input serves.served.text)
+          → AllWaitOnce (elim all [ line_refused ended ↦ gatherings_in ended.taken | end_refuses again ended ↦ gatherings_in ended.taken ])
+      by (line_refused it) = taken_once it.mid it.parts it.earlier it.stage it.again it.taken
+      by (end_refuses again it) = taken_once new it.parts it.earlier it.stage again it.taken
+  stream_once (Err fault.Write) known serves = by serves.served.last
     where
-      by : (all : ((course : Course) × EndsWithLine planners old new s how course serves.input serves.served.0) ⊎ ((again : Bool) × (last : Bool) × EndsInput planners old new s how serves.input serves.served.0 again last))
-          → AllWaitOnce (elim all [ inl ended ↦ gatherings_in ended.1.taken | inr taken ↦ gatherings_in taken.2.taken ])
-      by (inl ended) = let it = ended.1 in taken_once it.mid it.parts it.earlier it.stage it.again it.taken
-      by (inr all) = let it = all.2 in taken_once new it.parts it.earlier it.stage all.0 it.taken
+      by : (all : LastAnswered planners old new s how serves.input serves.served.text)
+          → AllWaitOnce (elim all [ line_answered course ended ↦ gatherings_in ended.taken | end_answered again last ended ↦ gatherings_in ended.taken ])
+      by (line_answered course it) = taken_once it.mid it.parts it.earlier it.stage it.again it.taken
+      by (end_answered again last it) = taken_once new it.parts it.earlier it.stage again it.taken

@@ -1,4 +1,4 @@
--- Lines that are answered one after another, and bytes that are fed to a talk.
+-- Lines that are answered one after another, and bytes that are fed to a session.
 use Rattle.std.proofs.Common.{◌≡◌, ◌≢◌, ◌==◌, ◌||◌, ◌≤◌, ◌++◌, ◌∙◌, ℕ, zero, suc, add-one, Bool, true, false, List, [], ◌∷◌, Option, Some, None, Result, Ok, Err, OnOk, refl, ap, sym, subst, arith, append-nil, append_assoc, ◌<◌, ◌+◌, length, take, drop, slice_index, take-append-drop}
 use Rattle.std.proofs.lemmas.List.{take_all, take_more}
 use Rattle.std.proofs.lemmas.Bool.Decides.{nat_tests}
@@ -11,15 +11,16 @@ use Rattle.vm_types.specs.declared.refusal.Refusal.{Refusal}
 use Rattle.vm_types.specs.State.{State, after, next}
 use Rattle.vm_store.specs.Store.{Holds, has_failed, disk_of}
 use Rattle.vm_store.specs.declared.store.Store.{Store}
-use Rattle.vm_cli.specs.Carried.{WritesStart}
-use Rattle.vm_cli.specs.Feeds.{Fed, Writes}
-use Rattle.vm_cli.specs.Lines.{IsPart, lines_of, onto_first}
-use Rattle.vm_cli.specs.Talk.{Done, EndsTalk, HandlesLine, HasTalked, ServesLines, Stood, Talks, after_each, after_line, each_answer, each_command, with_answer, with_command}
-use Rattle.vm_cli.specs.Replies.{is_error}
-use Rattle.vm_cli.specs.declared.talk.Manner.{Manner}
-use Rattle.vm_cli.specs.declared.talk.OnRefusal.TheVariants.{Stop}
-use Rattle.vm_cli.specs.declared.talk.ServeFault.{ServeFault}
-use Rattle.vm_cli.specs.declared.talk.ServeFault.TheVariants as fault
+use Rattle.vm_cli.specs.answers.Carried.{WritesStart}
+use Rattle.vm_cli.specs.session.Feeds.{Fed, Writes}
+use Rattle.vm_cli.specs.session.Known.{between}
+use Rattle.vm_cli.specs.lines.Lines.{IsPart, lines_of, onto_first}
+use Rattle.vm_cli.specs.session.Session.{Done, EndsSession, HandlesLine, HasAnswered, ServesLines, Stood, AnswersEach, after_each, after_line, each_answer, each_command, with_answer, with_command}
+use Rattle.vm_cli.specs.answers.Replies.{is_error}
+use Rattle.vm_cli.specs.declared.session.Manner.{Manner}
+use Rattle.vm_cli.specs.declared.session.OnRefusal.TheVariants.{Stop}
+use Rattle.vm_cli.specs.declared.session.ServeFault.{ServeFault}
+use Rattle.vm_cli.specs.declared.session.ServeFault.TheVariants as fault
 use Rattle.vm_cli.proofs.HandledLemmas.{handled_stops}
 use Rattle.vm_cli.proofs.Known.{Appends-nil, Appends-then}
 use Rattle.vm_cli.proofs.Parts.{IsPart-append}
@@ -67,116 +68,132 @@ joined refused (Err fault) = Err fault
 
 module _ {D : Type 0} {members : _} where
   -- the state after further commands
-  pub after-join : (on : Manner) (old new : Store D members) (s : State) (lines : List (List ℕ)) (text : List ℕ) (commands later : List Command) (answers others : List (Result Answer Refusal)) (refused : Bool) → Talks old new s on lines text commands answers refused
+  pub after-join : (on : Manner) (old new : Store D members) (s : State) (lines : List (List ℕ)) (text : List ℕ) (commands later : List Command) (answers others : List (Result Answer Refusal)) (refused : Bool) → AnswersEach old new s on lines text commands answers refused
       → after s (commands ++ later) (answers ++ others) ≡ after (after s commands answers) later others
-  after-join on old new s [] text commands later answers others refused (d, e, f, g, h) = rw (f, g) refl
-  after-join on old new s (line ∷ lines) text commands later answers others refused (mid, first, rest, later1, others1, step, e, f, g, again, h, talks) =
-      rw (f, g, command-append step.done later1 later, answer-append step.done others1 others, after-with s step.done (later1 ++ later) (others1 ++ others), after-with s step.done later1 others1)
-      (after-join on mid new (after_line s step.done) lines rest later1 later others1 others again talks)
+  after-join on old new s [] text commands later answers others refused none = rw (none.no_commands, none.no_answers) refl
+  after-join on old new s (line ∷ lines) text commands later answers others refused it =
+      let done = it.step.done in
+      rw (it.carried, it.given, command-append done it.later later, answer-append done it.others others, after-with s done (it.later ++ later) (it.others ++ others), after-with s done it.later it.others)
+      (after-join on it.mid new (after_line s done) lines it.rest it.later later it.others others it.again it.more)
 
   -- further lines
-  talks-join : (on : Manner) (old mid new : Store D members) (s : State) (lines more : List (List ℕ)) (text second : List ℕ) (commands later : List Command) (answers others : List (Result Answer Refusal)) (refused again : Bool)
-      → Talks old mid s on lines text commands answers refused → Talks mid new (after s commands answers) on more second later others again
-      → Talks old new s on (lines ++ more) (text ++ second) (commands ++ later) (answers ++ others) (refused || again)
-  talks-join on old mid new s [] more text second commands later answers others refused again (d, e, f, g, h) q =
-      let text_is : second ≡ text ++ second = rw e refl in
-      let commands_are : later ≡ commands ++ later = rw f refl in
-      let answers_are : others ≡ answers ++ others = rw g refl in
-      let state : after s commands answers ≡ s = rw f refl in
-      let refusals_are : again ≡ (refused || again) = rw h refl in
-      let from_old : Talks old new (after s commands answers) on more second later others again = subst (λ (t : Store D members). Talks t new (after s commands answers) on more second later others again) d q in
-      let from_here : Talks old new s on more second later others again = subst (λ t. Talks old new t on more second later others again) state from_old in
-      let a : Talks old new s on more (text ++ second) later others again = subst (λ t. Talks old new s on more t later others again) text_is from_here in
-      let b : Talks old new s on more (text ++ second) (commands ++ later) others again = subst (λ t. Talks old new s on more (text ++ second) t others again) commands_are a in
-      let c : Talks old new s on more (text ++ second) (commands ++ later) (answers ++ others) again = subst (λ t. Talks old new s on more (text ++ second) (commands ++ later) t again) answers_are b in
-      subst (λ t. Talks old new s on more (text ++ second) (commands ++ later) (answers ++ others) t) refusals_are c
-  talks-join on old mid new s (line ∷ lines) more text second commands later answers others refused again (next, first, rest, later1, others1, step, e, f, g, rest_refused, h, talks) q =
-      let state : after s commands answers ≡ after (after_line s step.done) later1 others1 = rw (f, g) (after-with s step.done later1 others1) in (
-        next,
-        first,
-        rest ++ second,
-        later1 ++ later,
-        others1 ++ others,
-        step,
-        rw e (append_assoc first rest second),
-        rw f (command-append step.done later1 later),
-        rw g (answer-append step.done others1 others),
-        rest_refused || again,
-        rw h (or-assoc (is_error first) rest_refused again),
-        talks-join on next mid new (after_line s step.done) lines more rest second later1 later others1 others rest_refused again talks (subst (λ t. Talks mid new t on more second later others again) state q),
-      )
+  lines-join : (on : Manner) (old mid new : Store D members) (s : State) (lines more : List (List ℕ)) (text second : List ℕ) (commands later : List Command) (answers others : List (Result Answer Refusal)) (refused again : Bool)
+      → AnswersEach old mid s on lines text commands answers refused → AnswersEach mid new (after s commands answers) on more second later others again
+      → AnswersEach old new s on (lines ++ more) (text ++ second) (commands ++ later) (answers ++ others) (refused || again)
+  lines-join on old mid new s [] more text second commands later answers others refused again none q =
+      let text_is : second ≡ text ++ second = rw none.silent refl in
+      let commands_are : later ≡ commands ++ later = rw none.no_commands refl in
+      let answers_are : others ≡ answers ++ others = rw none.no_answers refl in
+      let state : after s commands answers ≡ s = rw none.no_commands refl in
+      let refusals_are : again ≡ (refused || again) = rw none.fine refl in
+      let from_old : AnswersEach old new (after s commands answers) on more second later others again = subst (λ (t : Store D members). AnswersEach t new (after s commands answers) on more second later others again) none.same q in
+      let from_here : AnswersEach old new s on more second later others again = subst (λ t. AnswersEach old new t on more second later others again) state from_old in
+      let a : AnswersEach old new s on more (text ++ second) later others again = subst (λ t. AnswersEach old new s on more t later others again) text_is from_here in
+      let b : AnswersEach old new s on more (text ++ second) (commands ++ later) others again = subst (λ t. AnswersEach old new s on more (text ++ second) t others again) commands_are a in
+      let c : AnswersEach old new s on more (text ++ second) (commands ++ later) (answers ++ others) again = subst (λ t. AnswersEach old new s on more (text ++ second) (commands ++ later) t again) answers_are b in
+      subst (λ t. AnswersEach old new s on more (text ++ second) (commands ++ later) (answers ++ others) t) refusals_are c
+  lines-join on old mid new s (line ∷ lines) more text second commands later answers others refused again it q =
+      let done = it.step.done in
+      let state : after s commands answers ≡ after (after_line s done) it.later it.others = rw (it.carried, it.given) (after-with s done it.later it.others) in
+      record {
+        mid = it.mid;
+        first = it.first;
+        rest = it.rest ++ second;
+        later = it.later ++ later;
+        others = it.others ++ others;
+        again = it.again || again;
+        step = it.step;
+        texts = rw it.texts (append_assoc it.first it.rest second);
+        carried = rw it.carried (command-append done it.later later);
+        given = rw it.given (answer-append done it.others others);
+        told = rw it.told (or-assoc (is_error it.first) it.again again);
+        more = lines-join on it.mid mid new (after_line s done) lines more it.rest second it.later later it.others others it.again again it.more (subst (λ t. AnswersEach mid new t on more second later others again) state q);
+      }
 
-  -- a disk that is honest after a talk was so before it
-  talks-back : (on : Manner) (old new : Store D members) (s : State) (lines : List (List ℕ)) (text : List ℕ) (commands : List Command) (answers : List (Result Answer Refusal)) (refused : Bool) → Talks old new s on lines text commands answers refused
+  -- a disk that is honest after a session was so before it
+  lines-back : (on : Manner) (old new : Store D members) (s : State) (lines : List (List ℕ)) (text : List ℕ) (commands : List Command) (answers : List (Result Answer Refusal)) (refused : Bool) → AnswersEach old new s on lines text commands answers refused
       → (members.state (disk_of new)).honest ≡ true → (members.state (disk_of old)).honest ≡ true
-  talks-back on old new s [] text commands answers refused (d, e, f, g, h) honest = subst (λ (t : Store D members). (members.state (disk_of t)).honest ≡ true) d honest
-  talks-back on old new s (line ∷ lines) text commands answers refused (mid, first, rest, later, others, step, e, f, g, again, h, talks) honest =
-      step.passes.goes.earlier (talks-back on mid new (after_line s step.done) lines rest later others again talks honest)
+  lines-back on old new s [] text commands answers refused none honest = subst (λ (t : Store D members). (members.state (disk_of t)).honest ≡ true) none.same honest
+  lines-back on old new s (line ∷ lines) text commands answers refused it honest =
+      it.step.passes.goes.earlier (lines-back on it.mid new (after_line s it.step.done) lines it.rest it.later it.others it.again it.more honest)
 
   -- no line
-  abbrev pub talked-none : (store : Store D members) (s : State) (on : Manner) → HasTalked store store s on [] []
-  talked-none store s on = record {
+  abbrev pub answered-none : (store : Store D members) (s : State) (on : Manner) → HasAnswered store store s on [] []
+  answered-none store s on = record {
     commands = [];
     answers = [];
     refused = false;
-    talks = (refl, refl, refl, refl, refl);
+    each = record { same = refl; silent = refl; no_commands = refl; no_answers = refl; fine = refl };
     goes_on = λ stop. refl;
     still = refl;
     holds = λ stood fine. stood.holds;
   }
 
   -- one line
-  abbrev pub talked-line : (old new : Store D members) (s : State) (on : Manner) (part text : List ℕ) → HandlesLine old new s on part text false
-      → (on.on_refusal ≡ Stop → is_error text ≡ false) → HasTalked old new s on (part ∷ []) text
-  talked-line old new s on part text handled goes_on = record {
+  abbrev pub answered-line : (old new : Store D members) (s : State) (on : Manner) (part text : List ℕ) → HandlesLine old new s on part text false
+      → (on.on_refusal ≡ Stop → is_error text ≡ false) → HasAnswered old new s on (part ∷ []) text
+  answered-line old new s on part text handled goes_on = record {
     commands = with_command handled.done [];
     answers = with_answer handled.done [];
     refused = is_error text;
-    talks = (new, text, [], [], [], handled, sym (append-nil text), refl, refl, false, sym (or-false (is_error text)), (refl, refl, refl, refl, refl));
+    each = record {
+      mid = new;
+      first = text;
+      rest = [];
+      later = [];
+      others = [];
+      again = false;
+      step = handled;
+      texts = sym (append-nil text);
+      carried = refl;
+      given = refl;
+      told = sym (or-false (is_error text));
+      more = record { same = refl; silent = refl; no_commands = refl; no_answers = refl; fine = refl };
+    };
     goes_on = goes_on;
     still = handled.still refl;
     holds = λ stood fine. subst (λ t. Holds new t) (sym (after-with s handled.done [] [])) (handled.holds stood fine);
   }
 
   -- further lines
-  module _ (old mid new : Store D members) (s : State) (on : Manner) (lines : List (List ℕ)) (text : List ℕ) (first : HasTalked old mid s on lines text) where
-    pub state-then : (more : List (List ℕ)) (second : List ℕ) (then : HasTalked mid new (after s first.commands first.answers) on more second) → after s (first.commands ++ then.commands) (first.answers ++ then.answers) ≡ after (after s first.commands first.answers) then.commands then.answers
-    state-then more second then = after-join on old mid s lines text first.commands then.commands first.answers then.answers first.refused first.talks
+  module _ (old mid new : Store D members) (s : State) (on : Manner) (lines : List (List ℕ)) (text : List ℕ) (first : HasAnswered old mid s on lines text) where
+    pub state-then : (more : List (List ℕ)) (second : List ℕ) (then : HasAnswered mid new (after s first.commands first.answers) on more second) → after s (first.commands ++ then.commands) (first.answers ++ then.answers) ≡ after (after s first.commands first.answers) then.commands then.answers
+    state-then more second then = after-join on old mid s lines text first.commands then.commands first.answers then.answers first.refused first.each
 
     -- the store between stood for what the first lines leave, where this one did for what came before
-    stood-then : (more : List (List ℕ)) (second : List ℕ) (then : HasTalked mid new (after s first.commands first.answers) on more second) → Stood old new s → has_failed new ≡ false → Stood mid new (after s first.commands first.answers)
+    stood-then : (more : List (List ℕ)) (second : List ℕ) (then : HasAnswered mid new (after s first.commands first.answers) on more second) → Stood old new s → has_failed new ≡ false → Stood mid new (after s first.commands first.answers)
     stood-then more second then stood fine =
-        let back = talks-back on mid new (after s first.commands first.answers) more second then.commands then.answers then.refused then.talks stood.honest in
+        let back = lines-back on mid new (after s first.commands first.answers) more second then.commands then.answers then.refused then.each stood.honest in
         record { honest = stood.honest; holds = first.holds (record { honest = back; holds = stood.holds }) (sym then.still ∙ fine) }
 
-    pub talked-join : (more : List (List ℕ)) (second : List ℕ) → HasTalked mid new (after s first.commands first.answers) on more second → HasTalked old new s on (lines ++ more) (text ++ second)
-    talked-join more second then = record {
+    pub answered-join : (more : List (List ℕ)) (second : List ℕ) → HasAnswered mid new (after s first.commands first.answers) on more second → HasAnswered old new s on (lines ++ more) (text ++ second)
+    answered-join more second then = record {
       commands = first.commands ++ then.commands;
       answers = first.answers ++ then.answers;
       refused = first.refused || then.refused;
-      talks = talks-join on old mid new s lines more text second first.commands then.commands first.answers then.answers first.refused then.refused first.talks then.talks;
+      each = lines-join on old mid new s lines more text second first.commands then.commands first.answers then.answers first.refused then.refused first.each then.each;
       goes_on = λ stop. neither first.refused then.refused (first.goes_on stop) (then.goes_on stop);
       still = then.still ∙ first.still;
       holds = λ stood fine. subst (λ t. Holds new t) (sym (state-then more second then)) (then.holds (stood-then more second then stood fine) fine);
     }
 
     -- what all of them carried out
-    pub commands-joined : (more : List (List ℕ)) (second : List ℕ) (then : HasTalked mid new (after s first.commands first.answers) on more second) → (talked-join more second then).commands ≡ first.commands ++ then.commands
-    unfolding talked-join
+    pub commands-joined : (more : List (List ℕ)) (second : List ℕ) (then : HasAnswered mid new (after s first.commands first.answers) on more second) → (answered-join more second then).commands ≡ first.commands ++ then.commands
+    unfolding answered-join
     commands-joined more second then = refl
 
-    pub answers-joined : (more : List (List ℕ)) (second : List ℕ) (then : HasTalked mid new (after s first.commands first.answers) on more second) → (talked-join more second then).answers ≡ first.answers ++ then.answers
-    unfolding talked-join
+    pub answers-joined : (more : List (List ℕ)) (second : List ℕ) (then : HasAnswered mid new (after s first.commands first.answers) on more second) → (answered-join more second then).answers ≡ first.answers ++ then.answers
+    unfolding answered-join
     answers-joined more second then = refl
 
-  -- a talk that ends after further lines
-  module _ (old mid new : Store D members) (s : State) (on : Manner) (lines : List (List ℕ)) (text : List ℕ) (first : HasTalked old mid s on lines text) where
-    ends-after : (ends : Bool) (all : List (List ℕ)) (second : List ℕ) → EndsTalk mid new (after s first.commands first.answers) on ends all second → EndsTalk old new s on ends (lines ++ all) (text ++ second)
-    unfolding talked-join
+  -- a session that ends after further lines
+  module _ (old mid new : Store D members) (s : State) (on : Manner) (lines : List (List ℕ)) (text : List ℕ) (first : HasAnswered old mid s on lines text) where
+    ends-after : (ends : Bool) (all : List (List ℕ)) (second : List ℕ) → EndsSession mid new (after s first.commands first.answers) on ends all second → EndsSession old new s on ends (lines ++ all) (text ++ second)
+    unfolding answered-join
     ends-after ends all second e =
-        let then = e.talked in
+        let then = e.answered in
         let state : after s (first.commands ++ then.commands) (first.answers ++ then.answers) ≡ after (after s first.commands first.answers) then.commands then.answers =
-        after-join on old mid s lines text first.commands then.commands first.answers then.answers first.refused first.talks in
+        after-join on old mid s lines text first.commands then.commands first.answers then.answers first.refused first.each in
         record {
           mid = e.mid;
           lines = lines ++ e.lines;
@@ -186,7 +203,7 @@ module _ {D : Type 0} {members : _} where
           last = e.last;
           cut = ap (λ ls. lines ++ ls) e.cut ∙ sym (append_assoc lines e.lines (e.line ∷ e.others));
           texts = ap (λ bs. text ++ bs) e.texts ∙ sym (append_assoc text e.earlier e.last);
-          talked = talked-join old mid e.mid s on lines text first e.lines e.earlier then;
+          answered = answered-join old mid e.mid s on lines text first e.lines e.earlier then;
           handled = subst (λ t. HandlesLine e.mid new t on e.line e.last ends) (sym state) e.handled;
           stops = e.stops;
         }
@@ -201,25 +218,47 @@ module _ {D : Type 0} {members : _} where
       };
     }
 
-    -- how a talk goes on after lines
+    -- how a session goes on after lines
     pub serves-after : (result : Result Bool ServeFault) (a b c : Option (List ℕ)) (all : List (List ℕ)) → Appends a b text
-        → ServesLines mid new (after s first.commands first.answers) on result b c all → ServesLines old new s on (joined first.refused result) a c (lines ++ all)
-    unfolding talked-join ends-after
-    serves-after (Ok again) a b c all written (second, talked, same, more) =
-        (text ++ second, talked-join old mid new s on lines text first all second talked, ap (λ (r : Bool). first.refused || r) same, Appends-then a b c text second written more)
-    serves-after (Err fault.Read) a b c all written (second, then, others, cut, talked, more) =
-        (text ++ second, lines ++ then, others, ap (λ ls. lines ++ ls) cut ∙ sym (append_assoc lines then others), talked-join old mid new s on lines text first then second talked, Appends-then a b c text second written more)
+        → ServesLines mid new (after s first.commands first.answers) on result (between b c) all → ServesLines old new s on (joined first.refused result) (between a c) (lines ++ all)
+    unfolding answered-join ends-after
+    serves-after (Ok again) a b c all written it = record {
+      text = text ++ it.text;
+      answered = answered-join old mid new s on lines text first all it.text it.answered;
+      told = ap (λ (r : Bool). first.refused || r) it.told;
+      written = Appends-then a b c text it.text written it.written;
+    }
+    serves-after (Err fault.Read) a b c all written it = record {
+      text = text ++ it.text;
+      lines = lines ++ it.lines;
+      others = it.others;
+      cut = ap (λ ls. lines ++ ls) it.cut ∙ sym (append_assoc lines it.lines it.others);
+      answered = answered-join old mid new s on lines text first it.lines it.text it.answered;
+      written = Appends-then a b c text it.text written it.written;
+    }
     serves-after (Err fault.Unsure) a b c all written serves = absurd serves
-    serves-after (Err fault.Store) a b c all written (second, ended, more) =
-        (text ++ second, ends-after true all second ended, Appends-then a b c text second written more)
-    serves-after (Err fault.Refused) a b c all written (second, ended, error, stop, more) =
-        (text ++ second, ends-after false all second ended, error, stop, Appends-then a b c text second written more)
-    serves-after (Err fault.Write) a b c all written (second, ends, ended, more) =
-        (text ++ second, ends, ends-after ends all second ended, begins-after a b c second written more)
+    serves-after (Err fault.Store) a b c all written it = record {
+      text = text ++ it.text;
+      ended = ends-after true all it.text it.ended;
+      written = Appends-then a b c text it.text written it.written;
+    }
+    serves-after (Err fault.Refused) a b c all written it = record {
+      text = text ++ it.text;
+      ended = ends-after false all it.text it.ended;
+      refused = it.refused;
+      stop = it.stop;
+      written = Appends-then a b c text it.text written it.written;
+    }
+    serves-after (Err fault.Write) a b c all written it = record {
+      text = text ++ it.text;
+      ends = it.ends;
+      ended = ends-after it.ends all it.text it.ended;
+      begun = begins-after a b c it.text written it.begun;
+    }
 
-  -- a talk of one line
+  -- a session of one line
   module _ (old new : Store D members) (s : State) (on : Manner) (line : List ℕ) where
-    abbrev ends-line : (ends : Bool) (text : List ℕ) (others : List (List ℕ)) → HandlesLine old new s on line text ends → EndsTalk old new s on ends (line ∷ others) text
+    abbrev ends-line : (ends : Bool) (text : List ℕ) (others : List (List ℕ)) → HandlesLine old new s on line text ends → EndsSession old new s on ends (line ∷ others) text
     ends-line ends text others handled = record {
       mid = old;
       lines = [];
@@ -229,21 +268,21 @@ module _ {D : Type 0} {members : _} where
       last = text;
       cut = refl;
       texts = refl;
-      talked = talked-none old s on;
+      answered = answered-none old s on;
       handled = handled;
       stops = handled_stops old new s on line text ends handled;
     }
 
     pub serves-line : (result : Result Bool ServeFault) (a b : Option (List ℕ)) (others : List (List ℕ)) → OnOk result (others ≡ [])
-        → Writes on (HandlesLine old new s on line) result a b → ServesLines old new s on result a b (line ∷ others)
-    serves-line (Ok refused) a b others none (text, handled, same, goes_on, written) =
-        subst (λ ls. ServesLines old new s on (Ok refused) a b (line ∷ ls)) (sym none)
-        (text, talked-line old new s on line text handled (λ stop. sym same ∙ goes_on stop), same, written)
+        → Writes on (HandlesLine old new s on line) result a b → ServesLines old new s on result (between a b) (line ∷ others)
+    serves-line (Ok refused) a b others none it =
+        subst (λ ls. ServesLines old new s on (Ok refused) (between a b) (line ∷ ls)) (sym none)
+        (record { text = it.text; answered = answered-line old new s on line it.text it.says (λ stop. sym it.told ∙ it.goes_on stop); told = it.told; written = it.written })
     serves-line (Err fault.Read) a b others none writes = absurd writes
     serves-line (Err fault.Unsure) a b others none writes = absurd writes
-    serves-line (Err fault.Store) a b others none (text, handled, written) = (text, ends-line true text others handled, written)
-    serves-line (Err fault.Refused) a b others none (text, handled, error, stop, written) = (text, ends-line false text others handled, error, stop, written)
-    serves-line (Err fault.Write) a b others none (text, ends, handled, written) = (text, ends, ends-line ends text others handled, written)
+    serves-line (Err fault.Store) a b others none it = record { text = it.text; ended = ends-line true it.text others it.says; written = it.written }
+    serves-line (Err fault.Refused) a b others none it = record { text = it.text; ended = ends-line false it.text others it.says; refused = it.refused; stop = it.stop; written = it.written }
+    serves-line (Err fault.Write) a b others none it = record { text = it.whole; ends = it.ends; ended = ends-line it.ends it.whole others it.says; begun = it.begins }
 
 -- no line feed stands before a place
 pub part_before : (bytes : List ℕ) (n : ℕ) → n ≤ length bytes → ((k : ℕ) → k < n → ¬ (slice_index bytes k == 10) ≡ true) → IsPart (take n bytes)
@@ -290,7 +329,7 @@ module _ {D : Type 0} {members : _} where
       lines = [];
       text = [];
       cut = λ more. refl;
-      talked = talked-none store s on;
+      answered = answered-none store s on;
       told = refl;
       written = Appends-nil a;
     }
@@ -301,7 +340,7 @@ module _ {D : Type 0} {members : _} where
       lines = [];
       text = [];
       cut = λ more. ap lines_of (sym (append_assoc from bytes more));
-      talked = talked-none store s on;
+      answered = answered-none store s on;
       told = refl;
       written = Appends-nil a;
     }
@@ -313,39 +352,39 @@ module _ {D : Type 0} {members : _} where
         ap (λ bs. lines_of (from ++ bs)) (append_assoc bytes (10 ∷ []) more) ∙ ap lines_of (sym (append_assoc from bytes (10 ∷ more))) ∙ lines-end (from ++ bytes) more part
 
     pub fed-line : (refused : Bool) → Writes on (HandlesLine old new s on (from ++ bytes)) (Ok refused) a b → Fed old new s on refused (bytes ++ 10 ∷ []) from [] a b
-    fed-line refused (text, handled, same, goes_on, written) = record {
+    fed-line refused it = record {
       lines = (from ++ bytes) ∷ [];
-      text = text;
+      text = it.text;
       cut = cut-line;
-      talked = talked-line old new s on (from ++ bytes) text handled (λ stop. sym same ∙ goes_on stop);
-      told = same;
-      written = written;
+      answered = answered-line old new s on (from ++ bytes) it.text it.says (λ stop. sym it.told ∙ it.goes_on stop);
+      told = it.told;
+      written = it.written;
     }
 
     pub ended-line : (why : ServeFault) (more : List ℕ) → Writes on (HandlesLine old new s on (from ++ bytes)) (Err why) a b
-        → ServesLines old new s on (Err why) a b (lines_of (from ++ ((bytes ++ 10 ∷ []) ++ more)))
+        → ServesLines old new s on (Err why) (between a b) (lines_of (from ++ ((bytes ++ 10 ∷ []) ++ more)))
     ended-line why more writes =
-        subst (λ ls. ServesLines old new s on (Err why) a b ls) (sym (cut-line more)) (serves-line old new s on (from ++ bytes) (Err why) a b (lines_of more) tt writes)
+        subst (λ ls. ServesLines old new s on (Err why) (between a b) ls) (sym (cut-line more)) (serves-line old new s on (from ++ bytes) (Err why) a b (lines_of more) tt writes)
 
   -- further bytes
   module _ (old mid new : Store D members) (s : State) (on : Manner) (refused : Bool) (bytes then from middle : List ℕ) (a b c : Option (List ℕ)) (first : Fed old mid s on refused bytes from middle a b) where
     cut-join : (more : List ℕ) → lines_of (from ++ ((bytes ++ then) ++ more)) ≡ first.lines ++ lines_of (middle ++ (then ++ more))
     cut-join more = ap (λ bs. lines_of (from ++ bs)) (append_assoc bytes then more) ∙ first.cut (then ++ more)
 
-    pub fed-join : (again : Bool) (to : List ℕ) → Fed mid new (after s first.talked.commands first.talked.answers) on again then middle to b c
+    pub fed-join : (again : Bool) (to : List ℕ) → Fed mid new (after s first.answered.commands first.answered.answers) on again then middle to b c
         → Fed old new s on (refused || again) (bytes ++ then) from to a c
-    unfolding talked-join
+    unfolding answered-join
     fed-join again to second = record {
       lines = first.lines ++ second.lines;
       text = first.text ++ second.text;
       cut = λ more. cut-join more ∙ ap (λ ls. first.lines ++ ls) (second.cut more) ∙ sym (append_assoc first.lines second.lines (lines_of (to ++ more)));
-      talked = talked-join old mid new s on first.lines first.text first.talked second.lines second.text second.talked;
+      answered = answered-join old mid new s on first.lines first.text first.answered second.lines second.text second.answered;
       told = rw (first.told, second.told) refl;
       written = Appends-then a b c first.text second.text first.written second.written;
     }
 
-    -- the talk ended there
-    pub ended-join : (why : ServeFault) (more : List ℕ) → ServesLines mid new (after s first.talked.commands first.talked.answers) on (Err why) b c (lines_of (middle ++ (then ++ more)))
-        → ServesLines old new s on (Err why) a c (lines_of (from ++ ((bytes ++ then) ++ more)))
+    -- the session ended there
+    pub ended-join : (why : ServeFault) (more : List ℕ) → ServesLines mid new (after s first.answered.commands first.answered.answers) on (Err why) (between b c) (lines_of (middle ++ (then ++ more)))
+        → ServesLines old new s on (Err why) (between a c) (lines_of (from ++ ((bytes ++ then) ++ more)))
     ended-join why more ended =
-        subst (λ ls. ServesLines old new s on (Err why) a c ls) (sym (cut-join more)) (serves-after old mid new s on first.lines first.text first.talked (Err why) a b c (lines_of (middle ++ (then ++ more))) first.written ended)
+        subst (λ ls. ServesLines old new s on (Err why) (between a c) ls) (sym (cut-join more)) (serves-after old mid new s on first.lines first.text first.answered (Err why) a b c (lines_of (middle ++ (then ++ more))) first.written ended)

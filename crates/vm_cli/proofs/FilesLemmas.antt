@@ -17,28 +17,28 @@ use Rattle.vm_disk.proofs.MomentLemmas.{at_end}
 use Rattle.vm_store.specs.NewStore.{IsBadSize}
 use Rattle.vm_store.specs.Refused.{IsAtMostSynced}
 use Rattle.vm_store.specs.Shown.{Shows}
-use Rattle.vm_cli.specs.CachedLines.{buffer_for, IsNotServed, IsServed, answers_told, commands_told}
-use Rattle.vm_cli.specs.DelayedLines.{IsRefusedLate, IsServedLate, answers_late, commands_late}
-use Rattle.vm_cli.specs.Exits.{IsJob, Tells}
-use Rattle.vm_cli.specs.Keeps.{Keeps}
-use Rattle.vm_cli.specs.Known.{ProgramStreams, SessionStreams, between, session_of, with_lines}
-use Rattle.vm_cli.specs.Served.{answers_by, commands_by}
-use Rattle.vm_cli.specs.Files.{Answers, Counts, Draws, Declines, Does, Duplicates, FindsFault, KeepsAll, Makes}
-use Rattle.vm_cli.specs.Places.{KeepsOthers, PlaceState}
-use Rattle.vm_cli.specs.Runs.{AsksToWrite, Disks, IsLook, LooksOnly, ServesIn, ServesWords}
-use Rattle.vm_cli.specs.Openings.{HasRefused}
+use Rattle.vm_cli.specs.program.CachedLines.{buffer_for, IsNotServed, IsServed, answers_told, commands_told}
+use Rattle.vm_cli.specs.program.DelayedLines.{IsRefusedLate, IsServedLate, answers_late, commands_late}
+use Rattle.vm_cli.specs.program.Exits.{IsJob, Tells}
+use Rattle.vm_cli.specs.session.Keeps.{Keeps}
+use Rattle.vm_cli.specs.session.Known.{ProgramStreams, SessionStreams, between, session_of, with_lines}
+use Rattle.vm_cli.specs.session.Served.{answers_by, commands_by}
+use Rattle.vm_cli.specs.program.Files.{Answers, Counts, Draws, Declines, Does, Duplicates, FindsFault, KeepsAll, Makes}
+use Rattle.vm_cli.specs.program.Places.{KeepsOthers, PlaceState}
+use Rattle.vm_cli.specs.program.Runs.{AsksToWrite, Disks, IsLook, LooksOnly, ServesIn, ServesWords}
+use Rattle.vm_cli.specs.program.Openings.{HasRefused}
 use Rattle.vm_cli.specs.declared.program.opening.NoStore.{NoStore}
-use Rattle.vm_cli.specs.Words.{Wanted, altctl}
-use Rattle.vm_cli.specs.Words.Wanted.{check, copy, create, do_lines, draw, run}
+use Rattle.vm_cli.specs.program.Words.{Wanted, altctl}
+use Rattle.vm_cli.specs.program.Words.Wanted.{check, copy, create, do_lines, draw, run}
 use Rattle.vm_cli.specs.declared.program.Exit.{Exit}
 use Rattle.vm_cli.specs.declared.program.task.InMemory.{InMemory}
 use Rattle.vm_cli.specs.declared.program.Exit.TheVariants.{Done, Refused, Stopped}
-use Rattle.vm_cli.specs.declared.talk.Manner.{Manner}
-use Rattle.vm_cli.specs.declared.talk.OnCommand.{OnCommand}
-use Rattle.vm_cli.specs.declared.talk.OnCommand.TheVariants.{Refuse}
+use Rattle.vm_cli.specs.declared.session.Manner.{Manner}
+use Rattle.vm_cli.specs.declared.session.OnCommand.{OnCommand}
+use Rattle.vm_cli.specs.declared.session.OnCommand.TheVariants.{Refuse}
 use Rattle.vm_cli.proofs.CachingLemmas.{keeps_below, refused_below, refused_there}
 use Rattle.vm_cli.proofs.DelayingLemmas.{keeps_late, refused_late}
-use Rattle.vm_cli.proofs.SessionLemmas.{clean_leaves}
+use Rattle.vm_cli.proofs.DiskUseLemmas.{clean_leaves}
 
 -- a disk that was at most synced holds what it held
 pub synced_alone : (old new : DiskState) → Throughout old new (IsAtMostSynced old.now) → new.now.contents ≡ old.now.contents
@@ -360,35 +360,38 @@ module _ {P D : Type 0} (over : Disks D) (denied : P → List Text) (place place
   -- lines were to be answered
   pub served_run : (name : Text) (in_memory : InMemory) (on : Manner) → IsJob words (run name in_memory on)
       → ServesIn over denied place place' name in_memory on exit known → ServesWords over denied place place' words exit known
-  served_run name in_memory on job serves = (
-    (λ other size refusal asked.
+  served_run name in_memory on job so = record {
+    runs = λ other size refusal asked.
         let same : run other size refusal ≡ run name in_memory on = one_job words (run name in_memory on) (run other size refusal) job asked in
         let name_is : other ≡ name = cc in
         let size_is : size ≡ in_memory = cc in
         let on_is : refusal ≡ on = cc in
-        inl (rw (name_is, size_is, on_is) serves)),
-    (λ other lines size refusal asked. let same : do_lines other lines size refusal ≡ run name in_memory on = one_job words (run name in_memory on) (do_lines other lines size refusal) job asked in absurd (cc)),
-  )
+        inl (rw (name_is, size_is, on_is) so);
+    does = λ other lines size refusal asked. let same : do_lines other lines size refusal ≡ run name in_memory on = one_job words (run name in_memory on) (do_lines other lines size refusal) job asked in absurd (cc);
+  }
 
   -- lines that were given were
   pub served_lines : (name : Text) (lines : List ℕ) (in_memory : InMemory) (on : Manner) → IsJob words (do_lines name lines in_memory on)
       → ServesIn over denied place place' name in_memory on exit (with_lines lines known) → ServesWords over denied place place' words exit known
-  served_lines name lines in_memory on job serves = (
-    (λ other size refusal asked. let same : run other size refusal ≡ do_lines name lines in_memory on = one_job words (do_lines name lines in_memory on) (run other size refusal) job asked in absurd (cc)),
-    (λ other given size refusal asked.
+  served_lines name lines in_memory on job so = record {
+    runs = λ other size refusal asked. let same : run other size refusal ≡ do_lines name lines in_memory on = one_job words (do_lines name lines in_memory on) (run other size refusal) job asked in absurd (cc);
+    does = λ other given size refusal asked.
         let same : do_lines other given size refusal ≡ do_lines name lines in_memory on = one_job words (do_lines name lines in_memory on) (do_lines other given size refusal) job asked in
         let name_is : other ≡ name = cc in
         let lines_are : given ≡ lines = cc in
         let size_is : size ≡ in_memory = cc in
         let on_is : refusal ≡ on = cc in
-        inl (rw (name_is, lines_are, size_is, on_is) serves)),
-  )
+        inl (rw (name_is, lines_are, size_is, on_is) so);
+  }
 
   -- no lines were to be answered, or the program stopped before
   pub served_none : ((name : Text) (in_memory : InMemory) (on : Manner) → IsJob words (run name in_memory on) → (exit ≡ Stopped) × (place' ≡ place))
       → ((name : Text) (lines : List ℕ) (in_memory : InMemory) (on : Manner) → IsJob words (do_lines name lines in_memory on) → (exit ≡ Stopped) × (place' ≡ place))
       → ServesWords over denied place place' words exit known
-  served_none runs does = ((λ name in_memory on asked. inr (runs name in_memory on asked)), (λ name lines in_memory on asked. inr (does name lines in_memory on asked)))
+  served_none runs does = record {
+    runs = λ name in_memory on asked. inr (runs name in_memory on asked);
+    does = λ name lines in_memory on asked. inr (does name lines in_memory on asked);
+  }
 
   -- words that ask for something else
   pub served_other : (job : Wanted) → IsJob words job → ((name : Text) (in_memory : InMemory) (on : Manner) → run name in_memory on ≡ job → ⊥)

@@ -6,9 +6,9 @@ use Rattle.vm_types.specs.declared.refusal.Refusal.{Refusal}
 use Rattle.vm_types.specs.declared.refusal.Refusal.TheVariants.{Device, Failed, Full}
 use Rattle.vm_store.specs.Store.{blocks_of, has_failed}
 use Rattle.vm_store.specs.declared.store.Store.{Store}
-use Rattle.vm_cli.specs.Feeds.{TalkGoesOn, TriesBy}
-use Rattle.vm_cli.specs.Replies.{ends_talk, reply_text}
-use Rattle.vm_cli.specs.Talk.{answer_text}
+use Rattle.vm_cli.specs.session.Feeds.{SessionGoesOn, TriesBy}
+use Rattle.vm_cli.specs.answers.Replies.{ends_session, reply_text}
+use Rattle.vm_cli.specs.session.Session.{answer_text}
 use Rattle.vm_cli.specs.declared.answers.reply.Reply.{Reply}
 use Rattle.vm_cli.proofs.ChainLemmas.{tries_once}
 use Rattle.vm_cli.proofs.EndLemmas.{applied_ends}
@@ -17,7 +17,7 @@ use Rattle.vm_cli.proofs.PassLemmas.{failed_or}
 
 module _ {D : Type 0} {members : _} (command : Command) (old new : Store D members) (answer : Result Answer Refusal) (applied : Applied old new command answer) where
   -- its answer is the last
-  pub tries_last : (left most : ℕ) (reply : Reply) → reply_text reply ≡ answer_text answer → TalkGoesOn answer reply → (answer ≡ Err Device → ends_talk reply ≡ true) → (answer ≡ Err Failed → ends_talk reply ≡ true)
+  pub tries_last : (left most : ℕ) (reply : Reply) → reply_text reply ≡ answer_text answer → SessionGoesOn answer reply → (answer ≡ Err Device → ends_session reply ≡ true) → (answer ≡ Err Failed → ends_session reply ≡ true)
       → (has_failed old ≡ false → answer ≡ Err Full → (most ≤ blocks_of new) ⊎ (left ≡ 0)) → TriesBy left most command reply old new
   tries_last left most reply text goes_on device failed full = record {
     store = applied_ends old new command answer applied reply goes_on device;

@@ -4,35 +4,35 @@ use Rattle.std.specs.Io.KnownBytes.{Appends}
 use Rattle.vm_types.specs.State.{State}
 use Rattle.vm_disk.specs.declared.disk.Disk.{Ghosts}
 use Rattle.vm_store.specs.declared.store.Store.{Store}
-use Rattle.vm_cli.specs.Conversations.{AnswersThen, Course, Tells, counted_result, some_lines}
-use Rattle.vm_cli.specs.Conversations.Course.{over, proceeds, unwritten}
-use Rattle.vm_cli.specs.Input.{KindHolds, ends_with_return, without_return}
-use Rattle.vm_cli.specs.Lines.{IsPart}
+use Rattle.vm_cli.specs.session.SessionKinds.{AnswersThen, Course, Tells, counted_result, some_lines}
+use Rattle.vm_cli.specs.session.SessionKinds.Course.{over, proceeds, unwritten}
+use Rattle.vm_cli.specs.lines.Input.{KindHolds, ends_with_return, without_return}
+use Rattle.vm_cli.specs.lines.Lines.{IsPart}
 use Rattle.vm_cli.specs.declared.lines.line.LineKind.{LineKind}
 use Rattle.vm_cli.specs.declared.lines.line.LineKind.TheVariants.{Kept}
 use Rattle.vm_cli.specs.declared.lines.line.TheConstants.{MAX_BYTES}
-use Rattle.vm_cli.specs.Feeds.{TalksOn}
-use Rattle.vm_cli.specs.PlannerLines.{Saying}
-use Rattle.vm_cli.specs.PlannerLines.Saying.{says}
-use Rattle.vm_cli.specs.PlannerCalls.{AnswersSeats, AreWaiting, AreWithin, Hall, IsGathering, SettlesQueue, TakesInHall, hall}
-use Rattle.vm_cli.specs.Planners.{AreSeats, Gathering, IsAnswered, IsLast, IsPassedBy, Seat, Sits, TakesAlone, TakesBehind, TakesSaying, TakesWhen, gathering, seat, settles_first, with_none_waiting}
-use Rattle.vm_cli.specs.Rounds.{Round, after_round, after_rounds}
-use Rattle.vm_cli.specs.StreamCalls.{scene}
-use Rattle.vm_cli.specs.Streams.{Held, IsStage}
-use Rattle.vm_cli.specs.Waiting.{SettlesWaiting, Waiting, then_course}
-use Rattle.vm_cli.specs.declared.talk.Manner.{Manner}
-use Rattle.vm_cli.specs.declared.talk.OnRefusal.TheVariants.{Stop, Tell}
-use Rattle.vm_cli.specs.declared.talk.ServeFault.{ServeFault}
-use Rattle.vm_cli.specs.declared.talk.ServeFault.TheVariants as fault
-use Rattle.vm_cli.specs.declared.talk.planner_line.When.{When}
-use Rattle.vm_cli.specs.declared.talk.planners.Planner.{Planner}
-use Rattle.vm_cli.specs.declared.talk.planners.PlannersSession.{PlannersSession}
+use Rattle.vm_cli.specs.session.Feeds.{FeedsOn}
+use Rattle.vm_cli.specs.session.PlannerLines.{Saying}
+use Rattle.vm_cli.specs.session.PlannerLines.Saying.{says}
+use Rattle.vm_cli.specs.session.PlannerCalls.{AnswersSeats, AreWaiting, AreWithin, Hall, IsGathering, SettlesQueue, TakesInHall, hall}
+use Rattle.vm_cli.specs.session.Planners.{AreSeats, Gathering, IsAnswered, IsLast, IsPassedBy, Seat, Sits, TakesAlone, TakesBehind, TakesSaying, TakesWhen, gathering, seat, settles_first, with_none_waiting}
+use Rattle.vm_cli.specs.session.Rounds.{Round, after_round, after_rounds}
+use Rattle.vm_cli.specs.session.StreamCalls.{scene}
+use Rattle.vm_cli.specs.session.Streams.{Held, IsStage}
+use Rattle.vm_cli.specs.session.Waiting.{SettlesWaiting, Waiting, then_course}
+use Rattle.vm_cli.specs.declared.session.Manner.{Manner}
+use Rattle.vm_cli.specs.declared.session.OnRefusal.TheVariants.{Stop, Tell}
+use Rattle.vm_cli.specs.declared.session.ServeFault.{ServeFault}
+use Rattle.vm_cli.specs.declared.session.ServeFault.TheVariants as fault
+use Rattle.vm_cli.specs.declared.session.planner_line.When.{When}
+use Rattle.vm_cli.specs.declared.session.planners.Planner.{Planner}
+use Rattle.vm_cli.specs.declared.session.planners.PlannersSession.{PlannersSession}
 use Rattle.vm_cli.proofs.CarriedLemmas.{begins-then}
-use Rattle.vm_cli.proofs.EndLemmas.{talks_then}
+use Rattle.vm_cli.proofs.EndLemmas.{feeds_then}
 use Rattle.vm_cli.proofs.FeedLemmas.{joined}
 use Rattle.vm_cli.proofs.Known.{Appends-nil, Appends-then}
 use Rattle.vm_cli.proofs.SeatLemmas.{within_first, within_joined, within_last, within_more}
-use Rattle.vm_cli.proofs.StreamLemmas.{counted_talks, tells_as, tells_counted}
+use Rattle.vm_cli.proofs.StreamLemmas.{counted_feeds, tells_as, tells_counted}
 
 -- one of them has a batch with at most a line more
 pub within_around : (n : ℕ) (before : List Planner) (planner : Planner) (behind : List Planner) (other : Planner) → AreWithin n (before ++ planner ∷ behind) → ((m : ℕ) → planner.batch.count ≤ m → other.batch.count ≤ m + 1)
@@ -81,9 +81,9 @@ answered_told store how IsAnswer at P Q IsSaid held of result a b (text, count, 
     ) written
 
 -- so it is as it was
-answered_talks : {D : Type 0} {members : Ghosts D} (store : Store D members) (how : Manner) (IsAnswer : List Seat → List ℕ → ℕ → List Seat → Type 0) (seats : List Seat) (P : List Seat → Type 0) (result : Result Bool ServeFault) (a b : Option (List ℕ))
-    → ((text : List ℕ) × (count : ℕ) × (seats' : List Seat) × P seats' × IsAnswer seats text count seats' × AnswersThen text (counted_result how.on_refusal count) result a b) → TalksOn result store store
-answered_talks store how IsAnswer seats P result a b (text, count, seats', holds_so, answer, written) = counted_talks store text a b how.on_refusal count result written
+answered_feeds : {D : Type 0} {members : Ghosts D} (store : Store D members) (how : Manner) (IsAnswer : List Seat → List ℕ → ℕ → List Seat → Type 0) (seats : List Seat) (P : List Seat → Type 0) (result : Result Bool ServeFault) (a b : Option (List ℕ))
+    → ((text : List ℕ) × (count : ℕ) × (seats' : List Seat) × P seats' × IsAnswer seats text count seats' × AnswersThen text (counted_result how.on_refusal count) result a b) → FeedsOn result store store
+answered_feeds store how IsAnswer seats P result a b (text, count, seats', holds_so, answer, written) = counted_feeds store text a b how.on_refusal count result written
 
 -- what waits is as it was
 waits_on : (old new : PlannersSession) → new.waiting.items ≡ old.waiting.items → (at : Gathering) → IsGathering old at → (seats' : List Seat) → AreSeats new.planners.items seats' → IsGathering new (gathering seats' at.waiting)
@@ -97,7 +97,7 @@ pub answered_hall : {D W : Type 0} {members : Ghosts D} (contents : W → Option
     → TakesInHall contents IsSaid result (hall old store writer) (hall new store writer')
 answered_hall contents IsAnswer store IsSaid result old new of writer writer' done = record {
   stays = done.stays;
-  store = λ at held. answered_talks store old.session.manner IsAnswer at.seats (AreSeats new.planners.items) result _ _ (done.answered at.seats held.seats);
+  store = λ at held. answered_feeds store old.session.manner IsAnswer at.seats (AreSeats new.planners.items) result _ _ (done.answered at.seats held.seats);
   taken = λ s at closed held.
       answered_told store old.session.manner IsAnswer at (AreSeats new.planners.items) (IsGathering new) (IsSaid s at) (waits_on old new done.waiting at held) (of s at held) result _ _ (done.answered at.seats held.seats);
 }
@@ -226,7 +226,7 @@ module _ {D W : Type 0} {members : Ghosts D} (contents : W → Option (List ℕ)
       closed = λ is. done.stays.closed (subst (λ batch. IsStage batch None) (sym settled.batch) is);
       count = λ n all. done.stays.count n (subst (AreWithin n) (sym planners) all);
     };
-    store = λ at held. talks_then store between after refused settled.store result (done.store (with_none_waiting at) (settled_at at held));
+    store = λ at held. feeds_then store between after refused settled.store result (done.store (with_none_waiting at) (settled_at at held));
     taken = λ s at closed held.
         let first_told = settled.settled s at.waiting held.waiting in
         let said = first_told.0 in

@@ -9,36 +9,38 @@ use Rattle.vm_types.specs.State.{State}
 use Rattle.vm_store.specs.Commands.{CarriesOut}
 use Rattle.vm_store.specs.Store.{GrowsOn, Holds, has_failed}
 use Rattle.vm_store.specs.declared.store.Store.{Store}
-use Rattle.vm_cli.specs.Feeds.{AnsweredOrWanting, HandlesRequest, HandlesOrWants, Replied, Replies, TriesSome}
-use Rattle.vm_cli.specs.Input.{HoldsLine, KindHolds, without_return}
-use Rattle.vm_cli.specs.Replies.{ends_talk, is_error, reply_text}
-use Rattle.vm_cli.specs.Requests.{asked_in, request_of}
-use Rattle.vm_cli.specs.Settlements.{for_all}
-use Rattle.vm_cli.specs.Spaces.{words_of}
-use Rattle.vm_cli.specs.Talk.{Answered, AnsweredRequest, AnswersWithin, Done, FailsInLast, Failing, Handled, HandlesLine, Meets, Passes, SaysFailed, Stood, Stops, answer_text, error_text}
+use Rattle.vm_cli.specs.session.Feeds.{AnsweredOrWanting, HandlesRequest, HandlesOrWants, Replied, Replies, TriesSome}
+use Rattle.vm_cli.specs.lines.Input.{HoldsLine, KindHolds, without_return}
+use Rattle.vm_cli.specs.answers.Replies.{ends_session, is_error, reply_text}
+use Rattle.vm_cli.specs.lines.Requests.{asked_in, request_of}
+use Rattle.vm_cli.specs.lines.Settlements.{for_all}
+use Rattle.vm_cli.specs.lines.Spaces.{words_of}
+use Rattle.vm_cli.specs.session.Session.{DoesNothing, Answered, AnsweredRequest, AnswersWithin, Done, FailsInLast, Failing, Handled, HandlesLine, Meets, Passes, SaysFailed, Stood, Stops, answer_text, error_text}
+use Rattle.vm_cli.specs.session.Session.Answered.{as_asked, too_long, wanting}
+use Rattle.vm_cli.specs.session.Session.AnsweredRequest.{had_failed, met}
 use Rattle.vm_cli.specs.declared.lines.line.LineKind.TheVariants.{Kept, Long}
 use Rattle.vm_cli.specs.declared.lines.line.Line.{Line}
 use Rattle.vm_cli.specs.declared.lines.mistake.Mistake.{Mistake}
 use Rattle.vm_cli.specs.declared.answers.reply.Reply.{Reply}
 use Rattle.vm_cli.specs.declared.answers.reply.Reply.TheVariants as reply
-use Rattle.vm_cli.specs.Asking.{Request}
-use Rattle.vm_cli.specs.declared.talk.Manner.{Manner}
+use Rattle.vm_cli.specs.lines.Asking.{Request}
+use Rattle.vm_cli.specs.declared.session.Manner.{Manner}
 use Rattle.vm_cli.specs.declared.answers.output.WriteFault.{WriteFault}
-use Rattle.vm_cli.specs.declared.talk.growth.TheConstants.{GROWTHS}
+use Rattle.vm_cli.specs.declared.session.growth.TheConstants.{GROWTHS}
 use Rattle.vm_cli.proofs.CarriedLemmas.{carries-nothing}
 use Rattle.vm_cli.proofs.ChainLemmas.{Chain, Led, chain_holds, chain_one, led_at_once, led_fails, tries_chain}
 use Rattle.vm_cli.proofs.PassLemmas.{failed_or, grows_any, grows_none, never_both, passes_command, passes_left, passes_none}
 
 -- a reply that is the whole answer
-pub replied_whole : (P : List ℕ → Bool → Type 0) (reply : Reply) (a : Option (List ℕ)) (rest : List ℕ) → rest ≡ [] → P (reply_text reply) (ends_talk reply) → Replied P reply a a rest
+pub replied_whole : (P : List ℕ → Bool → Type 0) (reply : Reply) (a : Option (List ℕ)) (rest : List ℕ) → rest ≡ [] → P (reply_text reply) (ends_session reply) → Replied P reply a a rest
 replied_whole P reply a rest none p = record { whole = []; says = p; tells = refl; carries = rw none (carries-nothing a []) }
 
 -- a reply behind what stands in the text
-pub replied_with : (P : List ℕ → Bool → Type 0) (reply : Reply) (a : Option (List ℕ)) (text : List ℕ) → P (text ++ reply_text reply) (ends_talk reply) × (is_error (text ++ reply_text reply) ≡ is_error (reply_text reply)) → Replied P reply a a text
+pub replied_with : (P : List ℕ → Bool → Type 0) (reply : Reply) (a : Option (List ℕ)) (text : List ℕ) → P (text ++ reply_text reply) (ends_session reply) × (is_error (text ++ reply_text reply) ≡ is_error (reply_text reply)) → Replied P reply a a text
 replied_with P reply a text p = record { whole = text; says = p.0; tells = p.1; carries = carries-nothing a text }
 
 -- a reply behind no text
-pub with_nothing : (P : List ℕ → Bool → Type 0) (reply : Reply) (text : List ℕ) → text ≡ [] → P (reply_text reply) (ends_talk reply) → P (text ++ reply_text reply) (ends_talk reply) × (is_error (text ++ reply_text reply) ≡ is_error (reply_text reply))
+pub with_nothing : (P : List ℕ → Bool → Type 0) (reply : Reply) (text : List ℕ) → text ≡ [] → P (reply_text reply) (ends_session reply) → P (text ++ reply_text reply) (ends_session reply) × (is_error (text ++ reply_text reply) ≡ is_error (reply_text reply))
 with_nothing P reply text none p = rw none (p, refl)
 
 -- what is said of each answer
@@ -58,43 +60,46 @@ module _ {D : Type 0} {members : _} (store : Store D members) (s : State) where
     holds = λ stood fine. stood.holds;
   }
 
+  does_nothing : DoesNothing store store false None
+  does_nothing = record { same = refl; none = refl; goes_on = refl }
+
   -- a line without words
   pub nothing_handled : HandlesRequest store store s Request.Nothing [] false
   nothing_handled = unmoved false (AnsweredRequest store store s Request.Nothing [] false) (either (failed_or (has_failed store)))
     where
       either : (has_failed store ≡ false) ⊎ (has_failed store ≡ true) → AnsweredRequest store store s Request.Nothing [] false None
-      either (inl sound) = inl (sound, sym sound, (refl, sound, (refl, refl), tt))
-      either (inr failed) = inr (failed, refl, refl, (refl, refl))
+      either (inl sound) = met sound (sym sound) (refl, sound, (refl, refl), tt)
+      either (inr failed) = had_failed failed refl refl (refl, refl)
 
   -- a line that asks for nothing that there is
   pub bad_handled : (mistake : Mistake) → HandlesRequest store store s (Request.Bad mistake) (reply_text (reply.BadLine mistake)) false
   bad_handled mistake = unmoved false (AnsweredRequest store store s (Request.Bad mistake) (reply_text (reply.BadLine mistake)) false) (either (failed_or (has_failed store)))
     where
       either : (has_failed store ≡ false) ⊎ (has_failed store ≡ true) → AnsweredRequest store store s (Request.Bad mistake) (reply_text (reply.BadLine mistake)) false None
-      either (inl sound) = inl (sound, sym sound, (refl, sound, (refl, refl), tt))
-      either (inr failed) = inr (failed, refl, refl, (refl, refl))
+      either (inl sound) = met sound (sym sound) (refl, sound, (refl, refl), tt)
+      either (inr failed) = had_failed failed refl refl (refl, refl)
 
   -- a command, where the store is only read
   pub forbidden_handled : HandlesRequest store store s Request.Forbidden (reply_text reply.ReadOnly) false
   forbidden_handled = unmoved false (AnsweredRequest store store s Request.Forbidden (reply_text reply.ReadOnly) false) (either (failed_or (has_failed store)))
     where
       either : (has_failed store ≡ false) ⊎ (has_failed store ≡ true) → AnsweredRequest store store s Request.Forbidden (reply_text reply.ReadOnly) false None
-      either (inl sound) = inl (sound, sym sound, (refl, sound, (refl, refl), tt))
-      either (inr failed) = inr (failed, refl, refl, (refl, refl))
+      either (inl sound) = met sound (sym sound) (refl, sound, (refl, refl), tt)
+      either (inr failed) = had_failed failed refl refl (refl, refl)
 
   -- a request for which there was no memory
   pub memory_told : (request : Request) → HandlesOrWants store store s request (reply_text (reply.Refused Memory)) false
-  memory_told request = unmoved false _ (inl (refl, refl, refl, refl))
+  memory_told request = unmoved false _ (inl (does_nothing, refl))
 
   -- a line for which there was no memory
   pub memory_handled : (on : Manner) (part : List ℕ) → HandlesLine store store s on part (reply_text (reply.Refused Memory)) false
-  memory_handled on part = unmoved false _ (inl (refl, refl, refl, refl))
+  memory_handled on part = unmoved false _ (wanting does_nothing refl)
 
   -- a line that is too long
   pub long_handled : (on : Manner) (line : Line) (part : List ℕ) → HoldsLine line part → line.kind ≡ Long → HandlesLine store store s on part (reply_text reply.LongLine) false
   long_handled on line part h is =
       let long : KindHolds Long line.bytes.items part = rw is at h.kind in
-      unmoved false _ (inr (inl (long, refl, refl, refl, refl)))
+      unmoved false _ (too_long long does_nothing refl)
 
 module _ {D : Type 0} {members : _} (old new : Store D members) (s : State) where
   -- a request for which memory may be wanting
@@ -114,9 +119,9 @@ module _ {D : Type 0} {members : _} (old new : Store D members) (s : State) wher
   -- a line of words
   line_answered : (on : Manner) (words : List (List ℕ)) (part text : List ℕ) (ends : Bool) (was : Done) → length part ≤ 1048576 → words ≡ words_of (without_return part)
       → AnsweredOrWanting old new s (asked_in on.on_command (request_of words)) text ends was → Answered old new s on part text ends was
-  line_answered on words part text ends was short same (inl memory) = inl memory
+  line_answered on words part text ends was short same (inl memory) = wanting memory.0 memory.1
   line_answered on words part text ends was short same (inr answered) =
-      inr (inr (short, subst (λ ws. AnsweredRequest old new s (asked_in on.on_command (request_of ws)) text ends was) same answered))
+      as_asked short (subst (λ ws. AnsweredRequest old new s (asked_in on.on_command (request_of ws)) text ends was) same answered)
 
   pub kept_handled : (on : Manner) (line : Line) (part : List ℕ) → HoldsLine line part → line.kind ≡ Kept → (bytes : List ℕ) → bytes ≡ without_return line.bytes.items
       → (r : Result Reply WriteFault) (a b : Option (List ℕ)) (rest : List ℕ) → Replies (HandlesOrWants old new s (asked_in on.on_command (request_of (words_of bytes)))) r a b rest
@@ -150,20 +155,20 @@ module _ {D : Type 0} {members : _} (old new : Store D members) (s : State) wher
     }
       where
         either : (has_failed old ≡ false) ⊎ (has_failed old ≡ true) → AnsweredRequest old new s query text ends None
-        either (inl sound) = let met = meets sound in inl (sound, met.0 ∙ sym sound ∙ sym same, met.1)
-        either (inr failed) = inr (failed, left failed, refl, fails failed)
+        either (inl sound) = let all = meets sound in met sound (all.0 ∙ sym sound ∙ sym same) all.1
+        either (inr failed) = had_failed failed (left failed) refl (fails failed)
 
     -- it is answered
     pub told : (text : List ℕ) → has_failed old ≡ false → Meets old new s query text None → HandlesRequest old new s query text false
     told text sound meets = asked text false (λ fine. (refl, meets)) (λ failed. absurd (never_both _ sound failed))
 
     -- it is refused
-    pub refusal_handled : (refusal : Refusal) (reply : Reply) → reply_text reply ≡ error_text refusal → (refusal ≢ Failed → ends_talk reply ≡ false) → (refusal ≡ Failed → ends_talk reply ≡ true)
+    pub refusal_handled : (refusal : Refusal) (reply : Reply) → reply_text reply ≡ error_text refusal → (refusal ≢ Failed → ends_session reply ≡ false) → (refusal ≡ Failed → ends_session reply ≡ true)
         → (has_failed old ≡ true → refusal ≡ Failed) → (has_failed old ≡ false → refusal ≢ Failed) → ((text : List ℕ) (ends : Bool) → text ≡ error_text Failed → ends ≡ true → SaysFailed query text ends)
-        → (has_failed old ≡ false → Meets old new s query (reply_text reply) None) → HandlesRequest old new s query (reply_text reply) (ends_talk reply)
+        → (has_failed old ≡ false → Meets old new s query (reply_text reply) None) → HandlesRequest old new s query (reply_text reply) (ends_session reply)
     refusal_handled refusal reply text goes_on ends refused only lift meets =
-        asked (reply_text reply) (ends_talk reply) (λ sound. (goes_on (only sound), meets sound))
-        (λ failed. lift (reply_text reply) (ends_talk reply) (text ∙ ap error_text (refused failed)) (ends (refused failed)))
+        asked (reply_text reply) (ends_session reply) (λ sound. (goes_on (only sound), meets sound))
+        (λ failed. lift (reply_text reply) (ends_session reply) (text ∙ ap error_text (refused failed)) (ends (refused failed)))
 
 -- what `apply` promises of a command and its answer
 pub record Applied {D : Type 0} {members : _} (old new : Store D members) (command : Command) (answer : Result Answer Refusal) : Type 0 where
@@ -179,7 +184,7 @@ module _ {D : Type 0} {members : _} (old new : Store D members) (command : Comma
       either (inl sound) = grows_any _ _ _ (applied.done sound).performs.goes
       either (inr failed) = subst (λ (t : Store D members). GrowsOn ⊥ old t) (sym (applied.refused failed).1) (grows_none _)
 
-  -- and what it ends a talk by is that the device failed
+  -- and what it ends a session by is that the device failed
   pub applied_fails : has_failed old ≡ false → has_failed new ≡ true → Failing old new
   applied_fails sound failed = let e = applied.done sound in e.performs.goes.fault (e.failed.0 failed)
 
@@ -194,7 +199,7 @@ module _ {D : Type 0} {members : _} (old new : Store D members) (s : State) (com
           let carries = applied.done sound in
           record {
             done = Some ((command, answer) ∷ []);
-            answers = inl (sound, last sound, (refl, carries, says));
+            answers = met sound (last sound) (refl, carries, says);
             passes = passes_command old new ((command, answer) ∷ []) (applied_goes old new command answer applied);
             still = λ e. sym (last sound) ∙ e ∙ sym sound;
             holds = λ stood fine. (carries.performs.carried stood.honest s stood.holds).state (λ device. never_both _ fine (carries.failed.1 device));
@@ -203,7 +208,7 @@ module _ {D : Type 0} {members : _} (old new : Store D members) (s : State) (com
           let same = (applied.refused failed).1 in
           record {
             done = None;
-            answers = inr (failed, same, refl, (says ∙ ap answer_text (applied.refused failed).0, fails (applied.refused failed).0));
+            answers = had_failed failed same refl (says ∙ ap answer_text (applied.refused failed).0, fails (applied.refused failed).0);
             passes = passes_left old new same;
             still = λ e. ap (λ (t : Store D members). has_failed t) same;
             holds = λ stood fine. absurd (never_both _ fine (ap (λ (t : Store D members). has_failed t) same ∙ failed));
@@ -221,7 +226,7 @@ module _ {D : Type 0} {members : _} (old new : Store D members) (s : State) (mos
           let tries = (tried sound).1 in
           record {
             done = Some each;
-            answers = inl (sound, last sound, tries);
+            answers = met sound (last sound) tries;
             passes = passes_command old new each goes;
             still = λ e. sym (last sound) ∙ e ∙ sym sound;
             holds = λ stood fine. chain_holds each old new s (tries_chain GROWTHS most command old new text each tries) stood.honest fine stood.holds;
@@ -230,7 +235,7 @@ module _ {D : Type 0} {members : _} (old new : Store D members) (s : State) (mos
           let same = left failed in
           record {
             done = None;
-            answers = inr (failed, same, refl, refused failed);
+            answers = had_failed failed same refl (refused failed);
             passes = passes_left old new same;
             still = λ e. ap (λ (t : Store D members). has_failed t) same;
             holds = λ stood fine. absurd (never_both _ fine (ap (λ (t : Store D members). has_failed t) same ∙ failed));
@@ -270,7 +275,7 @@ module _ {D : Type 0} {members : _} (old new : Store D members) (s : State) wher
   meets_led (Request.Bad mistake) text each meets = never_none each meets.0
   meets_led Request.Forbidden text each meets = never_none each meets.0
 
--- an answer that ends the talk
+-- an answer that ends the session
 module _ {D : Type 0} {members : _} (old new : Store D members) (s : State) where
   -- it can be no query's, unless the store had failed
   meets_stops : (asked : Request) (text : List ℕ) (was : Done) → has_failed old ≡ false → has_failed new ≡ true → Meets old new s asked text was → FailsInLast old new
@@ -298,13 +303,13 @@ module _ {D : Type 0} {members : _} (old new : Store D members) (s : State) wher
   meets_stops Request.Forbidden text was sound failed meets = absurd (never_both _ meets.1 failed)
 
   request_stops : (asked : Request) (text : List ℕ) (ends : Bool) (was : Done) → ends ≡ true → AnsweredRequest old new s asked text ends was → Stops old new
-  request_stops asked text ends was e (inl (sound, last, meets)) = inl (sound, meets_stops asked text was sound (sym last ∙ e) meets)
-  request_stops asked text ends was e (inr (failed, same, none, says)) = inr (failed, same)
+  request_stops asked text ends was e (met sound last meets) = inl (sound, meets_stops asked text was sound (sym last ∙ e) meets)
+  request_stops asked text ends was e (had_failed failed same none says) = inr (failed, same)
 
   line_stops : (on : Manner) (line text : List ℕ) (ends : Bool) (was : Done) → ends ≡ true → Answered old new s on line text ends was → Stops old new
-  line_stops on line text ends was e (inl (same, none, goes_on, says)) = absurd (never_both ends goes_on e)
-  line_stops on line text ends was e (inr (inl (long, same, none, goes_on, says))) = absurd (never_both ends goes_on e)
-  line_stops on line text ends was e (inr (inr (short, answered))) = request_stops (asked_in on.on_command (request_of (words_of (without_return line)))) text ends was e answered
+  line_stops on line text ends was e (wanting nothing says) = absurd (never_both ends nothing.goes_on e)
+  line_stops on line text ends was e (too_long long nothing says) = absurd (never_both ends nothing.goes_on e)
+  line_stops on line text ends was e (as_asked short answered) = request_stops (asked_in on.on_command (request_of (words_of (without_return line)))) text ends was e answered
 
   pub handled_stops : (on : Manner) (line text : List ℕ) (ends : Bool) → HandlesLine old new s on line text ends → ends ≡ true → Stops old new
   handled_stops on line text ends handled e = line_stops on line text ends handled.done e handled.answers

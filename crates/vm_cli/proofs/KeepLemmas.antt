@@ -16,7 +16,7 @@ use Rattle.vm_disk.specs.Moments.{Leaves, Throughout}
 use Rattle.vm_disk.proofs.MomentLemmas.{leaves_only, moment_rises, past_stays, started}
 use Rattle.vm_store.specs.Shown.{Shows}
 use Rattle.vm_store.proofs.RunLemmas.{ShowsCommitted, ends_shown}
-use Rattle.vm_cli.specs.Keeps.{Keeps}
+use Rattle.vm_cli.specs.session.Keeps.{Keeps}
 
 module _ {X : Type 0} (shows : X → Seen → Type 0) (s : State) where
   -- it is kept where no more may be left

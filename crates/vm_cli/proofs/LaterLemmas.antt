@@ -4,29 +4,29 @@ use Rattle.std.specs.Io.KnownBytes.{Appends}
 use Rattle.vm_types.specs.State.{State}
 use Rattle.vm_disk.specs.declared.disk.Disk.{Ghosts}
 use Rattle.vm_store.specs.declared.store.Store.{Store}
-use Rattle.vm_cli.specs.Conversations.{Course, Tells}
-use Rattle.vm_cli.specs.Input.{HoldsLine}
-use Rattle.vm_cli.specs.LineUses.{IsUse, use_of}
-use Rattle.vm_cli.specs.PlannerCalls.{AreWaiting, IsWaiting, PutsBehind}
-use Rattle.vm_cli.specs.Planners.{IsLastOf, TakesIts, TakesWhen, is_heard, is_last_in, is_some}
-use Rattle.vm_cli.specs.Rounds.{Round}
-use Rattle.vm_cli.specs.Rounds.Round.{idle}
-use Rattle.vm_cli.specs.StreamCalls.{SaysThen, SettlesBatch, scene}
-use Rattle.vm_cli.specs.Streams.{Adds, Held, IsHeld, IsHeldBy, IsStage, SettlesHeld, TakesAs, Verdict, batch_course, batch_text, count_of, settled_text, verdict_result}
-use Rattle.vm_cli.specs.Streams.Held.{holds, lost}
-use Rattle.vm_cli.specs.Waiting.{Waiting, label}
+use Rattle.vm_cli.specs.session.SessionKinds.{Course, Tells}
+use Rattle.vm_cli.specs.lines.Input.{HoldsLine}
+use Rattle.vm_cli.specs.session.LineUses.{IsUse, use_of}
+use Rattle.vm_cli.specs.session.PlannerCalls.{AreWaiting, IsWaiting, PutsBehind}
+use Rattle.vm_cli.specs.session.Planners.{IsLastOf, TakesIts, TakesWhen, is_heard, is_last_in, is_some}
+use Rattle.vm_cli.specs.session.Rounds.{Round}
+use Rattle.vm_cli.specs.session.Rounds.Round.{idle}
+use Rattle.vm_cli.specs.session.StreamCalls.{SaysThen, SettlesBatch, scene}
+use Rattle.vm_cli.specs.session.Streams.{Adds, Held, IsHeld, IsHeldBy, IsStage, SettlesHeld, TakesAs, Verdict, batch_course, batch_text, count_of, settled_text, verdict_result}
+use Rattle.vm_cli.specs.session.Streams.Held.{holds, lost}
+use Rattle.vm_cli.specs.session.Waiting.{Waiting, label}
 use Rattle.vm_cli.specs.declared.lines.line.Line.{Line}
-use Rattle.vm_cli.specs.declared.talk.Manner.{Manner}
-use Rattle.vm_cli.specs.declared.talk.OnCommand.{OnCommand}
-use Rattle.vm_cli.specs.declared.talk.ServeFault.{ServeFault}
-use Rattle.vm_cli.specs.declared.talk.batch.Batch.{Batch}
-use Rattle.vm_cli.specs.declared.talk.batch.Lost.{Lost}
-use Rattle.vm_cli.specs.declared.talk.batches.BatchSession.{BatchSession}
-use Rattle.vm_cli.specs.declared.talk.line_use.LineUse.{LineUse}
-use Rattle.vm_cli.specs.declared.talk.line_use.LineUse.TheVariants as line
-use Rattle.vm_cli.specs.declared.talk.planner_line.When.{When}
-use Rattle.vm_cli.specs.declared.talk.planner_line.When.TheVariants.{Later, Now}
-use Rattle.vm_cli.specs.declared.talk.waiting.WaitingBatch.{WaitingBatch}
+use Rattle.vm_cli.specs.declared.session.Manner.{Manner}
+use Rattle.vm_cli.specs.declared.session.OnCommand.{OnCommand}
+use Rattle.vm_cli.specs.declared.session.ServeFault.{ServeFault}
+use Rattle.vm_cli.specs.declared.session.batch.Batch.{Batch}
+use Rattle.vm_cli.specs.declared.session.batch.Lost.{Lost}
+use Rattle.vm_cli.specs.declared.session.batches.BatchSession.{BatchSession}
+use Rattle.vm_cli.specs.declared.session.line_use.LineUse.{LineUse}
+use Rattle.vm_cli.specs.declared.session.line_use.LineUse.TheVariants as line
+use Rattle.vm_cli.specs.declared.session.planner_line.When.{When}
+use Rattle.vm_cli.specs.declared.session.planner_line.When.TheVariants.{Later, Now}
+use Rattle.vm_cli.specs.declared.session.waiting.WaitingBatch.{WaitingBatch}
 use Rattle.vm_cli.proofs.BatchLemmas.{held_length}
 use Rattle.vm_cli.proofs.Known.{Appends-nil}
 use Rattle.vm_cli.proofs.PassLemmas.{never_both}

@@ -17,7 +17,7 @@ pub mod GivenLemmas
 pub mod CountingLemmas
 pub mod PassLemmas
 mod SurveyLemmas
-pub mod TalkLemmas
+pub mod SessionLemmas
 pub mod ChainLemmas
 pub mod HandledLemmas
 pub mod ListedLemmas
@@ -33,8 +33,8 @@ pub mod ServeLemmas
 pub mod ReadOnlyLemmas
 pub mod ExitLemmas
 pub mod KeepLemmas
-pub mod TalkKeepLemmas
-pub mod SessionLemmas
+pub mod SessionKeepLemmas
+pub mod DiskUseLemmas
 mod CopyingLemmas
 mod FilesLemmas
 mod PlaceLemmas
@@ -55,7 +55,7 @@ pub mod QueueLemmas
 pub mod LaterLemmas
 pub mod SeatLemmas
 pub mod RoundLemmas
-pub mod ConversationLemmas
+pub mod KindLemmas
 pub mod StreamEndLemmas
 mod StreamPassLemmas
 mod LineUseLemmas

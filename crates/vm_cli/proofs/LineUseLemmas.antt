@@ -1,21 +1,22 @@
 -- What the lines of a session with batches are.
-use Rattle.std.proofs.Common.{◌≡◌, inl, inr, ℕ, Bool, true, false, List, codes, length, nat_lt, if◌then◌else◌, None, ap, ◌∙◌, refl}
+use Rattle.std.proofs.Common.{◌≡◌, ℕ, Bool, true, false, List, codes, length, nat_lt, if◌then◌else◌, None, ap, ◌∙◌, refl}
 use Rattle.vm_types.specs.State.{State}
 use Rattle.vm_types.specs.declared.command.Command.{Command}
 use Rattle.vm_types.specs.declared.command.Command.TheVariants.{Commit, Rollback}
 use Rattle.vm_store.specs.declared.store.Store.{Store}
-use Rattle.vm_cli.specs.Asking.{Request}
-use Rattle.vm_cli.specs.Input.{without_return}
-use Rattle.vm_cli.specs.LineUses.{change_use, is_alone, use_of, use_of_command, use_of_request, use_of_words}
-use Rattle.vm_cli.specs.Requests.{asked_in, request_of}
-use Rattle.vm_cli.specs.Spaces.{words_of}
-use Rattle.vm_cli.specs.Talk.{Answered, Done}
+use Rattle.vm_cli.specs.lines.Asking.{Request}
+use Rattle.vm_cli.specs.lines.Input.{without_return}
+use Rattle.vm_cli.specs.session.LineUses.{change_use, is_alone, use_of, use_of_command, use_of_request, use_of_words}
+use Rattle.vm_cli.specs.lines.Requests.{asked_in, request_of}
+use Rattle.vm_cli.specs.lines.Spaces.{words_of}
+use Rattle.vm_cli.specs.session.Session.{Answered, Done}
+use Rattle.vm_cli.specs.session.Session.Answered.{as_asked, too_long, wanting}
 use Rattle.vm_cli.specs.declared.lines.line.TheConstants.{MAX_BYTES}
-use Rattle.vm_cli.specs.declared.talk.Manner.{Manner}
-use Rattle.vm_cli.specs.declared.talk.OnCommand.{OnCommand}
-use Rattle.vm_cli.specs.declared.talk.OnCommand.TheVariants.{CarryOut, GrowIfFull, Refuse}
-use Rattle.vm_cli.specs.declared.talk.line_use.LineUse.{LineUse}
-use Rattle.vm_cli.specs.declared.talk.line_use.LineUse.TheVariants as line
+use Rattle.vm_cli.specs.declared.session.Manner.{Manner}
+use Rattle.vm_cli.specs.declared.session.OnCommand.{OnCommand}
+use Rattle.vm_cli.specs.declared.session.OnCommand.TheVariants.{CarryOut, GrowIfFull, Refuse}
+use Rattle.vm_cli.specs.declared.session.line_use.LineUse.{LineUse}
+use Rattle.vm_cli.specs.declared.session.line_use.LineUse.TheVariants as line
 use Rattle.vm_cli.proofs.ReadOnlyLemmas.{request_none}
 use Rattle.vm_cli.proofs.RequestLemmas.{is_reading, reads_alone}
 
@@ -58,9 +59,9 @@ query_request on part is =
 -- a line that is a query carries out no command
 pub query_none : {D : Type 0} {members : _} (old new : Store D members) (s : State) (on : Manner) (part text : List ℕ) (ends : Bool) (done : Done) → Is (use_of on.on_command part) line.Query
     → Answered old new s on part text ends done → done ≡ None
-query_none old new s on part text ends done is (inl (same, none, goes_on, says)) = none
-query_none old new s on part text ends done is (inr (inl (long, same, none, goes_on, says))) = none
-query_none old new s on part text ends done is (inr (inr (short, answered))) =
+query_none old new s on part text ends done is (wanting nothing says) = nothing.none
+query_none old new s on part text ends done is (too_long long nothing says) = nothing.none
+query_none old new s on part text ends done is (as_asked short answered) =
     let asked = request_of (words_of (without_return part)) in
     let reads = query_request on.on_command part is in
     request_none old new s (asked_in on.on_command asked) text ends done (ap is_reading (reads_alone on.on_command asked reads) ∙ reads) answered

@@ -8,16 +8,16 @@ use Rattle.vm_types.specs.State.{State}
 use Rattle.vm_store.specs.Answers.{IsDueOrMemory}
 use Rattle.vm_store.specs.Store.{Holds, has_failed}
 use Rattle.vm_store.specs.declared.store.Store.{Store}
-use Rattle.vm_cli.specs.Carried.{Carries, WritesStart}
-use Rattle.vm_cli.specs.Feeds.{HandlesRequest, ListReplied, Replied, Replies, joined}
-use Rattle.vm_cli.specs.Replies.{ends_talk, is_error, reply_text}
-use Rattle.vm_cli.specs.Talk.{Meets, Passes, SaysAnswer, SaysFailed, Stood, error_text, list_lines}
+use Rattle.vm_cli.specs.answers.Carried.{Carries, WritesStart}
+use Rattle.vm_cli.specs.session.Feeds.{HandlesRequest, ListReplied, Replied, Replies, joined}
+use Rattle.vm_cli.specs.answers.Replies.{ends_session, is_error, reply_text}
+use Rattle.vm_cli.specs.session.Session.{Meets, Passes, SaysAnswer, SaysFailed, Stood, error_text, list_lines}
 use Rattle.vm_cli.specs.declared.answers.reply.Reply.{Reply}
 use Rattle.vm_cli.specs.declared.answers.reply.Reply.TheVariants.{End}
-use Rattle.vm_cli.specs.Asking.{Request}
+use Rattle.vm_cli.specs.lines.Asking.{Request}
 use Rattle.vm_cli.specs.declared.answers.output.WriteFault.{WriteFault}
 use Rattle.vm_cli.proofs.HandledLemmas.{refusal_handled, replied_whole, told}
-use Rattle.vm_cli.proofs.TalkLemmas.{list_replies, says_refusal, was_sound}
+use Rattle.vm_cli.proofs.SessionLemmas.{list_replies, says_refusal, was_sound}
 
 -- what a store says of a list that it gives without a device call
 pub shape_listed : {X A : Type 0} (answer : Result (Vec X A) Refusal) (due : List X) → IfErr answer (λ refusal. refusal ≡ Memory) → IfOk answer (λ list. list.items ≡ due) → IsList answer (Ok due)
@@ -40,10 +40,10 @@ is_none (Ok x) other not nor none is = let e : Ok x ≡ Err other = is in cc
 is_none (Err refusal) other not nor (inl memory) is = not (let e : Err refusal ≡ Err other = is in cc)
 is_none (Err refusal) other not nor (inr none) is = nor (let e : Err refusal ≡ Err other = is in cc)
 
--- a list ends the talk only where the store had failed
+-- a list ends the session only where the store had failed
 pub list_goes_on : {T : Type 0} (lines : T → List (List ℕ)) (answer : Result T Refusal) (r : Result Reply WriteFault) (a b : Option (List ℕ)) (rest : List ℕ) (failed : Bool) → failed ≡ false → answer ≢ Err Failed
-    → ListReplied lines answer r a b rest → IfOk r (λ reply. ends_talk reply ≡ failed)
-list_goes_on lines (Ok list) (Ok reply) a b rest failed sound only replied = ap ends_talk replied.0 ∙ sym sound
+    → ListReplied lines answer r a b rest → IfOk r (λ reply. ends_session reply ≡ failed)
+list_goes_on lines (Ok list) (Ok reply) a b rest failed sound only replied = ap ends_session replied.0 ∙ sym sound
 list_goes_on lines (Ok list) (Err fault) a b rest failed sound only replied = _
 list_goes_on lines (Err refusal) (Ok reply) a b rest failed sound only replied = replied.0.last (λ is. only (ap Err is)) ∙ sym sound
 list_goes_on lines (Err refusal) (Err fault) a b rest failed sound only replied = absurd replied

@@ -5,13 +5,13 @@ use Rattle.std.specs.Box.{box_value}
 use Rattle.clap.specs.Words.{Row, Text, all_of, first_of, subcommand_rows}
 use Rattle.clap.specs.declared.parser.matches.ArgMatches.TheViews.{out-SubCommand}
 use Rattle.clap.specs.declared.parser.matches.SubCommand.{SubCommand}
-use Rattle.vm_cli.specs.Given.{input_of}
-use Rattle.vm_cli.specs.Words.{asked_by, asked_of, memory_by, do_by, manner_by}
-use Rattle.vm_cli.specs.Words.Wanted.{do_lines}
+use Rattle.vm_cli.specs.program.Given.{input_of}
+use Rattle.vm_cli.specs.program.Words.{asked_by, asked_of, memory_by, do_by, manner_by}
+use Rattle.vm_cli.specs.program.Words.Wanted.{do_lines}
 use Rattle.vm_cli.specs.declared.program.task.InMemory.{InMemory}
-use Rattle.vm_cli.specs.declared.talk.Grouping.TheVariants.{Lines}
-use Rattle.vm_cli.specs.declared.talk.Manner.{Manner}
-use Rattle.vm_cli.specs.declared.talk.OnRefusal.TheVariants.{Tell}
+use Rattle.vm_cli.specs.declared.session.Grouping.TheVariants.{Lines}
+use Rattle.vm_cli.specs.declared.session.Manner.{Manner}
+use Rattle.vm_cli.specs.declared.session.OnRefusal.TheVariants.{Tell}
 
 pub subcommand_rows-parts : (Z : Type 0) (o : Option (Box SubCommand Z)) (name : Text) (rows : List Row)
     → Some name ≡ option_map (λ b. (out-SubCommand (box_value b)).name.now) o

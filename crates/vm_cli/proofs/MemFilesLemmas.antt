@@ -15,8 +15,8 @@ use Rattle.vm_disk.specs.Disk.{IsClean, Medium, DiskState, block}
 use Rattle.vm_disk.specs.Memory.{IsBlank, filled, memory_state}
 use Rattle.vm_disk.specs.declared.memory.MemDisk.{MemDisk}
 use Rattle.vm_cli.proofs.PlaceLemmas.{zeros_are_new}
-use Rattle.vm_cli.specs.MemFiles.{IsLast, IsSameState, slot_file, slot_state}
-use Rattle.vm_cli.specs.Places.{Creates, Finds, Links, PlaceState, Removes, TakesBack}
+use Rattle.vm_cli.specs.program.MemFiles.{IsLast, IsSameState, slot_file, slot_state}
+use Rattle.vm_cli.specs.program.Places.{Creates, Finds, Links, PlaceState, Removes, TakesBack}
 use Rattle.vm_cli.specs.declared.program.mem_files.Slot.{Slot}
 
 -- a crash that takes each block as it is keeps what a disk holds

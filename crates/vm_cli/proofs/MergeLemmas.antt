@@ -13,22 +13,23 @@ use Rattle.vm_types.specs.declared.refusal.Refusal.TheVariants.{Device, Failed, 
 use Rattle.vm_store.specs.Queries.{Queries}
 use Rattle.vm_store.specs.Store.{Holds, has_failed}
 use Rattle.vm_store.specs.declared.store.Store.{Store}
-use Rattle.vm_cli.specs.Asking.{Request}
-use Rattle.vm_cli.specs.Feeds.{AsksBy, HandlesRequest}
-use Rattle.vm_cli.specs.Replies.{ends_talk, reply_text}
-use Rattle.vm_cli.specs.Requests.{asked_in, limit_of}
-use Rattle.vm_cli.specs.Settlements.{for_all}
-use Rattle.vm_cli.specs.Talk.{AnsweredRequest, AnswersWithin, Done, Failing, Meets, Passes, RefusesMerge, Stood, after_line, error_text}
+use Rattle.vm_cli.specs.lines.Asking.{Request}
+use Rattle.vm_cli.specs.session.Feeds.{AsksBy, HandlesRequest}
+use Rattle.vm_cli.specs.answers.Replies.{ends_session, reply_text}
+use Rattle.vm_cli.specs.lines.Requests.{asked_in, limit_of}
+use Rattle.vm_cli.specs.lines.Settlements.{for_all}
+use Rattle.vm_cli.specs.session.Session.{AnsweredRequest, AnswersWithin, Done, Failing, Meets, Passes, RefusesMerge, Stood, after_line, error_text}
+use Rattle.vm_cli.specs.session.Session.AnsweredRequest.{had_failed, met}
 use Rattle.vm_cli.specs.declared.answers.reply.Reply.{Reply}
 use Rattle.vm_cli.specs.declared.answers.reply.Reply.TheVariants as reply
-use Rattle.vm_cli.specs.declared.talk.OnCommand.{OnCommand}
-use Rattle.vm_cli.specs.declared.talk.OnCommand.TheVariants.{CarryOut, GrowIfFull, Refuse}
+use Rattle.vm_cli.specs.declared.session.OnCommand.{OnCommand}
+use Rattle.vm_cli.specs.declared.session.OnCommand.TheVariants.{CarryOut, GrowIfFull, Refuse}
 use Rattle.vm_cli.proofs.EndLemmas.{ends_after}
 use Rattle.vm_cli.proofs.HandledLemmas.{refusal_handled, request_as, told}
 use Rattle.vm_cli.proofs.PassLemmas.{goes_any, grows_both, never_both, passes_command, passes_reads}
-use Rattle.vm_cli.proofs.TalkLemmas.{was_sound}
+use Rattle.vm_cli.proofs.SessionLemmas.{was_sound}
 
--- in a talk that refuses no command
+-- in a session that refuses no command
 all_in : (on : OnCommand) (alt : List ℕ) (side : Side) (settled : List (Key × Side)) → on ≢ Refuse → asked_in on (Request.MergeAll None alt side settled) ≡ Request.MergeAll (limit_of on) alt side settled
 all_in CarryOut alt side settled not = refl
 all_in (GrowIfFull most) alt side settled not = refl
@@ -50,7 +51,7 @@ module _ {D : Type 0} {members : _} (on : OnCommand) (not : on ≢ Refuse) (alt 
   asked = Request.MergeAll (limit_of on) alt side settled
 
   -- it is refused before it begins
-  refused_by : (reply : Reply) → ((s : State) → HandlesRequest old mid s asked (reply_text reply) (ends_talk reply)) → (has_failed old ≡ false → ends_talk reply ≡ has_failed mid) → AsksBy (asked_in on (Request.MergeAll None alt side settled)) reply old mid
+  refused_by : (reply : Reply) → ((s : State) → HandlesRequest old mid s asked (reply_text reply) (ends_session reply)) → (has_failed old ≡ false → ends_session reply ≡ has_failed mid) → AsksBy (asked_in on (Request.MergeAll None alt side settled)) reply old mid
   refused_by reply handled last = record {
     store = record {
       goes = asks.goes;
@@ -62,7 +63,7 @@ module _ {D : Type 0} {members : _} (on : OnCommand) (not : on ≢ Refuse) (alt 
   }
 
   -- its conflicts could not be told
-  conflicts_refused : (refusal : Refusal) (reply : Reply) → reply_text reply ≡ error_text refusal → (refusal ≢ Failed → ends_talk reply ≡ false) → (refusal ≡ Failed → ends_talk reply ≡ true)
+  conflicts_refused : (refusal : Refusal) (reply : Reply) → reply_text reply ≡ error_text refusal → (refusal ≢ Failed → ends_session reply ≡ false) → (refusal ≡ Failed → ends_session reply ≡ true)
       → (has_failed old ≡ true → refusal ≡ Failed) → (has_failed old ≡ false → refusal ≢ Failed) → ((s : State) → has_failed old ≡ false → RefusesMerge old mid s alt (reply_text reply))
       → AsksBy (asked_in on (Request.MergeAll None alt side settled)) reply old mid
   conflicts_refused refusal reply text goes_on ends refused only why =
@@ -89,7 +90,7 @@ module _ {D : Type 0} {members : _} (on : OnCommand) (not : on ≢ Refuse) (alt 
         go last None is answers = absurd (none_within mid new s command (limit_of on) text answers)
         go last (Some each) is answers = record {
           done = Some each;
-          answers = inl (sound, last, record { mid = mid; conflicts = conflicts; asks = asks; still = same; told = due s; merges = answers });
+          answers = met sound last (record { mid = mid; conflicts = conflicts; asks = asks; still = same; told = due s; merges = answers });
           passes = passes_command old new each (grows_both _ _ _ asks.goes handled.passes.goes);
           still = λ e. handled.still e ∙ same;
           holds = λ stood fine.
@@ -99,13 +100,13 @@ module _ {D : Type 0} {members : _} (on : OnCommand) (not : on ≢ Refuse) (alt 
         }
 
         either : AnsweredRequest mid new s (asked_in on (Request.Command command)) text ends handled.done → HandlesRequest old new s asked text ends
-        either (inl (fine, last, meets)) = go last handled.done refl (within mid new s command on text handled.done not meets)
-        either (inr (failed, left, none, says)) = absurd (never_both _ (same ∙ sound) failed)
+        either (met fine last meets) = go last handled.done refl (within mid new s command on text handled.done not meets)
+        either (had_failed failed left none says) = absurd (never_both _ (same ∙ sound) failed)
 
     merged_by : (reply : Reply) → AsksBy (asked_in on (Request.Command command)) reply mid new → AsksBy (asked_in on (Request.MergeAll None alt side settled)) reply old new
     merged_by reply by = record {
       store = ends_after old mid new asks.goes sound (same ∙ sound) (Ok reply) by.store;
-      answers = λ s. request_as old new s _ asked (all_in on alt side settled not) _ _ (merged s (reply_text reply) (ends_talk reply) (by.answers s));
+      answers = λ s. request_as old new s _ asked (all_in on alt side settled not) _ _ (merged s (reply_text reply) (ends_session reply) (by.answers s));
     }
 
 -- a merge by what a query for the conflicts answered
@@ -129,7 +130,7 @@ module _ {D : Type 0} {members : _} (on : OnCommand) (not : on ≢ Refuse) (alt 
       not_failed true never = absurd (never refl)
       not_failed false _ = refl
 
-  pub query_refused : (refusal : Refusal) → answer ≡ Err refusal → refusal ≢ Device → (reply : Reply) → reply_text reply ≡ error_text refusal → (refusal ≢ Failed → ends_talk reply ≡ false) → (refusal ≡ Failed → ends_talk reply ≡ true)
+  pub query_refused : (refusal : Refusal) → answer ≡ Err refusal → refusal ≢ Device → (reply : Reply) → reply_text reply ≡ error_text refusal → (refusal ≢ Failed → ends_session reply ≡ false) → (refusal ≡ Failed → ends_session reply ≡ true)
       → AsksBy (asked_in on (Request.MergeAll None alt side settled)) reply old mid
   query_refused refusal is no_device reply text goes_on ends =
       let only : has_failed old ≡ false → refusal ≢ Failed = λ sound same. said.only_then sound (is ∙ ap Err same) in

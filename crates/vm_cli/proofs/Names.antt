@@ -6,7 +6,7 @@ use Rattle.std.proofs.lemmas.List.Folds.{list_all_at}
 use Rattle.std.specs.Prelude.{nat_le, IsSome, IfSome}
 use Rattle.std.specs.List.{All, list_all}
 use Rattle.vm_types.specs.Name.{IsName, IsNameByte}
-use Rattle.vm_cli.specs.Names.{is_name_byte, name_of}
+use Rattle.vm_cli.specs.lines.Names.{is_name_byte, name_of}
 
 byte_yes : (b : ℕ) → IsNameByte b → is_name_byte b ≡ true
 byte_yes b h = grind (arith, nat_tests, h)

@@ -7,7 +7,7 @@ use Rattle.clap.specs.Words.{ReadsOne}
 use Rattle.clap.specs.ValueTests.{is_unsigned_in}
 use Rattle.clap.specs.declared.builder.value_parser.ValueParser.TheVariants as vp
 use Rattle.clap.proofs.ValueTestLemmas.{Accepts-accepts, accepts-Accepts}
-use Rattle.vm_cli.specs.Words.{number_in}
+use Rattle.vm_cli.specs.program.Words.{number_in}
 
 -- what `parse` says of a number of 32 bits
 abbrev pub Gives : List ℕ → Result ℕ ParseIntError → Type 0

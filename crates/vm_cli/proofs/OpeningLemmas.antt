@@ -7,7 +7,7 @@ use Rattle.vm_disk.specs.Disk.{Contents, DiskState, Medium, block}
 use Rattle.vm_block.specs.Header.{IsEarlierHeader, header_bytes_of}
 use Rattle.vm_store.specs.Recovery.{AllDamaged, TellsAll}
 use Rattle.vm_store.specs.Refused.{IsRefused, IsSynced}
-use Rattle.vm_cli.specs.Openings.{KeepsRefusal, LacksSum, NamesAll, TellsEarlier, refusal_of}
+use Rattle.vm_cli.specs.program.Openings.{KeepsRefusal, LacksSum, NamesAll, TellsEarlier, refusal_of}
 use Rattle.vm_cli.specs.declared.program.opening.NoStore.{NoStore}
 use Rattle.vm_cli.specs.declared.program.opening.NoStore.TheVariants.{Refused}
 

@@ -4,7 +4,7 @@ use Rattle.std.proofs.lemmas.List.{take_more}
 use Rattle.vm_types.specs.declared.change.Conflict.{Conflict}
 use Rattle.vm_types.specs.declared.command.Side.{Side}
 use Rattle.vm_types.specs.declared.key.Key.{Key}
-use Rattle.vm_cli.specs.Settlements.{for_others, is_settled}
+use Rattle.vm_cli.specs.lines.Settlements.{for_others, is_settled}
 
 -- one conflict more
 for_others-more : (side : Side) (settled : List (Key × Side)) (conflicts : List Conflict) (c : Conflict)

@@ -1,7 +1,7 @@
 -- A line that grows by some bytes.
 use Rattle.std.proofs.Common.{◌≡◌, ◌<◌, ◌≤◌, ◌+◌, ℕ, List, [], ◌∷◌, ◌++◌, false, length, refl, arith, length-append, append-nil, subst, sym}
-use Rattle.vm_cli.specs.Input.{HoldsLine, KindHolds, is_nil}
-use Rattle.vm_cli.specs.Lines.{IsPart}
+use Rattle.vm_cli.specs.lines.Input.{HoldsLine, KindHolds, is_nil}
+use Rattle.vm_cli.specs.lines.Lines.{IsPart}
 use Rattle.vm_cli.specs.declared.lines.line.LineKind.TheVariants.{Kept, Long, NoMemory}
 use Rattle.vm_cli.specs.declared.lines.line.Line.{Line}
 

@@ -12,7 +12,7 @@ use Rattle.vm_store.specs.Store.{GoesOn, GrowsOn, IsSameButDisk, has_failed, dis
 use Rattle.vm_store.specs.declared.store.Store.{Store}
 use Rattle.vm_store.proofs.LongerLemmas.{goes_grow}
 use Rattle.vm_store.proofs.QueryLemmas.{same_store}
-use Rattle.vm_cli.specs.Talk.{Passes}
+use Rattle.vm_cli.specs.session.Session.{Passes}
 
 -- a store has failed or it hasn't
 pub failed_or : (b : Bool) → (b ≡ false) ⊎ (b ≡ true)

@@ -4,7 +4,7 @@ use Rattle.std.proofs.lemmas.List.{get_or-replicate, length-replicate}
 use Rattle.vm_disk.specs.Disk.{Contents, block}
 use Rattle.vm_sums.proofs.ShownLemmas.{shown_block}
 use Rattle.vm_sums.specs.Summed.{shown_contents, shown_length}
-use Rattle.vm_cli.specs.Places.{IsNew}
+use Rattle.vm_cli.specs.program.Places.{IsNew}
 
 -- zero blocks are those of a new disk
 pub zeros_are_new : (blocks : ℕ) (contents : Contents) → contents ≡ replicate blocks (replicate 4096 0) → IsNew blocks contents

@@ -5,26 +5,26 @@ use Rattle.std.specs.Io.KnownBytes.{Appends}
 use Rattle.vm_types.specs.State.{State}
 use Rattle.vm_disk.specs.declared.disk.Disk.{Ghosts}
 use Rattle.vm_store.specs.declared.store.Store.{Store}
-use Rattle.vm_cli.specs.Carried.{WritesStart}
-use Rattle.vm_cli.specs.Conversations.{AnswersThen, Course, Puts, Tells}
-use Rattle.vm_cli.specs.Conversations.Course.{over, proceeds, unwritten}
-use Rattle.vm_cli.specs.LineUses.{IsUse, no_memory, use_of}
-use Rattle.vm_cli.specs.Planners.{Seat, TakesItFor, TakesIts, is_heard, is_some, label_if, parting_text, seat}
-use Rattle.vm_cli.specs.Replies.{reply_text}
-use Rattle.vm_cli.specs.Rounds.{Round}
-use Rattle.vm_cli.specs.Rounds.Round.{idle}
-use Rattle.vm_cli.specs.PlannerCalls.{IsWaiting}
-use Rattle.vm_cli.specs.Streams.{Held, IsStage, TakesAs, TakesInside, TakesOutside, forgotten_text, repeated}
-use Rattle.vm_cli.specs.Streams.Held.{holds}
-use Rattle.vm_cli.specs.Waiting.{Waiting, label, owed}
+use Rattle.vm_cli.specs.answers.Carried.{WritesStart}
+use Rattle.vm_cli.specs.session.SessionKinds.{AnswersThen, Course, Puts, Tells}
+use Rattle.vm_cli.specs.session.SessionKinds.Course.{over, proceeds, unwritten}
+use Rattle.vm_cli.specs.session.LineUses.{IsUse, no_memory, use_of}
+use Rattle.vm_cli.specs.session.Planners.{Seat, TakesItFor, TakesIts, is_heard, is_some, label_if, parting_text, seat}
+use Rattle.vm_cli.specs.answers.Replies.{reply_text}
+use Rattle.vm_cli.specs.session.Rounds.{Round}
+use Rattle.vm_cli.specs.session.Rounds.Round.{idle}
+use Rattle.vm_cli.specs.session.PlannerCalls.{IsWaiting}
+use Rattle.vm_cli.specs.session.Streams.{Held, IsStage, TakesAs, TakesInside, TakesOutside, forgotten_text, repeated}
+use Rattle.vm_cli.specs.session.Streams.Held.{holds}
+use Rattle.vm_cli.specs.session.Waiting.{Waiting, label, owed}
 use Rattle.vm_cli.specs.declared.answers.reply.Reply.TheVariants as reply
-use Rattle.vm_cli.specs.declared.talk.Manner.{Manner}
-use Rattle.vm_cli.specs.declared.talk.ServeFault.{ServeFault}
-use Rattle.vm_cli.specs.declared.talk.ServeFault.TheVariants as fault
-use Rattle.vm_cli.specs.declared.talk.batch.Batch.{Batch}
-use Rattle.vm_cli.specs.declared.talk.line_use.LineUse.{LineUse}
-use Rattle.vm_cli.specs.declared.talk.planners.Planner.{Planner}
-use Rattle.vm_cli.specs.declared.talk.waiting.WaitingBatch.{WaitingBatch}
+use Rattle.vm_cli.specs.declared.session.Manner.{Manner}
+use Rattle.vm_cli.specs.declared.session.ServeFault.{ServeFault}
+use Rattle.vm_cli.specs.declared.session.ServeFault.TheVariants as fault
+use Rattle.vm_cli.specs.declared.session.batch.Batch.{Batch}
+use Rattle.vm_cli.specs.declared.session.line_use.LineUse.{LineUse}
+use Rattle.vm_cli.specs.declared.session.planners.Planner.{Planner}
+use Rattle.vm_cli.specs.declared.session.waiting.WaitingBatch.{WaitingBatch}
 use Rattle.vm_cli.proofs.BatchLemmas.{held_count}
 use Rattle.vm_cli.proofs.CarriedLemmas.{begins-more, begins-then}
 use Rattle.vm_cli.proofs.Known.{Appends-then}

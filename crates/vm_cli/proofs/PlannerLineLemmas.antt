@@ -2,12 +2,12 @@
 use Rattle.std.proofs.Common.{◌≡◌, ◌==◌, ◌∙◌, ℕ, Bool, true, false, List, [], ◌∷◌, Option, Some, None, codes, if◌then◌else◌, length, refl, arith}
 use Rattle.std.specs.Prelude.{option_map, unwrap_or}
 use Rattle.std.specs.Str.{bytes_eq}
-use Rattle.vm_cli.specs.Lines.{IsPart}
-use Rattle.vm_cli.specs.Pieces.{before_mark, behind_mark}
-use Rattle.vm_cli.specs.PlannerLines.{Saying, SaysPart, after_word, first_planner, joins, leaves, lone_go, lone_planner, said_by, saying_by, saying_of, says, strange, without_spaces}
-use Rattle.vm_cli.specs.Requests.{is_comment}
-use Rattle.vm_cli.specs.Spaces.{words_of}
-use Rattle.vm_cli.specs.declared.talk.planner_line.When.TheVariants.{Later, Now}
+use Rattle.vm_cli.specs.lines.Lines.{IsPart}
+use Rattle.vm_cli.specs.lines.Pieces.{before_mark, behind_mark}
+use Rattle.vm_cli.specs.session.PlannerLines.{Saying, SaysPart, after_word, first_planner, joins, leaves, lone_go, lone_planner, said_by, saying_by, saying_of, says, strange, without_spaces}
+use Rattle.vm_cli.specs.lines.Requests.{is_comment}
+use Rattle.vm_cli.specs.lines.Spaces.{words_of}
+use Rattle.vm_cli.specs.declared.session.planner_line.When.TheVariants.{Later, Now}
 use Rattle.vm_cli.proofs.Spaces.{words_of-pieces}
 
 -- spaces at the front stand in no word

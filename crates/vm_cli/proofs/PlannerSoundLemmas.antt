@@ -5,26 +5,26 @@ use Rattle.vm_disk.specs.Disk.{DiskState}
 use Rattle.vm_disk.specs.declared.disk.Disk.{Ghosts}
 use Rattle.vm_store.specs.Store.{disk_of}
 use Rattle.vm_store.specs.declared.store.Store.{Store}
-use Rattle.vm_cli.specs.Conversations.{Course}
-use Rattle.vm_cli.specs.Conversations.Course.{proceeds}
-use Rattle.vm_cli.specs.Input.{without_return}
-use Rattle.vm_cli.specs.LineUses.{no_memory, use_of}
-use Rattle.vm_cli.specs.PlannerLines.{Saying, saying_of}
-use Rattle.vm_cli.specs.PlannerLines.Saying.{joins, leaves, nothing, releases, says, strange}
-use Rattle.vm_cli.specs.Planners.{EndsSettling, Gathering, IsLastOf, Joins, Leaves, PutsOff, SaysIt, Seat, TakesAlone, TakesBehind, TakesItFor, TakesIts, TakesOne, TakesWhen, planners, seat, settles_first, with_none_waiting}
-use Rattle.vm_cli.specs.Rounds.{AllWhole, IsWholeRound, Round, after_rounds}
-use Rattle.vm_cli.specs.Streams.{Held, Takes}
-use Rattle.vm_cli.specs.Streams.Held.{holds, lost}
-use Rattle.vm_cli.specs.Talk.{Passes}
-use Rattle.vm_cli.specs.Waiting.{SettlesWaiting, Waiting, then_course}
-use Rattle.vm_cli.specs.declared.talk.Manner.{Manner}
-use Rattle.vm_cli.specs.declared.talk.OnCommand.{OnCommand}
-use Rattle.vm_cli.specs.declared.talk.OnCommand.TheVariants.{Refuse}
-use Rattle.vm_cli.specs.declared.talk.line_use.LineUse.{LineUse}
-use Rattle.vm_cli.specs.declared.talk.line_use.LineUse.TheVariants as line
-use Rattle.vm_cli.specs.declared.talk.planner_line.When.{When}
-use Rattle.vm_cli.specs.declared.talk.planner_line.When.TheVariants.{Later, Now}
-use Rattle.vm_cli.proofs.ConversationLemmas.{IsSound, KeepsOn, KeptSo, kept_so}
+use Rattle.vm_cli.specs.session.SessionKinds.{Course}
+use Rattle.vm_cli.specs.session.SessionKinds.Course.{proceeds}
+use Rattle.vm_cli.specs.lines.Input.{without_return}
+use Rattle.vm_cli.specs.session.LineUses.{no_memory, use_of}
+use Rattle.vm_cli.specs.session.PlannerLines.{Saying, saying_of}
+use Rattle.vm_cli.specs.session.PlannerLines.Saying.{joins, leaves, nothing, releases, says, strange}
+use Rattle.vm_cli.specs.session.Planners.{EndsSettling, Gathering, IsLastOf, Joins, Leaves, PutsOff, SaysIt, Seat, TakesAlone, TakesBehind, TakesItFor, TakesIts, TakesOne, TakesWhen, planners, seat, settles_first, with_none_waiting}
+use Rattle.vm_cli.specs.session.Rounds.{AllWhole, IsWholeRound, Round, after_rounds}
+use Rattle.vm_cli.specs.session.Streams.{Held, Takes}
+use Rattle.vm_cli.specs.session.Streams.Held.{holds, lost}
+use Rattle.vm_cli.specs.session.Session.{Passes}
+use Rattle.vm_cli.specs.session.Waiting.{SettlesWaiting, Waiting, then_course}
+use Rattle.vm_cli.specs.declared.session.Manner.{Manner}
+use Rattle.vm_cli.specs.declared.session.OnCommand.{OnCommand}
+use Rattle.vm_cli.specs.declared.session.OnCommand.TheVariants.{Refuse}
+use Rattle.vm_cli.specs.declared.session.line_use.LineUse.{LineUse}
+use Rattle.vm_cli.specs.declared.session.line_use.LineUse.TheVariants as line
+use Rattle.vm_cli.specs.declared.session.planner_line.When.{When}
+use Rattle.vm_cli.specs.declared.session.planner_line.When.TheVariants.{Later, Now}
+use Rattle.vm_cli.proofs.KindLemmas.{IsSound, KeepsOn, KeptSo, kept_so}
 use Rattle.vm_cli.proofs.PassLemmas.{passes_left}
 use Rattle.vm_cli.proofs.ReadOnlyLemmas.{passes_both}
 use Rattle.vm_cli.proofs.RoundLemmas.{rounds_append, whole_append}

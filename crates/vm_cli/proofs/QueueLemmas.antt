@@ -2,17 +2,17 @@
 use Rattle.std.proofs.Common.{◌≡◌, inl, inr, ◌||◌, ◌==◌, ◌+◌, ◌<◌, ◌++◌, ◌∙◌, ℕ, zero, suc, Bool, true, false, if◌then◌else◌, List, [], ◌∷◌, Option, Result, not, Ok, Err, ap, sym, refl, subst, append_assoc, append-nil, length, take, drop, get_or, arith}
 use Rattle.std.proofs.lemmas.List.{drop_more, take-append-drop, take_more}
 use Rattle.std.specs.Io.KnownBytes.{Appends}
-use Rattle.vm_cli.specs.Carried.{WritesStart}
-use Rattle.vm_cli.specs.Conversations.{AnswersThen, counted_result, some_lines}
-use Rattle.vm_cli.specs.PlannerCalls.{AreWaiting, IsWaiting}
-use Rattle.vm_cli.specs.Planners.{wait_some}
-use Rattle.vm_cli.specs.Streams.{forgotten_text}
-use Rattle.vm_cli.specs.Waiting.{Waiting, forgotten_texts, label, owed, waits}
-use Rattle.vm_cli.specs.declared.talk.OnRefusal.{OnRefusal}
-use Rattle.vm_cli.specs.declared.talk.OnRefusal.TheVariants.{Tell}
-use Rattle.vm_cli.specs.declared.talk.ServeFault.{ServeFault}
-use Rattle.vm_cli.specs.declared.talk.ServeFault.TheVariants as fault
-use Rattle.vm_cli.specs.declared.talk.waiting.WaitingBatch.{WaitingBatch}
+use Rattle.vm_cli.specs.answers.Carried.{WritesStart}
+use Rattle.vm_cli.specs.session.SessionKinds.{AnswersThen, counted_result, some_lines}
+use Rattle.vm_cli.specs.session.PlannerCalls.{AreWaiting, IsWaiting}
+use Rattle.vm_cli.specs.session.Planners.{wait_some}
+use Rattle.vm_cli.specs.session.Streams.{forgotten_text}
+use Rattle.vm_cli.specs.session.Waiting.{Waiting, forgotten_texts, label, owed, waits}
+use Rattle.vm_cli.specs.declared.session.OnRefusal.{OnRefusal}
+use Rattle.vm_cli.specs.declared.session.OnRefusal.TheVariants.{Tell}
+use Rattle.vm_cli.specs.declared.session.ServeFault.{ServeFault}
+use Rattle.vm_cli.specs.declared.session.ServeFault.TheVariants as fault
+use Rattle.vm_cli.specs.declared.session.waiting.WaitingBatch.{WaitingBatch}
 use Rattle.vm_cli.proofs.CarriedLemmas.{begins-then}
 use Rattle.vm_cli.proofs.Known.{Appends-nil, Appends-then}
 use Rattle.vm_cli.proofs.PlannerLemmas.{puts_behind, puts_short}

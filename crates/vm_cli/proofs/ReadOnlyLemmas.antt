@@ -1,5 +1,5 @@
--- A talk in which commands are refused only reads.
-use Rattle.std.proofs.Common.{◌≡◌, inl, inr, ℕ, Bool, true, false, List, [], ◌∷◌, None, Result, Ok, Err, refl, ◌∙◌, subst}
+-- A session in which commands are refused only reads.
+use Rattle.std.proofs.Common.{◌≡◌, ℕ, Bool, true, false, List, [], ◌∷◌, None, Result, Ok, Err, refl, ◌∙◌, subst}
 use Rattle.vm_types.specs.declared.answer.Answer.{Answer}
 use Rattle.vm_types.specs.declared.command.Command.{Command}
 use Rattle.vm_types.specs.declared.refusal.Refusal.{Refusal}
@@ -7,17 +7,19 @@ use Rattle.vm_types.specs.State.{State}
 use Rattle.vm_disk.proofs.MomentLemmas.{reads_then}
 use Rattle.vm_store.specs.Store.{IsSameButDisk}
 use Rattle.vm_store.specs.declared.store.Store.{Store}
-use Rattle.vm_cli.specs.Asking.{Request}
-use Rattle.vm_cli.specs.Input.{without_return}
-use Rattle.vm_cli.specs.Known.{SessionStreams}
-use Rattle.vm_cli.specs.Requests.{asked_in, request_of}
-use Rattle.vm_cli.specs.Spaces.{words_of}
-use Rattle.vm_cli.specs.Talk.{Answered, AnsweredRequest, Done, EndsTalk, HandlesLine, Meets, Passes, Serves, Talks, after_line}
-use Rattle.vm_cli.specs.declared.talk.Manner.{Manner}
-use Rattle.vm_cli.specs.declared.talk.OnCommand.{OnCommand}
-use Rattle.vm_cli.specs.declared.talk.OnCommand.TheVariants.{Refuse}
-use Rattle.vm_cli.specs.declared.talk.ServeFault.{ServeFault}
-use Rattle.vm_cli.specs.declared.talk.ServeFault.TheVariants as fault
+use Rattle.vm_cli.specs.lines.Asking.{Request}
+use Rattle.vm_cli.specs.lines.Input.{without_return}
+use Rattle.vm_cli.specs.session.Known.{SessionStreams}
+use Rattle.vm_cli.specs.lines.Requests.{asked_in, request_of}
+use Rattle.vm_cli.specs.lines.Spaces.{words_of}
+use Rattle.vm_cli.specs.session.Session.{Answered, AnsweredRequest, Done, EndsSession, HandlesLine, Meets, Passes, Serves, AnswersEach, after_line}
+use Rattle.vm_cli.specs.session.Session.Answered.{as_asked, too_long, wanting}
+use Rattle.vm_cli.specs.session.Session.AnsweredRequest.{had_failed, met}
+use Rattle.vm_cli.specs.declared.session.Manner.{Manner}
+use Rattle.vm_cli.specs.declared.session.OnCommand.{OnCommand}
+use Rattle.vm_cli.specs.declared.session.OnCommand.TheVariants.{Refuse}
+use Rattle.vm_cli.specs.declared.session.ServeFault.{ServeFault}
+use Rattle.vm_cli.specs.declared.session.ServeFault.TheVariants as fault
 use Rattle.vm_cli.proofs.PassLemmas.{grows_both, passes_left}
 use Rattle.vm_cli.proofs.RequestLemmas.{is_reading}
 
@@ -69,14 +71,14 @@ module _ {D : Type 0} {members : _} where
     meets_none Request.Forbidden text was reads meets = meets.0
 
     pub request_none : (request : Request) (text : List ℕ) (ends : Bool) (was : Done) → is_reading request ≡ true → AnsweredRequest old new s request text ends was → was ≡ None
-    request_none request text ends was reads (inl (sound, last, meets)) = meets_none request text was reads meets
-    request_none request text ends was reads (inr (failed, same, none, says)) = none
+    request_none request text ends was reads (met sound last meets) = meets_none request text was reads meets
+    request_none request text ends was reads (had_failed failed same none says) = none
 
     module _ (on : Manner) (refuses : on.on_command ≡ Refuse) where
       line_none : (line text : List ℕ) (ends : Bool) (was : Done) → Answered old new s on line text ends was → was ≡ None
-      line_none line text ends was (inl (same, none, goes_on, says)) = none
-      line_none line text ends was (inr (inl (long, same, none, goes_on, says))) = none
-      line_none line text ends was (inr (inr (short, answered))) =
+      line_none line text ends was (wanting nothing says) = nothing.none
+      line_none line text ends was (too_long long nothing says) = nothing.none
+      line_none line text ends was (as_asked short answered) =
           let asked = request_of (words_of (without_return line)) in
           request_none (asked_in on.on_command asked) text ends was (refused_reads on.on_command asked refuses) answered
 
@@ -85,25 +87,25 @@ module _ {D : Type 0} {members : _} where
 
   module _ (on : Manner) (refuses : on.on_command ≡ Refuse) where
     -- lines one after another
-    talks_pass : (lines : List (List ℕ)) (old new : Store D members) (s : State) (text : List ℕ) (commands : List Command) (answers : List (Result Answer Refusal)) (refused : Bool)
-        → Talks old new s on lines text commands answers refused → Passes old new None
-    talks_pass [] old new s text commands answers refused talks = passes_left old new talks.0
-    talks_pass (line ∷ lines) old new s text commands answers refused (mid, first, rest, later, others, step, e, f, g, again, h, talks) =
-        passes_both old mid new (line_passes old mid s on refuses line first false step)
-        (talks_pass lines mid new (after_line s step.done) rest later others again talks)
+    lines_pass : (lines : List (List ℕ)) (old new : Store D members) (s : State) (text : List ℕ) (commands : List Command) (answers : List (Result Answer Refusal)) (refused : Bool)
+        → AnswersEach old new s on lines text commands answers refused → Passes old new None
+    lines_pass [] old new s text commands answers refused none = passes_left old new none.same
+    lines_pass (line ∷ lines) old new s text commands answers refused it =
+        passes_both old it.mid new (line_passes old it.mid s on refuses line it.first false it.step)
+        (lines_pass lines it.mid new (after_line s it.step.done) it.rest it.later it.others it.again it.more)
 
-    ended_passes : (old new : Store D members) (s : State) (ends : Bool) (all : List (List ℕ)) (text : List ℕ) → EndsTalk old new s on ends all text → Passes old new None
+    ended_passes : (old new : Store D members) (s : State) (ends : Bool) (all : List (List ℕ)) (text : List ℕ) → EndsSession old new s on ends all text → Passes old new None
     ended_passes old new s ends all text ended =
         passes_both old ended.mid new
-        (talks_pass ended.lines old ended.mid s ended.earlier ended.talked.commands ended.talked.answers ended.talked.refused ended.talked.talks)
+        (lines_pass ended.lines old ended.mid s ended.earlier ended.answered.commands ended.answered.answers ended.answered.refused ended.answered.each)
         (line_passes ended.mid new _ on refuses ended.line ended.last ends ended.handled)
 
     pub serves_pass : (old new : Store D members) (s : State) (result : Result Bool ServeFault) (known : SessionStreams) → Serves old new s on result known → Passes old new None
     serves_pass old new s (Ok refused) known serves =
-        let talked = serves.served.1 in talks_pass _ old new s serves.served.0 talked.commands talked.answers talked.refused talked.talks
+        let answered = serves.served.answered in lines_pass _ old new s serves.served.text answered.commands answered.answers answered.refused answered.each
     serves_pass old new s (Err fault.Read) known serves =
-        let talked = serves.served.4 in talks_pass serves.served.1 old new s serves.served.0 talked.commands talked.answers talked.refused talked.talks
+        let answered = serves.served.answered in lines_pass serves.served.lines old new s serves.served.text answered.commands answered.answers answered.refused answered.each
     serves_pass old new s (Err fault.Unsure) known serves = absurd serves.served
-    serves_pass old new s (Err fault.Store) known serves = ended_passes old new s true _ serves.served.0 serves.served.1
-    serves_pass old new s (Err fault.Refused) known serves = ended_passes old new s false _ serves.served.0 serves.served.1
-    serves_pass old new s (Err fault.Write) known serves = ended_passes old new s serves.served.1 _ serves.served.0 serves.served.2
+    serves_pass old new s (Err fault.Store) known serves = ended_passes old new s true _ serves.served.text serves.served.ended
+    serves_pass old new s (Err fault.Refused) known serves = ended_passes old new s false _ serves.served.text serves.served.ended
+    serves_pass old new s (Err fault.Write) known serves = ended_passes old new s serves.served.ends _ serves.served.text serves.served.ended

@@ -3,10 +3,10 @@ use Rattle.std.proofs.Common.{◌≡◌, ◌==◌, ◌<◌, ◌≤◌, ◌+◌, 
 use Rattle.std.proofs.lemmas.List.{drop-drop, drop-take, length-take}
 use Rattle.std.proofs.KnownBytes.{Consumes-kept, Consumes-trans}
 use Rattle.std.specs.Io.KnownBytes.{Consumes, IsAtEnd, Keeps}
-use Rattle.vm_cli.specs.Conversations.{ended_lines}
-use Rattle.vm_cli.specs.Input.{HoldsLine, is_nil}
-use Rattle.vm_cli.specs.LineEndings.{ending_at}
-use Rattle.vm_cli.specs.LineReading.{ReadsLine, Took}
+use Rattle.vm_cli.specs.session.SessionKinds.{ended_lines}
+use Rattle.vm_cli.specs.lines.Input.{HoldsLine, is_nil}
+use Rattle.vm_cli.specs.session.LineEndings.{ending_at}
+use Rattle.vm_cli.specs.session.LineReading.{ReadsLine, Took}
 use Rattle.vm_cli.specs.declared.lines.line.Line.{Line}
 use Rattle.vm_cli.proofs.FeedLemmas.{line_is}
 

@@ -16,9 +16,9 @@ use Rattle.vm_disk.specs.declared.system.SystemFile.{SystemFile}
 use Rattle.vm_disk.proofs.FileLemmas.{disk_file_is_honest, sure_is_clean}
 use Rattle.vm_cli.proofs.PlaceLemmas.{shown_new, zeros_are_new}
 use Rattle.vm_sums.specs.Summed.{inner_of, shown, shown_contents}
-use Rattle.vm_cli.specs.Places.{Creates, Finds, IsNew, PlaceState, TakesBack}
-use Rattle.vm_cli.specs.Progress.{file_below}
-use Rattle.vm_cli.specs.RealFiles.{RealDisk, blocks_held, came_after, disk_name, files_after, honest_after, is_absent, is_as_left, real_disk, same_contents, shown_blocks, whole_blocks}
+use Rattle.vm_cli.specs.program.Places.{Creates, Finds, IsNew, PlaceState, TakesBack}
+use Rattle.vm_cli.specs.program.Progress.{file_below}
+use Rattle.vm_cli.specs.program.RealFiles.{RealDisk, blocks_held, came_after, disk_name, files_after, honest_after, is_absent, is_as_left, real_disk, same_contents, shown_blocks, whole_blocks}
 use Rattle.vm_cli.specs.declared.program.place.Event.{Event}
 use Rattle.vm_cli.specs.declared.program.progress.Watched.{Watched}
 use Rattle.vm_cli.specs.declared.program.place.Event.TheVariants.{Found, Made, Given}

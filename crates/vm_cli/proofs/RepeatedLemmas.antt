@@ -1,7 +1,7 @@
 -- A text that is written several times.
 use Rattle.std.proofs.Common.{◌≡◌, ◌≤◌, ◌+◌, ◌-◌, ◌++◌, ◌∙◌, ℕ, zero, suc, add-one, List, Option, ap, sym, subst, arith, append-nil, append_assoc}
-use Rattle.vm_cli.specs.Carried.{WritesStart}
-use Rattle.vm_cli.specs.Streams.{repeated}
+use Rattle.vm_cli.specs.answers.Carried.{WritesStart}
+use Rattle.vm_cli.specs.session.Streams.{repeated}
 use Rattle.vm_cli.proofs.CarriedLemmas.{begins-more}
 
 -- one time more

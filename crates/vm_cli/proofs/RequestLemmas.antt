@@ -9,18 +9,18 @@ use Rattle.vm_types.specs.Queries.{IsListing}
 use Rattle.vm_store.specs.Queries.{Queries}
 use Rattle.vm_store.specs.Store.{has_failed}
 use Rattle.vm_store.specs.declared.store.Store.{Store}
-use Rattle.vm_cli.specs.Asking.{Request}
-use Rattle.vm_cli.specs.Feeds.{Asks, AsksBy, AsksInto, HandlesRequest, HandlesOrWants, ListReplied, QueriesBy, QueriesWith, Replies, Stays, TalkGoesOn}
-use Rattle.vm_cli.specs.Replies.{ends_talk, is_error, reply_text}
-use Rattle.vm_cli.specs.Requested.{list_for}
-use Rattle.vm_cli.specs.Requests.{asked_in}
-use Rattle.vm_cli.specs.Talk.{Failing, Meets, Passes, SaysAnswer, SaysFailed, Stood, answer_text, error_text, list_lines}
+use Rattle.vm_cli.specs.lines.Asking.{Request}
+use Rattle.vm_cli.specs.session.Feeds.{Asks, AsksBy, AsksInto, HandlesRequest, HandlesOrWants, ListReplied, QueriesBy, QueriesWith, Replies, Stays, SessionGoesOn}
+use Rattle.vm_cli.specs.answers.Replies.{ends_session, is_error, reply_text}
+use Rattle.vm_cli.specs.lines.Requested.{list_for}
+use Rattle.vm_cli.specs.lines.Requests.{asked_in}
+use Rattle.vm_cli.specs.session.Session.{Failing, Meets, Passes, SaysAnswer, SaysFailed, Stood, answer_text, error_text, list_lines}
 use Rattle.vm_cli.specs.declared.lines.list_query.ListQuery.{ListQuery}
 use Rattle.vm_cli.specs.declared.lines.list_query.ListQuery.TheVariants as listed
 use Rattle.vm_cli.specs.declared.lines.mistake.Mistake.{Mistake}
-use Rattle.vm_cli.specs.declared.talk.OnCommand.{OnCommand}
-use Rattle.vm_cli.specs.declared.talk.OnCommand.TheVariants.{CarryOut, GrowIfFull, Refuse}
-use Rattle.vm_cli.specs.declared.talk.Session.{Session}
+use Rattle.vm_cli.specs.declared.session.OnCommand.{OnCommand}
+use Rattle.vm_cli.specs.declared.session.OnCommand.TheVariants.{CarryOut, GrowIfFull, Refuse}
+use Rattle.vm_cli.specs.declared.session.Session.{Session}
 use Rattle.vm_cli.specs.declared.answers.reply.Reply.{Reply}
 use Rattle.vm_cli.specs.declared.answers.reply.Reply.TheVariants as reply
 use Rattle.vm_cli.specs.declared.answers.output.WriteFault.{WriteFault}
@@ -36,7 +36,7 @@ is_reading (Request.Growing most command) = false
 is_reading (Request.MergeAll limit alt side settled) = false
 is_reading request = true
 
--- and so it is the same in each talk
+-- and so it is the same in each session
 pub reads_alone : (on : OnCommand) (request : Request) → is_reading request ≡ true → asked_in on request ≡ request
 reads_alone Refuse (Request.Command command) reads = cc
 reads_alone Refuse (Request.Growing most command) reads = cc
@@ -74,10 +74,10 @@ module _ {D : Type 0} {members : _} where
 
   -- a command that was carried out
   pub carried_by : (old new : Store D members) (command : Command) (answer : Result Answer Refusal) → Applied old new command answer → (reply : Reply) → reply_text reply ≡ answer_text answer
-      → TalkGoesOn answer reply → (answer ≡ Err Device → ends_talk reply ≡ true) → (answer ≡ Err Failed → ends_talk reply ≡ true) → AsksBy (Request.Command command) reply old new
+      → SessionGoesOn answer reply → (answer ≡ Err Device → ends_session reply ≡ true) → (answer ≡ Err Failed → ends_session reply ≡ true) → AsksBy (Request.Command command) reply old new
   carried_by old new command answer applied reply text goes_on device failed =
       let by = applied_ends old new command answer applied reply goes_on device in
-      record { store = by; answers = λ s. carried old new s command answer applied (reply_text reply) (ends_talk reply) text by.last failed }
+      record { store = by; answers = λ s. carried old new s command answer applied (reply_text reply) (ends_session reply) text by.last failed }
 
   -- a line that asks for nothing that there is
   pub bad_asked : (store : Store D members) (mistake : Mistake) → AsksBy (Request.Bad mistake) (reply.BadLine mistake) store store
@@ -123,7 +123,7 @@ module _ {D W : Type 0} {members : _} (contents : W → Option (List ℕ)) where
         answers = λ s. replied_whole (HandlesOrWants store store s request) (reply.Refused Memory) _ text none (memory_told store s request);
       }
 
-  -- a request that only reads, in a talk where this is done with commands
+  -- a request that only reads, in a session where this is done with commands
   pub reads_in : (on : OnCommand) (old new : Store D members) (request : Request) → is_reading request ≡ true → (r : Result Reply WriteFault) (writer writer' : W) (text : List ℕ) → AsksInto contents request r old new writer writer' text
       → AsksInto contents (asked_in on request) r old new writer writer' text
   reads_in on old new request reads r writer writer' text into =
@@ -131,7 +131,7 @@ module _ {D W : Type 0} {members : _} (contents : W → Option (List ℕ)) where
 
   -- a query that only reads, with an answer that may be written in part
   pub query_into : (old new : Store D members) (query : Request) → Passes old new None → has_failed new ≡ has_failed old → (has_failed old ≡ true → new ≡ old)
-      → (r : Result Reply WriteFault) (writer writer' : W) (text : List ℕ) → OnOk r (length text + 1024 ≤ 65536) → (has_failed old ≡ false → IfOk r (λ reply. ends_talk reply ≡ has_failed new))
+      → (r : Result Reply WriteFault) (writer writer' : W) (text : List ℕ) → OnOk r (length text + 1024 ≤ 65536) → (has_failed old ≡ false → IfOk r (λ reply. ends_session reply ≡ has_failed new))
       → ((s : State) → Replies (HandlesRequest old new s query) r (contents writer) (contents writer') text) → AsksInto contents query r old new writer writer' text
   query_into old new query passes same left r writer writer' text room last replies = record {
     room = room;

@@ -5,8 +5,8 @@ use Rattle.vm_types.specs.declared.command.Command.{Command}
 use Rattle.vm_types.specs.declared.refusal.Refusal.{Refusal}
 use Rattle.vm_types.specs.State.{State, after, is_commit, next}
 use Rattle.vm_types.specs.Tree.{Tree}
-use Rattle.vm_cli.specs.Rounds.{AllWhole, Batch, CommitNothing, IsSettled, IsWhole, Round, after_batch, after_batches, after_round, after_rounds, all_answers, all_commands, committed_batches, round_answers, round_commands}
-use Rattle.vm_cli.specs.Rounds.Round.{broken, committed, idle, undone, unsure}
+use Rattle.vm_cli.specs.session.Rounds.{AllWhole, Batch, CommitNothing, IsSettled, IsWhole, Round, after_batch, after_batches, after_round, after_rounds, all_answers, all_commands, committed_batches, round_answers, round_commands}
+use Rattle.vm_cli.specs.session.Rounds.Round.{broken, committed, idle, undone, unsure}
 
 -- a command that is no commit leaves what is committed
 next_keeps : (s : State) (c : Command) (a : Result Answer Refusal) → is_commit c ≡ false → ((next s c a).committed ≡ s.committed) × ((next s c a).kept ≡ s.kept)

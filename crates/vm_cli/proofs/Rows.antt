@@ -1,7 +1,7 @@
 -- Lines of planners, computed by the definitions: what each of them says.
 use Rattle.std.specs.Prelude.{◌≡◌, refl, [], codes}
-use Rattle.vm_cli.specs.PlannerLines.{joins, leaves, nothing, releases, saying_of, says, strange}
-use Rattle.vm_cli.specs.declared.talk.planner_line.When.TheVariants.{Later, Now}
+use Rattle.vm_cli.specs.session.PlannerLines.{joins, leaves, nothing, releases, saying_of, says, strange}
+use Rattle.vm_cli.specs.declared.session.planner_line.When.TheVariants.{Later, Now}
 
 join_1 : saying_of (codes "join 1") ≡ joins 1
 join_1 = refl

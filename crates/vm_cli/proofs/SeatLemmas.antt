@@ -2,22 +2,22 @@
 use Rattle.std.proofs.Common.{◌≡◌, ◌≢◌, inl, ◌||◌, ◌+◌, ◌<◌, ◌≤◌, ◌++◌, ◌∙◌, ℕ, zero, suc, Bool, true, false, if◌then◌else◌, is_some, List, [], ◌∷◌, Option, None, Some, Result, Err, ap, sym, refl, subst, arith, append-nil, append_assoc, length, take, drop, get_or}
 use Rattle.std.proofs.lemmas.List.{drop_at, drop_more, get_or_at, length-append, take-append-drop, take_all, take_at, take_more}
 use Rattle.std.specs.Io.KnownBytes.{Appends}
-use Rattle.vm_cli.specs.Carried.{WritesStart}
-use Rattle.vm_cli.specs.Conversations.{AnswersThen, counted_result, some_lines}
-use Rattle.vm_cli.specs.PlannerCalls.{AnswersSeats, AreWithin, IsPlaceOf, StaysAtRest}
-use Rattle.vm_cli.specs.Planners.{AreSeats, IsAbsent, IsDone, IsPresent, IsTold, Joins, Leaves, Seat, Sits, half_text, hold_some, parting_count, parting_text, partings, seat, seats_end_count, seats_end_text}
-use Rattle.vm_cli.specs.Replies.{reply_text}
-use Rattle.vm_cli.specs.StreamCalls.{KeepsSession}
-use Rattle.vm_cli.specs.Streams.{Held, IsStage, ok_text}
-use Rattle.vm_cli.specs.Waiting.{label}
+use Rattle.vm_cli.specs.answers.Carried.{WritesStart}
+use Rattle.vm_cli.specs.session.SessionKinds.{AnswersThen, counted_result, some_lines}
+use Rattle.vm_cli.specs.session.PlannerCalls.{AnswersSeats, AreWithin, IsPlaceOf, StaysAtRest}
+use Rattle.vm_cli.specs.session.Planners.{AreSeats, IsAbsent, IsDone, IsPresent, IsTold, Joins, Leaves, Seat, Sits, half_text, hold_some, parting_count, parting_text, partings, seat, seats_end_count, seats_end_text}
+use Rattle.vm_cli.specs.answers.Replies.{reply_text}
+use Rattle.vm_cli.specs.session.StreamCalls.{KeepsSession}
+use Rattle.vm_cli.specs.session.Streams.{Held, IsStage, ok_text}
+use Rattle.vm_cli.specs.session.Waiting.{label}
 use Rattle.vm_cli.specs.declared.answers.reply.Reply.TheVariants as reply
-use Rattle.vm_cli.specs.declared.talk.Manner.{Manner}
-use Rattle.vm_cli.specs.declared.talk.ServeFault.{ServeFault}
-use Rattle.vm_cli.specs.declared.talk.ServeFault.TheVariants as fault
-use Rattle.vm_cli.specs.declared.talk.batch.Batch.{Batch}
-use Rattle.vm_cli.specs.declared.talk.batches.BatchSession.{BatchSession}
-use Rattle.vm_cli.specs.declared.talk.planners.Planner.{Planner}
-use Rattle.vm_cli.specs.declared.talk.planners.PlannersSession.{PlannersSession}
+use Rattle.vm_cli.specs.declared.session.Manner.{Manner}
+use Rattle.vm_cli.specs.declared.session.ServeFault.{ServeFault}
+use Rattle.vm_cli.specs.declared.session.ServeFault.TheVariants as fault
+use Rattle.vm_cli.specs.declared.session.batch.Batch.{Batch}
+use Rattle.vm_cli.specs.declared.session.batches.BatchSession.{BatchSession}
+use Rattle.vm_cli.specs.declared.session.planners.Planner.{Planner}
+use Rattle.vm_cli.specs.declared.session.planners.PlannersSession.{PlannersSession}
 use Rattle.vm_cli.proofs.BatchLemmas.{held_count}
 use Rattle.vm_cli.proofs.Known.{Appends-nil, Appends-then}
 use Rattle.vm_cli.proofs.PlannerLemmas.{puts_behind, puts_short}

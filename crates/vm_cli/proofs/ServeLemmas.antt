@@ -1,18 +1,18 @@
--- How a talk ends.
+-- How a session ends.
 use Rattle.std.proofs.Common.{◌≡◌, ◌==◌, ◌++◌, ◌∙◌, ℕ, Bool, true, false, List, [], ◌∷◌, Option, Some, None, IfSome, Result, Ok, Err, take, refl, ap, sym, subst, arith, append-nil}
 use Rattle.std.proofs.lemmas.Bool.Decides.{nat_tests}
 use Rattle.std.proofs.KnownBytes.{Consumes-trans, Consumes-whole}
 use Rattle.std.specs.Io.KnownBytes.{Consumes, IsAtEnd}
 use Rattle.vm_types.specs.State.{State, after}
 use Rattle.vm_store.specs.declared.store.Store.{Store}
-use Rattle.vm_cli.specs.Feeds.{Fed, Writes}
-use Rattle.vm_cli.specs.Known.{streams_of}
-use Rattle.vm_cli.specs.Lines.{IsPart, lines_of, onto_first}
-use Rattle.vm_cli.specs.Input.{is_nil}
-use Rattle.vm_cli.specs.Talk.{HandlesLine, Serves, ServesLines}
-use Rattle.vm_cli.specs.declared.talk.Manner.{Manner}
-use Rattle.vm_cli.specs.declared.talk.ServeFault.{ServeFault}
-use Rattle.vm_cli.specs.declared.talk.ServeFault.TheVariants as fault
+use Rattle.vm_cli.specs.session.Feeds.{Fed, Writes}
+use Rattle.vm_cli.specs.session.Known.{between, streams_of}
+use Rattle.vm_cli.specs.lines.Lines.{IsPart, lines_of, onto_first}
+use Rattle.vm_cli.specs.lines.Input.{is_nil}
+use Rattle.vm_cli.specs.session.Session.{HandlesLine, Serves, ServesLines}
+use Rattle.vm_cli.specs.declared.session.Manner.{Manner}
+use Rattle.vm_cli.specs.declared.session.ServeFault.{ServeFault}
+use Rattle.vm_cli.specs.declared.session.ServeFault.TheVariants as fault
 use Rattle.vm_cli.proofs.CarriedLemmas.{on_ok}
 use Rattle.vm_cli.proofs.FeedLemmas.{joined, serves-after, serves-line}
 
@@ -51,21 +51,21 @@ module _ {D : Type 0} {members : _} (old mid : Store D members) (s : State) (on 
       record {
         input = bytes;
         own = own;
-        served = subst (λ ls. ServesLines old mid s on (Ok refused) a b ls) (sym lines) (f.text, f.talked, f.told, f.written);
+        served = subst (λ ls. ServesLines old mid s on (Ok refused) (between a b) ls) (sym lines) (record { text = f.text; answered = f.answered; told = f.told; written = f.written });
       }
 
   -- it ended within a line
   pub serves-last : (new : Store D members) (c known : Option (List ℕ)) (r : Result Bool ServeFault) → IfSome known (λ own. own ≡ bytes) → IsPart to → is_nil to ≡ false
-      → Writes on (HandlesLine mid new (after s f.talked.commands f.talked.answers) on to) r b c → Serves old new s on (joined refused r) (streams_of known a c)
+      → Writes on (HandlesLine mid new (after s f.answered.commands f.answered.answers) on to) r b c → Serves old new s on (joined refused r) (streams_of known a c)
   serves-last new c known r own part e w =
       let lines : lines_of bytes ≡ f.lines ++ (to ∷ []) = cut-all ∙ ap (λ ls. f.lines ++ ls) (last-line to part e) in
-      let line = serves-line mid new (after s f.talked.commands f.talked.answers) on to r b c [] (on_ok r refl) w in
-      let whole = serves-after old mid new s on f.lines f.text f.talked r a b c (to ∷ []) f.written line in
+      let line = serves-line mid new (after s f.answered.commands f.answered.answers) on to r b c [] (on_ok r refl) w in
+      let whole = serves-after old mid new s on f.lines f.text f.answered r a b c (to ∷ []) f.written line in
       record {
         input = bytes;
         own = own;
-        served = subst (λ ls. ServesLines old new s on (joined refused r) a c ls) (sym lines)
-            (subst (λ t. ServesLines old new s on (joined t r) a c (f.lines ++ (to ∷ []))) (sym f.told) whole);
+        served = subst (λ ls. ServesLines old new s on (joined refused r) (between a c) ls) (sym lines)
+            (subst (λ t. ServesLines old new s on (joined t r) (between a c) (f.lines ++ (to ∷ []))) (sym f.told) whole);
       }
 
   -- the reader failed
@@ -75,12 +75,12 @@ module _ {D : Type 0} {members : _} (old mid : Store D members) (s : State) (on 
       record {
         input = bytes ++ rest.0;
         own = rest.1;
-        served = (f.text, f.lines, lines_of (to ++ rest.0), f.cut rest.0, f.talked, f.written);
+        served = record { text = f.text; lines = f.lines; others = lines_of (to ++ rest.0); cut = f.cut rest.0; answered = f.answered; written = f.written };
       }
 
--- the talk ended among these bytes
+-- the session ended among these bytes
 pub serves-some : {D : Type 0} {members : _} (old new : Store D members) (s : State) (on : Manner) (result : Result Bool ServeFault) (a c known left : Option (List ℕ)) (bytes : List ℕ) → Consumes known left bytes
-    → ((more : List ℕ) → ServesLines old new s on result a c (lines_of (bytes ++ more))) → Serves old new s on result (streams_of known a c)
+    → ((more : List ℕ) → ServesLines old new s on result (between a c) (lines_of (bytes ++ more))) → Serves old new s on result (streams_of known a c)
 serves-some old new s on result a c known left bytes read ended =
     let rest = read-some known left bytes read in
     record { input = bytes ++ rest.0; own = rest.1; served = ended rest.0 }

@@ -1,119 +1,83 @@
--- What a crash leaves from the moment at which a disk is found to that at which it comes back.
-use Rattle.std.proofs.Common.{◌≡◌, inl, inr, Bool, true, false, [], length, Result, Ok, Err, refl, sym, ap, ◌∙◌, subst, arith}
-use Rattle.std.proofs.lemmas.List.{ext_get_or}
-use Rattle.vm_types.specs.State.{Seen, State, opened}
-use Rattle.vm_disk.specs.Disk as disk
-use Rattle.vm_disk.specs.Disk.{Contents, DiskState, IsClean, MayLeave, Medium}
-use Rattle.vm_disk.specs.Moments.{Leaves, Throughout}
-use Rattle.vm_disk.proofs.MomentLemmas.{clean_sure, weaken}
-use Rattle.vm_store.specs.Growth.{Grows}
-use Rattle.vm_store.specs.Recovery.{OpensAs}
-use Rattle.vm_store.specs.Refused.{IsAtMostSynced}
-use Rattle.vm_store.specs.Shown.{Shows}
-use Rattle.vm_store.specs.Store.{Holds, disk_of, has_failed}
-use Rattle.vm_store.specs.declared.store.Store.{Store}
-use Rattle.vm_cli.specs.Keeps.{Keeps}
-use Rattle.vm_cli.specs.Known.{SessionStreams}
-use Rattle.vm_cli.specs.Served.{IsWholeBy, ServesBy, answers_by, commands_by}
-use Rattle.vm_cli.specs.Exits.{MayEnd}
-use Rattle.vm_cli.specs.Sessions.{end_of, end_refused}
-use Rattle.vm_cli.specs.Planners.{telling}
-use Rattle.vm_cli.specs.declared.talk.Grouping.{Grouping}
-use Rattle.vm_cli.specs.declared.talk.Grouping.TheVariants.{Batches, Lines, Planners}
-use Rattle.vm_cli.specs.declared.talk.Manner.{Manner}
-use Rattle.vm_cli.specs.declared.talk.OnRefusal.{OnRefusal}
-use Rattle.vm_cli.specs.declared.talk.OnRefusal.TheVariants.{Ignore, Stop, Tell}
-use Rattle.vm_cli.specs.declared.talk.ServeFault.{ServeFault}
-use Rattle.vm_cli.specs.declared.talk.ServeFault.TheVariants as fault
-use Rattle.vm_cli.proofs.ConversationLemmas.{stream_is_whole, stream_keeps}
-use Rattle.vm_cli.proofs.KeepLemmas.{Keeping, keeping_none, keeping_quiet}
-use Rattle.vm_cli.proofs.PlannerSoundLemmas.{planners_sound}
-use Rattle.vm_cli.proofs.SoundLemmas.{batches_sound}
-use Rattle.vm_cli.proofs.TalkKeepLemmas.{SoFar, serves_keeps}
+-- Which answers are given.
+use Rattle.std.proofs.Common.{◌≡◌, ◌≢◌, ◌↔◌, ◌++◌, ℕ, Bool, true, false, List, [], ◌∷◌, Option, Some, None, Result, Ok, Err, IfOk, OnErr, OnOk, append-nil, append_assoc, flat_map, length, refl, ap, ◌∙◌}
+use Rattle.vm_types.specs.declared.answer.Answer.{Answer}
+use Rattle.vm_types.specs.declared.refusal.Refusal.{Refusal}
+use Rattle.vm_types.specs.declared.refusal.Refusal.TheVariants.{Device, Failed}
+use Rattle.vm_cli.specs.answers.Carried.{WritesStart, Carries}
+use Rattle.vm_cli.specs.session.Feeds.{Replies}
+use Rattle.vm_cli.specs.answers.Replies.{found_text, is_error, reply_text}
+use Rattle.vm_types.specs.Queries.{IsListing}
+use Rattle.vm_cli.specs.session.Session.{SaysAnswer, error_text, list_lines, list_text}
+use Rattle.vm_cli.specs.declared.answers.reply.Reply.{Reply}
+use Rattle.vm_cli.specs.declared.answers.reply.Reply.TheVariants.{End}
+use Rattle.vm_cli.specs.declared.answers.output.WriteFault.{WriteFault}
+use Rattle.vm_cli.proofs.CarriedLemmas.{begins-more}
 
--- a crash leaves of a synced disk what it holds
-pub clean_leaves : (P : Contents → Type 0) (m : Medium) → IsClean m → P m.contents → Leaves P m
-clean_leaves P m clean p left may =
-    let count : length left ≡ length m.contents = omega (arith, may.least, may.most, clean_sure m clean) in
-    subst P (sym (ext_get_or [] left m.contents count (λ n inside. may.clean n (clean n)))) p
+-- the answer to a command ends the session just where the store has failed
+pub last-is : (ends failed : Bool) (answer : Result Answer Refusal) → (failed ≡ true ↔ answer ≡ Err Device) → answer ≢ Err Failed → (answer ≡ Err Device → ends ≡ true)
+    → (answer ≢ Err Device → answer ≢ Err Failed → ends ≡ false) → ends ≡ failed
+last-is ends true answer is other device last = device (is.0 refl)
+last-is ends false answer is other device last = last (λ same. let e : false ≡ true = is.1 same in cc) other
 
--- what a crash leaves it may leave: what is held
-pub leaves_held : (P : Contents → Type 0) (m : Medium) → Leaves P m → P m.contents
-leaves_held P m leaves = leaves m.contents record { least = m.within; most = omega arith; clean = λ n clean. refl }
+abbrev given : {X : Type 0} → X → Result X Refusal
+given x = Ok x
 
--- a sync makes a crash leave no more
-pub synced_leaves : (P : Contents → Type 0) (old m : Medium) → Leaves P old → IsAtMostSynced old m → Leaves P m
-synced_leaves P old m leaves (inl same) = subst (Leaves P) (sym same) leaves
-synced_leaves P old m leaves (inr synced) = λ left may. leaves left record {
-  least = omega (arith, may.least, clean_sure m synced.clean, ap length synced.same, old.within);
-  most = omega (arith, may.most, ap length synced.same);
-  clean = λ n clean. may.clean n (synced.clean n) ∙ ap (λ (x : Contents). disk.block x n) synced.same;
+-- a store that gives something hasn't failed
+pub was_sound : {X : Type 0} (failed : Bool) (x : X) → (failed ≡ true → given x ≡ Err Failed) → failed ≡ false
+was_sound false x refused = refl
+was_sound true x refused = let e = refused refl in cc
+
+-- the text has its line alone, which is no refusal
+pub found_alone : (old text : List ℕ) (found : Option (List ℕ)) → old ≡ [] → text ≡ old ++ found_text found → text ++ [] ≡ found_text found
+found_alone old text found none is = rw (is, none) (append-nil (found_text found))
+
+pub found_plain : (text : List ℕ) (found : Option (List ℕ)) → text ≡ found_text found → is_error text ≡ false
+found_plain text None is = rw is refl
+found_plain text (Some value) is = rw is refl
+
+-- the lines of a list and its end are no refusal
+plain_list : {X : Type 0} (line : X → List ℕ) → ((x : X) (rest : List ℕ) → is_error (line x ++ rest) ≡ false) → (items : List X) (count : ℕ)
+    → is_error (flat_map line items ++ reply_text (End count)) ≡ is_error (reply_text (End count))
+plain_list line plain [] count = refl
+plain_list line plain (x ∷ xs) count = ap is_error (append_assoc (line x) (flat_map line xs) (reply_text (End count))) ∙ plain x (flat_map line xs ++ reply_text (End count))
+
+-- a list is told
+says_items : {X : Type 0} (C Fails : Type 0) (line : X → List ℕ) (items : List X) (due : Result (List X) Refusal) → (C → due ≡ Ok items)
+    → SaysAnswer Fails (list_lines line) (λ answer. C → IsListing answer due) (list_text line items)
+says_items C Fails line items due is = record {
+  answer = Ok items;
+  says = refl;
+  device = λ no. absurd cc;
+  only_then = λ no. cc;
+  due = is;
 }
 
--- a disk that is at most synced keeps what it shows
-module _ (old new : DiskState) (seen : Seen) (leaves : Leaves (λ x. Shows x seen) old.now) (synced : Throughout old new (IsAtMostSynced old.now)) where
-  pub synced_keeping : Keeping old new (opened seen) [] []
-  synced_keeping =
-      keeping_quiet old old (opened seen) [] [] (keeping_none old (opened seen) leaves) new
-      (weaken old new (IsAtMostSynced old.now) (Leaves (λ x. Shows x seen)) (λ m at_most. synced_leaves (λ x. Shows x seen) old.now m leaves at_most) synced)
+-- a list is written as is due
+pub list_replies : {X : Type 0} (C : Type 0) (P : List ℕ → Bool → Type 0) (Fails : Type 0) (line : X → List ℕ) (items : List X) (due : Result (List X) Refusal) (r : Result Reply WriteFault) (a b : Option (List ℕ)) (rest : List ℕ)
+    → ((x : X) (rest : List ℕ) → is_error (line x ++ rest) ≡ false) → ((text : List ℕ) → SaysAnswer Fails (list_lines line) (λ answer. C → IsListing answer due) text → P text false)
+    → (C → due ≡ Ok items) → IfOk r (λ reply. reply ≡ End (length items)) → OnOk r (Carries a b rest (flat_map line items)) → OnErr r (WritesStart a b (flat_map line items))
+    → Replies P r a b rest
+list_replies C P Fails line items due (Ok reply) a b rest plain lift is ends carries begins = record {
+  whole = flat_map line items;
+  says = rw ends (lift (list_text line items) (says_items C Fails line items due is));
+  tells = rw ends (plain_list line plain items (length items));
+  carries = carries;
+}
+list_replies C P Fails line items due (Err fault) a b rest plain lift is ends carries begins = record {
+  whole = list_text line items;
+  ends = false;
+  says = lift (list_text line items) (says_items C Fails line items due is);
+  begins = begins-more a b (flat_map line items) _ begins;
+}
 
--- a session keeps what its commands commit
-served_keeps : {D : Type 0} {members : _} (start : DiskState) (s : State) (old new : Store D members) → SoFar start s old [] [] → (members.state (disk_of new)).honest ≡ true → has_failed old ≡ false → Holds old s
-    → (grouping : Grouping) (on : Manner) (result : Result Bool ServeFault) (known : SessionStreams) (serves : ServesBy grouping old new s on result known)
-    → Keeps start (members.state (disk_of new)) s (commands_by grouping old new s on result known serves) (answers_by grouping old new s on result known serves)
-served_keeps start s old new so_far honest sound holds Lines on result known serves = serves_keeps start s old new so_far honest sound holds on result known serves
-served_keeps start s old new so_far honest sound holds Batches on result known serves = stream_keeps batches_sound start s old new so_far honest sound holds on result known serves
-served_keeps start s old new so_far honest sound holds Planners on result known serves = stream_keeps planners_sound start s old new so_far honest sound holds (telling on) result known serves
-
--- and so does one on which lines were answered
-module _ {D : Type 0} {members : _} (old : DiskState) (first last : Store D members) (opens : (members.state (disk_of first)).honest ≡ true → OpensAs old.now.contents first)
-    (synced : (members.state (disk_of first)).honest ≡ true → Throughout old (members.state (disk_of first)) (IsAtMostSynced old.now)) (well : has_failed first ≡ false) (goes : Grows ⊥ (members.state (disk_of first)) (members.state (disk_of last))) where
-  session_keeps : (on : Manner) (result : Result Bool ServeFault) (known : SessionStreams) (serves : (s : State) → ServesBy on.grouping first last s on result known)
-      → (members.state (disk_of last)).honest ≡ true → (seen : Seen) → Leaves (λ x. Shows x seen) old.now
-      → Keeps old (members.state (disk_of last)) (opened seen) (commands_by on.grouping first last (opened seen) on result known (serves (opened seen))) (answers_by on.grouping first last (opened seen) on result known (serves (opened seen)))
-  session_keeps on result known serves honest seen leaves =
-      let honest_first = goes.earlier honest in
-      let at_first = (opens honest_first).stands seen (leaves_held (λ x. Shows x seen) old.now leaves) in
-      served_keeps old (opened seen) first last (synced_keeping old (members.state (disk_of first)) seen leaves (synced honest_first)) honest well
-      at_first.holds on.grouping on result known (serves (opened seen))
-
-  -- also on the disk that the store gives back
-  pub session_kept : (on : Manner) (result : Result Bool ServeFault) (known : SessionStreams) (serves : (s : State) → ServesBy on.grouping first last s on result known)
-      → (new : D) → new ≡ disk_of last → (members.state new).honest ≡ true → (seen : Seen)
-      → Leaves (λ x. Shows x seen) old.now
-      → Keeps old (members.state new) (opened seen) (commands_by on.grouping first last (opened seen) on result known (serves (opened seen))) (answers_by on.grouping first last (opened seen) on result known (serves (opened seen)))
-  session_kept on result known serves new given honest seen leaves =
-      subst (λ d. Keeps old (members.state d) (opened seen) (commands_by on.grouping first last (opened seen) on result known (serves (opened seen))) (answers_by on.grouping first last (opened seen) on result known (serves (opened seen)))) (sym given)
-      (session_keeps on result known serves (subst (λ d. (members.state d).honest ≡ true) given honest) seen leaves)
-
--- how the program may end after a talk in which a line was refused
-after_refusal : (on : OnRefusal) → MayEnd on (end_refused on)
-after_refusal Ignore = inl refl
-after_refusal Tell = inr (inr (refl, λ e. cc))
-after_refusal Stop = inr (inr (refl, λ e. cc))
-
--- the batches of a session are whole
-pub served_whole : {D : Type 0} {members : _} (first last : Store D members) (s : State) (grouping : Grouping) (on : Manner) (result : Result Bool ServeFault) (known : SessionStreams)
-    → (serves : ServesBy grouping first last s on result known) → IsWholeBy grouping first last s on result known serves
-served_whole first last s Lines on result known serves = tt
-served_whole first last s Batches on result known serves = stream_is_whole batches_sound on first last s result known serves
-served_whole first last s Planners on result known serves = stream_is_whole planners_sound (telling on) first last s result known serves
-
--- a refusal ends a session only where it is to
-refused_stops : {D : Type 0} {members : _} (first last : Store D members) (s : State) (grouping : Grouping) (on : Manner) (known : SessionStreams) → ServesBy grouping first last s on (Err fault.Refused) known
-    → on.on_refusal ≡ Stop
-refused_stops first last s Lines on known serves = serves.served.3
-refused_stops first last s Batches on known serves = serves.served.1
-refused_stops first last s Planners on known serves = let bad : Tell ≡ Stop = serves.served.1 in cc
-
--- how the program may end after a session
-pub may_end : {D : Type 0} {members : _} (first last : Store D members) (s : State) (on : Manner) (result : Result Bool ServeFault) (known : SessionStreams) → ServesBy on.grouping first last s on result known
-    → MayEnd on.on_refusal (end_of on.on_refusal result)
-may_end first last s on (Ok false) known serves = inl refl
-may_end first last s on (Ok true) known serves = after_refusal on.on_refusal
-may_end first last s on (Err fault.Read) known serves = inr (inl refl)
-may_end first last s on (Err fault.Unsure) known serves = inr (inl refl)
-may_end first last s on (Err fault.Write) known serves = inr (inl refl)
-may_end first last s on (Err fault.Store) known serves = inr (inl refl)
-may_end first last s on (Err fault.Refused) known serves =
-    inr (inr (refl, λ ignored. let bad : Ignore ≡ Stop = sym ignored ∙ refused_stops first last s on.grouping on known serves in cc))
+-- a list is refused
+pub says_refusal : {X : Type 0} (C Fails : Type 0) (line : X → List ℕ) (due : Result (List X) Refusal) (refusal : Refusal) (text : List ℕ)
+    → (refusal ≡ Device → Fails) → refusal ≢ Failed → text ≡ error_text refusal → (C → IsListing (Err refusal) due)
+    → SaysAnswer Fails (list_lines line) (λ answer. C → IsListing answer due) text
+says_refusal C Fails line due refusal text fails only is value = record {
+  answer = Err refusal;
+  says = is;
+  device = λ same. fails (let e : refusal ≡ Device = cc in e);
+  only_then = λ same. only (let e : refusal ≡ Failed = cc in e);
+  due = value;
+}

@@ -9,26 +9,26 @@ use Rattle.vm_types.specs.declared.refusal.Refusal.TheVariants.{Device}
 use Rattle.vm_types.specs.State.{State}
 use Rattle.vm_store.specs.Store.{has_failed}
 use Rattle.vm_store.specs.declared.store.Store.{Store}
-use Rattle.vm_cli.specs.Feeds.{TalksOn}
-use Rattle.vm_cli.specs.Replies.{reply_text}
-use Rattle.vm_cli.specs.Rounds.{Batch as Commanded, Round}
-use Rattle.vm_cli.specs.Rounds.Round.{committed, idle, unsure}
-use Rattle.vm_cli.specs.Streams.{Applies, CommitsOrNot, Held, HoldsLines, IsHeldBy, Settles, SettlesHeld, StopsIn, Undoes, Verdict, carried_by, result_of, trying, verdict_of, why_text}
-use Rattle.vm_cli.specs.Streams.Held.{holds, lost}
-use Rattle.vm_cli.specs.Streams.Verdict.{fails, succeeds}
-use Rattle.vm_cli.specs.Talk.{HasTalked}
+use Rattle.vm_cli.specs.session.Feeds.{FeedsOn}
+use Rattle.vm_cli.specs.answers.Replies.{reply_text}
+use Rattle.vm_cli.specs.session.Rounds.{Batch as Commanded, Round}
+use Rattle.vm_cli.specs.session.Rounds.Round.{committed, idle, unsure}
+use Rattle.vm_cli.specs.session.Streams.{Applies, CommitsOrNot, Held, HoldsLines, IsHeldBy, Settles, SettlesHeld, StopsIn, Undoes, Verdict, carried_by, result_of, trying, verdict_of, why_text}
+use Rattle.vm_cli.specs.session.Streams.Held.{holds, lost}
+use Rattle.vm_cli.specs.session.Streams.Verdict.{fails, succeeds}
+use Rattle.vm_cli.specs.session.Session.{HasAnswered}
 use Rattle.vm_cli.specs.declared.lines.line.Line.{Line}
-use Rattle.vm_cli.specs.declared.talk.Manner.{Manner}
-use Rattle.vm_cli.specs.declared.talk.ServeFault.TheVariants as fault
-use Rattle.vm_cli.specs.declared.talk.batch.Lost.{Lost}
-use Rattle.vm_cli.specs.declared.talk.carrying.Stop.{Stop as LastLine}
-use Rattle.vm_cli.specs.declared.talk.carrying.Then.{Then}
-use Rattle.vm_cli.specs.declared.talk.carrying.Then.TheVariants.{GoOn, Failed as AsFailed, Unsure as AsUnsure}
-use Rattle.vm_cli.proofs.EndLemmas.{fails_then, talks_then}
+use Rattle.vm_cli.specs.declared.session.Manner.{Manner}
+use Rattle.vm_cli.specs.declared.session.ServeFault.TheVariants as fault
+use Rattle.vm_cli.specs.declared.session.batch.Lost.{Lost}
+use Rattle.vm_cli.specs.declared.session.carrying.Stop.{Stop as LastLine}
+use Rattle.vm_cli.specs.declared.session.carrying.Then.{Then}
+use Rattle.vm_cli.specs.declared.session.carrying.Then.TheVariants.{GoOn, Failed as AsFailed, Unsure as AsUnsure}
+use Rattle.vm_cli.proofs.EndLemmas.{fails_then, feeds_then}
 use Rattle.vm_cli.proofs.HandledLemmas.{Applied, applied_fails, applied_goes}
 use Rattle.vm_cli.proofs.PassLemmas.{failed_or, grows_both, left_again}
 
-module _ {D : Type 0} {members : _} (old mid new : Store D members) (s : State) (how : Manner) (parts : List (List ℕ)) (answers : List ℕ) (carried : HasTalked old mid s (trying how) parts answers) where
+module _ {D : Type 0} {members : _} (old mid new : Store D members) (s : State) (how : Manner) (parts : List (List ℕ)) (answers : List ℕ) (carried : HasAnswered old mid s (trying how) parts answers) where
   -- the lines were carried out, and their commit was acknowledged or not
   pub settles_commit : {T : Type 0} (result : Result T LastLine) (place : ℕ) → CommitsOrNot mid new place result → place ≡ length parts → (round : Round) × Settles old new s how parts (verdict_of result answers) round
   settles_commit (Ok u) place (answer, applies) same = (
@@ -62,8 +62,8 @@ module _ {D : Type 0} {members : _} (old new : Store D members) (command : Comma
   applied_by answer applies = record { refused = applies.refused; done = applies.done }
 
   -- a command that was carried out, or that a store refused which had failed
-  pub applies_talks : (answer : Answer) → Applies old new command (Ok answer) → (refused : Bool) → TalksOn (Ok refused) old new
-  applies_talks answer applies refused = record {
+  pub applies_feeds : (answer : Answer) → Applies old new command (Ok answer) → (refused : Bool) → FeedsOn (Ok refused) old new
+  applies_feeds answer applies refused = record {
     goes = applied_goes old new command (Ok answer) (applied_by (Ok answer) applies);
     ok = λ sound. fine sound (failed_or (has_failed new));
     err = λ sound. tt;
@@ -75,8 +75,8 @@ module _ {D : Type 0} {members : _} (old new : Store D members) (command : Comma
       fine sound (inl was) = was
       fine sound (inr bad) = let device : Ok answer ≡ Err Device = (applies.done sound).failed.0 bad in cc
 
-  pub refused_talks : (refusal : Refusal) → Applies old new command (Err refusal) → TalksOn (Err fault.Unsure) old new
-  refused_talks refusal applies = record {
+  pub refused_feeds : (refusal : Refusal) → Applies old new command (Err refusal) → FeedsOn (Err fault.Unsure) old new
+  refused_feeds refusal applies = record {
     goes = applied_goes old new command (Err refusal) (applied_by (Err refusal) applies);
     ok = λ sound. tt;
     err = λ sound. tt;
@@ -93,17 +93,17 @@ rolls_back old new refusal applies = by (failed_or (has_failed old))
     by (inr failed) = failed
 
 module _ {D : Type 0} {members : _} (old mid new : Store D members) where
-  pub commit_talks : {T : Type 0} (result : Result T LastLine) (place : ℕ) (answers : List ℕ) → CommitsOrNot mid new place result → TalksOn (Ok false) old mid → TalksOn (result_of (verdict_of result answers)) old new
-  commit_talks (Ok u) place answers (answer, applies) first = talks_then old mid new false first (Ok false) (applies_talks mid new Commit answer applies false)
-  commit_talks (Err stop) place answers (refusal, applies, at, why_is, then_is) first =
-      subst (λ then. TalksOn (result_of (fails stop.place (why_text stop.why answers) then)) old new) (sym then_is)
-      (talks_then old mid new false first (Err fault.Unsure) (refused_talks mid new Commit refusal applies))
+  pub commit_feeds : {T : Type 0} (result : Result T LastLine) (place : ℕ) (answers : List ℕ) → CommitsOrNot mid new place result → FeedsOn (Ok false) old mid → FeedsOn (result_of (verdict_of result answers)) old new
+  commit_feeds (Ok u) place answers (answer, applies) first = feeds_then old mid new false first (Ok false) (applies_feeds mid new Commit answer applies false)
+  commit_feeds (Err stop) place answers (refusal, applies, at, why_is, then_is) first =
+      subst (λ then. FeedsOn (result_of (fails stop.place (why_text stop.why answers) then)) old new) (sym then_is)
+      (feeds_then old mid new false first (Err fault.Unsure) (refused_feeds mid new Commit refusal applies))
 
-  module _ (first : TalksOn (Err fault.Refused) old mid) where
+  module _ (first : FeedsOn (Err fault.Refused) old mid) where
     -- all was undone
-    undone_talks : (answer : Answer) → Applies mid new Rollback (Ok answer) → TalksOn (Ok true) old new
-    undone_talks answer applies =
-        let second = applies_talks mid new Rollback answer applies true in
+    undone_feeds : (answer : Answer) → Applies mid new Rollback (Ok answer) → FeedsOn (Ok true) old new
+    undone_feeds answer applies =
+        let second = applies_feeds mid new Rollback answer applies true in
         record {
           goes = grows_both _ _ _ first.goes second.goes;
           ok = λ sound. fine (failed_or (has_failed mid));
@@ -113,16 +113,16 @@ module _ {D : Type 0} {members : _} (old mid new : Store D members) where
         }
       where
         fine : (has_failed mid ≡ false) ⊎ (has_failed mid ≡ true) → has_failed new ≡ false
-        fine (inl was) = (applies_talks mid new Rollback answer applies true).ok was
+        fine (inl was) = (applies_feeds mid new Rollback answer applies true).ok was
         fine (inr bad) = let refused = (applies.refused bad).0 in cc
 
     -- the store had failed
-    failed_talks : (refusal : Refusal) → Applies mid new Rollback (Err refusal) → TalksOn (Err fault.Store) old new
-    failed_talks refusal applies =
+    failed_feeds : (refusal : Refusal) → Applies mid new Rollback (Err refusal) → FeedsOn (Err fault.Store) old new
+    failed_feeds refusal applies =
         let bad = rolls_back mid new refusal applies in
         let same : new ≡ mid = (applies.refused bad).1 in
         let failed : has_failed new ≡ true = ap (λ (t : Store D members). has_failed t) same ∙ bad in
-        let second = refused_talks mid new Rollback refusal applies in
+        let second = refused_feeds mid new Rollback refusal applies in
         let rises = fails_then old mid new first.goes second.goes first.failing second.failing in
         record {
           goes = grows_both _ _ _ first.goes second.goes;
@@ -132,10 +132,10 @@ module _ {D : Type 0} {members : _} (old mid new : Store D members) where
           left = left_again old mid new first.left second.left;
         }
 
-    pub undo_talks : (place : ℕ) (text : List ℕ) (then : Then) (round : Round) (batch : Commanded) → Undoes mid new batch then round → TalksOn (result_of (fails place text then)) old new
-    undo_talks place text GoOn round batch (answer, applies, is) = undone_talks answer applies
-    undo_talks place text AsFailed round batch (refusal, applies, is) = failed_talks refusal applies
-    undo_talks place text AsUnsure round batch undoes = absurd undoes
+    pub undo_feeds : (place : ℕ) (text : List ℕ) (then : Then) (round : Round) (batch : Commanded) → Undoes mid new batch then round → FeedsOn (result_of (fails place text then)) old new
+    undo_feeds place text GoOn round batch (answer, applies, is) = undone_feeds answer applies
+    undo_feeds place text AsFailed round batch (refusal, applies, is) = failed_feeds refusal applies
+    undo_feeds place text AsUnsure round batch undoes = absurd undoes
 
 -- a line that is lost, by what is known of it
 lost_as : (was : Option Lost) (found known : Lost) → was ≡ Some found → was ≡ Some known → (place : ℕ) (answer : List ℕ) → known.place ≡ place → reply_text known.reply ≡ answer

@@ -2,7 +2,7 @@
 use Rattle.std.proofs.Common.{◌≡◌, ◌≢◌, ◌++◌, ◌∙◌, ℕ, List, [], ◌∷◌, Option, Some, None, append-nil, append_assoc, option_map, refl, ap, sym}
 use Rattle.vm_types.specs.declared.command.Side.{Side}
 use Rattle.vm_types.specs.declared.key.Key.{Key}
-use Rattle.vm_cli.specs.Settlements.{settled_of, settlement_of}
+use Rattle.vm_cli.specs.lines.Settlements.{settled_of, settlement_of}
 
 -- the settlements so far, and those that further words say
 abbrev pub followed : List (Key × Side) → Option (List (Key × Side)) → Option (List (Key × Side))

@@ -1,9 +1,9 @@
 -- What holds of each line of a session with batches.
 use Rattle.std.proofs.Common.{◌++◌, sym, subst}
 use Rattle.vm_disk.specs.declared.disk.Disk.{Ghosts}
-use Rattle.vm_cli.specs.Rounds.{AllWhole}
-use Rattle.vm_cli.specs.Streams.{batches}
-use Rattle.vm_cli.proofs.ConversationLemmas.{IsSound, KeptSo}
+use Rattle.vm_cli.specs.session.Rounds.{AllWhole}
+use Rattle.vm_cli.specs.session.Streams.{batches}
+use Rattle.vm_cli.proofs.KindLemmas.{IsSound, KeptSo}
 use Rattle.vm_cli.proofs.StreamKeepLemmas.{takes_earlier, takes_kept}
 use Rattle.vm_cli.proofs.StreamPassLemmas.{IsReading, takes_passes}
 use Rattle.vm_cli.proofs.WholeLemmas.{StageChanges, takes_whole}

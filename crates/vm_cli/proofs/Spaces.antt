@@ -2,8 +2,8 @@
 use Rattle.std.proofs.Common.{◌≡◌, ◌<◌, ◌≤◌, ◌+◌, ◌-◌, ◌==◌, ℕ, Bool, true, false, List, [], ◌∷◌, length, take, drop, get_or, zero, suc, refl, arith, add-one}
 use Rattle.std.proofs.lemmas.List.{take_rest}
 use Rattle.std.specs.List.{slice_split, filter}
-use Rattle.vm_cli.specs.Pieces.{before_mark, behind_mark}
-use Rattle.vm_cli.specs.Spaces.{is_some_byte, with_word, words_of}
+use Rattle.vm_cli.specs.lines.Pieces.{before_mark, behind_mark}
+use Rattle.vm_cli.specs.lines.Spaces.{is_some_byte, with_word, words_of}
 
 other : (b mark : ℕ) → (b ≡ mark → ⊥) → (b == mark) ≡ false
 other b mark h = grind (arith, h)

@@ -6,29 +6,31 @@ use Rattle.vm_types.specs.State.{State, opened}
 use Rattle.vm_disk.specs.declared.disk.Disk.{Ghosts}
 use Rattle.vm_store.specs.Shown.{new_store}
 use Rattle.vm_store.specs.declared.store.Store.{Store}
-use Rattle.vm_cli.specs.Carried.{WritesStart}
-use Rattle.vm_cli.specs.Conversations.{AnswersThen, Conversation, Course, EndsInput, EndsWithLine, HasTaken, RunsStream, ServesInput, TakesEach, TakesTo, Tells, counted_result, ended_lines, half_lines, some_lines}
-use Rattle.vm_cli.specs.Known.{SessionStreams, streams_of}
-use Rattle.vm_cli.specs.Conversations.Course.{over, proceeds}
-use Rattle.vm_cli.specs.Feeds.{TalksOn}
-use Rattle.vm_cli.specs.Input.{is_nil}
-use Rattle.vm_cli.specs.LineReading.{ReadsLine, Took}
-use Rattle.vm_cli.specs.Lines.{IsPart}
-use Rattle.vm_cli.specs.Rounds.{Round, after_rounds}
+use Rattle.vm_cli.specs.answers.Carried.{WritesStart}
+use Rattle.vm_cli.specs.session.SessionKinds.{AnswersThen, Course, EndsInput, EndsWithLine, HasTaken, RunsStream, ServesInput, SessionKind, TakesEach, TakesTo, Tells, counted_result, ended_lines, half_lines, some_lines}
+use Rattle.vm_cli.specs.session.SessionKinds.LastAnswered.{end_answered, line_answered}
+use Rattle.vm_cli.specs.session.SessionKinds.LastRefused.{end_refuses, line_refused}
+use Rattle.vm_cli.specs.session.Known.{SessionStreams, between, streams_of}
+use Rattle.vm_cli.specs.session.SessionKinds.Course.{over, proceeds}
+use Rattle.vm_cli.specs.session.Feeds.{FeedsOn}
+use Rattle.vm_cli.specs.lines.Input.{is_nil}
+use Rattle.vm_cli.specs.session.LineReading.{ReadsLine, Took}
+use Rattle.vm_cli.specs.lines.Lines.{IsPart}
+use Rattle.vm_cli.specs.session.Rounds.{Round, after_rounds}
 use Rattle.vm_cli.specs.declared.lines.line.Line.{Line}
-use Rattle.vm_cli.specs.declared.talk.Manner.{Manner}
-use Rattle.vm_cli.specs.declared.talk.OnRefusal.{OnRefusal}
-use Rattle.vm_cli.specs.declared.talk.OnRefusal.TheVariants.{Ignore, Stop, Tell}
-use Rattle.vm_cli.specs.declared.talk.ServeFault.{ServeFault}
-use Rattle.vm_cli.specs.declared.talk.ServeFault.TheVariants as fault
+use Rattle.vm_cli.specs.declared.session.Manner.{Manner}
+use Rattle.vm_cli.specs.declared.session.OnRefusal.{OnRefusal}
+use Rattle.vm_cli.specs.declared.session.OnRefusal.TheVariants.{Ignore, Stop, Tell}
+use Rattle.vm_cli.specs.declared.session.ServeFault.{ServeFault}
+use Rattle.vm_cli.specs.declared.session.ServeFault.TheVariants as fault
 use Rattle.vm_cli.proofs.CarriedLemmas.{begins-then}
-use Rattle.vm_cli.proofs.EndLemmas.{serves_on, serves_unread, talks_none, talks_then}
+use Rattle.vm_cli.proofs.EndLemmas.{serves_on, serves_unread, feeds_none, feeds_then}
 use Rattle.vm_cli.proofs.FeedLemmas.{joined}
 use Rattle.vm_cli.proofs.Known.{Appends-nil, Appends-then}
 use Rattle.vm_cli.proofs.ReadingLemmas.{ended-more, took_then}
 use Rattle.vm_cli.proofs.RoundLemmas.{rounds_append}
 use Rattle.vm_cli.proofs.ServeLemmas.{read-some}
-use Rattle.vm_cli.proofs.StreamLemmas.{counted_talks}
+use Rattle.vm_cli.proofs.StreamLemmas.{counted_feeds}
 
 or-assoc : (a b c : Bool) → ((a || b) || c) ≡ (a || (b || c))
 or-assoc true b c = refl
@@ -74,45 +76,46 @@ no_half (b ∷ half) none = cc
 
 -- ---- what was taken so far
 
-module _ {D : Type 0} {members : Ghosts D} (kind : Conversation D members) where
+module _ {D : Type 0} {members : Ghosts D} (kind : SessionKind D members) where
   -- one more line was taken
   each_more : (how : Manner) (parts : List (List ℕ)) (old mid new : Store D members) (s : State) (stage : kind.Stage) (text : List ℕ) (next : kind.Stage) (rounds : List Round) (again : Bool)
       → TakesEach kind old mid s how stage parts text next rounds again
       → (part said : List ℕ) (refused : Bool) (stage' : kind.Stage) (more : List Round) → kind.Takes mid new (after_rounds s rounds) how next part said (proceeds refused) stage' more
       → TakesEach kind old new s how stage (parts ++ part ∷ []) (text ++ said) stage' (rounds ++ more) (again || refused)
-  each_more how [] old mid new s stage text next rounds again (same, none, stage_is, no_rounds, no_refusal) part said refused stage' more takes =
-      let from_old = subst (λ (x : Store D members). kind.Takes x new (after_rounds s rounds) how next part said (proceeds refused) stage' more) same takes in
-      let from_here = subst (λ rs. kind.Takes old new (after_rounds s rs) how next part said (proceeds refused) stage' more) no_rounds from_old in (
-        new,
-        stage',
-        said,
-        [],
-        more,
-        [],
-        refused,
-        false,
-        subst (λ st. kind.Takes old new s how st part said (proceeds refused) stage' more) stage_is from_here,
-        ap (λ t. t ++ said) none ∙ sym (append-nil said),
-        ap (λ rs. rs ++ more) no_rounds ∙ sym (append-nil more),
-        ap (λ b. b || refused) no_refusal ∙ sym (or-false refused),
-        (refl, refl, refl, refl, refl),
-      )
-  each_more how (p ∷ parts) old mid new s stage text next rounds again (to, st, words, rest, first, later, bad, others, step, texts, came_so, again_is, each) part said refused stage' more takes = (
-    to,
-    st,
-    words,
-    rest ++ said,
-    first,
-    later ++ more,
-    bad,
-    others || refused,
-    step,
-    ap (λ t. t ++ said) texts ∙ append_assoc words rest said,
-    ap (λ rs. rs ++ more) came_so ∙ append_assoc first later more,
-    ap (λ b. b || refused) again_is ∙ or-assoc bad others refused,
-    each_more how parts to mid new (after_rounds s first) st rest next later others each part said refused stage' more
-        (subst (λ t. kind.Takes mid new t how next part said (proceeds refused) stage' more) (ap (λ rs. after_rounds s rs) came_so ∙ rounds_append s first later) takes),
-  )
+  each_more how [] old mid new s stage text next rounds again none part said refused stage' more takes =
+      let from_old = subst (λ (x : Store D members). kind.Takes x new (after_rounds s rounds) how next part said (proceeds refused) stage' more) none.same takes in
+      let from_here = subst (λ rs. kind.Takes old new (after_rounds s rs) how next part said (proceeds refused) stage' more) none.idle from_old in
+      record {
+        mid = new;
+        next = stage';
+        said = said;
+        rest = [];
+        first = more;
+        later = [];
+        refused = refused;
+        others = false;
+        takes = subst (λ st. kind.Takes old new s how st part said (proceeds refused) stage' more) none.held from_here;
+        texts = ap (λ t. t ++ said) none.silent ∙ sym (append-nil said);
+        came = ap (λ rs. rs ++ more) none.idle ∙ sym (append-nil more);
+        told = ap (λ b. b || refused) none.fine ∙ sym (or-false refused);
+        more = record { same = refl; silent = refl; held = refl; idle = refl; fine = refl };
+      }
+  each_more how (p ∷ parts) old mid new s stage text next rounds again it part said refused stage' more takes = record {
+    mid = it.mid;
+    next = it.next;
+    said = it.said;
+    rest = it.rest ++ said;
+    first = it.first;
+    later = it.later ++ more;
+    refused = it.refused;
+    others = it.others || refused;
+    takes = it.takes;
+    texts = ap (λ t. t ++ said) it.texts ∙ append_assoc it.said it.rest said;
+    came = ap (λ rs. rs ++ more) it.came ∙ append_assoc it.first it.later more;
+    told = ap (λ b. b || refused) it.told ∙ or-assoc it.refused it.others refused;
+    more = each_more how parts it.mid mid new (after_rounds s it.first) it.next it.rest next it.later it.others it.more part said refused stage' more
+        (subst (λ t. kind.Takes mid new t how next part said (proceeds refused) stage' more) (ap (λ rs. after_rounds s rs) it.came ∙ rounds_append s it.first it.later) takes);
+  }
 
   -- lines of an input were read, taken and answered, and this is true of what is held
   pub record HasServed (IsHeld : kind.Stage → Type 0) (old mid : Store D members) (s : State) (how : Manner) (known : SessionStreams) (rest : Option (List ℕ)) (unread : List ℕ) (again : Bool) : Type 0 where
@@ -122,32 +125,32 @@ module _ {D : Type 0} {members : Ghosts D} (kind : Conversation D members) where
     pub held : IsHeld stage
     pub took : Took known.input rest [] (ended_lines parts) unread
     pub taken : HasTaken kind old mid s how parts text stage again
-    pub written : Appends known.before known.after text
+    pub written : Appends known.output.before known.output.after text
 
   -- however the session is told
   pub record RunsSoFar (IsHeld : kind.Stage → Type 0) (old mid : Store D members) (how : Manner) (known : SessionStreams) (rest : Option (List ℕ)) (unread : List ℕ) (again : Bool) : Type 0 where
-    pub store : TalksOn (Ok again) old mid
+    pub store : FeedsOn (Ok again) old mid
     pub served : (s : State) → HasServed IsHeld old mid s how known rest unread again
 
   -- no line yet
   pub runs_none : (IsHeld : kind.Stage → Type 0) (store : Store D members) (how : Manner) (input output : Option (List ℕ)) (unread : List ℕ) → IsHeld kind.start → unread ≡ []
       → RunsSoFar IsHeld store store how (streams_of input output output) input unread false
   runs_none IsHeld store how input output unread held none = record {
-    store = talks_none store false;
+    store = feeds_none store false;
     served = λ s. record {
       parts = [];
       text = [];
       stage = kind.start;
       held = held;
       took = record { read = []; consumed = Consumes-nil input; split = sym none };
-      taken = record { rounds = []; each = (refl, refl, refl, refl, refl); goes_on = λ stop. refl };
+      taken = record { rounds = []; each = record { same = refl; silent = refl; held = refl; idle = refl; fine = refl }; goes_on = λ stop. refl };
       written = Appends-nil output;
     };
   }
 
 -- ---- how it goes on, or ends
 
-module _ {D : Type 0} {members : Ghosts D} {kind : Conversation D members} {IsHeld : kind.Stage → Type 0} {old mid : Store D members} {s : State} {how : Manner} {input a b rest : Option (List ℕ)} {unread : List ℕ} {again : Bool}
+module _ {D : Type 0} {members : Ghosts D} {kind : SessionKind D members} {IsHeld : kind.Stage → Type 0} {old mid : Store D members} {s : State} {how : Manner} {input a b rest : Option (List ℕ)} {unread : List ℕ} {again : Bool}
     (so_far : HasServed kind IsHeld old mid s how (streams_of input a b) rest unread again) where
   -- the bytes so far, and more
   abbrev ended_with : List ℕ → List ℕ
@@ -190,13 +193,16 @@ module _ {D : Type 0} {members : Ghosts D} {kind : Conversation D members} {IsHe
       takes = takes;
     }
 
-    serves_stop : (more : List ℕ) (why : ServeFault) → Tells how Answered (Err why) b c → ServesInput kind old new s how (Err why) a c (ended_with (part ++ (10 ∷ more)))
+    serves_stop : (more : List ℕ) (why : ServeFault) → Tells how Answered (Err why) b c → ServesInput kind old new s how (Err why) (between a c) (ended_with (part ++ (10 ∷ more)))
     serves_stop more fault.Read tells = absurd tells
-    serves_stop more fault.Store (said, answered, written) = (so_far.text ++ said, ends_line more over said answered, Appends-then a b c so_far.text said so_far.written written)
-    serves_stop more fault.Unsure (said, answered, written) = (so_far.text ++ said, ends_line more over said answered, Appends-then a b c so_far.text said so_far.written written)
+    serves_stop more fault.Store (said, answered, written) =
+        record { text = so_far.text ++ said; ended = ends_line more over said answered; written = Appends-then a b c so_far.text said so_far.written written }
+    serves_stop more fault.Unsure (said, answered, written) =
+        record { text = so_far.text ++ said; ended = ends_line more over said answered; written = Appends-then a b c so_far.text said so_far.written written }
     serves_stop more fault.Refused (said, answered, stop, written) =
-        (so_far.text ++ said, stop, inl (ends_line more (proceeds true) said answered), Appends-then a b c so_far.text said so_far.written written)
-    serves_stop more fault.Write (said, course, answered, begun) = (so_far.text ++ said, inl (course, ends_line more course said answered), begins-behind a b c so_far.text said so_far.written begun)
+        record { text = so_far.text ++ said; stop = stop; last = line_refused (ends_line more (proceeds true) said answered); written = Appends-then a b c so_far.text said so_far.written written }
+    serves_stop more fault.Write (said, course, answered, begun) =
+        record { text = so_far.text ++ said; last = line_answered course (ends_line more course said answered); begun = begins-behind a b c so_far.text said so_far.written begun }
 
     -- or it goes on
     line_more : (refused : Bool) → Tells how Answered (Ok refused) b c → HasServed kind IsHeld' old new s how (streams_of input a c) rest' after (again || refused)
@@ -239,23 +245,23 @@ module _ {D : Type 0} {members : Ghosts D} {kind : Conversation D members} {IsHe
     ends_so n is = subst (λ k. EndsInput kind old mid s how (ended_with half) (so_far.text ++ said) again (some_lines k)) is ends_input
 
     counted : (n : ℕ) → count ≡ n → (on_refusal : OnRefusal) → how.on_refusal ≡ on_refusal → Appends a c (so_far.text ++ said)
-        → ServesInput kind old mid s how (joined again (counted_result on_refusal n)) a c (ended_with half)
-    counted zero is on_refusal stops written = (so_far.text ++ said, again, false, ends_so 0 is, refl, written)
-    counted (suc n) is Stop stops written = (so_far.text ++ said, stops, inr (again, ends_so (suc n) is), written)
-    counted (suc n) is Ignore stops written = (so_far.text ++ said, again, true, ends_so (suc n) is, refl, written)
-    counted (suc n) is Tell stops written = (so_far.text ++ said, again, true, ends_so (suc n) is, refl, written)
+        → ServesInput kind old mid s how (joined again (counted_result on_refusal n)) (between a c) (ended_with half)
+    counted zero is on_refusal stops written = record { text = so_far.text ++ said; again = again; last = false; ended = ends_so 0 is; told = refl; written = written }
+    counted (suc n) is Stop stops written = record { text = so_far.text ++ said; stop = stops; last = end_refuses again (ends_so (suc n) is); written = written }
+    counted (suc n) is Ignore stops written = record { text = so_far.text ++ said; again = again; last = true; ended = ends_so (suc n) is; told = refl; written = written }
+    counted (suc n) is Tell stops written = record { text = so_far.text ++ said; again = again; last = true; ended = ends_so (suc n) is; told = refl; written = written }
 
-    serves_end : (result : Result Bool ServeFault) → AnswersThen said (counted_result how.on_refusal count) result b c → ServesInput kind old mid s how (joined again result) a c (ended_with half)
+    serves_end : (result : Result Bool ServeFault) → AnswersThen said (counted_result how.on_refusal count) result b c → ServesInput kind old mid s how (joined again result) (between a c) (ended_with half)
     serves_end result (inr h) =
-        subst (λ r. ServesInput kind old mid s how (joined again r) a c (ended_with half)) (sym h.0)
-        (so_far.text ++ said, inr (again, some_lines count, ends_input), begins-behind a b c so_far.text said so_far.written h.1)
+        subst (λ r. ServesInput kind old mid s how (joined again r) (between a c) (ended_with half)) (sym h.0)
+        (record { text = so_far.text ++ said; last = end_answered again (some_lines count) ends_input; begun = begins-behind a b c so_far.text said so_far.written h.1 })
     serves_end result (inl h) =
-        subst (λ r. ServesInput kind old mid s how (joined again r) a c (ended_with half)) (sym h.0)
+        subst (λ r. ServesInput kind old mid s how (joined again r) (between a c) (ended_with half)) (sym h.0)
         (counted count refl how.on_refusal refl (Appends-then a b c so_far.text said so_far.written h.1))
 
 -- ---- so does a session, however it is told
 
-module _ {D : Type 0} {members : Ghosts D} {kind : Conversation D members} {IsHeld : kind.Stage → Type 0} {old mid : Store D members} {how : Manner} {input a b rest : Option (List ℕ)} {unread : List ℕ} {again : Bool}
+module _ {D : Type 0} {members : Ghosts D} {kind : SessionKind D members} {IsHeld : kind.Stage → Type 0} {old mid : Store D members} {how : Manner} {input a b rest : Option (List ℕ)} {unread : List ℕ} {again : Bool}
     (so_far : RunsSoFar kind IsHeld old mid how (streams_of input a b) rest unread again) where
   -- the reader failed
   pub serves_reader : RunsStream kind how (Err fault.Read) old mid (streams_of input a b)
@@ -264,7 +270,7 @@ module _ {D : Type 0} {members : Ghosts D} {kind : Conversation D members} {IsHe
     answers = λ s.
         let p = so_far.served s in
         let more = some_read p in
-        record { input = ended_with p more.0; own = more.1; served = (p.text, p.parts, more.0, p.stage, again, refl, p.taken, p.written) };
+        record { input = ended_with p more.0; own = more.1; served = record { text = p.text; parts = p.parts; more = more.0; stage = p.stage; again = again; cut = refl; taken = p.taken; written = p.written } };
   }
 
   -- a line was read, and taken in the manner of the session
@@ -273,9 +279,9 @@ module _ {D : Type 0} {members : Ghosts D} {kind : Conversation D members} {IsHe
     IsTaken result m = (s : State) (stage : kind.Stage) → IsHeld stage → Tells m (TakesTo kind IsHeld' mid new s m stage part) result b c
 
     -- with it the session ends
-    pub serves_line : (why : ServeFault) → TalksOn (Err why) mid new → IsTaken (Err why) now → RunsStream kind how (Err why) old new (streams_of input a c)
-    serves_line why talks taken = record {
-      store = serves_on old new (Err why) (talks_then old mid new again so_far.store (Err why) talks);
+    pub serves_line : (why : ServeFault) → FeedsOn (Err why) mid new → IsTaken (Err why) now → RunsStream kind how (Err why) old new (streams_of input a c)
+    serves_line why feeds taken = record {
+      store = serves_on old new (Err why) (feeds_then old mid new again so_far.store (Err why) feeds);
       answers = λ s.
           let p = so_far.served s in
           let more = more_behind p new c rest' part after took IsHeld' in
@@ -287,9 +293,9 @@ module _ {D : Type 0} {members : Ghosts D} {kind : Conversation D members} {IsHe
     }
 
     -- or it goes on
-    pub takes_on : (refused : Bool) → TalksOn (Ok refused) mid new → IsTaken (Ok refused) now → RunsSoFar kind IsHeld' old new how (streams_of input a c) rest' after (again || refused)
-    takes_on refused talks taken = record {
-      store = talks_then old mid new again so_far.store (Ok refused) talks;
+    pub takes_on : (refused : Bool) → FeedsOn (Ok refused) mid new → IsTaken (Ok refused) now → RunsSoFar kind IsHeld' old new how (streams_of input a c) rest' after (again || refused)
+    takes_on refused feeds taken = record {
+      store = feeds_then old mid new again so_far.store (Ok refused) feeds;
       served = λ s. let p = so_far.served s in line_more p new c rest' part after took IsHeld' refused (subst (IsTaken (Ok refused)) same taken (after_rounds s p.taken.rounds) p.stage p.held);
     }
 
@@ -303,7 +309,7 @@ module _ {D : Type 0} {members : Ghosts D} {kind : Conversation D members} {IsHe
       store =
           let p = so_far.served (opened (new_store 64)) in
           serves_on old mid (joined again result)
-          (talks_then old mid mid again so_far.store result (counted_talks mid (kind.end_text p.stage n) b c now.on_refusal (kind.end_count p.stage n) result (answered p.stage p.held)));
+          (feeds_then old mid mid again so_far.store result (counted_feeds mid (kind.end_text p.stage n) b c now.on_refusal (kind.end_count p.stage n) result (answered p.stage p.held)));
       answers = λ s.
           let p = so_far.served s in
           record {

@@ -9,30 +9,30 @@ use Rattle.vm_types.proofs.Runs.{after_more}
 use Rattle.vm_disk.specs.Disk.{DiskState}
 use Rattle.vm_store.specs.Store.{Holds, has_failed, disk_of}
 use Rattle.vm_store.specs.declared.store.Store.{Store}
-use Rattle.vm_cli.specs.Conversations.{Course}
-use Rattle.vm_cli.specs.Conversations.Course.{over, proceeds}
-use Rattle.vm_cli.specs.Keeps.{Keeps}
-use Rattle.vm_cli.specs.LineUses.{no_memory, use_of}
-use Rattle.vm_cli.specs.Replies.{is_error}
-use Rattle.vm_cli.specs.Rounds.{Round, after_round, after_rounds, all_answers, all_commands, round_answers, round_commands}
-use Rattle.vm_cli.specs.Rounds.Round.{broken, committed, idle, undone, unsure}
-use Rattle.vm_cli.specs.Streams.{Applies, Commits, Held, LeavesUnsure, Settles, SettlesHeld, StopsIn, Takes, TakesAs, Undoes, Verdict, batch_course, carried_by, course_of, trying}
-use Rattle.vm_cli.specs.Streams.Held.{holds, lost}
-use Rattle.vm_cli.specs.Streams.Verdict.{fails, succeeds}
-use Rattle.vm_cli.specs.Talk.{Answered, Done, HandlesLine, HasTalked, Stood, Talks, after_line, with_answer, with_command}
-use Rattle.vm_cli.specs.declared.talk.Manner.{Manner}
-use Rattle.vm_cli.specs.declared.talk.carrying.Then.TheVariants.{GoOn, Failed as AsFailed, Unsure as AsUnsure}
-use Rattle.vm_cli.specs.declared.talk.line_use.LineUse.{LineUse}
-use Rattle.vm_cli.specs.declared.talk.line_use.LineUse.TheVariants as line
+use Rattle.vm_cli.specs.session.SessionKinds.{Course}
+use Rattle.vm_cli.specs.session.SessionKinds.Course.{over, proceeds}
+use Rattle.vm_cli.specs.session.Keeps.{Keeps}
+use Rattle.vm_cli.specs.session.LineUses.{no_memory, use_of}
+use Rattle.vm_cli.specs.answers.Replies.{is_error}
+use Rattle.vm_cli.specs.session.Rounds.{Round, after_round, after_rounds, all_answers, all_commands, round_answers, round_commands}
+use Rattle.vm_cli.specs.session.Rounds.Round.{broken, committed, idle, undone, unsure}
+use Rattle.vm_cli.specs.session.Streams.{Applies, Commits, Held, LeavesUnsure, Settles, SettlesHeld, StopsIn, Takes, TakesAs, Undoes, Verdict, batch_course, carried_by, course_of, trying}
+use Rattle.vm_cli.specs.session.Streams.Held.{holds, lost}
+use Rattle.vm_cli.specs.session.Streams.Verdict.{fails, succeeds}
+use Rattle.vm_cli.specs.session.Session.{Answered, Done, HandlesLine, HasAnswered, Stood, AnswersEach, after_line, with_answer, with_command}
+use Rattle.vm_cli.specs.declared.session.Manner.{Manner}
+use Rattle.vm_cli.specs.declared.session.carrying.Then.TheVariants.{GoOn, Failed as AsFailed, Unsure as AsUnsure}
+use Rattle.vm_cli.specs.declared.session.line_use.LineUse.{LineUse}
+use Rattle.vm_cli.specs.declared.session.line_use.LineUse.TheVariants as line
 use Rattle.vm_cli.proofs.ChainLemmas.{grown_sound}
-use Rattle.vm_cli.proofs.ConversationLemmas.{IsKept, KeepsOn, KeptSo, kept_so}
+use Rattle.vm_cli.proofs.KindLemmas.{IsKept, KeepsOn, KeptSo, kept_so}
 use Rattle.vm_cli.proofs.HandledLemmas.{applied_goes}
 use Rattle.vm_cli.proofs.KeepLemmas.{keeps}
 use Rattle.vm_cli.proofs.LineUseLemmas.{query_none}
 use Rattle.vm_cli.proofs.PassLemmas.{failed_or}
 use Rattle.vm_cli.proofs.RoundLemmas.{answers-append, commands-append, rounds_append}
 use Rattle.vm_cli.proofs.SettleLemmas.{applied_by, rolls_back}
-use Rattle.vm_cli.proofs.TalkKeepLemmas.{SoFar, after_line-is, command_fails, command_stands, line_keeping, line_keeps, line_runs, talks_earlier, talks_keeping}
+use Rattle.vm_cli.proofs.SessionKeepLemmas.{SoFar, after_line-is, command_fails, command_stands, line_keeping, line_keeps, line_runs, lines_earlier, lines_keeping}
 
 -- the state after further commands
 after_both : (s : State) (commands : List Command) (answers : List (Result Answer Refusal)) (later : List Command) (others : List (Result Answer Refusal)) → length answers ≡ length commands
@@ -62,8 +62,8 @@ module _ {D : Type 0} {members : _} where
       by (inl sound) = sound
       by (inr failed) = let refused = (applies.refused failed).0 in absurd cc
 
-  talked_earlier : (old new : Store D members) (s : State) (on : Manner) (lines : List (List ℕ)) (text : List ℕ) → HasTalked old new s on lines text → (members.state (disk_of new)).honest ≡ true → (members.state (disk_of old)).honest ≡ true
-  talked_earlier old new s on lines text talked honest = talks_earlier on lines old new s text talked.commands talked.answers talked.refused talked.talks honest
+  answered_earlier : (old new : Store D members) (s : State) (on : Manner) (lines : List (List ℕ)) (text : List ℕ) → HasAnswered old new s on lines text → (members.state (disk_of new)).honest ≡ true → (members.state (disk_of old)).honest ≡ true
+  answered_earlier old new s on lines text answered honest = lines_earlier on lines old new s text answered.commands answered.answers answered.refused answered.each honest
 
   -- what came of a line: nothing was carried out; or it was a query, or a batch ended
   abbrev CameSo : Store D members → Store D members → State → Manner → LineUse → List ℕ → List ℕ → Course → Round → Type 0
@@ -108,12 +108,12 @@ module _ {D : Type 0} {members : _} where
     same_earlier same = subst (λ (x : Store D members). (members.state (disk_of x)).honest ≡ true) same honest
 
     refused_earlier : (last : Store D members) (lines : List (List ℕ)) (place : ℕ) (text : List ℕ) → StopsIn old last t how lines place text → (members.state (disk_of last)).honest ≡ true → WasHonest
-    refused_earlier last lines place text stops honest_last = talked_earlier old stops.mid t (trying how) stops.before stops.earlier stops.carried (stops.handled.passes.goes.earlier honest_last)
+    refused_earlier last lines place text stops honest_last = answered_earlier old stops.mid t (trying how) stops.before stops.earlier stops.carried (stops.handled.passes.goes.earlier honest_last)
 
     pub settles_earlier : (lines : List (List ℕ)) (verdict : Verdict) (round : Round) → Settles old new t how lines verdict round → WasHonest
-    settles_earlier lines (succeeds text) round settles = talked_earlier old settles.mid t (trying how) lines text settles.carried (applies_earlier settles.mid new Commit (Ok settles.answer) settles.applies honest)
+    settles_earlier lines (succeeds text) round settles = answered_earlier old settles.mid t (trying how) lines text settles.carried (applies_earlier settles.mid new Commit (Ok settles.answer) settles.applies honest)
     settles_earlier lines (fails place text AsUnsure) round settles =
-        talked_earlier old settles.mid t (trying how) lines settles.answers settles.carried (applies_earlier settles.mid new Commit (Err settles.refusal) settles.applies honest)
+        answered_earlier old settles.mid t (trying how) lines settles.answers settles.carried (applies_earlier settles.mid new Commit (Err settles.refusal) settles.applies honest)
     settles_earlier lines (fails place text GoOn) round settles = refused_earlier settles.last lines place text settles.stops (applies_earlier settles.last new Rollback (Ok settles.undoes.0) settles.undoes.1 honest)
     settles_earlier lines (fails place text AsFailed) round settles = refused_earlier settles.last lines place text settles.stops (applies_earlier settles.last new Rollback (Err settles.undoes.0) settles.undoes.1 honest)
 
@@ -177,16 +177,16 @@ module _ {D : Type 0} {members : _} where
       state_after later others = ap (λ u. after u later others) kept.state ∙ sym (after_both s commands answers later others kept.so_far.run.last.same)
 
       -- lines of which none was the last
-      kept_lines : (on : Manner) (lines : List (List ℕ)) (text : List ℕ) (talked : HasTalked old new t on lines text)
-          → IsKept start s new (after t talked.commands talked.answers) (commands ++ talked.commands) (answers ++ talked.answers)
-      kept_lines on lines text talked =
-          let sound = talked.still ∙ kept.sound in
-          let state = state_after talked.commands talked.answers in
+      kept_lines : (on : Manner) (lines : List (List ℕ)) (text : List ℕ) (answered : HasAnswered old new t on lines text)
+          → IsKept start s new (after t answered.commands answered.answers) (commands ++ answered.commands) (answers ++ answered.answers)
+      kept_lines on lines text answered =
+          let sound = answered.still ∙ kept.sound in
+          let state = state_after answered.commands answered.answers in
           record {
-            so_far = talks_keeping start s on lines old new commands answers text talked.commands talked.answers talked.refused
-                (subst (λ u. Talks old new u on lines text talked.commands talked.answers talked.refused) kept.state talked.talks) kept.so_far honest kept.sound kept.stands;
+            so_far = lines_keeping start s on lines old new commands answers text answered.commands answered.answers answered.refused
+                (subst (λ u. AnswersEach old new u on lines text answered.commands answered.answers answered.refused) kept.state answered.each) kept.so_far honest kept.sound kept.stands;
             sound = sound;
-            stands = subst (λ u. Holds new u) state (talked.holds stood sound);
+            stands = subst (λ u. Holds new u) state (answered.holds stood sound);
             state = state;
           }
 

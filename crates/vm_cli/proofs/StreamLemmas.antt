@@ -3,27 +3,27 @@ use Rattle.std.proofs.Common.{◌≡◌, inl, inr, ◌++◌, ◌∙◌, ℕ, zer
 use Rattle.std.specs.Io.KnownBytes.{Appends}
 use Rattle.vm_types.specs.State.{State}
 use Rattle.vm_store.specs.declared.store.Store.{Store}
-use Rattle.vm_cli.specs.Carried.{WritesStart}
-use Rattle.vm_cli.specs.Conversations.{AnswersThen, Course, Puts, TakesTo, Tells, counted_result, refused_result, said_result, some_lines}
-use Rattle.vm_cli.specs.Conversations.Course.{over, proceeds}
-use Rattle.vm_cli.specs.Feeds.{TalksOn, Writes}
-use Rattle.vm_cli.specs.LineUses.{IsUse}
-use Rattle.vm_cli.specs.Rounds.{Round}
-use Rattle.vm_cli.specs.Streams.{Held, IsStage, Takes, TakesAs, TakesInside, TakesOutside, Verdict, batch_course, batches, course_of, repeated, result_of, verdict_result}
-use Rattle.vm_cli.specs.Streams.Verdict.{fails, succeeds}
+use Rattle.vm_cli.specs.answers.Carried.{WritesStart}
+use Rattle.vm_cli.specs.session.SessionKinds.{AnswersThen, Course, Puts, TakesTo, Tells, counted_result, refused_result, said_result, some_lines}
+use Rattle.vm_cli.specs.session.SessionKinds.Course.{over, proceeds}
+use Rattle.vm_cli.specs.session.Feeds.{FeedsOn, Writes}
+use Rattle.vm_cli.specs.session.LineUses.{IsUse}
+use Rattle.vm_cli.specs.session.Rounds.{Round}
+use Rattle.vm_cli.specs.session.Streams.{Held, IsStage, Takes, TakesAs, TakesInside, TakesOutside, Verdict, batch_course, batches, course_of, repeated, result_of, verdict_result}
+use Rattle.vm_cli.specs.session.Streams.Verdict.{fails, succeeds}
 use Rattle.vm_cli.specs.declared.answers.output.WriteFault.{WriteFault}
-use Rattle.vm_cli.specs.declared.talk.Manner.{Manner}
-use Rattle.vm_cli.specs.declared.talk.batch.Batch.{Batch}
-use Rattle.vm_cli.specs.declared.talk.OnRefusal.{OnRefusal}
-use Rattle.vm_cli.specs.declared.talk.OnRefusal.TheVariants.{Ignore, Stop, Tell}
-use Rattle.vm_cli.specs.declared.talk.ServeFault.{ServeFault}
-use Rattle.vm_cli.specs.declared.talk.ServeFault.TheVariants as fault
-use Rattle.vm_cli.specs.declared.talk.line_use.LineUse.{LineUse}
-use Rattle.vm_cli.specs.declared.talk.carrying.Then.TheVariants.{GoOn, Failed as AsFailed, Unsure as AsUnsure}
+use Rattle.vm_cli.specs.declared.session.Manner.{Manner}
+use Rattle.vm_cli.specs.declared.session.batch.Batch.{Batch}
+use Rattle.vm_cli.specs.declared.session.OnRefusal.{OnRefusal}
+use Rattle.vm_cli.specs.declared.session.OnRefusal.TheVariants.{Ignore, Stop, Tell}
+use Rattle.vm_cli.specs.declared.session.ServeFault.{ServeFault}
+use Rattle.vm_cli.specs.declared.session.ServeFault.TheVariants as fault
+use Rattle.vm_cli.specs.declared.session.line_use.LineUse.{LineUse}
+use Rattle.vm_cli.specs.declared.session.carrying.Then.TheVariants.{GoOn, Failed as AsFailed, Unsure as AsUnsure}
 use Rattle.vm_cli.proofs.CarriedLemmas.{begins-cut, begins-more, begins-then}
-use Rattle.vm_cli.proofs.EndLemmas.{talks_none}
+use Rattle.vm_cli.proofs.EndLemmas.{feeds_none}
 use Rattle.vm_cli.proofs.PassLemmas.{never_both}
-use Rattle.vm_cli.specs.Talk.{EndsBy}
+use Rattle.vm_cli.specs.session.Session.{EndsBy}
 use Rattle.vm_cli.proofs.Known.{Appends-then}
 
 -- or its first bytes
@@ -47,12 +47,12 @@ written_behind a b c first second then result all (inr h) = inr (h.0, begins-the
 -- what an answer of the store is to a session with batches
 pub tells_writes : (how : Manner) (P : List ℕ → Bool → Type 0) (Q : List ℕ → Course → Type 0) → ((text : List ℕ) (ends : Bool) → P text ends → Q text (course_of ends text))
     → (result : Result Bool ServeFault) (a b : Option (List ℕ)) → Writes how P result a b → Tells how Q result a b
-tells_writes how P Q of (Ok refused) a b (text, says, same, goes_on, written) = (text, subst (λ r. Q text (proceeds r)) (sym same) (of text false says), goes_on, written)
+tells_writes how P Q of (Ok refused) a b it = (it.text, subst (λ r. Q it.text (proceeds r)) (sym it.told) (of it.text false it.says), it.goes_on, it.written)
 tells_writes how P Q of (Err fault.Read) a b writes = writes
 tells_writes how P Q of (Err fault.Unsure) a b writes = absurd writes
-tells_writes how P Q of (Err fault.Store) a b (text, says, written) = (text, of text true says, written)
-tells_writes how P Q of (Err fault.Refused) a b (text, says, error, stop, written) = (text, subst (λ r. Q text (proceeds r)) error (of text false says), stop, written)
-tells_writes how P Q of (Err fault.Write) a b (text, ends, says, begun) = (text, course_of ends text, of text ends says, begun)
+tells_writes how P Q of (Err fault.Store) a b it = (it.text, of it.text true it.says, it.written)
+tells_writes how P Q of (Err fault.Refused) a b it = (it.text, subst (λ r. Q it.text (proceeds r)) it.refused (of it.text false it.says), it.stop, it.written)
+tells_writes how P Q of (Err fault.Write) a b it = (it.whole, course_of it.ends it.whole, of it.whole it.ends it.says, it.begins)
 
 -- an answer that was written
 module _ (how : Manner) (P : List ℕ → Course → Type 0) (text : List ℕ) (a b : Option (List ℕ)) where
@@ -116,29 +116,29 @@ module _ {D : Type 0} {members : _} (old new : Store D members) (s : State) (how
 
 module _ {D : Type 0} {members : _} where
   -- the store after a batch that was answered
-  pub verdict_talks : (how : Manner) (old new : Store D members) (text : List ℕ) (a b : Option (List ℕ)) (verdict : Verdict) (result : Result Bool ServeFault) → AnswersThen text (verdict_result how verdict) result a b
-      → TalksOn (result_of verdict) old new → TalksOn result old new
-  verdict_talks how old new text a b verdict result (inr h) talks =
-      subst (λ r. TalksOn r old new) (sym h.0) (record { goes = talks.goes; ok = λ sound. tt; err = λ sound. tt; failing = talks.failing; left = talks.left })
-  verdict_talks how old new text a b (succeeds answers) result (inl h) talks = subst (λ r. TalksOn r old new) (sym h.0) talks
-  verdict_talks how old new text a b (fails place answer AsFailed) result (inl h) talks = subst (λ r. TalksOn r old new) (sym h.0) talks
-  verdict_talks how old new text a b (fails place answer AsUnsure) result (inl h) talks = subst (λ r. TalksOn r old new) (sym h.0) talks
-  verdict_talks how old new text a b (fails place answer GoOn) result (inl h) talks = subst (λ r. TalksOn r old new) (sym h.0) (by how.on_refusal)
+  pub verdict_feeds : (how : Manner) (old new : Store D members) (text : List ℕ) (a b : Option (List ℕ)) (verdict : Verdict) (result : Result Bool ServeFault) → AnswersThen text (verdict_result how verdict) result a b
+      → FeedsOn (result_of verdict) old new → FeedsOn result old new
+  verdict_feeds how old new text a b verdict result (inr h) feeds =
+      subst (λ r. FeedsOn r old new) (sym h.0) (record { goes = feeds.goes; ok = λ sound. tt; err = λ sound. tt; failing = feeds.failing; left = feeds.left })
+  verdict_feeds how old new text a b (succeeds answers) result (inl h) feeds = subst (λ r. FeedsOn r old new) (sym h.0) feeds
+  verdict_feeds how old new text a b (fails place answer AsFailed) result (inl h) feeds = subst (λ r. FeedsOn r old new) (sym h.0) feeds
+  verdict_feeds how old new text a b (fails place answer AsUnsure) result (inl h) feeds = subst (λ r. FeedsOn r old new) (sym h.0) feeds
+  verdict_feeds how old new text a b (fails place answer GoOn) result (inl h) feeds = subst (λ r. FeedsOn r old new) (sym h.0) (by how.on_refusal)
     where
-      by : (on_refusal : OnRefusal) → TalksOn (refused_result on_refusal) old new
-      by Stop = record { goes = talks.goes; ok = λ sound. tt; err = λ sound. tt; failing = talks.failing; left = talks.left }
-      by Ignore = talks
-      by Tell = talks
+      by : (on_refusal : OnRefusal) → FeedsOn (refused_result on_refusal) old new
+      by Stop = record { goes = feeds.goes; ok = λ sound. tt; err = λ sound. tt; failing = feeds.failing; left = feeds.left }
+      by Ignore = feeds
+      by Tell = feeds
 
   -- the store was asked nothing
-  pub counted_talks : (store : Store D members) (text : List ℕ) (a b : Option (List ℕ)) (on_refusal : OnRefusal) (count : ℕ) (result : Result Bool ServeFault) → AnswersThen text (counted_result on_refusal count) result a b → TalksOn result store store
-  counted_talks store text a b on_refusal count result (inr h) = subst (λ r. TalksOn r store store) (sym h.0) (stopped fault.Write tt)
+  pub counted_feeds : (store : Store D members) (text : List ℕ) (a b : Option (List ℕ)) (on_refusal : OnRefusal) (count : ℕ) (result : Result Bool ServeFault) → AnswersThen text (counted_result on_refusal count) result a b → FeedsOn result store store
+  counted_feeds store text a b on_refusal count result (inr h) = subst (λ r. FeedsOn r store store) (sym h.0) (stopped fault.Write tt)
     where
-      stopped : (why : ServeFault) → EndsBy store store why → TalksOn (Err why) store store
-      stopped why ends = let none = talks_none store false in record { goes = none.goes; ok = λ sound. tt; err = λ sound. ends; failing = none.failing; left = none.left }
-  counted_talks store text a b on_refusal zero result (inl h) = subst (λ r. TalksOn r store store) (sym h.0) (talks_none store false)
-  counted_talks store text a b Stop (suc n) result (inl h) =
-      let none = talks_none store false in
-      subst (λ r. TalksOn r store store) (sym h.0) (record { goes = none.goes; ok = λ sound. tt; err = λ sound. tt; failing = none.failing; left = none.left })
-  counted_talks store text a b Ignore (suc n) result (inl h) = subst (λ r. TalksOn r store store) (sym h.0) (talks_none store true)
-  counted_talks store text a b Tell (suc n) result (inl h) = subst (λ r. TalksOn r store store) (sym h.0) (talks_none store true)
+      stopped : (why : ServeFault) → EndsBy store store why → FeedsOn (Err why) store store
+      stopped why ends = let none = feeds_none store false in record { goes = none.goes; ok = λ sound. tt; err = λ sound. ends; failing = none.failing; left = none.left }
+  counted_feeds store text a b on_refusal zero result (inl h) = subst (λ r. FeedsOn r store store) (sym h.0) (feeds_none store false)
+  counted_feeds store text a b Stop (suc n) result (inl h) =
+      let none = feeds_none store false in
+      subst (λ r. FeedsOn r store store) (sym h.0) (record { goes = none.goes; ok = λ sound. tt; err = λ sound. tt; failing = none.failing; left = none.left })
+  counted_feeds store text a b Ignore (suc n) result (inl h) = subst (λ r. FeedsOn r store store) (sym h.0) (feeds_none store true)
+  counted_feeds store text a b Tell (suc n) result (inl h) = subst (λ r. FeedsOn r store store) (sym h.0) (feeds_none store true)

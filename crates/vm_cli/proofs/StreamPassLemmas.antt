@@ -4,21 +4,21 @@ use Rattle.vm_types.specs.State.{State}
 use Rattle.vm_types.specs.declared.command.Command.{Command}
 use Rattle.vm_types.specs.declared.command.Command.TheVariants.{Commit, Rollback}
 use Rattle.vm_store.specs.declared.store.Store.{Store}
-use Rattle.vm_cli.specs.Asking.{Request}
-use Rattle.vm_cli.specs.Conversations.{Course}
-use Rattle.vm_cli.specs.Input.{without_return}
-use Rattle.vm_cli.specs.LineUses.{is_alone, no_memory, use_of, use_of_command, use_of_request, use_of_words}
-use Rattle.vm_cli.specs.Requests.{request_of}
-use Rattle.vm_cli.specs.Rounds.{Round}
-use Rattle.vm_cli.specs.Spaces.{words_of}
-use Rattle.vm_cli.specs.Streams.{Held, Takes, TakesAs}
-use Rattle.vm_cli.specs.Streams.Held.{holds, lost}
-use Rattle.vm_cli.specs.Talk.{Passes}
+use Rattle.vm_cli.specs.lines.Asking.{Request}
+use Rattle.vm_cli.specs.session.SessionKinds.{Course}
+use Rattle.vm_cli.specs.lines.Input.{without_return}
+use Rattle.vm_cli.specs.session.LineUses.{is_alone, no_memory, use_of, use_of_command, use_of_request, use_of_words}
+use Rattle.vm_cli.specs.lines.Requests.{request_of}
+use Rattle.vm_cli.specs.session.Rounds.{Round}
+use Rattle.vm_cli.specs.lines.Spaces.{words_of}
+use Rattle.vm_cli.specs.session.Streams.{Held, Takes, TakesAs}
+use Rattle.vm_cli.specs.session.Streams.Held.{holds, lost}
+use Rattle.vm_cli.specs.session.Session.{Passes}
 use Rattle.vm_cli.specs.declared.lines.line.TheConstants.{MAX_BYTES}
-use Rattle.vm_cli.specs.declared.talk.Manner.{Manner}
-use Rattle.vm_cli.specs.declared.talk.OnCommand.TheVariants.{Refuse}
-use Rattle.vm_cli.specs.declared.talk.line_use.LineUse.{LineUse}
-use Rattle.vm_cli.specs.declared.talk.line_use.LineUse.TheVariants as line
+use Rattle.vm_cli.specs.declared.session.Manner.{Manner}
+use Rattle.vm_cli.specs.declared.session.OnCommand.TheVariants.{Refuse}
+use Rattle.vm_cli.specs.declared.session.line_use.LineUse.{LineUse}
+use Rattle.vm_cli.specs.declared.session.line_use.LineUse.TheVariants as line
 use Rattle.vm_cli.proofs.PassLemmas.{passes_left}
 use Rattle.vm_cli.proofs.ReadOnlyLemmas.{line_passes}
 

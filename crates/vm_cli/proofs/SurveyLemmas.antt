@@ -11,8 +11,8 @@ use Rattle.vm_disk.proofs.MomentLemmas.{reads_then, same_medium}
 use Rattle.vm_store.specs.Store.{Holds, disk_of}
 use Rattle.vm_store.specs.Tallies.{tally_in}
 use Rattle.vm_store.specs.declared.store.Store.{Store}
-use Rattle.vm_cli.specs.Branches.{Branch, branch_of, branches_of, numbers}
-use Rattle.vm_cli.specs.Talk.{Passes}
+use Rattle.vm_cli.specs.program.Branches.{Branch, branch_of, branches_of, numbers}
+use Rattle.vm_cli.specs.session.Session.{Passes}
 use Rattle.vm_cli.proofs.CountingLemmas.{entry, its_own, listed_all, nothing, within}
 use Rattle.vm_cli.proofs.PassLemmas.{grows_both}
 

@@ -5,38 +5,38 @@ use Rattle.std.specs.Io.KnownBytes.{Appends}
 use Rattle.std.specs.Prelude.{slice_range}
 use Rattle.vm_types.specs.State.{State, after}
 use Rattle.vm_store.specs.declared.store.Store.{Store}
-use Rattle.vm_cli.specs.Carried.{WritesStart}
-use Rattle.vm_cli.specs.Conversations.{Course, Tells}
-use Rattle.vm_cli.specs.Conversations.Course.{over, proceeds, unwritten}
-use Rattle.vm_cli.specs.Feeds.{TalksOn}
-use Rattle.vm_cli.specs.PlannerCalls.{AreWaiting, IsWaiting}
-use Rattle.vm_cli.specs.Replies.{reply_text}
-use Rattle.vm_cli.specs.Rounds.{Batch as Commanded, Round, after_round, after_rounds}
-use Rattle.vm_cli.specs.Rounds.Round.{committed, unsure}
-use Rattle.vm_cli.specs.Streams.{CommitsOrNot, Undoes, Verdict, carried_by, trying, verdict_of, why_text}
-use Rattle.vm_cli.specs.Streams.Verdict.{fails, succeeds}
-use Rattle.vm_cli.specs.Talk.{EndsBy, HasTalked}
-use Rattle.vm_cli.specs.Waiting.{CarriesAll, EndsInRound, RefusesOne, SettlesWaiting, TakesRound, Waiting, both, committed_texts, then_course, unsure_texts, waiting_text}
-use Rattle.vm_cli.specs.WaitingCalls.{KeepsWaiting, StayWaiting, StopsAt, TriesRange, WritesThen, first_left, is_refused, kept_answers, own_text, placed_behind, round_result, shared_texts, shared_verdict, sure_result}
+use Rattle.vm_cli.specs.answers.Carried.{WritesStart}
+use Rattle.vm_cli.specs.session.SessionKinds.{Course, Tells}
+use Rattle.vm_cli.specs.session.SessionKinds.Course.{over, proceeds, unwritten}
+use Rattle.vm_cli.specs.session.Feeds.{FeedsOn}
+use Rattle.vm_cli.specs.session.PlannerCalls.{AreWaiting, IsWaiting}
+use Rattle.vm_cli.specs.answers.Replies.{reply_text}
+use Rattle.vm_cli.specs.session.Rounds.{Batch as Commanded, Round, after_round, after_rounds}
+use Rattle.vm_cli.specs.session.Rounds.Round.{committed, unsure}
+use Rattle.vm_cli.specs.session.Streams.{CommitsOrNot, Undoes, Verdict, carried_by, trying, verdict_of, why_text}
+use Rattle.vm_cli.specs.session.Streams.Verdict.{fails, succeeds}
+use Rattle.vm_cli.specs.session.Session.{EndsBy, HasAnswered}
+use Rattle.vm_cli.specs.session.Waiting.{CarriesAll, EndsInRound, RefusesOne, SettlesWaiting, TakesRound, Waiting, both, committed_texts, then_course, unsure_texts, waiting_text}
+use Rattle.vm_cli.specs.session.WaitingCalls.{KeepsWaiting, StayWaiting, StopsAt, TriesRange, WritesThen, first_left, is_refused, kept_answers, own_text, placed_behind, round_result, shared_texts, shared_verdict, sure_result}
 use Rattle.vm_cli.specs.declared.answers.reply.Reply.TheVariants as reply
-use Rattle.vm_cli.specs.declared.talk.Manner.{Manner}
-use Rattle.vm_cli.specs.declared.talk.OnRefusal.TheVariants.{Stop}
-use Rattle.vm_cli.specs.declared.talk.ServeFault.{ServeFault}
-use Rattle.vm_cli.specs.declared.talk.ServeFault.TheVariants as fault
-use Rattle.vm_cli.specs.declared.talk.batches.BatchSession.{BatchSession}
-use Rattle.vm_cli.specs.declared.talk.carrying.Stop.{Stop as LastLine}
-use Rattle.vm_cli.specs.declared.talk.carrying.Then.{Then}
-use Rattle.vm_cli.specs.declared.talk.carrying.Then.TheVariants.{GoOn, Failed as AsFailed, Unsure as AsUnsure}
-use Rattle.vm_cli.specs.declared.talk.waiting.Tried.{Tried}
-use Rattle.vm_cli.specs.declared.talk.waiting.Tried.TheVariants.{Committed, Refused, Undone}
-use Rattle.vm_cli.specs.declared.talk.waiting.WaitingBatch.{WaitingBatch}
+use Rattle.vm_cli.specs.declared.session.Manner.{Manner}
+use Rattle.vm_cli.specs.declared.session.OnRefusal.TheVariants.{Stop}
+use Rattle.vm_cli.specs.declared.session.ServeFault.{ServeFault}
+use Rattle.vm_cli.specs.declared.session.ServeFault.TheVariants as fault
+use Rattle.vm_cli.specs.declared.session.batches.BatchSession.{BatchSession}
+use Rattle.vm_cli.specs.declared.session.carrying.Stop.{Stop as LastLine}
+use Rattle.vm_cli.specs.declared.session.carrying.Then.{Then}
+use Rattle.vm_cli.specs.declared.session.carrying.Then.TheVariants.{GoOn, Failed as AsFailed, Unsure as AsUnsure}
+use Rattle.vm_cli.specs.declared.session.waiting.Tried.{Tried}
+use Rattle.vm_cli.specs.declared.session.waiting.Tried.TheVariants.{Committed, Refused, Undone}
+use Rattle.vm_cli.specs.declared.session.waiting.WaitingBatch.{WaitingBatch}
 use Rattle.vm_cli.proofs.BatchLemmas.{held_length}
 use Rattle.vm_cli.proofs.CarriedLemmas.{begins-then}
-use Rattle.vm_cli.proofs.EndLemmas.{talks_fine}
+use Rattle.vm_cli.proofs.EndLemmas.{feeds_fine}
 use Rattle.vm_cli.proofs.FeedLemmas.{after-join}
 use Rattle.vm_cli.proofs.Known.{Appends-nil, Appends-then}
 use Rattle.vm_cli.proofs.RoundLemmas.{rounds_append}
-use Rattle.vm_cli.proofs.SettleLemmas.{commit_talks, undo_talks}
+use Rattle.vm_cli.proofs.SettleLemmas.{commit_feeds, undo_feeds}
 
 -- ---- ranges of a list
 
@@ -158,18 +158,18 @@ own_is own it verdict is = rw (is.number, is.begun, is.lines.2) refl
 module _ {D : Type 0} {members : _} where
   -- one more was carried out
   pub carries_more : (old mid new : Store D members) (s : State) (how : Manner) (before : List Waiting) (it : Waiting) (answers : List (List ℕ)) (text : List ℕ) (earlier : Commanded) → CarriesAll old mid s how before answers earlier
-      → HasTalked mid new (after s earlier.commands earlier.answers) (trying how) it.lines text → (batch : Commanded) × CarriesAll old new s how (before ++ it ∷ []) (answers ++ text ∷ []) batch
-  carries_more old mid new s how [] it answers text earlier (same, none, nothing) talked =
-      let here : HasTalked old new s (trying how) it.lines text =
-      subst (λ (m : Store D members). HasTalked m new s (trying how) it.lines text) same (subst (λ (b : Commanded). HasTalked mid new (after s b.commands b.answers) (trying how) it.lines text) nothing talked) in (
+      → HasAnswered mid new (after s earlier.commands earlier.answers) (trying how) it.lines text → (batch : Commanded) × CarriesAll old new s how (before ++ it ∷ []) (answers ++ text ∷ []) batch
+  carries_more old mid new s how [] it answers text earlier (same, none, nothing) answered =
+      let here : HasAnswered old new s (trying how) it.lines text =
+      subst (λ (m : Store D members). HasAnswered m new s (trying how) it.lines text) same (subst (λ (b : Commanded). HasAnswered mid new (after s b.commands b.answers) (trying how) it.lines text) nothing answered) in (
         both (record { commands = here.commands; answers = here.answers }) (record { commands = []; answers = [] }),
         (new, text, [], record { commands = []; answers = [] }, here, ap (λ xs. xs ++ text ∷ []) none, refl, (refl, refl, refl)),
       )
-  carries_more old mid new s how (first ∷ before) it answers text earlier (between, said, others, later, carried, those, all, rest) talked =
+  carries_more old mid new s how (first ∷ before) it answers text earlier (between, said, others, later, carried, those, all, rest) answered =
       let state : after s earlier.commands earlier.answers ≡ after (after s carried.commands carried.answers) later.commands later.answers =
       ap (λ (b : Commanded). after s b.commands b.answers) all
-      ∙ after-join (trying how) old between s first.lines said carried.commands later.commands carried.answers later.answers carried.refused carried.talks in
-      let more = carries_more between mid new (after s carried.commands carried.answers) how before it others text later rest (subst (λ t. HasTalked mid new t (trying how) it.lines text) state talked) in (
+      ∙ after-join (trying how) old between s first.lines said carried.commands later.commands carried.answers later.answers carried.refused carried.each in
+      let more = carries_more between mid new (after s carried.commands carried.answers) how before it others text later rest (subst (λ t. HasAnswered mid new t (trying how) it.lines text) state answered) in (
         both (record { commands = carried.commands; answers = carried.answers }) more.0,
         (between, said, others ++ text ∷ [], more.0, carried, ap (λ xs. xs ++ text ∷ []) those, refl, more.1),
       )
@@ -261,8 +261,8 @@ unsure_is T stop why_is then_is (own ∷ queue) (it ∷ waiting) h =
 
 module _ {D : Type 0} {members : _} where
   -- the session ends, whatever was told of the store
-  pub talks_over : (old new : Store D members) (result : Result Bool ServeFault) → TalksOn result old new → (why : ServeFault) → EndsBy old new why → TalksOn (Err why) old new
-  talks_over old new result talks why ends = record { goes = talks.goes; ok = λ sound. tt; err = λ sound. ends; failing = talks.failing; left = talks.left }
+  pub feeds_over : (old new : Store D members) (result : Result Bool ServeFault) → FeedsOn result old new → (why : ServeFault) → EndsBy old new why → FeedsOn (Err why) old new
+  feeds_over old new result feeds why ends = record { goes = feeds.goes; ok = λ sound. tt; err = λ sound. ends; failing = feeds.failing; left = feeds.left }
 
 -- all of them were committed, or their commit was not acknowledged
 abbrev pub shared_tried : {T : Type 0} → Result T ServeFault → Result Tried ServeFault
@@ -271,17 +271,17 @@ shared_tried (Err why) = Err why
 
 module _ {D T : Type 0} {members : _} (old mid new : Store D members) (acknowledged : Result T LastLine) (place : ℕ) (commits : CommitsOrNot mid new place acknowledged) (text : List ℕ) (result : Result T ServeFault) (a b : Option (List ℕ))
     (said : WritesThen text (sure_result acknowledged) result a b) where
-  pub shared_talks : TalksOn (Ok false) old mid → TalksOn (round_result (shared_tried result)) old new
-  shared_talks first = by acknowledged commits said
+  pub shared_feeds : FeedsOn (Ok false) old mid → FeedsOn (round_result (shared_tried result)) old new
+  shared_feeds first = by acknowledged commits said
     where
-      by : (found : Result T LastLine) → CommitsOrNot mid new place found → WritesThen text (sure_result found) result a b → TalksOn (round_result (shared_tried result)) old new
-      by (Ok u) came (inl (is, written)) = subst (λ r. TalksOn (round_result (shared_tried r)) old new) (sym is) (commit_talks old mid new {T = T} (Ok u) place [] came first)
+      by : (found : Result T LastLine) → CommitsOrNot mid new place found → WritesThen text (sure_result found) result a b → FeedsOn (round_result (shared_tried result)) old new
+      by (Ok u) came (inl (is, written)) = subst (λ r. FeedsOn (round_result (shared_tried r)) old new) (sym is) (commit_feeds old mid new {T = T} (Ok u) place [] came first)
       by (Ok u) came (inr (is, begun)) =
-          subst (λ r. TalksOn (round_result (shared_tried r)) old new) (sym is) (talks_over old new (Ok false) (commit_talks old mid new {T = T} (Ok u) place [] came first) fault.Write tt)
+          subst (λ r. FeedsOn (round_result (shared_tried r)) old new) (sym is) (feeds_over old new (Ok false) (commit_feeds old mid new {T = T} (Ok u) place [] came first) fault.Write tt)
       by (Err stop) came (inl (is, written)) =
-          subst (λ r. TalksOn (round_result (shared_tried r)) old new) (sym is) (talks_over old new _ (commit_talks old mid new {T = T} (Err stop) place [] came first) fault.Unsure tt)
+          subst (λ r. FeedsOn (round_result (shared_tried r)) old new) (sym is) (feeds_over old new _ (commit_feeds old mid new {T = T} (Err stop) place [] came first) fault.Unsure tt)
       by (Err stop) came (inr (is, begun)) =
-          subst (λ r. TalksOn (round_result (shared_tried r)) old new) (sym is) (talks_over old new _ (commit_talks old mid new {T = T} (Err stop) place [] came first) fault.Write tt)
+          subst (λ r. FeedsOn (round_result (shared_tried r)) old new) (sym is) (feeds_over old new _ (commit_feeds old mid new {T = T} (Err stop) place [] came first) fault.Write tt)
 
 module _ {D : Type 0} {members : _} (old new : Store D members) (s : State) (how : Manner) (waiting : List Waiting) (text : List ℕ) (round : Round) where
   -- a round was the last, as the writer failed behind it
@@ -458,20 +458,20 @@ module _ {D : Type 0} {members : _} (old last new : Store D members) (s : State)
       (stopped_text then, over, (undone.0 ∷ [], settles_over old new s how (drop from waiting) _ _ (failed_there then other undone.0 undone.1)), begun)
 
 -- what is told of the store then
-module _ {D : Type 0} {members : _} (old last new : Store D members) (first : TalksOn (Err fault.Refused) old last) where
-  pub undone_fine : ((batch : Commanded) → (round : Round) × Undoes last new batch GoOn round) → TalksOn (Ok false) old new
+module _ {D : Type 0} {members : _} (old last new : Store D members) (first : FeedsOn (Err fault.Refused) old last) where
+  pub undone_fine : ((batch : Commanded) → (round : Round) × Undoes last new batch GoOn round) → FeedsOn (Ok false) old new
   undone_fine undoes =
       let nothing : Commanded = record { commands = []; answers = [] } in
       let undone = undoes nothing in
-      talks_fine old new true (undo_talks old last new first 0 [] GoOn undone.0 nothing undone.1) false
+      feeds_fine old new true (undo_feeds old last new first 0 [] GoOn undone.0 nothing undone.1) false
 
-  pub failed_over : (then : Then) → (then ≡ GoOn → ⊥) → ((batch : Commanded) → (round : Round) × Undoes last new batch then round) → TalksOn (Err fault.Store) old new
+  pub failed_over : (then : Then) → (then ≡ GoOn → ⊥) → ((batch : Commanded) → (round : Round) × Undoes last new batch then round) → FeedsOn (Err fault.Store) old new
   failed_over GoOn other undoes = absurd (other refl)
   failed_over AsUnsure other undoes = let nothing : Commanded = record { commands = []; answers = [] } in absurd (undoes nothing).1
   failed_over AsFailed other undoes =
       let nothing : Commanded = record { commands = []; answers = [] } in
       let undone = undoes nothing in
-      undo_talks old last new first 0 [] AsFailed undone.0 nothing undone.1
+      undo_feeds old last new first 0 [] AsFailed undone.0 nothing undone.1
 
 -- ---- round by round
 

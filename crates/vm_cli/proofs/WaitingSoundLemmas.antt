@@ -8,22 +8,22 @@ use Rattle.vm_disk.specs.Disk.{DiskState}
 use Rattle.vm_disk.specs.declared.disk.Disk.{Ghosts}
 use Rattle.vm_store.specs.Store.{Holds, disk_of}
 use Rattle.vm_store.specs.declared.store.Store.{Store}
-use Rattle.vm_cli.specs.Conversations.{Course}
-use Rattle.vm_cli.specs.Conversations.Course.{over, proceeds, unwritten}
-use Rattle.vm_cli.specs.Replies.{reply_text}
-use Rattle.vm_cli.specs.Rounds.{AllWhole, Batch as Commanded, IsWholeRound, Round, after_round, after_rounds}
-use Rattle.vm_cli.specs.Rounds.Round.{committed, unsure}
-use Rattle.vm_cli.specs.Streams.{Settles, StopsIn, Undoes, Verdict, batch_course, carried_by, trying}
-use Rattle.vm_cli.specs.Streams.Verdict.{fails, succeeds}
-use Rattle.vm_cli.specs.Talk.{Answered, HandlesLine, HasTalked, Stood, after_line, with_answer, with_command}
-use Rattle.vm_cli.specs.Waiting.{CarriesAll, CommitsAll, EndsInRound, LeavesAllUnsure, RefusesOne, SettlesWaiting, TakesRound, Waiting, both, then_course}
+use Rattle.vm_cli.specs.session.SessionKinds.{Course}
+use Rattle.vm_cli.specs.session.SessionKinds.Course.{over, proceeds, unwritten}
+use Rattle.vm_cli.specs.answers.Replies.{reply_text}
+use Rattle.vm_cli.specs.session.Rounds.{AllWhole, Batch as Commanded, IsWholeRound, Round, after_round, after_rounds}
+use Rattle.vm_cli.specs.session.Rounds.Round.{committed, unsure}
+use Rattle.vm_cli.specs.session.Streams.{Settles, StopsIn, Undoes, Verdict, batch_course, carried_by, trying}
+use Rattle.vm_cli.specs.session.Streams.Verdict.{fails, succeeds}
+use Rattle.vm_cli.specs.session.Session.{Answered, HandlesLine, HasAnswered, Stood, after_line, with_answer, with_command}
+use Rattle.vm_cli.specs.session.Waiting.{CarriesAll, CommitsAll, EndsInRound, LeavesAllUnsure, RefusesOne, SettlesWaiting, TakesRound, Waiting, both, then_course}
 use Rattle.vm_cli.specs.declared.answers.reply.Reply.TheVariants as reply
-use Rattle.vm_cli.specs.declared.talk.Manner.{Manner}
-use Rattle.vm_cli.specs.declared.talk.OnCommand.{OnCommand}
-use Rattle.vm_cli.specs.declared.talk.carrying.Then.{Then}
-use Rattle.vm_cli.specs.declared.talk.carrying.Then.TheVariants.{GoOn, Failed as AsFailed, Unsure as AsUnsure}
-use Rattle.vm_cli.proofs.ConversationLemmas.{KeepsOn, KeptSo, kept_so}
-use Rattle.vm_cli.proofs.FeedLemmas.{answers-joined, commands-joined, state-then, talked-join, talked-none}
+use Rattle.vm_cli.specs.declared.session.Manner.{Manner}
+use Rattle.vm_cli.specs.declared.session.OnCommand.{OnCommand}
+use Rattle.vm_cli.specs.declared.session.carrying.Then.{Then}
+use Rattle.vm_cli.specs.declared.session.carrying.Then.TheVariants.{GoOn, Failed as AsFailed, Unsure as AsUnsure}
+use Rattle.vm_cli.proofs.KindLemmas.{KeepsOn, KeptSo, kept_so}
+use Rattle.vm_cli.proofs.FeedLemmas.{answers-joined, commands-joined, state-then, answered-join, answered-none}
 use Rattle.vm_cli.proofs.RoundLemmas.{rounds_append}
 use Rattle.vm_cli.proofs.StreamKeepLemmas.{settles_earlier, settles_kept}
 use Rattle.vm_cli.proofs.WholeLemmas.{AllChanges, settles_whole}
@@ -77,22 +77,22 @@ done_same : (commands commands' : List Command) (answers answers' : List (Result
 done_same commands commands' answers answers' these those = ap (λ cs. done_by cs answers) these ∙ ap (λ rs. done_by commands' rs) those
 
 module _ {D : Type 0} {members : _} where
-  -- lines were carried out as a talk carries them out, and this is what was done
-  record TalksSo (old new : Store D members) (s : State) (how : Manner) (lines : List (List ℕ)) (batch : Commanded) : Type 0 where
+  -- lines were carried out as a session carries them out, and this is what was done
+  record AnswersSo (old new : Store D members) (s : State) (how : Manner) (lines : List (List ℕ)) (batch : Commanded) : Type 0 where
     pub text : List ℕ
-    pub talked : HasTalked old new s (trying how) lines text
-    pub is : batch ≡ done_by talked.commands talked.answers
+    pub answered : HasAnswered old new s (trying how) lines text
+    pub is : batch ≡ done_by answered.commands answered.answers
 
-  carries_talks : (group : List Waiting) (old new : Store D members) (s : State) (how : Manner) (answers : List (List ℕ)) (batch : Commanded) → CarriesAll old new s how group answers batch → TalksSo old new s how (all_lines group) batch
-  carries_talks [] old new s how answers batch (same, none, no_batch) =
-      subst (λ (x : Store D members). TalksSo old x s how [] batch) (sym same) (record { text = []; talked = talked-none old s (trying how); is = no_batch })
-  carries_talks (it ∷ group) old new s how answers batch (mid, first, others, later, carried, answers_are, batch_is, rest) =
-      let more = carries_talks group mid new (after s carried.commands carried.answers) how others later rest in
-      let these = commands-joined old mid new s (trying how) it.lines first carried (all_lines group) more.text more.talked in
-      let those = answers-joined old mid new s (trying how) it.lines first carried (all_lines group) more.text more.talked in
+  carries_feeds : (group : List Waiting) (old new : Store D members) (s : State) (how : Manner) (answers : List (List ℕ)) (batch : Commanded) → CarriesAll old new s how group answers batch → AnswersSo old new s how (all_lines group) batch
+  carries_feeds [] old new s how answers batch (same, none, no_batch) =
+      subst (λ (x : Store D members). AnswersSo old x s how [] batch) (sym same) (record { text = []; answered = answered-none old s (trying how); is = no_batch })
+  carries_feeds (it ∷ group) old new s how answers batch (mid, first, others, later, carried, answers_are, batch_is, rest) =
+      let more = carries_feeds group mid new (after s carried.commands carried.answers) how others later rest in
+      let these = commands-joined old mid new s (trying how) it.lines first carried (all_lines group) more.text more.answered in
+      let those = answers-joined old mid new s (trying how) it.lines first carried (all_lines group) more.text more.answered in
       record {
         text = first ++ more.text;
-        talked = talked-join old mid new s (trying how) it.lines first carried (all_lines group) more.text more.talked;
+        answered = answered-join old mid new s (trying how) it.lines first carried (all_lines group) more.text more.answered;
         is = batch_is ∙ ap (λ b. both (done_by carried.commands carried.answers) b) more.is ∙ sym (done_same _ _ _ _ these those);
       }
 
@@ -100,12 +100,12 @@ module _ {D : Type 0} {members : _} where
   commits_settle : (old new : Store D members) (s : State) (how : Manner) (group : List Waiting) (text : List ℕ) (round : Round) → CommitsAll old new s how group text round
       → (said : List ℕ) × Settles old new s how (all_lines group) (succeeds said) round
   commits_settle old new s how group text round commits =
-      let each = carries_talks group old commits.mid s how commits.answers commits.batch commits.carried in (
+      let each = carries_feeds group old commits.mid s how commits.answers commits.batch commits.carried in (
         each.text,
         record {
           mid = commits.mid;
           answer = commits.answer;
-          carried = each.talked;
+          carried = each.answered;
           applies = commits.applies;
           came_so = commits.came_so ∙ ap (λ b. committed b commits.answer) each.is;
         },
@@ -115,12 +115,12 @@ module _ {D : Type 0} {members : _} where
   unsure_settle : (old new : Store D members) (s : State) (how : Manner) (group : List Waiting) (text : List ℕ) (round : Round) → LeavesAllUnsure old new s how group text round
       → Settles old new s how (all_lines group) (fails (length (all_lines group)) (reply_text reply.Unsure) AsUnsure) round
   unsure_settle old new s how group text round leaves =
-      let each = carries_talks group old leaves.mid s how leaves.answers leaves.batch leaves.carried in
+      let each = carries_feeds group old leaves.mid s how leaves.answers leaves.batch leaves.carried in
       record {
         mid = leaves.mid;
         refusal = leaves.refusal;
         answers = each.text;
-        carried = each.talked;
+        carried = each.answered;
         applies = leaves.applies;
         at = refl;
         says = refl;
@@ -128,18 +128,18 @@ module _ {D : Type 0} {members : _} where
       }
 
   -- a line behind others was refused
-  module _ (old mid last : Store D members) (s : State) (how : Manner) (lines : List (List ℕ)) (text : List ℕ) (first : HasTalked old mid s (trying how) lines text) (more : List (List ℕ)) (place : ℕ) (why : List ℕ) (stops : StopsIn mid last (after s first.commands first.answers) how more place why) where
-    abbrev joined_talk : HasTalked old stops.mid s (trying how) (lines ++ stops.before) (text ++ stops.earlier)
-    joined_talk = talked-join old mid stops.mid s (trying how) lines text first stops.before stops.earlier stops.carried
+  module _ (old mid last : Store D members) (s : State) (how : Manner) (lines : List (List ℕ)) (text : List ℕ) (first : HasAnswered old mid s (trying how) lines text) (more : List (List ℕ)) (place : ℕ) (why : List ℕ) (stops : StopsIn mid last (after s first.commands first.answers) how more place why) where
+    abbrev joined_lines : HasAnswered old stops.mid s (trying how) (lines ++ stops.before) (text ++ stops.earlier)
+    joined_lines = answered-join old mid stops.mid s (trying how) lines text first stops.before stops.earlier stops.carried
 
-    state_joined : after (after s first.commands first.answers) stops.carried.commands stops.carried.answers ≡ after s joined_talk.commands joined_talk.answers
+    state_joined : after (after s first.commands first.answers) stops.carried.commands stops.carried.answers ≡ after s joined_lines.commands joined_lines.answers
     state_joined =
         let these = commands-joined old mid stops.mid s (trying how) lines text first stops.before stops.earlier stops.carried in
         let those = answers-joined old mid stops.mid s (trying how) lines text first stops.before stops.earlier stops.carried in
         sym (state-then old mid stops.mid s (trying how) lines text first stops.before stops.earlier stops.carried)
-        ∙ ap (λ cs. after s cs (first.answers ++ stops.carried.answers)) (sym these) ∙ ap (λ rs. after s joined_talk.commands rs) (sym those)
+        ∙ ap (λ cs. after s cs (first.answers ++ stops.carried.answers)) (sym these) ∙ ap (λ rs. after s joined_lines.commands rs) (sym those)
 
-    abbrev handled_joined : HandlesLine stops.mid last (after s joined_talk.commands joined_talk.answers) (trying how) stops.line stops.said stops.ends
+    abbrev handled_joined : HandlesLine stops.mid last (after s joined_lines.commands joined_lines.answers) (trying how) stops.line stops.said stops.ends
     handled_joined =
         let h = stops.handled in
         record {
@@ -161,7 +161,7 @@ module _ {D : Type 0} {members : _} where
       ends = stops.ends;
       cut = ap (λ ls. lines ++ ls) stops.cut ∙ sym (append_assoc lines stops.before (stops.line ∷ stops.behind));
       at = refl;
-      carried = joined_talk;
+      carried = joined_lines;
       handled = handled_joined;
       says = stops.says;
     }
@@ -185,10 +185,10 @@ module _ {D : Type 0} {members : _} where
   refuses_settle : (old new : Store D members) (s : State) (how : Manner) (before : List Waiting) (it : Waiting) (text : List ℕ) (then : Then) (round : Round) → RefusesOne old new s how before it text then round
       → (place : ℕ) × (why : List ℕ) × Settles old new s how (all_lines before ++ it.lines) (fails place why then) round
   refuses_settle old new s how before it text then round refuses =
-      let each = carries_talks before old refuses.mid s how refuses.answers refuses.earlier refuses.carried in
+      let each = carries_feeds before old refuses.mid s how refuses.answers refuses.earlier refuses.carried in
       by each refuses.earlier each.is refuses.stops refuses.undoes
     where
-      by : (each : TalksSo old refuses.mid s how (all_lines before) refuses.earlier) (earlier : Commanded) → earlier ≡ done_by each.talked.commands each.talked.answers
+      by : (each : AnswersSo old refuses.mid s how (all_lines before) refuses.earlier) (earlier : Commanded) → earlier ≡ done_by each.answered.commands each.answered.answers
           → (stops : StopsIn refuses.mid refuses.last (after s earlier.commands earlier.answers) how it.lines refuses.place refuses.why)
           → Undoes refuses.last new (both earlier (carried_by stops)) then round → (place : ℕ) × (why : List ℕ) × Settles old new s how (all_lines before ++ it.lines) (fails place why then) round
       by each earlier is =
@@ -201,8 +201,8 @@ module _ {D : Type 0} {members : _} where
             length (all_lines before ++ stops.before),
             refuses.why,
             undone_settles old new s how (all_lines before ++ it.lines) (length (all_lines before ++ stops.before)) refuses.why then round refuses.last
-                (stops_joined old refuses.mid refuses.last s how (all_lines before) each.text each.talked it.lines refuses.place refuses.why stops)
-                (subst (λ b. Undoes refuses.last new b then round) (carried_joined old refuses.mid refuses.last s how (all_lines before) each.text each.talked it.lines refuses.place refuses.why stops) undoes),
+                (stops_joined old refuses.mid refuses.last s how (all_lines before) each.text each.answered it.lines refuses.place refuses.why stops)
+                (subst (λ b. Undoes refuses.last new b then round) (carried_joined old refuses.mid refuses.last s how (all_lines before) each.text each.answered it.lines refuses.place refuses.why stops) undoes),
           ))
 
   -- ---- one round

@@ -9,27 +9,29 @@ use Rattle.vm_types.specs.declared.key.Key.{Key}
 use Rattle.vm_types.specs.declared.refusal.Refusal.{Refusal}
 use Rattle.vm_types.specs.State.{State, is_commit}
 use Rattle.vm_store.specs.declared.store.Store.{Store}
-use Rattle.vm_cli.specs.Asking.{Request}
-use Rattle.vm_cli.specs.Conversations.{Course}
-use Rattle.vm_cli.specs.Input.{without_return}
-use Rattle.vm_cli.specs.LineUses.{is_alone, no_memory, use_of, use_of_command, use_of_request, use_of_words}
-use Rattle.vm_cli.specs.Requests.{asked_in, request_of}
-use Rattle.vm_cli.specs.Rounds.{Batch as Commanded, CommitNothing, IsWhole, IsWholeRound, Round}
-use Rattle.vm_cli.specs.Rounds.Round.{idle}
-use Rattle.vm_cli.specs.Settlements.{for_all}
-use Rattle.vm_cli.specs.Spaces.{words_of}
-use Rattle.vm_cli.specs.Streams.{Adds, Held, Settles, SettlesHeld, StopsIn, Takes, TakesAs, Undoes, Verdict, carried_by, losing, trying}
-use Rattle.vm_cli.specs.Streams.Held.{holds, lost}
-use Rattle.vm_cli.specs.Streams.Verdict.{fails, succeeds}
-use Rattle.vm_cli.specs.Talk.{Answered, AnsweredRequest, AnswersCommand, AnswersMerge, AnswersWithin, Done, HasTalked, Meets, Talks, Tries, after_line, each_answer, each_command, with_answer, with_command}
+use Rattle.vm_cli.specs.lines.Asking.{Request}
+use Rattle.vm_cli.specs.session.SessionKinds.{Course}
+use Rattle.vm_cli.specs.lines.Input.{without_return}
+use Rattle.vm_cli.specs.session.LineUses.{is_alone, no_memory, use_of, use_of_command, use_of_request, use_of_words}
+use Rattle.vm_cli.specs.lines.Requests.{asked_in, request_of}
+use Rattle.vm_cli.specs.session.Rounds.{Batch as Commanded, CommitNothing, IsWhole, IsWholeRound, Round}
+use Rattle.vm_cli.specs.session.Rounds.Round.{idle}
+use Rattle.vm_cli.specs.lines.Settlements.{for_all}
+use Rattle.vm_cli.specs.lines.Spaces.{words_of}
+use Rattle.vm_cli.specs.session.Streams.{Adds, Held, Settles, SettlesHeld, StopsIn, Takes, TakesAs, Undoes, Verdict, carried_by, losing, trying}
+use Rattle.vm_cli.specs.session.Streams.Held.{holds, lost}
+use Rattle.vm_cli.specs.session.Streams.Verdict.{fails, succeeds}
+use Rattle.vm_cli.specs.session.Session.{Answered, AnsweredRequest, AnswersCommand, AnswersMerge, AnswersWithin, Done, HasAnswered, Meets, AnswersEach, Tries, after_line, each_answer, each_command, with_answer, with_command}
+use Rattle.vm_cli.specs.session.Session.Answered.{as_asked, too_long, wanting}
+use Rattle.vm_cli.specs.session.Session.AnsweredRequest.{had_failed, met}
 use Rattle.vm_cli.specs.declared.lines.line.TheConstants.{MAX_BYTES}
-use Rattle.vm_cli.specs.declared.talk.Manner.{Manner}
-use Rattle.vm_cli.specs.declared.talk.OnCommand.{OnCommand}
-use Rattle.vm_cli.specs.declared.talk.OnCommand.TheVariants.{CarryOut, GrowIfFull, Refuse}
-use Rattle.vm_cli.specs.declared.talk.carrying.Then.{Then}
-use Rattle.vm_cli.specs.declared.talk.carrying.Then.TheVariants.{GoOn, Failed as AsFailed, Unsure as AsUnsure}
-use Rattle.vm_cli.specs.declared.talk.line_use.LineUse.{LineUse}
-use Rattle.vm_cli.specs.declared.talk.line_use.LineUse.TheVariants as line
+use Rattle.vm_cli.specs.declared.session.Manner.{Manner}
+use Rattle.vm_cli.specs.declared.session.OnCommand.{OnCommand}
+use Rattle.vm_cli.specs.declared.session.OnCommand.TheVariants.{CarryOut, GrowIfFull, Refuse}
+use Rattle.vm_cli.specs.declared.session.carrying.Then.{Then}
+use Rattle.vm_cli.specs.declared.session.carrying.Then.TheVariants.{GoOn, Failed as AsFailed, Unsure as AsUnsure}
+use Rattle.vm_cli.specs.declared.session.line_use.LineUse.{LineUse}
+use Rattle.vm_cli.specs.declared.session.line_use.LineUse.TheVariants as line
 use Rattle.vm_cli.proofs.LineUseLemmas.{other_use}
 
 -- ---- what is asked for by a change
@@ -137,14 +139,14 @@ module _ {D : Type 0} {members : _} where
   meets_nothing old new s request text done changes meets = absurd changes
 
   request_nothing : (old new : Store D members) (s : State) (request : Request) (text : List ℕ) (ends : Bool) (done : Done) → Changes request → AnsweredRequest old new s request text ends done → CommitNothing (with_command done [])
-  request_nothing old new s request text ends done changes (inl (sound, last, meets)) = meets_nothing old new s request text done changes meets
-  request_nothing old new s request text ends done changes (inr (failed, same, none, says)) = no_command done none
+  request_nothing old new s request text ends done changes (met sound last meets) = meets_nothing old new s request text done changes meets
+  request_nothing old new s request text ends done changes (had_failed failed same none says) = no_command done none
 
   -- a line that is a change
   line_nothing : (old new : Store D members) (s : State) (on : Manner) (part text : List ℕ) (ends : Bool) (done : Done) → use_of on.on_command part ≡ line.Change → Answered old new s on part text ends done → CommitNothing (with_command done [])
-  line_nothing old new s on part text ends done is (inl (same, none, goes_on, says)) = no_command done none
-  line_nothing old new s on part text ends done is (inr (inl (long, same, none, goes_on, says))) = no_command done none
-  line_nothing old new s on part text ends done is (inr (inr (short, answered))) =
+  line_nothing old new s on part text ends done is (wanting nothing says) = no_command done nothing.none
+  line_nothing old new s on part text ends done is (too_long long nothing says) = no_command done nothing.none
+  line_nothing old new s on part text ends done is (as_asked short answered) =
       let asked = request_of (words_of (without_return part)) in
       let change = change_request on.on_command part is in
       request_nothing old new s (asked_in on.on_command asked) text ends done (changes_in on.on_command asked (request_changes on.on_command asked change) change) answered
@@ -174,7 +176,7 @@ changes_cut on (first ∷ before) part behind all = let rest = changes_cut on be
 
 changes_added : (on : OnCommand) (part : List ℕ) → use_of on part ≡ line.Change → (held held' : Held) → Adds part held held' → AreChanges on held → AreChanges on held'
 changes_added on part is (holds parts) held' (inl more) all = subst (AreChanges on) (sym more) (changes_more on parts part all is)
-changes_added on part is (holds parts) held' (inr (inl wanting)) all = subst (AreChanges on) (sym wanting) tt
+changes_added on part is (holds parts) held' (inr (inl none)) all = subst (AreChanges on) (sym none) tt
 changes_added on part is (holds parts) held' (inr (inr (large, so))) all = subst (AreChanges on) (sym large) tt
 changes_added on part is (lost place answer count) held' adds all = subst (AreChanges on) (sym adds) tt
 
@@ -184,24 +186,25 @@ changes_lost on answer (lost place first count) = tt
 
 module _ {D : Type 0} {members : _} where
   -- lines that were carried out
-  talks_nothing : (on : Manner) (lines : List (List ℕ)) (old new : Store D members) (s : State) (text : List ℕ) (commands : List Command) (answers : List (Result Answer Refusal)) (refused : Bool)
-      → AllChanges on.on_command lines → Talks old new s on lines text commands answers refused → CommitNothing commands × (length answers ≡ length commands)
-  talks_nothing on [] old new s text commands answers refused all (same, none, no_commands, no_answers, no_refusal) = (subst CommitNothing (sym no_commands) tt, ap length no_answers ∙ sym (ap length no_commands))
-  talks_nothing on (first ∷ lines) old new s text commands answers refused all (mid, said, rest, later, others, step, e, these, those, again, h, talks) =
-      let more = talks_nothing on lines mid new (after_line s step.done) rest later others again all.1 talks in (
-        subst CommitNothing (sym these) (with_nothing step.done later (line_nothing old mid s on first said false step.done all.0 step.answers) more.0),
-        ap length those ∙ with_even step.done later others more.1 ∙ sym (ap length these),
+  lines_nothing : (on : Manner) (lines : List (List ℕ)) (old new : Store D members) (s : State) (text : List ℕ) (commands : List Command) (answers : List (Result Answer Refusal)) (refused : Bool)
+      → AllChanges on.on_command lines → AnswersEach old new s on lines text commands answers refused → CommitNothing commands × (length answers ≡ length commands)
+  lines_nothing on [] old new s text commands answers refused all none = (subst CommitNothing (sym none.no_commands) tt, ap length none.no_answers ∙ sym (ap length none.no_commands))
+  lines_nothing on (first ∷ lines) old new s text commands answers refused all it =
+      let done = it.step.done in
+      let more = lines_nothing on lines it.mid new (after_line s done) it.rest it.later it.others it.again all.1 it.more in (
+        subst CommitNothing (sym it.carried) (with_nothing done it.later (line_nothing old it.mid s on first it.first false done all.0 it.step.answers) more.0),
+        ap length it.given ∙ with_even done it.later it.others more.1 ∙ sym (ap length it.carried),
       )
 
-  talked_whole : (on : Manner) (lines : List (List ℕ)) (old new : Store D members) (s : State) (text : List ℕ) (talked : HasTalked old new s on lines text) → AllChanges on.on_command lines → IsWhole (record { commands = talked.commands; answers = talked.answers })
-  talked_whole on lines old new s text talked all =
-      let both = talks_nothing on lines old new s text talked.commands talked.answers talked.refused all talked.talks in
+  answered_whole : (on : Manner) (lines : List (List ℕ)) (old new : Store D members) (s : State) (text : List ℕ) (answered : HasAnswered old new s on lines text) → AllChanges on.on_command lines → IsWhole (record { commands = answered.commands; answers = answered.answers })
+  answered_whole on lines old new s text answered all =
+      let both = lines_nothing on lines old new s text answered.commands answered.answers answered.refused all answered.each in
       record { even = both.1; changes = both.0 }
 
   stops_whole : (how : Manner) (lines : List (List ℕ)) (old last : Store D members) (s : State) (place : ℕ) (text : List ℕ) (stops : StopsIn old last s how lines place text) → AllChanges how.on_command lines → IsWhole (carried_by stops)
   stops_whole how lines old last s place text stops all =
       let cut = changes_cut how.on_command stops.before stops.line stops.behind (subst (AllChanges how.on_command) stops.cut all) in
-      let before = talked_whole (trying how) stops.before old stops.mid s stops.earlier stops.carried cut.0 in
+      let before = answered_whole (trying how) stops.before old stops.mid s stops.earlier stops.carried cut.0 in
       let one = line_nothing stops.mid last _ (trying how) stops.line stops.said stops.ends stops.handled.done cut.1 stops.handled.answers in
       let even = with_even stops.handled.done [] [] refl in
       record {
@@ -215,8 +218,8 @@ module _ {D : Type 0} {members : _} where
   undoes_whole old new batch AsUnsure round undoes whole = absurd undoes
 
   pub settles_whole : (how : Manner) (lines : List (List ℕ)) (old new : Store D members) (s : State) (verdict : Verdict) (round : Round) → Settles old new s how lines verdict round → AllChanges how.on_command lines → IsWholeRound round
-  settles_whole how lines old new s (succeeds text) round settles all = subst IsWholeRound (sym settles.came_so) (talked_whole (trying how) lines old settles.mid s text settles.carried all)
-  settles_whole how lines old new s (fails place text AsUnsure) round settles all = subst IsWholeRound (sym settles.came_so) (talked_whole (trying how) lines old settles.mid s settles.answers settles.carried all)
+  settles_whole how lines old new s (succeeds text) round settles all = subst IsWholeRound (sym settles.came_so) (answered_whole (trying how) lines old settles.mid s text settles.carried all)
+  settles_whole how lines old new s (fails place text AsUnsure) round settles all = subst IsWholeRound (sym settles.came_so) (answered_whole (trying how) lines old settles.mid s settles.answers settles.carried all)
   settles_whole how lines old new s (fails place text GoOn) round settles all = undoes_whole settles.last new (carried_by settles.stops) GoOn round settles.undoes (stops_whole how lines old settles.last s place text settles.stops all)
   settles_whole how lines old new s (fails place text AsFailed) round settles all = undoes_whole settles.last new (carried_by settles.stops) AsFailed round settles.undoes (stops_whole how lines old settles.last s place text settles.stops all)
 
@@ -249,5 +252,5 @@ module _ {D : Type 0} {members : _} where
     as_whole line.Commit (Some held) found all takes = (held_whole how held old new s takes.verdict round takes.settles all, subst (StageChanges how.on_command) (sym takes.outside) tt)
 
     pub takes_whole : (stage : Option Held) → StageChanges how.on_command stage → Takes old new s how stage part text course stage' round → IsWholeRound round × StageChanges how.on_command stage'
-    takes_whole stage all (inl wanting) = as_whole no_memory stage (λ e. cc) all wanting
+    takes_whole stage all (inl memory) = as_whole no_memory stage (λ e. cc) all memory
     takes_whole stage all (inr found) = as_whole (use_of how.on_command part) stage (λ e. e) all found

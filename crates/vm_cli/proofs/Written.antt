@@ -5,7 +5,7 @@ use Rattle.std.proofs.lemmas.Bool.Decides.{nat_tests}
 use Rattle.std.proofs.lemmas.Slice.Eq.{bytes_eq-Decides}
 use Rattle.std.specs.Prelude.{nat_le, nat_lt}
 use Rattle.std.specs.Str.{bytes_eq}
-use Rattle.vm_cli.specs.Escapes.{ArePlain, byte_text, escaped, hex_digit, hex_text, is_plain, unescaped, value_of, value_text}
+use Rattle.vm_cli.specs.lines.Escapes.{ArePlain, byte_text, escaped, hex_digit, hex_text, is_plain, unescaped, value_of, value_text}
 
 pub escaped-more : (bytes : List ℕ) (i : ℕ) → i < length bytes → escaped (take (i + 1) bytes) ≡ escaped (take i bytes) ++ byte_text (get_or bytes i 0)
 escaped-more [] i lt = absurd (omega arith)

@@ -10,7 +10,7 @@
 mod answers;
 mod lines;
 mod program;
-mod talk;
+mod session;
 
 pub use program::console::Console;
 pub use program::file_lock::{NoLock, lock};
@@ -20,7 +20,7 @@ pub use program::progress::{Cleared, Progress, Watched};
 pub use program::task::{InMemory, Job, buffer_for};
 pub use program::words::job;
 pub use program::{refuse_lock, refuse_words, run_words, stop};
-pub use talk::batches::serve_batches;
-pub use talk::planners::serve_planners;
-pub use talk::{Grouping, Manner, OnCommand, OnRefusal, ServeFault, serve};
+pub use session::batches::serve_batches;
+pub use session::planners::serve_planners;
+pub use session::{Grouping, Manner, OnCommand, OnRefusal, ServeFault, serve};
 pub use vm_disk::FileDisk;

@@ -13,7 +13,7 @@ pub mod opening;
 pub mod place;
 pub mod progress;
 pub mod selector;
-pub mod session;
+pub mod serving;
 pub mod store_copy;
 pub mod store_counts;
 pub mod task;
@@ -25,7 +25,7 @@ pub mod words;
 use crate::answers::output::{WriteFault, flush, put_all};
 use crate::answers::reply::push_refusal;
 use crate::answers::text::Text;
-use crate::talk::{Manner, OnCommand};
+use crate::session::{Manner, OnCommand};
 use cached_lines::answer_lines_in_memory;
 use clap::Error;
 use clap::error::ErrorKind;
@@ -33,7 +33,7 @@ use damage::unopened_whole;
 use file_lock::NoLock;
 use opening::{open_store, open_surveyed_store, unopened};
 use place::Place;
-use session::{end_of, serve_by};
+use serving::{end_of, serve_by};
 use std::alloc::Global;
 use std::io::{Read, Write};
 use store_copy::copy;
@@ -79,15 +79,15 @@ impl Exit {
 ghost use Rattle.std.specs.Prelude.{◌≡◌, ◌≢◌, ◌+◌, ◌≤◌, ◌⊎◌, ◌++◌, ℕ, List, [], true, OnErr, OnOk, codes, is_some, map};
 ghost use Rattle.std.specs.Io.KnownBytes.{Appends};
 ghost use Rattle.std.specs.String.{string_bytes};
-ghost use Rattle.vm_cli.specs.Carried.{Begins, Gains};
+ghost use Rattle.vm_cli.specs.answers.Carried.{Begins, Gains};
 ghost use Rattle.vm_types.specs.declared.refusal.Refusal.{Refusal as RefusalValue};
 ghost use Rattle.vm_disk.specs.Between.{IfHonest};
-ghost use Rattle.vm_cli.specs.Told.{AnswersOver, FormatsOnly, MakesStore, TellsCount, TellsDamage, TellsRefusal};
-ghost use Rattle.vm_cli.specs.Known.{program_streams, written_to};
-ghost use Rattle.vm_cli.specs.Places.{FindsIn, IsAsked};
-ghost use Rattle.vm_cli.specs.Runs.{AnswersIn, AsksToWrite, CountsIn, DoesIn, LooksOnly, MakesIn, RunsIn, ServesIn, ServesRun, ServesWords, disks};
-ghost use Rattle.vm_cli.specs.Exits.{Blames, Checks, Ends, EndsSaying, Helps, IsDone, IsLineRefused, IsRefused, IsStopped, IsWrong, JobEnds, RefusesLock, RefusesOn, RefusesWords, StopsUnsaid, TalkEnds, TellsOn, counts_text, created_text, file_text, named_text, refused_text, status_of, stopped_text};
-ghost use Rattle.vm_cli.specs.Words.Wanted.{check as check_wanted, create as create_wanted, run as run_wanted};
+ghost use Rattle.vm_cli.specs.program.Told.{AnswersOver, FormatsOnly, MakesStore, TellsCount, TellsDamage, TellsRefusal};
+ghost use Rattle.vm_cli.specs.session.Known.{program_streams, streams_of, writer, writers, written_to};
+ghost use Rattle.vm_cli.specs.program.Places.{FindsIn, IsAsked};
+ghost use Rattle.vm_cli.specs.program.Runs.{AnswersIn, AsksToWrite, CountsIn, DoesIn, LooksOnly, MakesIn, RunsIn, ServesIn, ServesRun, ServesWords, disks};
+ghost use Rattle.vm_cli.specs.program.Exits.{Blames, CheckEnds, Ends, EndsSaying, Helps, IsDone, IsLineRefused, IsRefused, IsStopped, IsWrong, JobEnds, RefusesLock, RefusesWords, SessionEnds, StopsUnsaid, Tells, counts_text, created_text, file_text, named_text, refused_text, status_of, stopped_text};
+ghost use Rattle.vm_cli.specs.program.Words.Wanted.{check as check_wanted, create as create_wanted, run as run_wanted};
 
 /// Does what the words say, and returns the exit status. The first word is the program's name. Each
 /// disk that the place gave is given back.
@@ -100,24 +100,29 @@ pub fn run_words<P: Place, R: Read, W: Write, F: Write>(
     errors: &mut F,
 ) -> u8
     ensures status { result ≤ 4 }
-    ensures done { result ≡ 0 → IsDone W.contents F.contents (map string_bytes words.now) output.old output.new errors.old errors.new }
-    ensures refused { result ≡ 1 → IsRefused W.contents F.contents (map string_bytes words.now) output.old output.new errors.old errors.new }
-    ensures wrong { result ≡ 2 → IsWrong W.contents F.contents (map string_bytes words.now) output.old output.new errors.old errors.new }
-    ensures stopped { result ≡ 3 → IsStopped W.contents F.contents (map string_bytes words.now) output.old output.new errors.old errors.new }
+    ensures done { result ≡ 0 → IsDone (map string_bytes words.now)
+        (writers (writer W.contents output.old output.new) (writer F.contents errors.old errors.new)) }
+    ensures refused { result ≡ 1 → IsRefused (map string_bytes words.now)
+        (writers (writer W.contents output.old output.new) (writer F.contents errors.old errors.new)) }
+    ensures wrong { result ≡ 2 → IsWrong (map string_bytes words.now)
+        (writers (writer W.contents output.old output.new) (writer F.contents errors.old errors.new)) }
+    ensures stopped { result ≡ 3 → IsStopped (map string_bytes words.now)
+        (writers (writer W.contents output.old output.new) (writer F.contents errors.old errors.new)) }
     ensures line_refused { result ≡ 4
-        → IsLineRefused W.contents F.contents (map string_bytes words.now) errors.old errors.new }
+        → IsLineRefused (map string_bytes words.now)
+        (writers (writer W.contents output.old output.new) (writer F.contents errors.old errors.new)) }
     ensures looks { LooksOnly P.to_write place.old place.new (map string_bytes words.now) }
     // As long as the place and its disks have kept their rules, the files are what the job makes of
     // them. If the program stopped, the errors say so or begin to, after what the job said.
     ensures files { RunsIn (disks P.D.Disk ⟦<CachedDisk<P::D> as Disk>⟧ ⟦<DelayedDisk<P::D> as Disk>⟧ ⟦<DelayedDisk<CachedDisk<P::D>> as Disk>⟧)
         P.state P.denied place.old place.new P.to_write (map string_bytes words.now) result
-        (R.remaining input.old) (written_to W.contents output.old output.new) F.contents errors.old errors.new }
+        (R.remaining input.old) (written_to W.contents output.old output.new) (writer F.contents errors.old errors.new) }
     // On any place, whether its disks keep their rules or not, lines are answered as `serve`
     // promises for any disk; or the errors say, or begin to say, why its disk was refused, or that
     // the place gave none for that file.
     ensures served { ServesRun (disks P.D.Disk ⟦<CachedDisk<P::D> as Disk>⟧ ⟦<DelayedDisk<P::D> as Disk>⟧ ⟦<DelayedDisk<CachedDisk<P::D>> as Disk>⟧)
         P.denied place.old place.new (map string_bytes words.now) result
-        (R.remaining input.old) (written_to W.contents output.old output.new) F.contents errors.old errors.new }
+        (R.remaining input.old) (written_to W.contents output.old output.new) (writer F.contents errors.old errors.new) }
 {
     match do_job(alloc, words, place, input, output, errors) {
         Exit::Stopped => stop(errors),
@@ -128,7 +133,7 @@ pub fn run_words<P: Place, R: Read, W: Write, F: Write>(
 /// Says that one of the words is not text, and returns the exit status: 2, or 3 if that could not
 /// be said.
 pub fn refuse_words<F: Write>(errors: &mut F) -> u8
-    ensures { RefusesWords F.contents result errors.old errors.new }
+    ensures { RefusesWords result (writer F.contents errors.old errors.new) }
 {
     match say(errors, b"altctl: the words are not UTF-8\n") {
         Ok(()) => 2,
@@ -139,7 +144,7 @@ pub fn refuse_words<F: Write>(errors: &mut F) -> u8
 /// Says why the lock that the words ask for is not held, and returns the exit status: 1, or 3 if
 /// that could not be said, or if memory could not be allocated.
 pub fn refuse_lock<F: Write>(why: NoLock<'_>, errors: &mut F) -> u8
-    ensures { RefusesLock F.contents why.entry result errors.old errors.new }
+    ensures { RefusesLock why.entry result (writer F.contents errors.old errors.new) }
 {
     match why {
         NoLock::Memory => stop(errors),
@@ -152,7 +157,7 @@ pub fn refuse_lock<F: Write>(why: NoLock<'_>, errors: &mut F) -> u8
 /// Says a text with the name of a file in it, and returns the exit status: 1, or 3 if that could
 /// not be said.
 fn refuse_file<F: Write>(before: &[u8], file: &str, behind: &[u8], errors: &mut F) -> u8
-    ensures { EndsSaying F.contents 1 (named_text before.now file.now behind.now) result errors.old errors.new }
+    ensures { EndsSaying 1 (named_text before.now file.now behind.now) result (writer F.contents errors.old errors.new) }
 {
     match say_with_file(before, file, behind, errors) {
         Ok(()) => 1,
@@ -178,7 +183,7 @@ fn do_job<P: Place, R: Read, W: Write, F: Write>(
     output: &mut W,
     errors: &mut F,
 ) -> Exit
-    ensures ends { Ends W.contents F.contents result (map string_bytes words.now) output.old output.new errors.old errors.new }
+    ensures ends { Ends result (map string_bytes words.now) (writers (writer W.contents output.old output.new) (writer F.contents errors.old errors.new)) }
     ensures looks { LooksOnly P.to_write place.old place.new (map string_bytes words.now) }
     ensures files { (P.state place.new).honest ≡ true
         → DoesIn (disks P.D.Disk ⟦<CachedDisk<P::D> as Disk>⟧ ⟦<DelayedDisk<P::D> as Disk>⟧ ⟦<DelayedDisk<CachedDisk<P::D>> as Disk>⟧)
@@ -225,8 +230,8 @@ fn create<P: Place, W: Write, F: Write>(
     output: &mut W,
     errors: &mut F,
 ) -> Exit
-    ensures says { JobEnds W.contents F.contents (create_wanted file.now blocks) result
-        output.old output.new errors.old errors.new }
+    ensures says { JobEnds (create_wanted file.now blocks) result
+        (writers (writer W.contents output.old output.new) (writer F.contents errors.old errors.new)) }
     ensures writes { P.to_write place.new ≡ P.to_write place.old + 1 }
     ensures files { MakesIn P.D.Disk P.state P.denied place.old place.new file.now blocks result
         (written_to W.contents output.old output.new) (written_to F.contents errors.old errors.new) }
@@ -247,8 +252,8 @@ fn make_store<D: Disk, W: Write, F: Write>(
     errors: &mut F,
 ) -> (Exit, D)
     // On an honest disk, the new store is shown, and an existing store stays as it was.
-    ensures made { MakesStore W.contents F.contents blocks (D.state disk) (D.state result.1) result.0
-        output.old output.new errors.old errors.new }
+    ensures made { MakesStore blocks (D.state disk) (D.state result.1) result.0
+        (writers (writer W.contents output.old output.new) (writer F.contents errors.old errors.new)) }
     // At each moment nothing has changed, or everything is synced; or there was no store, and a
     // crash shows at most the new one.
     ensures moments { IfHonest D.state (FormatsOnly blocks) disk result.1 }
@@ -270,8 +275,8 @@ fn run<P: Place, R: Read, W: Write, F: Write>(
     output: &mut W,
     errors: &mut F,
 ) -> Exit
-    ensures says { JobEnds W.contents F.contents (run_wanted file.now in_memory manner) result
-        output.old output.new errors.old errors.new }
+    ensures says { JobEnds (run_wanted file.now in_memory manner) result
+        (writers (writer W.contents output.old output.new) (writer F.contents errors.old errors.new)) }
     ensures writes { AsksToWrite manner.on_command (P.to_write place.old) (P.to_write place.new) }
     ensures files { AnswersIn (disks P.D.Disk ⟦<CachedDisk<P::D> as Disk>⟧ ⟦<DelayedDisk<P::D> as Disk>⟧ ⟦<DelayedDisk<CachedDisk<P::D>> as Disk>⟧)
         P.state P.denied place.old place.new file.now in_memory manner result
@@ -311,12 +316,14 @@ pub(crate) fn answer_lines<D: Disk, R: Read, W: Write, F: Write>(
     output: &mut W,
     errors: &mut F,
 ) -> (Exit, D)
-    ensures ends { TalkEnds F.contents manner.on_refusal result.0 output.old output.new errors.old errors.new }
+    ensures ends { SessionEnds manner.on_refusal result.0
+        (writers (writer W.contents output.old output.new) (writer F.contents errors.old errors.new)) }
     // As long as the disk is honest, the lines are answered as `serve` promises, from what it
     // shows, and a crash at any moment leaves what the commands so far keep; or it is reported why
     // it shows no store, and it is at most synced.
-    ensures served { AnswersOver D.Disk R.remaining W.contents manner disk result input.old output.old output.new
-        ⊎ TellsRefusal D.Disk F.contents disk result errors.old errors.new }
+    ensures served { AnswersOver D.Disk manner disk result
+        (streams_of (R.remaining input.old) (W.contents output.old) (W.contents output.new))
+        ⊎ TellsRefusal D.Disk disk result (written_to F.contents errors.old errors.new) }
 {
     match open_store(alloc, disk) {
         Ok(mut store) => {
@@ -335,8 +342,8 @@ fn check<P: Place, W: Write, F: Write>(
     output: &mut W,
     errors: &mut F,
 ) -> Exit
-    ensures says { JobEnds W.contents F.contents (check_wanted file.now) result
-        output.old output.new errors.old errors.new }
+    ensures says { JobEnds (check_wanted file.now) result
+        (writers (writer W.contents output.old output.new) (writer F.contents errors.old errors.new)) }
     ensures reads { P.to_write place.new ≡ P.to_write place.old }
     ensures files { CountsIn P.D.Disk P.state P.denied place.old place.new file.now result
         (written_to W.contents output.old output.new) (written_to F.contents errors.old errors.new) }
@@ -356,12 +363,12 @@ fn check_disk<D: Disk, W: Write, F: Write>(
     output: &mut W,
     errors: &mut F,
 ) -> (Exit, D)
-    ensures ends { Checks W.contents F.contents result.0 output.old output.new errors.old errors.new }
+    ensures ends { CheckEnds result.0 (writers (writer W.contents output.old output.new) (writer F.contents errors.old errors.new)) }
     // The numbers are those of the tree that the disk shows, or it is reported why the disk was
     // refused, and which blocks are damaged. At each moment nothing has changed, or everything is
     // synced.
-    ensures told { TellsCount D.Disk W.contents disk result output.old output.new
-        ⊎ TellsDamage D.Disk F.contents disk result errors.old errors.new }
+    ensures told { TellsCount D.Disk disk result (written_to W.contents output.old output.new)
+        ⊎ TellsDamage D.Disk disk result (written_to F.contents errors.old errors.new) }
 {
     let mut damaged = None;
     match open_surveyed_store(alloc, disk, &mut damaged) {
@@ -379,7 +386,7 @@ fn check_disk<D: Disk, W: Write, F: Write>(
 
 /// Says what a store holds.
 fn counted<W: Write>(counts: &Counts, output: &mut W) -> Exit
-    ensures { TellsOn W.contents Exit.Done result output.old output.new (counts_text counts.now) }
+    ensures { Tells Exit.Done result (written_to W.contents output.old output.new) (counts_text counts.now) }
 {
     let mut text = Text::new();
     counts.push_onto(&mut text);
@@ -388,7 +395,7 @@ fn counted<W: Write>(counts: &Counts, output: &mut W) -> Exit
 
 /// Says that a store was made.
 fn created<W: Write>(blocks: u32, output: &mut W) -> Exit
-    ensures { TellsOn W.contents Exit.Done result output.old output.new (created_text blocks) }
+    ensures { Tells Exit.Done result (written_to W.contents output.old output.new) (created_text blocks) }
 {
     let mut text = Text::new();
     text.push_bytes(b"created ");
@@ -399,7 +406,7 @@ fn created<W: Write>(blocks: u32, output: &mut W) -> Exit
 
 /// Says that a file could not be made or opened.
 pub(crate) fn no_file<F: Write>(what: &[u8], file: &str, errors: &mut F) -> Exit
-    ensures { RefusesOn F.contents result errors.old errors.new (file_text what.now file.now) }
+    ensures { Tells Exit.Refused result (written_to F.contents errors.old errors.new) (file_text what.now file.now) }
 {
     unless_fault(say_with_file(what, file, b"\n", errors), Exit::Refused)
 }
@@ -423,7 +430,7 @@ fn say_with_file<W: Write>(
 
 /// Says why a disk is not a store, or cannot become one.
 pub(crate) fn refused<F: Write>(refusal: &Refusal, errors: &mut F) -> Exit
-    ensures { RefusesOn F.contents result errors.old errors.new (refused_text refusal.now) }
+    ensures { Tells Exit.Refused result (written_to F.contents errors.old errors.new) (refused_text refusal.now) }
 {
     let mut text = Text::new();
     text.push_bytes(b"altctl: ");
@@ -434,9 +441,10 @@ pub(crate) fn refused<F: Write>(refusal: &Refusal, errors: &mut F) -> Exit
 
 /// Says what is wrong with the words, or gives the help that they ask for.
 fn explain<W: Write, F: Write>(alloc: Global, error: &Error, output: &mut W, errors: &mut F) -> Exit
-    ensures memory { StopsUnsaid error.now result output.old output.new errors.old errors.new }
-    ensures help { Helps W.contents error.now result output.old output.new errors.old errors.new }
-    ensures wrong { Blames F.contents error.now result output.old output.new errors.old errors.new }
+    ensures memory { StopsUnsaid error.now result
+        (writers (writer W.contents output.old output.new) (writer F.contents errors.old errors.new)) }
+    ensures help { Helps error.now result (writers (writer W.contents output.old output.new) (writer F.contents errors.old errors.new)) }
+    ensures wrong { Blames error.now result (writers (writer W.contents output.old output.new) (writer F.contents errors.old errors.new)) }
 {
     if let ErrorKind::OutOfMemory = error.kind() {
         return Exit::Stopped;

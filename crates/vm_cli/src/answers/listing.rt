@@ -1,7 +1,7 @@
 //! The lines of lists.
 ghost use Rattle.std.specs.Prelude.{◌≡◌, ◌+◌, ◌<◌, ◌≤◌, ◌++◌, [], length, map, slice_index_or, option_copied, IfSome};
 ghost use Rattle.vm_types.specs.Bytes.{longest};
-ghost use Rattle.vm_cli.specs.Listings.{alternative_text, change_text, checkpoint_text, conflict_text, key_words, optional_text, record_text};
+ghost use Rattle.vm_cli.specs.answers.Listings.{alternative_text, change_text, checkpoint_text, conflict_text, key_words, optional_text, record_text};
 
 use crate::answers::lists::LONGEST_LINE;
 use crate::answers::text::Text;

@@ -1,7 +1,7 @@
 //! Answers that are lists.
 ghost use Rattle.std.specs.Prelude.{◌≡◌, ◌+◌, ◌≤◌, [], length, IfOk, OnErr, OnOk};
-ghost use Rattle.vm_cli.specs.Carried.{Begins, GainsBut};
-ghost use Rattle.vm_cli.specs.Feeds.{RepliesWithList, joined};
+ghost use Rattle.vm_cli.specs.answers.Carried.{Begins, GainsBut};
+ghost use Rattle.vm_cli.specs.session.Feeds.{RepliesWithList, joined};
 
 use crate::answers::listing::Listing;
 use crate::answers::output::{WriteFault, put_all};

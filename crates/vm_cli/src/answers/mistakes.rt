@@ -1,6 +1,6 @@
 //! The texts of what is wrong with a line.
 ghost use Rattle.std.specs.Prelude.{◌≡◌, ◌+◌, ◌≤◌, ◌++◌, length};
-ghost use Rattle.vm_cli.specs.Replies.{form_text as text_of_form, kind_text as text_of_kind, mistake_text};
+ghost use Rattle.vm_cli.specs.answers.Replies.{form_text as text_of_form, kind_text as text_of_kind, mistake_text};
 
 use crate::answers::text::Text;
 use crate::lines::mistake::{LineForm, Mistake, WordKind};

@@ -1,6 +1,6 @@
 //! Bytes on their way to a writer.
 ghost use Rattle.std.specs.Io.KnownBytes.{Keeps};
-ghost use Rattle.vm_cli.specs.Carried.{Gains};
+ghost use Rattle.vm_cli.specs.answers.Carried.{Gains};
 ghost use Rattle.std.specs.Prelude.{◌≡◌, ℕ, OnErr, OnOk, take};
 
 use std::io::Write;

@@ -1,8 +1,8 @@
 //! The same line, several times.
 ghost use Rattle.std.specs.Prelude.{OnErr, OnOk};
-ghost use Rattle.vm_cli.specs.Carried.{Begins, Gains};
-ghost use Rattle.vm_cli.specs.Replies.{reply_text};
-ghost use Rattle.vm_cli.specs.Streams.{repeated};
+ghost use Rattle.vm_cli.specs.answers.Carried.{Begins, Gains};
+ghost use Rattle.vm_cli.specs.answers.Replies.{reply_text};
+ghost use Rattle.vm_cli.specs.session.Streams.{repeated};
 
 use crate::answers::lists::make_room;
 use crate::answers::output::{WriteFault, flush, put_all};

@@ -51,8 +51,8 @@ pub enum Reply {
 }
 
 impl Reply {
-    ghost use Rattle.vm_cli.specs.Replies.{ends_talk, is_error, reply_text};
-    ghost use Rattle.vm_cli.specs.Talk.{error_text};
+    ghost use Rattle.vm_cli.specs.answers.Replies.{ends_session, is_error, reply_text};
+    ghost use Rattle.vm_cli.specs.session.Session.{error_text};
 
     /// Writes the answer as one line, or as no line.
     pub(crate) fn push_onto(&self, text: &mut Text)
@@ -110,8 +110,8 @@ impl Reply {
     /// The answer to a line that is refused, if the device did not fail in a command.
     pub(crate) fn from_refusal(refusal: Refusal) -> Reply
         ensures text { reply_text result ≡ error_text refusal }
-        ensures last { refusal ≢ Refusal.Failed → ends_talk result ≡ false }
-        ensures failed { refusal ≡ Refusal.Failed → ends_talk result ≡ true }
+        ensures last { refusal ≢ Refusal.Failed → ends_session result ≡ false }
+        ensures failed { refusal ≡ Refusal.Failed → ends_session result ≡ true }
     {
         match refusal {
             Refusal::Failed => Reply::Last(refusal),
@@ -121,7 +121,7 @@ impl Reply {
 
     /// Whether the session ends with this answer.
     pub(crate) fn is_last(&self) -> bool
-        ensures { result ≡ ends_talk self.now }
+        ensures { result ≡ ends_session self.now }
     {
         match self {
             Reply::Last(_) => true,
@@ -161,7 +161,7 @@ impl Reply {
 ghost use Rattle.std.specs.Prelude.{◌∷◌, [], codes, option_copied, IfSome};
 ghost use Rattle.vm_types.specs.Bytes.{longest};
 ghost use Rattle.vm_types.specs.Texts.{detail_text, key_text, refusal_text};
-ghost use Rattle.vm_cli.specs.Replies.{found_text, tally_text};
+ghost use Rattle.vm_cli.specs.answers.Replies.{found_text, tally_text};
 
 /// Writes the line of a record's value, or that there is none.
 pub(crate) fn push_found(text: &mut Text, found: Option<&[u8]>)

@@ -1,9 +1,9 @@
 //! What follows the first word of a line.
 ghost use Rattle.std.specs.Prelude.{◌≡◌, [], option_map, MatchOption};
 ghost use Rattle.vm_types.specs.declared.command.Command.TheVariants.{Grow};
-ghost use Rattle.vm_cli.specs.Names.{name_of};
-ghost use Rattle.vm_cli.specs.Requests.{grow_of, named_of, names_of, record_of};
-ghost use Rattle.vm_cli.specs.Spaces.{HasWord, words_of};
+ghost use Rattle.vm_cli.specs.lines.Names.{name_of};
+ghost use Rattle.vm_cli.specs.lines.Requests.{grow_of, named_of, names_of, record_of};
+ghost use Rattle.vm_cli.specs.lines.Spaces.{HasWord, words_of};
 
 use crate::lines::number::{key, number};
 use crate::lines::pieces::first_word;

@@ -1,7 +1,7 @@
 //! Commands, except for a merge, whose settlements take memory.
 ghost use Rattle.std.specs.Prelude.{◌≡◌};
-ghost use Rattle.vm_cli.specs.Requests.{command_of, new_of, put_of};
-ghost use Rattle.vm_cli.specs.Spaces.{words_of};
+ghost use Rattle.vm_cli.specs.lines.Requests.{command_of, new_of, put_of};
+ghost use Rattle.vm_cli.specs.lines.Spaces.{words_of};
 
 use crate::lines::arguments::{blocks, ends, name, one_name, record, two_names};
 use crate::lines::escape::value;

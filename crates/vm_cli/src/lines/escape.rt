@@ -1,7 +1,7 @@
 //! Values as they are spelled in lines.
 ghost use Rattle.std.specs.Prelude.{◌≡◌, ◌+◌, ◌<◌, ◌≤◌, ◌++◌, ◌∷◌, length, IfSome, MatchOption, None, Some, option_map, true};
 ghost use Rattle.vm_types.specs.Bytes.{longest};
-ghost use Rattle.vm_cli.specs.Escapes.{ArePlain, SpellsFirst, byte_text, hex_digit, hex_text, is_plain as is_plain_byte, unescaped, value_of, value_text};
+ghost use Rattle.vm_cli.specs.lines.Escapes.{ArePlain, SpellsFirst, byte_text, hex_digit, hex_text, is_plain as is_plain_byte, unescaped, value_of, value_text};
 
 use crate::answers::text::Text;
 use memchr::memchr;

@@ -26,8 +26,8 @@ pub struct Line {
 
 impl Line {
     ghost use Rattle.std.specs.Prelude.{◌≡◌, ℕ, List, ◌++◌, []};
-    ghost use Rattle.vm_cli.specs.Lines.{IsPart};
-    ghost use Rattle.vm_cli.specs.Input.{HoldsLine, without_return};
+    ghost use Rattle.vm_cli.specs.lines.Lines.{IsPart};
+    ghost use Rattle.vm_cli.specs.lines.Input.{HoldsLine, without_return};
 
     /// An empty line.
     pub(crate) fn new(alloc: Global) -> Line

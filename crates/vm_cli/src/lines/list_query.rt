@@ -1,8 +1,8 @@
 //! Queries that are answered line by line.
 ghost use Rattle.std.specs.Prelude.{◌≡◌, option_map};
-ghost use Rattle.vm_cli.specs.Requested.{list_for};
-ghost use Rattle.vm_cli.specs.Requests.{diff_asked, list_asked, list_of};
-ghost use Rattle.vm_cli.specs.Spaces.{words_of};
+ghost use Rattle.vm_cli.specs.lines.Requested.{list_for};
+ghost use Rattle.vm_cli.specs.lines.Requests.{diff_asked, list_asked, list_of};
+ghost use Rattle.vm_cli.specs.lines.Spaces.{words_of};
 
 use crate::lines::arguments::{ends, one_name};
 use crate::lines::versions::{at_and_part, ats_and_part, page};

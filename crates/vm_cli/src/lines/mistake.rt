@@ -1,7 +1,7 @@
 //! What is wrong with a line that is none.
 ghost use Rattle.std.specs.Prelude.{◌≡◌, length};
-ghost use Rattle.vm_cli.specs.Mistakes.{command_form as command_form_of, first_wrong, form_of, is_of, kinds_of, mistake_of, query_form as query_form_of, takes as takes_words};
-ghost use Rattle.vm_cli.specs.Spaces.{words_of};
+ghost use Rattle.vm_cli.specs.lines.Mistakes.{command_form as command_form_of, first_wrong, form_of, is_of, kinds_of, mistake_of, query_form as query_form_of, takes as takes_words};
+ghost use Rattle.vm_cli.specs.lines.Spaces.{words_of};
 
 use crate::lines::arguments::name;
 use crate::lines::escape::value;

@@ -1,6 +1,6 @@
 //! Numbers in lines.
 ghost use Rattle.std.specs.Prelude.{◌≡◌};
-ghost use Rattle.vm_cli.specs.Numbers.{key_of, number_of};
+ghost use Rattle.vm_cli.specs.lines.Numbers.{key_of, number_of};
 
 use vm_types::Key;
 

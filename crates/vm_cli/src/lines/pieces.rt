@@ -1,7 +1,7 @@
 //! The words of a line, and the pieces of a word.
 ghost use Rattle.std.specs.Prelude.{◌≡◌, ◌<◌, ◌∷◌, [], length, MatchOption};
-ghost use Rattle.vm_cli.specs.Pieces.{before_mark, behind_mark};
-ghost use Rattle.vm_cli.specs.Spaces.{BeginsWith, words_of};
+ghost use Rattle.vm_cli.specs.lines.Pieces.{before_mark, behind_mark};
+ghost use Rattle.vm_cli.specs.lines.Spaces.{BeginsWith, words_of};
 
 use memchr::memchr;
 

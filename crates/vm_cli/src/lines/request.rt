@@ -1,8 +1,8 @@
 //! What a line asks for.
 ghost use Rattle.std.specs.Prelude.{◌≡◌, ◌∷◌, codes, IfOk, OnErr, option_map};
-ghost use Rattle.vm_cli.specs.Requested.{asks_for};
-ghost use Rattle.vm_cli.specs.Requests.{IsLongMerge, merge_of, query_of, request_of};
-ghost use Rattle.vm_cli.specs.Spaces.{words_of};
+ghost use Rattle.vm_cli.specs.lines.Requested.{asks_for};
+ghost use Rattle.vm_cli.specs.lines.Requests.{IsLongMerge, merge_of, query_of, request_of};
+ghost use Rattle.vm_cli.specs.lines.Spaces.{words_of};
 
 use crate::lines::arguments::{ends, name, one_name};
 use crate::lines::command::command;

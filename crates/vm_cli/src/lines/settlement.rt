@@ -1,7 +1,7 @@
 //! Settlements in lines.
 ghost use Rattle.std.specs.Prelude.{◌≡◌, ◌≢◌, [], IfOk, MatchOption, OnErr};
-ghost use Rattle.vm_cli.specs.Settlements.{SaysNoSide, SaysSide, for_all as settled_for_all, for_others as settled_for_others, is_settled as has_settlement, settled_of, settlement_of, side_for_all as side_for_all_of, side_of};
-ghost use Rattle.vm_cli.specs.Spaces.{words_of};
+ghost use Rattle.vm_cli.specs.lines.Settlements.{SaysNoSide, SaysSide, for_all as settled_for_all, for_others as settled_for_others, is_settled as has_settlement, settled_of, settlement_of, side_for_all as side_for_all_of, side_of};
+ghost use Rattle.vm_cli.specs.lines.Spaces.{words_of};
 
 use crate::lines::number;
 use crate::lines::pieces::{first_piece, first_word};

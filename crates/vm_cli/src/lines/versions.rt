@@ -1,8 +1,8 @@
 //! Words that name versions.
 ghost use Rattle.std.specs.Prelude.{◌≡◌, ◌∷◌, [], Some, option_map};
-ghost use Rattle.vm_cli.specs.Names.{at_of, meant_behind};
-ghost use Rattle.vm_cli.specs.Requests.{at_part_of, ats_part_of, page_of, part_of, record_at_of};
-ghost use Rattle.vm_cli.specs.Spaces.{words_of};
+ghost use Rattle.vm_cli.specs.lines.Names.{at_of, meant_behind};
+ghost use Rattle.vm_cli.specs.lines.Requests.{at_part_of, ats_part_of, page_of, part_of, record_at_of};
+ghost use Rattle.vm_cli.specs.lines.Spaces.{words_of};
 
 use crate::lines::arguments::{ends, name};
 use crate::lines::number::{key, number};

@@ -2,7 +2,7 @@
 ghost use Rattle.std.specs.Fmt.{decimal};
 ghost use Rattle.std.specs.List.{list_any};
 ghost use Rattle.std.specs.Prelude.{◌≡◌, ◌++◌, ◌≤◌, IfOk, OnOk, flat_map, length};
-ghost use Rattle.vm_cli.specs.Branches.{Adds, at_right, branch_line, checkpoint_line, checkpoint_lines, columns_of, drawing, have_under, is_under as is_under_parent, lines_under, own_stem, post_text, stem_below};
+ghost use Rattle.vm_cli.specs.program.Branches.{Adds, at_right, branch_line, checkpoint_line, checkpoint_lines, columns_of, drawing, have_under, is_under as is_under_parent, lines_under, own_stem, post_text, stem_below};
 
 use std::alloc::{AllocError, Global};
 use std::marker::Model;
@@ -19,7 +19,7 @@ pub struct Branch {
 }
 
 impl Model for Branch {
-    ghost use Rattle.vm_cli.specs.Branches.{Branch as Drawn};
+    ghost use Rattle.vm_cli.specs.program.Branches.{Branch as Drawn};
 
     ghost Value = { Drawn };
 

@@ -1,13 +1,14 @@
 //! Answering lines over a disk with a block cache in memory, and a write-back buffer on top of it.
 ghost use Rattle.std.specs.Prelude.{◌≡◌, ◌⊎◌};
 ghost use Rattle.vm_types.specs.declared.refusal.Refusal.{Refusal as RefusalValue};
-ghost use Rattle.vm_cli.specs.Runs.{AnswersInMemory, TellsRefusalInMemory, disks};
-ghost use Rattle.vm_cli.specs.Exits.{TalkEnds};
+ghost use Rattle.vm_cli.specs.program.Runs.{AnswersInMemory, TellsRefusalInMemory, disks};
+ghost use Rattle.vm_cli.specs.program.Exits.{SessionEnds};
+ghost use Rattle.vm_cli.specs.session.Known.{streams_of, writer, writers, written_to};
 
 use crate::program::Exit;
 use crate::program::delayed_lines::answer_lines_late;
 use crate::program::task::{InMemory, buffer_for};
-use crate::talk::Manner;
+use crate::session::Manner;
 use std::alloc::Global;
 use std::io::{Read, Write};
 use vm_disk::{CachedDisk, DelayedDisk, Disk};
@@ -25,12 +26,13 @@ pub(crate) fn answer_lines_in_memory<D: Disk, R: Read, W: Write, F: Write>(
     output: &mut W,
     errors: &mut F,
 ) -> (Exit, D)
-    ensures ends { TalkEnds F.contents manner.on_refusal result.0 output.old output.new errors.old errors.new }
+    ensures ends { SessionEnds manner.on_refusal result.0
+        (writers (writer W.contents output.old output.new) (writer F.contents errors.old errors.new)) }
     // The lines are answered as `answer_lines_late` promises, over the disk itself or over a cache
     // of its blocks; or it is reported why that one shows no store, and it is at most synced.
     ensures served { let over = disks D.Disk ⟦<CachedDisk<D> as Disk>⟧ ⟦<DelayedDisk<D> as Disk>⟧ ⟦<DelayedDisk<CachedDisk<D>> as Disk>⟧ in
-        AnswersInMemory over disk result in_memory R.remaining W.contents manner input.old output.old output.new
-        ⊎ TellsRefusalInMemory over disk result in_memory F.contents errors.old errors.new }
+        AnswersInMemory over disk result in_memory manner (streams_of (R.remaining input.old) (W.contents output.old) (W.contents output.new))
+        ⊎ TellsRefusalInMemory over disk result in_memory (written_to F.contents errors.old errors.new) }
 {
     let InMemory { cache, buffer } = in_memory;
     let buffer = buffer_for(buffer, disk.blocks());

@@ -1,8 +1,9 @@
 //! Naming the damaged blocks of a store.
 ghost use Rattle.std.specs.Prelude.{◌≡◌, ◌<◌, Some, length, OnErr, OnOk};
-ghost use Rattle.vm_cli.specs.Carried.{Begins, Gains};
-ghost use Rattle.vm_cli.specs.Exits.{RefusesOn, is_told, name_text, others_text, refused_text, survey_text};
-ghost use Rattle.vm_cli.specs.Openings.{told_of};
+ghost use Rattle.vm_cli.specs.answers.Carried.{Begins, Gains};
+ghost use Rattle.vm_cli.specs.program.Exits.{Tells, is_told, name_text, others_text, refused_text, survey_text};
+ghost use Rattle.vm_cli.specs.program.Openings.{told_of};
+ghost use Rattle.vm_cli.specs.session.Known.{written_to};
 
 use crate::answers::output::WriteFault;
 use crate::answers::reply::push_refusal;
@@ -20,7 +21,7 @@ pub(crate) fn unopened_whole<F: Write>(
     damaged: &Option<Marks>,
     errors: &mut F,
 ) -> Exit
-    ensures { RefusesOn F.contents result errors.old errors.new (survey_text why.now damaged.now) }
+    ensures { Tells Exit.Refused result (written_to F.contents errors.old errors.new) (survey_text why.now damaged.now) }
 {
     match damaged {
         Some(damaged) => unopened_with(why, damaged, errors),
@@ -30,7 +31,7 @@ pub(crate) fn unopened_whole<F: Write>(
 
 /// Says why a disk is refused on which these blocks are damaged, and names them.
 fn unopened_with<F: Write>(why: &NoStore, damaged: &Marks, errors: &mut F) -> Exit
-    ensures { RefusesOn F.contents result errors.old errors.new (survey_text why.now (Some damaged.now)) }
+    ensures { Tells Exit.Refused result (written_to F.contents errors.old errors.new) (survey_text why.now (Some damaged.now)) }
 {
     let exit = unopened(why, errors);
     match exit {

@@ -1,11 +1,12 @@
 //! Answering lines over a disk with written blocks waiting in memory.
 ghost use Rattle.std.specs.Prelude.{◌≡◌, ◌⊎◌};
 ghost use Rattle.vm_types.specs.declared.refusal.Refusal.{Refusal as RefusalValue};
-ghost use Rattle.vm_cli.specs.Told.{AnswersLate, TellsRefusalLate};
-ghost use Rattle.vm_cli.specs.Exits.{TalkEnds};
+ghost use Rattle.vm_cli.specs.program.Told.{AnswersLate, TellsRefusalLate};
+ghost use Rattle.vm_cli.specs.program.Exits.{SessionEnds};
+ghost use Rattle.vm_cli.specs.session.Known.{streams_of, writer, writers, written_to};
 
 use crate::program::{Exit, answer_lines};
-use crate::talk::Manner;
+use crate::session::Manner;
 use std::alloc::Global;
 use std::io::{Read, Write};
 use vm_disk::{DelayedDisk, Disk};
@@ -22,12 +23,14 @@ pub(crate) fn answer_lines_late<D: Disk, R: Read, W: Write, F: Write>(
     output: &mut W,
     errors: &mut F,
 ) -> (Exit, D)
-    ensures ends { TalkEnds F.contents manner.on_refusal result.0 output.old output.new errors.old errors.new }
+    ensures ends { SessionEnds manner.on_refusal result.0
+        (writers (writer W.contents output.old output.new) (writer F.contents errors.old errors.new)) }
     // The lines are answered as `answer_lines` promises, over the disk itself or over a delayed
     // disk on top of it; or it is reported why that one shows no store, and it is at most synced.
     ensures served { let late = ⟦<DelayedDisk<D> as Disk>⟧ in
-        AnswersLate D.Disk R.remaining W.contents manner disk result late buffer input.old output.old output.new
-        ⊎ TellsRefusalLate D.Disk late F.contents buffer disk result errors.old errors.new }
+        AnswersLate D.Disk late buffer manner disk result
+        (streams_of (R.remaining input.old) (W.contents output.old) (W.contents output.new))
+        ⊎ TellsRefusalLate D.Disk late buffer disk result (written_to F.contents errors.old errors.new) }
 {
     if buffer == 0 {
         return answer_lines(alloc, disk, manner, input, output, errors);

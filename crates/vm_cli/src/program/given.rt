@@ -1,6 +1,6 @@
 //! Lines given as words.
 ghost use Rattle.std.specs.Prelude.{◌≡◌, IfOk, map};
-ghost use Rattle.vm_cli.specs.Given.{input_of as input_of_lines};
+ghost use Rattle.vm_cli.specs.program.Given.{input_of as input_of_lines};
 
 use std::alloc::{AllocError, Global};
 

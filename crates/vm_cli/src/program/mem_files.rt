@@ -32,8 +32,8 @@ pub struct MemFiles {
 }
 
 impl MemFiles {
-    ghost use Rattle.vm_cli.specs.MemFiles.{FilesStay, IsAskedFiles, IsIn, IsLast, IsSameState, files_state, room_given};
-    ghost use Rattle.vm_cli.specs.Places.{AsksNever, CreatesIn, FindsIn, LinksIn};
+    ghost use Rattle.vm_cli.specs.program.MemFiles.{FilesStay, IsAskedFiles, IsIn, IsLast, IsSameState, files_state, room_given};
+    ghost use Rattle.vm_cli.specs.program.Places.{AsksNever, CreatesIn, FindsIn, LinksIn};
 
     /// No files. Disks that are made cannot grow.
     pub fn new(alloc: Global) -> MemFiles
@@ -147,7 +147,7 @@ impl MemFiles {
 impl Place for MemFiles {
     type D = MemDisk;
 
-    ghost use Rattle.vm_cli.specs.MemFiles.{asked_to_write, files_does, files_state, names_denied};
+    ghost use Rattle.vm_cli.specs.program.MemFiles.{asked_to_write, files_does, files_state, names_denied};
 
     ghost state = { files_state };
 

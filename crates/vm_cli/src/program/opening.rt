@@ -1,8 +1,9 @@
 //! Opening the store on a disk, and why that is refused.
 ghost use Rattle.std.specs.Prelude.{◌≡◌, None, IfErr};
 ghost use Rattle.vm_store.specs.Recovery.{OpensAs, OpensWhole};
-ghost use Rattle.vm_cli.specs.Exits.{RefusesOn, earlier_text, no_store_text, without_sums_text};
-ghost use Rattle.vm_cli.specs.Openings.{FindsWhy, IsOpening, NamesAll};
+ghost use Rattle.vm_cli.specs.program.Exits.{Tells, earlier_text, no_store_text, without_sums_text};
+ghost use Rattle.vm_cli.specs.session.Known.{written_to};
+ghost use Rattle.vm_cli.specs.program.Openings.{FindsWhy, IsOpening, NamesAll};
 
 use crate::answers::reply::push_refusal;
 use crate::answers::text::Text;
@@ -125,7 +126,7 @@ fn damaged<D: Disk>(disk: &mut D, n: BlockNumber) -> NoStore
 
 /// Says why a disk is refused.
 pub(crate) fn unopened<F: Write>(why: &NoStore, errors: &mut F) -> Exit
-    ensures { RefusesOn F.contents result errors.old errors.new (no_store_text why.now) }
+    ensures { Tells Exit.Refused result (written_to F.contents errors.old errors.new) (no_store_text why.now) }
 {
     match why {
         NoStore::Refused(refusal) => refused(refusal, errors),
@@ -136,7 +137,7 @@ pub(crate) fn unopened<F: Write>(why: &NoStore, errors: &mut F) -> Exit
 
 /// Says that a disk is no store, and in a second line that it is one of an earlier format.
 fn of_earlier_format<F: Write>(errors: &mut F) -> Exit
-    ensures { RefusesOn F.contents result errors.old errors.new earlier_text }
+    ensures { Tells Exit.Refused result (written_to F.contents errors.old errors.new) earlier_text }
 {
     let mut text = Text::new();
     text.push_bytes(b"altctl: ");
@@ -149,7 +150,7 @@ fn of_earlier_format<F: Write>(errors: &mut F) -> Exit
 
 /// Says that a slot is damaged, and in a second line that the file has no checksums.
 fn without_sums<F: Write>(n: BlockNumber, errors: &mut F) -> Exit
-    ensures { RefusesOn F.contents result errors.old errors.new (without_sums_text n) }
+    ensures { Tells Exit.Refused result (written_to F.contents errors.old errors.new) (without_sums_text n) }
 {
     let mut text = Text::new();
     text.push_bytes(b"altctl: ");

@@ -1,7 +1,7 @@
 //! Finding disks by name.
 ghost use Rattle.std.specs.Prelude.{◌≡◌, ◌∷◌, ℕ, List, [], true, is_some, option_map, ⊤};
 ghost use Rattle.vm_sums.specs.Summed.{inner_of};
-ghost use Rattle.vm_cli.specs.Places.{AsksNever, AsksOnce, IsAsked, PlaceCall, PlaceState, CreatesIn, FindsIn, LacksIn, LinksIn, RemovesIn, TakesBackIn, names_in};
+ghost use Rattle.vm_cli.specs.program.Places.{AsksNever, AsksOnce, IsAsked, PlaceCall, PlaceState, CreatesIn, FindsIn, LacksIn, LinksIn, RemovesIn, TakesBackIn, names_in};
 
 use crate::program::progress::{Progress, Watched};
 use crate::program::selector::rewrite_selector;
@@ -153,7 +153,7 @@ fn take_standard(rt: &impl Files<File = File>) -> [Option<File>; 3] {
 }
 
 impl<'a, R: Files<File = File>, W: World> RealFiles<'a, R, W> {
-    ghost use Rattle.vm_cli.specs.RealFiles.{asked_to_write, real_state, names_denied, untouched};
+    ghost use Rattle.vm_cli.specs.program.RealFiles.{asked_to_write, real_state, names_denied, untouched};
 
     /// The files that a runtime reaches. None has been asked for yet. It opens those of the
     /// standard input, output and error that are closed, if that is possible.
@@ -175,7 +175,7 @@ impl<'a, R: Files<File = File>, W: World> RealFiles<'a, R, W> {
 }
 
 impl<'a, R: Files<File = File>, W: World> RealFiles<'a, R, W> {
-    ghost use Rattle.vm_cli.specs.RealFiles.{CreatesReal, FindsReal, IsAskedReal, NotesFound, NotesLooked, NotesMade};
+    ghost use Rattle.vm_cli.specs.program.RealFiles.{CreatesReal, FindsReal, IsAskedReal, NotesFound, NotesLooked, NotesMade};
 
     /// Makes a file that does not exist yet, and a disk of it.
     fn made(&mut self, file: &str, blocks: u32) -> Option<RealDisk<'a, W>>
@@ -225,7 +225,7 @@ impl<'a, R: Files<File = File>, W: World> RealFiles<'a, R, W> {
 }
 
 impl<'a, R: Files<File = File>, W: World> RealFiles<'a, R, W> {
-    ghost use Rattle.vm_cli.specs.RealFiles.{names_denied, NotesLink, NotesRemoval};
+    ghost use Rattle.vm_cli.specs.program.RealFiles.{names_denied, NotesLink, NotesRemoval};
 
     /// Notes that a file got another name.
     fn note_link(&mut self, from: &str, to: &str)
@@ -258,7 +258,7 @@ fn is_lacking(rt: &impl Files, file: &str) -> bool {
 impl<'a, R: Files<File = File>, W: World> Place for RealFiles<'a, R, W> {
     type D = RealDisk<'a, W>;
 
-    ghost use Rattle.vm_cli.specs.RealFiles.{asked_to_write, real_does, real_state, names_denied};
+    ghost use Rattle.vm_cli.specs.program.RealFiles.{asked_to_write, real_does, real_state, names_denied};
 
     ghost state = { real_state W.held W.torn };
 

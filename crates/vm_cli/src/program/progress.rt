@@ -5,7 +5,7 @@
 //! which the line is cleared are passed on as they are, except that nothing more is written once a
 //! reader is gone.
 ghost use Rattle.std.specs.Prelude.{◌≡◌};
-ghost use Rattle.vm_cli.specs.Progress.{file_below, stream_below};
+ghost use Rattle.vm_cli.specs.program.Progress.{file_below, stream_below};
 
 use crate::answers::text::Text;
 use crate::program::warm_up::WarmUp;

@@ -13,7 +13,7 @@
 ghost use Rattle.vm_disk.specs.Between.{Between};
 ghost use Rattle.vm_disk.specs.Positional.{CountsFailures};
 ghost use Rattle.vm_disk.specs.System.{IfHonestIn, KeepsState, system_state};
-ghost use Rattle.vm_cli.specs.Selector.{RewritesSelector};
+ghost use Rattle.vm_cli.specs.program.Selector.{RewritesSelector};
 
 use vm_block::is_header;
 use vm_disk::{DeviceFault, Positional, SystemFile, World};

@@ -3,12 +3,12 @@
 ghost use Rattle.std.specs.Prelude.{◌≡◌, true, false, IfOk};
 ghost use Rattle.std.specs.String.{string_bytes};
 ghost use Rattle.vm_store.specs.Store.{GoesOn, IsHonest, ReadsAlone, disk_of, has_failed};
-ghost use Rattle.vm_cli.specs.Copies.{CopiesIn, CopiesTo, DropsIn, NamesIn, Sizes, TakesCopy};
-ghost use Rattle.vm_cli.specs.Exits.{CopyEnds, DropEnds, JobEnds, TellsOn, copied_text, part_of};
-ghost use Rattle.vm_cli.specs.Known.{written_to};
-ghost use Rattle.vm_cli.specs.Places.{WasHonest};
-ghost use Rattle.vm_cli.specs.Runs.{DuplicatesIn};
-ghost use Rattle.vm_cli.specs.Words.Wanted.{copy as copy_wanted};
+ghost use Rattle.vm_cli.specs.program.Copies.{CopiesIn, CopiesTo, DropsIn, NamesIn, Sizes, TakesCopy};
+ghost use Rattle.vm_cli.specs.program.Exits.{CopyEnds, DropEnds, JobEnds, Tells, copied_text, part_of};
+ghost use Rattle.vm_cli.specs.session.Known.{writer, writers, written_to};
+ghost use Rattle.vm_cli.specs.program.Places.{WasHonest};
+ghost use Rattle.vm_cli.specs.program.Runs.{DuplicatesIn};
+ghost use Rattle.vm_cli.specs.program.Words.Wanted.{copy as copy_wanted};
 
 use crate::answers::text::Text;
 use crate::program::opening::{open_whole_store, unopened};
@@ -38,8 +38,8 @@ pub(crate) fn copy<P: Place, W: Write, F: Write>(
     output: &mut W,
     errors: &mut F,
 ) -> Exit
-    ensures says { JobEnds W.contents F.contents (copy_wanted file.now to.now blocks) result
-        output.old output.new errors.old errors.new }
+    ensures says { JobEnds (copy_wanted file.now to.now blocks) result
+        (writers (writer W.contents output.old output.new) (writer F.contents errors.old errors.new)) }
     ensures files { DuplicatesIn P.D.Disk P.state P.denied place.old place.new P.to_write file.now to.now blocks result
         (written_to W.contents output.old output.new) (written_to F.contents errors.old errors.new) }
 {
@@ -61,7 +61,7 @@ fn copy_disk<P: Place, W: Write, F: Write>(
     output: &mut W,
     errors: &mut F,
 ) -> (Exit, P::D)
-    ensures ends { CopyEnds W.contents F.contents to.now result.0 output.old output.new errors.old errors.new }
+    ensures ends { CopyEnds to.now result.0 (writers (writer W.contents output.old output.new) (writer F.contents errors.old errors.new)) }
     ensures earlier { WasHonest (P.state place.old) (P.state place.new) }
     ensures copied { TakesCopy P.D.Disk P.state P.denied P.to_write place.old place.new disk result to.now blocks
         (written_to W.contents output.old output.new) (written_to F.contents errors.old errors.new) }
@@ -86,7 +86,7 @@ fn copy_store<S: Disk, P: Place, W: Write, F: Write>(
     output: &mut W,
     errors: &mut F,
 ) -> Exit
-    ensures ends { CopyEnds W.contents F.contents to.now result output.old output.new errors.old errors.new }
+    ensures ends { CopyEnds to.now result (writers (writer W.contents output.old output.new) (writer F.contents errors.old errors.new)) }
     ensures any { GoesOn ⊥ store.old store.new }
     ensures reads { IsHonest store.new → ReadsAlone store.old store.new }
     ensures earlier { WasHonest (P.state place.old) (P.state place.new) }
@@ -145,7 +145,7 @@ fn copy_onto<S: Disk, P: Place, W: Write, F: Write>(
     output: &mut W,
     errors: &mut F,
 ) -> Exit
-    ensures ends { CopyEnds W.contents F.contents to.now result output.old output.new errors.old errors.new }
+    ensures ends { CopyEnds to.now result (writers (writer W.contents output.old output.new) (writer F.contents errors.old errors.new)) }
     ensures any { GoesOn ⊥ store.old store.new }
     ensures reads { IsHonest store.new → ReadsAlone store.old store.new }
     ensures writes { P.to_write place.new ≡ P.to_write place.old }
@@ -170,7 +170,7 @@ fn name_copy<P: Place, W: Write, F: Write>(
     output: &mut W,
     errors: &mut F,
 ) -> Exit
-    ensures ends { CopyEnds W.contents F.contents to.now result output.old output.new errors.old errors.new }
+    ensures ends { CopyEnds to.now result (writers (writer W.contents output.old output.new) (writer F.contents errors.old errors.new)) }
     ensures writes { P.to_write place.new ≡ P.to_write place.old }
     ensures earlier { WasHonest (P.state place.old) (P.state place.new) }
     ensures named { NamesIn P.state P.D.Disk.state P.denied place.old place.new copy size part.now to.now result
@@ -195,7 +195,7 @@ fn drop_copy<P: Place, F: Write>(
     place: &mut P,
     errors: &mut F,
 ) -> Exit
-    ensures ends { DropEnds F.contents refusal.now result errors.old errors.new }
+    ensures ends { DropEnds refusal.now result (writer F.contents errors.old errors.new) }
     ensures writes { P.to_write place.new ≡ P.to_write place.old }
     ensures earlier { WasHonest (P.state place.old) (P.state place.new) }
     ensures dropped { DropsIn P.state P.D.Disk.state place.old place.new disk part.now refusal.now result
@@ -211,7 +211,7 @@ fn drop_copy<P: Place, F: Write>(
 
 /// Says that a store was copied.
 fn copied<W: Write>(size: Size, output: &mut W) -> Exit
-    ensures { TellsOn W.contents Exit.Done result output.old output.new (copied_text size.blocks size.used) }
+    ensures { Tells Exit.Done result (written_to W.contents output.old output.new) (copied_text size.blocks size.used) }
 {
     let mut text = Text::new();
     text.push_bytes(b"copied ");

@@ -1,9 +1,9 @@
 //! Counting what a store holds.
 ghost use Rattle.std.specs.Prelude.{◌≡◌, ◌≢◌, ◌+◌, ◌≤◌, ◌++◌, false, length, IfErr, IfOk};
 ghost use Rattle.vm_store.specs.Store.{InState, has_failed};
-ghost use Rattle.vm_cli.specs.StoreCounts.{AreCounts};
-ghost use Rattle.vm_cli.specs.Standing.{GivesCheckpoints, InListed, IsMemory};
-ghost use Rattle.vm_cli.specs.Exits.{counts_text};
+ghost use Rattle.vm_cli.specs.program.StoreCounts.{AreCounts};
+ghost use Rattle.vm_cli.specs.session.Standing.{GivesCheckpoints, InListed, IsMemory};
+ghost use Rattle.vm_cli.specs.program.Exits.{counts_text};
 
 use crate::answers::text::Text;
 use std::alloc::Global;

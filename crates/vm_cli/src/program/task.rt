@@ -1,8 +1,8 @@
 //! What the program is asked to do.
 ghost use Rattle.std.specs.Prelude.{◌≡◌};
-ghost use Rattle.vm_cli.specs.CachedLines.{buffer_for};
+ghost use Rattle.vm_cli.specs.program.CachedLines.{buffer_for};
 
-use crate::talk::Manner;
+use crate::session::Manner;
 
 /// How much of a file's disk a session keeps in memory.
 #[derive(Clone, Copy, Debug, Drop, PartialEq, Eq)]

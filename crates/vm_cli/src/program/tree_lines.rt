@@ -1,9 +1,9 @@
 //! What is drawn of each alternative of a store.
 ghost use Rattle.std.specs.Prelude.{◌≡◌, None, IfErr, IfOk};
 ghost use Rattle.vm_store.specs.Store.{FromState, GoesOn};
-ghost use Rattle.vm_cli.specs.Branches.{HasNoNumbers, HasNumbers, IsDrawn, IsUndrawn};
-ghost use Rattle.vm_cli.specs.Standing.{FromListed, GivesBranches, IsDeviceOrMemory};
-ghost use Rattle.vm_cli.specs.Talk.{Passes};
+ghost use Rattle.vm_cli.specs.program.Branches.{HasNoNumbers, HasNumbers, IsDrawn, IsUndrawn};
+ghost use Rattle.vm_cli.specs.session.Standing.{FromListed, GivesBranches, IsDeviceOrMemory};
+ghost use Rattle.vm_cli.specs.session.Session.{Passes};
 
 use crate::program::branches::Branch;
 use std::alloc::Global;

@@ -1,14 +1,14 @@
 //! Showing a store's tree of alternatives.
 ghost use Rattle.std.specs.Prelude.{◌≡◌, ◌⊎◌, List, None, true, IfErr, IfOk};
 ghost use Rattle.vm_store.specs.Store.{FromState, GoesOn};
-ghost use Rattle.vm_cli.specs.Branches.{Branch, drawing};
-ghost use Rattle.vm_cli.specs.Exits.{DrawEnds, JobEnds, TellsOn};
-ghost use Rattle.vm_cli.specs.Known.{written_to};
-ghost use Rattle.vm_cli.specs.Runs.{DrawsIn};
-ghost use Rattle.vm_cli.specs.Told.{TellsRefusal, TellsTree};
-ghost use Rattle.vm_cli.specs.Standing.{GivesTree, IsDeviceOrMemory};
-ghost use Rattle.vm_cli.specs.Talk.{Passes};
-ghost use Rattle.vm_cli.specs.Words.Wanted.{draw as draw_wanted};
+ghost use Rattle.vm_cli.specs.program.Branches.{Branch, drawing};
+ghost use Rattle.vm_cli.specs.program.Exits.{DrawEnds, JobEnds, Tells};
+ghost use Rattle.vm_cli.specs.session.Known.{writer, writers, written_to};
+ghost use Rattle.vm_cli.specs.program.Runs.{DrawsIn};
+ghost use Rattle.vm_cli.specs.program.Told.{TellsRefusal, TellsTree};
+ghost use Rattle.vm_cli.specs.session.Standing.{GivesTree, IsDeviceOrMemory};
+ghost use Rattle.vm_cli.specs.session.Session.{Passes};
+ghost use Rattle.vm_cli.specs.program.Words.Wanted.{draw as draw_wanted};
 
 use crate::program::branches::draw;
 use crate::program::opening::{open_whole_store, unopened};
@@ -29,8 +29,8 @@ pub(crate) fn tree<P: Place, W: Write, F: Write>(
     output: &mut W,
     errors: &mut F,
 ) -> Exit
-    ensures says { JobEnds W.contents F.contents (draw_wanted file.now) result
-        output.old output.new errors.old errors.new }
+    ensures says { JobEnds (draw_wanted file.now) result
+        (writers (writer W.contents output.old output.new) (writer F.contents errors.old errors.new)) }
     ensures reads { P.to_write place.new ≡ P.to_write place.old }
     ensures files { DrawsIn P.D.Disk P.state P.denied place.old place.new file.now result
         (written_to W.contents output.old output.new) (written_to F.contents errors.old errors.new) }
@@ -50,12 +50,12 @@ fn show_disk<D: Disk, W: Write, F: Write>(
     output: &mut W,
     errors: &mut F,
 ) -> (Exit, D)
-    ensures ends { DrawEnds W.contents F.contents result.0 output.old output.new errors.old errors.new }
+    ensures ends { DrawEnds result.0 (writers (writer W.contents output.old output.new) (writer F.contents errors.old errors.new)) }
     // The tree is the one that the disk shows, or it is reported why the disk was refused. At each
     // moment nothing has changed, or everything is synced.
     ensures told { (D.state result.1).honest ≡ true
-        → TellsTree D.Disk W.contents disk result output.old output.new
-        ⊎ TellsRefusal D.Disk F.contents disk result errors.old errors.new }
+        → TellsTree D.Disk disk result (written_to W.contents output.old output.new)
+        ⊎ TellsRefusal D.Disk disk result (written_to F.contents errors.old errors.new) }
 {
     match open_whole_store(alloc, disk) {
         Ok(mut store) => {
@@ -88,7 +88,7 @@ fn draw_store<D: Disk>(alloc: Global, store: &mut Store<D>) -> Result<Vec<u8>, R
 
 /// Writes a text to the output.
 fn show<W: Write>(text: &[u8], output: &mut W) -> Exit
-    ensures { TellsOn W.contents Exit.Done result output.old output.new text.now }
+    ensures { Tells Exit.Done result (written_to W.contents output.old output.new) text.now }
 {
     unless_fault(say(output, text), Exit::Done)
 }

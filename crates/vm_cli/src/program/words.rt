@@ -2,14 +2,14 @@
 ghost use Rattle.clap.specs.Words.{FailsBy, app_of, fault_of, found_of, first_of, new_app, rows_of, subcommand_rows_of};
 ghost use Rattle.std.specs.Prelude.{◌≡◌, ◌⊎◌, if◌then◌else◌, IfErr, IfOk, None, Some, false, map, ℕ, List, option_map, option_and_then, codes};
 ghost use Rattle.std.specs.String.{string_bytes};
-ghost use Rattle.vm_cli.specs.Locks.{IsLockOf, WordsLock, access_by, access_with, lock_by, lock_of_wanted};
-ghost use Rattle.vm_cli.specs.Words.{AddsTask, IsAsked, IsArgOf, IsAskedOf, IsCommandOf, IsLocal, WordsAsk, altctl, amount_rule, blocks_rule, check_app, command_with, copy_app, create_app, do_app, file_rule, flag_rule, grouping_by, grow_to_rule, line_rule, is_set, manner_by, number_by, memory_by, run_app, run_by, serve_app, to_rule, top_app, tree_app, wanted_of, with_lock, with_options};
+ghost use Rattle.vm_cli.specs.program.Locks.{IsLockOf, WordsLock, access_by, access_with, lock_by, lock_of_wanted};
+ghost use Rattle.vm_cli.specs.program.Words.{AddsTask, IsAsked, IsArgOf, IsAskedOf, IsCommandOf, IsLocal, WordsAsk, altctl, amount_rule, blocks_rule, check_app, command_with, copy_app, create_app, do_app, file_rule, flag_rule, grouping_by, grow_to_rule, line_rule, is_set, manner_by, number_by, memory_by, run_app, run_by, serve_app, to_rule, top_app, tree_app, wanted_of, with_lock, with_options};
 
 use crate::program::file_lock::{Access, LockWanted};
 use crate::program::given::input_of;
 use crate::program::help;
 use crate::program::task::{InMemory, Job, MAX_BUFFER};
-use crate::talk::{Grouping, Manner, OnCommand, OnRefusal};
+use crate::session::{Grouping, Manner, OnCommand, OnRefusal};
 use clap::{Arg, ArgAction, ArgMatches, Command, Error, value_parser};
 use std::alloc::{AllocError, Global};
 use vm_types::{MAX_BLOCKS, MIN_BLOCKS};

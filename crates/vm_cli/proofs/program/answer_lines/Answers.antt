@@ -3,7 +3,7 @@ use Rattle.vm_types.specs.State.{opened}
 use Rattle.vm_store.specs.Growth.{Grows}
 use Rattle.vm_store.specs.Shown.{new_store}
 use Rattle.vm_store.specs.Store.{disk_of}
-use Rattle.vm_cli.proofs.SessionLemmas.{may_end, served_whole, session_kept}
+use Rattle.vm_cli.proofs.DiskUseLemmas.{may_end, served_whole, session_kept}
 use Rattle.vm_cli.proofs.program.answer_lines.Goals as goal
 
 pub returns-in-Ok-clause-served : goal.returns-in-Ok-clause-served

@@ -1,6 +1,6 @@
 use Rattle.std.proofs.Common.{◌∙◌, ap, inl, inr, is_some, refl, sym, Some}
-use Rattle.vm_cli.specs.Exits.{survey_text}
-use Rattle.vm_cli.specs.Places.{KeepsOthers, WasLent}
+use Rattle.vm_cli.specs.program.Exits.{survey_text}
+use Rattle.vm_cli.specs.program.Places.{KeepsOthers, WasLent}
 use Rattle.vm_cli.proofs.FilesLemmas.{keeps_all, synced_alone}
 use Rattle.vm_cli.proofs.program.check.Goals as goal
 
@@ -14,23 +14,23 @@ returns-clause-files g c honest =
     let others : KeepsOthers c.args.file.now before after = λ other apart. back.others other apart ∙ found.same other in
     elim c.check_disk-exit.ensures.told [
       | inl counted ↦
-          let held = found.held (counted.3.goes.earlier back.honest) in
-          let same = back.holds ∙ ap Some (synced_alone _ _ (counted.3.moments back.honest)) ∙ sym held.0 in
+          let held = found.held (counted.counted.goes.earlier back.honest) in
+          let same = back.holds ∙ ap Some (synced_alone _ _ (counted.counted.moments back.honest)) ∙ sym held.0 in
           inl (record {
             same = keeps_all c.args.file.now before after others same;
             found = c.in-Some.disk;
             back = c.check_disk-exit.result.1;
             held = held.0;
             lent = lent;
-            alternatives = counted.0;
-            checkpoints = counted.1;
-            free = counted.2;
-            counted = counted.3;
-            told = counted.4;
+            alternatives = counted.alternatives;
+            checkpoints = counted.checkpoints;
+            free = counted.free;
+            counted = counted.counted;
+            told = counted.told;
           })
       | inr refused ↦
-          let held = found.held (refused.2.goes.earlier back.honest) in
-          let same = back.holds ∙ ap Some (synced_alone _ _ (refused.2.moments back.honest)) ∙ sym held.0 in
+          let held = found.held (refused.refused.goes.earlier back.honest) in
+          let same = back.holds ∙ ap Some (synced_alone _ _ (refused.refused.moments back.honest)) ∙ sym held.0 in
           inr (record {
             same = keeps_all c.args.file.now before after others same;
             told = inr (record {
@@ -38,11 +38,11 @@ returns-clause-files g c honest =
               back = c.check_disk-exit.result.1;
               held = held.0;
               lent = lent;
-              why = refused.0;
-              damaged = refused.1;
-              refused = refused.2;
-              names = refused.3;
-              told = refused.4;
+              why = refused.why;
+              damaged = refused.damaged;
+              refused = refused.refused;
+              names = refused.names;
+              told = refused.told;
             });
           })
     ]

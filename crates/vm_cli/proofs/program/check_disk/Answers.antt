@@ -16,11 +16,11 @@ returns-in-Ok-counts-clause-told g c =
     let store = c.in-Ok.store in
     let counts = c.in-Ok-counts.counts in
     let there = λ (honest : (g.D.Disk.state c.close-disk.result).honest ≡ true). subst (λ d. (g.D.Disk.state d).honest ≡ true) c.close-disk.ensures.disk honest in
-    inl (
-      counts.alternatives,
-      counts.checkpoints,
-      counts.free,
-      record {
+    inl (record {
+      alternatives = counts.alternatives;
+      checkpoints = counts.checkpoints;
+      free = counts.free;
+      counted = record {
         goes = subst (λ d. Goes ⊥ old (g.D.Disk.state d)) (sym c.close-disk.ensures.disk) c.in-Ok.ensures.opening.opened.goes;
         counted = λ honest.
             let opens = c.in-Ok.ensures.opening.opened.opens (there honest) in
@@ -28,9 +28,9 @@ returns-in-Ok-counts-clause-told g c =
             let said = is_ok _ c.count-counts.result _ c.in-Ok-counts.is (c.count-counts.ensures.counted c.in-Ok.ensures.opening.opened.well (opened opens.seen) opens.stands.holds) in
             counted_shown g.D.Disk _ store synced.same opens counts said;
         moments = λ honest. subst (λ d. Throughout old (g.D.Disk.state d) (IsAtMostSynced old.now)) (sym c.close-disk.ensures.disk) (c.in-Ok.ensures.opening.opened.moments (there honest));
-      },
-      c.counted.ensures,
-    )
+      };
+      told = c.counted.ensures;
+    })
 
 pub returns-in-Ok-clause-told : goal.returns-in-Ok-clause-told
 returns-in-Ok-clause-told g c =
@@ -38,10 +38,10 @@ returns-in-Ok-clause-told g c =
     let refusal = c.in-Err-counts.refusal in
     let there = λ (honest : (g.D.Disk.state c.close-disk.result).honest ≡ true). subst (λ d. (g.D.Disk.state d).honest ≡ true) c.close-disk.ensures.disk honest in
     let never : refusal ≢ Device = λ is. c.count-counts.ensures.never c.in-Ok.ensures.opening.opened.well (c.in-Err-counts.is ∙ ap Err is) in
-    inr (
-      Refused refusal,
-      None,
-      record {
+    inr (record {
+      why = Refused refusal;
+      damaged = None;
+      refused = record {
         goes = subst (λ d. Goes (refusal ≡ Device) old (g.D.Disk.state d)) (sym c.close-disk.ensures.disk) (goes_at _ _ _ _ c.in-Ok.ensures.opening.opened.goes (λ is. absurd (never is)));
         why = λ honest.
             let opens = c.in-Ok.ensures.opening.opened.opens (there honest) in
@@ -52,12 +52,12 @@ returns-in-Ok-clause-told g c =
             let memory = is_err _ c.count-counts.result _ c.in-Err-counts.is (c.count-counts.ensures.refused c.in-Ok.ensures.opening.opened.well (opened opens.seen) opens.stands.holds) in
             memory_untold old.now.contents refusal memory;
         moments = λ honest. subst (λ d. Throughout old (g.D.Disk.state d) (IsAtMostSynced old.now)) (sym c.close-disk.ensures.disk) (c.in-Ok.ensures.opening.opened.moments (there honest));
-      },
-      memory_unnamed old (g.D.Disk.state c.close-disk.result) refusal (λ honest.
+      };
+      names = memory_unnamed old (g.D.Disk.state c.close-disk.result) refusal (λ honest.
           let opens = c.in-Ok.ensures.opening.opened.opens (there honest) in
-          is_err _ c.count-counts.result _ c.in-Err-counts.is (c.count-counts.ensures.refused c.in-Ok.ensures.opening.opened.well (opened opens.seen) opens.stands.holds)),
-      c.refused.ensures,
-    )
+          is_err _ c.count-counts.result _ c.in-Err-counts.is (c.count-counts.ensures.refused c.in-Ok.ensures.opening.opened.well (opened opens.seen) opens.stands.holds));
+      told = c.refused.ensures;
+    })
 
 pub returns-in-Ok-counts-clause-ends : goal.returns-in-Ok-counts-clause-ends
 returns-in-Ok-counts-clause-ends g c =

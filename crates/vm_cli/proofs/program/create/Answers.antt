@@ -8,14 +8,14 @@ returns-clause-files g c honest =
     let made = c.in-Some.ensures.honest (c.give_back.ensures.asked.earlier honest) in
     let start = g.P.D.Disk.state c.in-Some.disk in
     let was : start.honest ≡ true = elim c.make_store-exit.ensures.made [
-      | inl shown ↦ shown.1.goes.earlier back.honest
-      | inr none ↦ none.1.2.goes.earlier back.honest
+      | inl shown ↦ shown.made.goes.earlier back.honest
+      | inr none ↦ none.none.goes.earlier back.honest
     ] in
     let blank = made.blank was in
     record {
       made = λ done. elim c.make_store-exit.ensures.made [
-        | inl shown ↦ (made.absent, ((g.P.D.Disk.state c.make_store-exit.result.1).now, back.holds, shown.1.shown back.honest))
-        | inr none ↦ absurd (not_done _ _ _ _ none.1.3 done)
+        | inl shown ↦ (made.absent, ((g.P.D.Disk.state c.make_store-exit.result.1).now, back.holds, shown.made.shown back.honest))
+        | inr none ↦ absurd (not_done _ _ _ _ none.told done)
       ];
       lays = inl (
         made.absent,
@@ -26,8 +26,8 @@ returns-clause-files g c honest =
           lent = record { fresh = made.fresh; honest = back.honest; holds = back.holds; came = back.came };
           moments = c.make_store-exit.ensures.moments back.honest;
           told = elim c.make_store-exit.ensures.made [
-            | inl shown ↦ inl (shown.1, shown.2)
-            | inr none ↦ inr none.1
+            | inl shown ↦ inl (shown.made, shown.told)
+            | inr none ↦ inr (none.refusal, none.of_format, none.none, none.told)
           ];
         },
       );

@@ -1,9 +1,10 @@
 use Rattle.std.proofs.Common.{map, inl, inr, refl}
 use Rattle.std.specs.String.{string_bytes}
 use Rattle.clap.specs.Words.{kind_of}
-use Rattle.vm_cli.specs.Exits.{IsJob}
-use Rattle.vm_cli.specs.Words.Wanted.{check, copy, create, do_lines, draw, run}
-use Rattle.vm_cli.proofs.ExitLemmas.{checked, copied, drawn, help_or_mistake, helped, made, mistaken, no_memory, talked}
+use Rattle.vm_cli.specs.program.Exits.{IsJob}
+use Rattle.vm_cli.specs.program.Exits.AskSession.{for_input, for_lines}
+use Rattle.vm_cli.specs.program.Words.Wanted.{check, copy, create, do_lines, draw, run}
+use Rattle.vm_cli.proofs.ExitLemmas.{checked, copied, drawn, help_or_mistake, helped, made, mistaken, no_memory, answered}
 use Rattle.vm_cli.proofs.FilesLemmas.{did_check, did_copy, did_create, did_draw, did_lines, did_nothing, did_run, looks_for, looks_with, no_fault, served_lines, served_none, served_other, served_run}
 use Rattle.vm_cli.proofs.program.do_job.Goals as goal
 
@@ -12,51 +13,51 @@ returns-in-Ok-Create-clause-ends g c =
     let words = map string_bytes c.args.words.now in
     let e = rw c.in-Ok-Create.field-0-is at c.in-Ok-Create.ensures in
     let job : IsJob words (create c.in-Ok-Create.file.now c.in-Ok-Create.blocks) = (e.faults, e.ok) in
-    made g.W.Write.contents g.F.Write.contents words _ _ _ _ c.in-Ok-Create.file.now c.in-Ok-Create.blocks _ job c.create.ensures.says
+    made words _ c.in-Ok-Create.file.now c.in-Ok-Create.blocks _ job c.create.ensures.says
 
 pub returns-in-Ok-Run-clause-ends : goal.returns-in-Ok-Run-clause-ends
 returns-in-Ok-Run-clause-ends g c =
     let words = map string_bytes c.args.words.now in
     let e = rw c.in-Ok-Run.field-0-is at c.in-Ok-Run.ensures in
     let job : IsJob words (run c.in-Ok-Run.file.now c.in-Ok-Run.in_memory c.in-Ok-Run.manner) = (e.faults, e.ok) in
-    talked g.W.Write.contents g.F.Write.contents words _ _ _ _ _ c.in-Ok-Run.manner _ job (c.in-Ok-Run.file.now, c.in-Ok-Run.in_memory, inl job) c.run.ensures.says
+    answered words _ _ c.in-Ok-Run.manner _ job (for_input c.in-Ok-Run.file.now c.in-Ok-Run.in_memory job) c.run.ensures.says
 
 pub returns-in-Ok-Do-clause-ends : goal.returns-in-Ok-Do-clause-ends
 returns-in-Ok-Do-clause-ends g c =
     let words = map string_bytes c.args.words.now in
     let e = rw c.in-Ok-Do.field-0-is at c.in-Ok-Do.ensures in
     let job : IsJob words (do_lines c.in-Ok-Do.file.now c.in-Ok-Do.input.items c.in-Ok-Do.in_memory c.in-Ok-Do.manner) = (e.faults, e.ok) in
-    talked g.W.Write.contents g.F.Write.contents words _ _ _ _ _ c.in-Ok-Do.manner _ job (c.in-Ok-Do.file.now, c.in-Ok-Do.in_memory, inr (c.in-Ok-Do.input.items, job)) c.run-in-Ok-Do.ensures.says
+    answered words _ _ c.in-Ok-Do.manner _ job (for_lines c.in-Ok-Do.file.now c.in-Ok-Do.input.items c.in-Ok-Do.in_memory job) c.run-in-Ok-Do.ensures.says
 
 pub returns-in-Ok-Check-clause-ends : goal.returns-in-Ok-Check-clause-ends
 returns-in-Ok-Check-clause-ends g c =
     let words = map string_bytes c.args.words.now in
     let e = rw c.in-Ok-Check.field-0-is at c.in-Ok-Check.ensures in
     let job : IsJob words (check c.in-Ok-Check.file.now) = (e.faults, e.ok) in
-    checked g.W.Write.contents g.F.Write.contents words _ _ _ _ c.in-Ok-Check.file.now _ job c.check.ensures.says
+    checked words _ c.in-Ok-Check.file.now _ job c.check.ensures.says
 
 pub returns-in-Ok-Tree-clause-ends : goal.returns-in-Ok-Tree-clause-ends
 returns-in-Ok-Tree-clause-ends g c =
     let words = map string_bytes c.args.words.now in
     let e = rw c.in-Ok-Tree.field-0-is at c.in-Ok-Tree.ensures in
     let job : IsJob words (draw c.in-Ok-Tree.file.now) = (e.faults, e.ok) in
-    drawn g.W.Write.contents g.F.Write.contents words _ _ _ _ c.in-Ok-Tree.file.now _ job c.tree.ensures.says
+    drawn words _ c.in-Ok-Tree.file.now _ job c.tree.ensures.says
 
 pub returns-in-Ok-Copy-clause-ends : goal.returns-in-Ok-Copy-clause-ends
 returns-in-Ok-Copy-clause-ends g c =
     let words = map string_bytes c.args.words.now in
     let e = rw c.in-Ok-Copy.field-0-is at c.in-Ok-Copy.ensures in
     let job : IsJob words (copy c.in-Ok-Copy.file.now c.in-Ok-Copy.to.now c.in-Ok-Copy.blocks) = (e.faults, e.ok) in
-    copied g.W.Write.contents g.F.Write.contents words _ _ _ _ c.in-Ok-Copy.file.now c.in-Ok-Copy.to.now c.in-Ok-Copy.blocks _ job c.copy.ensures.says
+    copied words _ c.in-Ok-Copy.file.now c.in-Ok-Copy.to.now c.in-Ok-Copy.blocks _ job c.copy.ensures.says
 
 pub returns-in-Err-clause-ends : goal.returns-in-Err-clause-ends
 returns-in-Err-clause-ends g c =
     let words = map string_bytes c.args.words.now in
     elim c.in-Err.ensures.faults [
-      | inl memory ↦ let m = c.explain.ensures.memory memory in no_memory g.W.Write.contents g.F.Write.contents words _ _ _ _ _ m.0 m.1 m.2
+      | inl memory ↦ let m = c.explain.ensures.memory memory in no_memory words _ _ m.0 m.1 m.2
       | inr among ↦ elim (help_or_mistake (kind_of c.in-Err.error)) [
-        | inl help ↦ helped g.W.Write.contents g.F.Write.contents words _ _ _ _ (kind_of c.in-Err.error) _ help among (c.explain.ensures.help help)
-        | inr wrong ↦ mistaken g.W.Write.contents g.F.Write.contents words _ _ _ _ (kind_of c.in-Err.error) _ wrong among (c.explain.ensures.wrong wrong)
+        | inl help ↦ helped words _ (kind_of c.in-Err.error) _ help among (c.explain.ensures.help help)
+        | inr wrong ↦ mistaken words _ (kind_of c.in-Err.error) _ wrong among (c.explain.ensures.wrong wrong)
       ]
     ]
 

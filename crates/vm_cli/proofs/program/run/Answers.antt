@@ -4,7 +4,8 @@ use Rattle.vm_disk.specs.Delayed.{delayed_does, delayed_hand, delayed_state}
 use Rattle.vm_disk.specs.declared.cached.CachedDisk.{CachedDisk}
 use Rattle.vm_disk.specs.declared.delayed.DelayedDisk.{DelayedDisk}
 use Rattle.vm_disk.specs.declared.disk.Disk.{Ghosts}
-use Rattle.vm_cli.specs.Places.{KeepsOthers, WasLent}
+use Rattle.vm_cli.specs.program.Places.{KeepsOthers, WasLent}
+use Rattle.vm_cli.specs.program.Runs.ServesIn.{denies, refuses, serves}
 use Rattle.vm_cli.proofs.FilesLemmas.{keeps_all, kept_told, refused_told, synced_alone, was_honest}
 use Rattle.vm_cli.proofs.program.run.Goals as goal
 
@@ -33,7 +34,7 @@ returns-clause-files g c honest =
           let cached : Ghosts (CachedDisk g.row.P-D.Denot g.P.D.Disk) = record { state = λ x. cached_state g.P.D.Disk.state x; hand = λ x. cached_hand x; does = λ call old new. cached_does g.P.D.Disk.state call old new } in
           let late : Ghosts (DelayedDisk g.row.P-D.Denot g.P.D.Disk) = record { state = λ x. delayed_state g.P.D.Disk.state x; hand = λ x. delayed_hand g.P.D.Disk.hand x; does = λ call old new. delayed_does g.P.D.Disk.state call old new } in
           let late_cached : Ghosts (DelayedDisk (CachedDisk g.row.P-D.Denot g.P.D.Disk) cached) = record { state = λ x. delayed_state cached.state x; hand = λ x. delayed_hand cached.hand x; does = λ call old new. delayed_does cached.state call old new } in
-          let itself = refused_told g.P.D.Disk cached late late_cached (λ disk. refl) (λ disk. refl) (λ disk. refl) c.args.in_memory _ _ refused.0 found.fresh (λ there. (found.held there).1) refused.1 in
+          let itself = refused_told g.P.D.Disk cached late late_cached (λ disk. refl) (λ disk. refl) (λ disk. refl) c.args.in_memory _ _ refused.why found.fresh (λ there. (found.held there).1) refused.refused in
           let held = found.held (itself.goes.earlier back.honest) in
           let same = back.holds ∙ ap Some (synced_alone _ _ (itself.moments back.honest)) ∙ sym held.0 in
           inr (record {
@@ -43,9 +44,9 @@ returns-clause-files g c honest =
               back = c.answer_lines_in_memory-exit.result.1;
               held = held.0;
               lent = lent;
-              why = refused.0;
+              why = refused.why;
               refused = itself;
-              told = refused.2;
+              told = refused.told;
             });
           })
     ]
@@ -55,9 +56,9 @@ returns-in_default-clause-files g c honest = inr (record { same = (c.opened.ensu
 
 pub returns-clause-served : goal.returns-clause-served
 returns-clause-served g c = elim c.answer_lines_in_memory-exit.ensures.served [
-  | inl served ↦ inl (c.in-Some.disk, c.answer_lines_in_memory-exit.result.1, served)
-  | inr refused ↦ inr (inl (c.in-Some.disk, c.answer_lines_in_memory-exit.result.1, refused.0, refused.1, refused.2))
+  | inl served ↦ serves c.in-Some.disk c.answer_lines_in_memory-exit.result.1 served
+  | inr refused ↦ refuses c.in-Some.disk c.answer_lines_in_memory-exit.result.1 refused.why refused.refused refused.told
 ]
 
 pub returns-in_default-clause-served : goal.returns-in_default-clause-served
-returns-in_default-clause-served g c = inr (inr (c.opened.ensures.asked.none (ap is_some c.in_default.is), c.no_file.ensures))
+returns-in_default-clause-served g c = denies (c.opened.ensures.asked.none (ap is_some c.in_default.is)) c.no_file.ensures

@@ -1,7 +1,7 @@
 use Rattle.std.proofs.Common.{subst}
 use Rattle.std.proofs.lemmas.Result.{on_err_weaker}
 use Rattle.std.specs.Io.KnownBytes.{Appends}
-use Rattle.vm_cli.specs.Carried.{WritesStart}
+use Rattle.vm_cli.specs.answers.Carried.{WritesStart}
 use Rattle.vm_cli.proofs.CarriedLemmas.{begins-cut, begins-more, on_err}
 use Rattle.vm_cli.proofs.ExitLemmas.{file_first, file_then}
 use Rattle.vm_cli.proofs.program.say_with_file.Goals as goal

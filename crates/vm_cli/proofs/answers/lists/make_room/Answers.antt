@@ -1,5 +1,5 @@
 use Rattle.std.proofs.Common.{subst}
-use Rattle.vm_cli.specs.Carried.{WritesStart}
+use Rattle.vm_cli.specs.answers.Carried.{WritesStart}
 use Rattle.vm_cli.proofs.CarriedLemmas.{begins-cut, on_err}
 use Rattle.vm_cli.proofs.answers.lists.make_room.Goals as goal
 

@@ -1,6 +1,6 @@
 use Rattle.std.proofs.Common.{take}
-use Rattle.vm_cli.specs.Carried.{Carries}
-use Rattle.vm_cli.specs.Feeds.{joined}
+use Rattle.vm_cli.specs.answers.Carried.{Carries}
+use Rattle.vm_cli.specs.session.Feeds.{joined}
 use Rattle.vm_cli.proofs.answers.lists.write_list.Given as goal
 
 -- the lines so far were written, but for the text

@@ -1,8 +1,8 @@
 use Rattle.std.proofs.Common.{◌≡◌, arith, subst}
 use Rattle.std.specs.Io.KnownBytes.{Appends}
-use Rattle.vm_cli.specs.Carried.{WritesStart}
-use Rattle.vm_cli.specs.Replies.{reply_text}
-use Rattle.vm_cli.specs.Streams.{repeated}
+use Rattle.vm_cli.specs.answers.Carried.{WritesStart}
+use Rattle.vm_cli.specs.answers.Replies.{reply_text}
+use Rattle.vm_cli.specs.session.Streams.{repeated}
 use Rattle.vm_cli.proofs.CarriedLemmas.{begins-cut, begins-then, begins-whole, carries-end, carries-more, carries-then, on_err}
 use Rattle.vm_cli.proofs.Known.{Appends-kept}
 use Rattle.vm_cli.proofs.RepeatedLemmas.{begins-repeated, repeated-more}

@@ -1,6 +1,6 @@
-use Rattle.vm_cli.specs.Carried.{GainsBut}
-use Rattle.vm_cli.specs.Replies.{reply_text}
-use Rattle.vm_cli.specs.Streams.{repeated}
+use Rattle.vm_cli.specs.answers.Carried.{GainsBut}
+use Rattle.vm_cli.specs.answers.Replies.{reply_text}
+use Rattle.vm_cli.specs.session.Streams.{repeated}
 use Rattle.vm_cli.proofs.answers.repeated.put_repeated.Given as goal
 
 -- the lines so far are written, except those in the text

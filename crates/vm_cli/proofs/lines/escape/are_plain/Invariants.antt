@@ -1,5 +1,5 @@
 use Rattle.std.proofs.Common.{◌≡◌, true, take}
-use Rattle.vm_cli.specs.Escapes.{ArePlain}
+use Rattle.vm_cli.specs.lines.Escapes.{ArePlain}
 use Rattle.vm_cli.proofs.lines.escape.are_plain.Given as goal
 
 -- whether the bytes so far are written as themselves

@@ -1,5 +1,5 @@
 use Rattle.std.proofs.Common.{◌≡◌, ◌++◌, ◌≤◌, ◌+◌, ◌*◌, ◌<◌, ℕ, get_or, length, take}
-use Rattle.vm_cli.specs.Escapes.{escaped}
+use Rattle.vm_cli.specs.lines.Escapes.{escaped}
 use Rattle.vm_cli.proofs.lines.escape.push_spelled.Given as goal
 
 -- the bytes so far are written

@@ -1,6 +1,6 @@
 use Rattle.std.proofs.Common.{◌≡◌, ◌++◌, ◌≤◌, length, take, option_map}
 use Rattle.vm_types.specs.Bytes.{longest}
-use Rattle.vm_cli.specs.Escapes.{unescaped}
+use Rattle.vm_cli.specs.lines.Escapes.{unescaped}
 use Rattle.vm_cli.proofs.lines.escape.value.Given as goal
 
 -- the bytes so far, and those that the rest spells

@@ -1,5 +1,5 @@
 use Rattle.std.proofs.Common.{◌≡◌, ◌+◌, ◌<◌, ◌^◌, length}
-use Rattle.vm_cli.specs.Spaces.{words_of}
+use Rattle.vm_cli.specs.lines.Spaces.{words_of}
 use Rattle.vm_cli.proofs.lines.mistake.count.Given as goal
 
 -- the words so far, and those that are left, are those of the line

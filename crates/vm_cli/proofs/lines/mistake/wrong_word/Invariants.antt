@@ -1,6 +1,6 @@
 use Rattle.std.proofs.Common.{◌≡◌, ◌+◌, ◌<◌, ◌^◌, length}
-use Rattle.vm_cli.specs.Mistakes.{first_wrong, kinds_of}
-use Rattle.vm_cli.specs.Spaces.{words_of}
+use Rattle.vm_cli.specs.lines.Mistakes.{first_wrong, kinds_of}
+use Rattle.vm_cli.specs.lines.Spaces.{words_of}
 use Rattle.vm_cli.proofs.lines.mistake.wrong_word.Given as goal
 
 -- the words so far are of their kinds

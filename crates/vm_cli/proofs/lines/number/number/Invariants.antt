@@ -1,5 +1,5 @@
 use Rattle.std.proofs.Common.{◌≡◌, ◌<◌, ◌^◌, drop}
-use Rattle.vm_cli.specs.Numbers.{digits_after}
+use Rattle.vm_cli.specs.lines.Numbers.{digits_after}
 use Rattle.vm_cli.proofs.lines.number.number.Given as goal
 
 -- the digits so far are in the number

@@ -1,5 +1,5 @@
 use Rattle.std.proofs.Common.{◌≡◌, length}
-use Rattle.vm_cli.specs.Spaces.{words_of}
+use Rattle.vm_cli.specs.lines.Spaces.{words_of}
 use Rattle.vm_cli.proofs.lines.pieces.first_word.Given as goal
 
 -- only spaces so far

@@ -1,5 +1,5 @@
 use Rattle.std.proofs.Common.{◌≡◌, take}
-use Rattle.vm_cli.specs.Settlements.{for_others}
+use Rattle.vm_cli.specs.lines.Settlements.{for_others}
 use Rattle.vm_cli.proofs.lines.settlement.for_others.Given as goal
 
 -- the settlements of the conflicts so far

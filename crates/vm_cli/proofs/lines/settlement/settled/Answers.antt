@@ -1,6 +1,6 @@
 use Rattle.std.proofs.Common.{◌≢◌, [], rules}
-use Rattle.vm_cli.specs.Settlements.{settled_of}
-use Rattle.vm_cli.specs.Spaces.{words_of}
+use Rattle.vm_cli.specs.lines.Settlements.{settled_of}
+use Rattle.vm_cli.specs.lines.Spaces.{words_of}
 use Rattle.vm_cli.proofs.Settlements.{followed-bad, followed-end, followed-next, followed-some, followed-start}
 use Rattle.vm_cli.proofs.lines.settlement.settled.Goals as goal
 

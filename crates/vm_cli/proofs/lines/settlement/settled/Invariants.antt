@@ -1,6 +1,6 @@
 use Rattle.std.proofs.Common.{◌≡◌, length}
-use Rattle.vm_cli.specs.Settlements.{settled_of}
-use Rattle.vm_cli.specs.Spaces.{words_of}
+use Rattle.vm_cli.specs.lines.Settlements.{settled_of}
+use Rattle.vm_cli.specs.lines.Spaces.{words_of}
 use Rattle.vm_cli.proofs.Settlements.{followed}
 use Rattle.vm_cli.proofs.lines.settlement.settled.Given as goal
 

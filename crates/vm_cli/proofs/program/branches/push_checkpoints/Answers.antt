@@ -1,5 +1,5 @@
 use Rattle.std.proofs.Common.{◌∙◌, ◌++◌, ap, append_assoc, flat_map, sym, take}
-use Rattle.vm_cli.specs.Branches.{checkpoint_line}
+use Rattle.vm_cli.specs.program.Branches.{checkpoint_line}
 use Rattle.vm_cli.proofs.GivenLemmas.{flat_map-next}
 use Rattle.vm_cli.proofs.program.branches.push_checkpoints.Goals as goal
 

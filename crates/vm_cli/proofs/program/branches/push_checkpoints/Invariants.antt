@@ -1,5 +1,5 @@
 use Rattle.std.proofs.Common.{◌≡◌, ◌++◌, flat_map, take}
-use Rattle.vm_cli.specs.Branches.{checkpoint_line}
+use Rattle.vm_cli.specs.program.Branches.{checkpoint_line}
 use Rattle.vm_cli.proofs.program.branches.push_checkpoints.Given as goal
 
 -- the lines so far

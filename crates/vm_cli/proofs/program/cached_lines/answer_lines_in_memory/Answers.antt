@@ -14,18 +14,18 @@ returns-in-Ok-clause-served g c =
         done = served;
         given_back = c.into_inner.ensures;
       }))
-      | inr refused ↦ inr (
-        refused.0,
-        inr (record {
+      | inr refused ↦ inr (record {
+        why = refused.why;
+        refused = inr (record {
           first = c.in-Ok.cached;
           last = c.answer_lines_late-exit.result.1;
           some = some c.args.in_memory.cache c.if-cache-eq0.false;
           empty = c.in-Ok.ensures.ok;
-          done = refused.1;
+          done = refused.refused;
           given_back = c.into_inner.ensures;
-        }),
-        refused.2,
-      )
+        });
+        told = refused.told;
+      })
     ]
 
 pub returns-then-cache-eq0-clause-served : goal.returns-then-cache-eq0-clause-served
@@ -33,7 +33,7 @@ returns-then-cache-eq0-clause-served g c =
     let all = rw (c.buffer_for-buffer.ensures, c.blocks-2.ensures) at c.answer_lines_late.ensures.served in
     elim all [
       | inl served ↦ inl (inl served)
-      | inr refused ↦ inr (refused.0, inl refused.1, refused.2)
+      | inr refused ↦ inr (record { why = refused.why; refused = inl refused.refused; told = refused.told })
     ]
 
 pub returns-in-Err-clause-served : goal.returns-in-Err-clause-served
@@ -41,5 +41,5 @@ returns-in-Err-clause-served g c =
     let all = rw (c.in-Err.ensures.refused, c.buffer_for-buffer.ensures, c.blocks-2.ensures) at c.answer_lines_late-in-Err.ensures.served in
     elim all [
       | inl served ↦ inl (inl served)
-      | inr refused ↦ inr (refused.0, inl refused.1, refused.2)
+      | inr refused ↦ inr (record { why = refused.why; refused = inl refused.refused; told = refused.told })
     ]

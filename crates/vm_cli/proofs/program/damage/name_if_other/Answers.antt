@@ -1,7 +1,7 @@
 use Rattle.std.proofs.Common.{◌∙◌, ℕ, List, OnOk, OnErr, sym, subst}
 use Rattle.std.specs.Io.KnownBytes.{Appends}
 use Rattle.std.proofs.lemmas.Bool.{false≢true, false_from_ne_true}
-use Rattle.vm_cli.specs.Carried.{WritesStart}
+use Rattle.vm_cli.specs.answers.Carried.{WritesStart}
 use Rattle.vm_cli.proofs.ExitLemmas.{named_here, unmarked_unnamed, told_unnamed}
 use Rattle.vm_cli.proofs.program.damage.name_if_other.Goals as goal
 

@@ -2,7 +2,7 @@ use Rattle.std.proofs.Common.{◌≡◌, ◌∙◌, ℕ, ◌+◌, ◌<◌, lengt
 use Rattle.std.specs.List.{range_with_len}
 use Rattle.std.proofs.lemmas.List.{take_all}
 use Rattle.std.proofs.lemmas.List.FromFn.{get_or-range_with_len, length-range_with_len}
-use Rattle.vm_cli.specs.Exits.{name_text}
+use Rattle.vm_cli.specs.program.Exits.{name_text}
 use Rattle.vm_cli.proofs.CarriedLemmas.{begins-list, flat_map-more, on_err}
 use Rattle.vm_cli.proofs.ExitLemmas.{file_then}
 use Rattle.vm_cli.proofs.Known.{Appends-nil, Appends-then}

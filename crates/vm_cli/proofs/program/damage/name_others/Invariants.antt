@@ -1,7 +1,7 @@
 use Rattle.std.proofs.Common.{length, take, flat_map}
 use Rattle.std.specs.List.{range_with_len}
 use Rattle.std.specs.Io.KnownBytes.{Appends}
-use Rattle.vm_cli.specs.Exits.{name_text}
+use Rattle.vm_cli.specs.program.Exits.{name_text}
 use Rattle.vm_cli.proofs.program.damage.name_others.Given as goal
 
 -- the blocks so far were named

@@ -1,6 +1,6 @@
 use Rattle.std.proofs.Common.{◌++◌, subst}
-use Rattle.vm_cli.specs.Exits.{Tells, no_store_text, others_text}
-use Rattle.vm_cli.specs.Known.{written_to}
+use Rattle.vm_cli.specs.program.Exits.{Tells, no_store_text, others_text}
+use Rattle.vm_cli.specs.session.Known.{written_to}
 use Rattle.vm_cli.specs.declared.program.Exit.TheVariants.{Refused}
 use Rattle.vm_cli.proofs.ExitLemmas.{tells_less, tells_more}
 use Rattle.vm_cli.proofs.program.damage.unopened_with.Goals as goal

@@ -13,25 +13,25 @@ returns-in-Ok-clause-served g c = elim c.answer_lines-exit.ensures.served [
     given_back = c.into_inner.ensures.inner;
     follows = c.into_inner.ensures.below;
   }))
-  | inr refused ↦ inr (
-    refused.0,
-    inr (record {
+  | inr refused ↦ inr (record {
+    why = refused.why;
+    refused = inr (record {
       first = c.in-Ok.late;
       last = c.answer_lines-exit.result.1;
       some = some c.args.buffer c.if-buffer-eq0.false;
       idle = c.in-Ok.ensures.ok;
-      done = refused.1;
+      done = refused.refused;
       given_back = c.into_inner.ensures.inner;
       follows = c.into_inner.ensures.below;
-    }),
-    refused.2,
-  )
+    });
+    told = refused.told;
+  })
 ]
 
 pub returns-then-buffer-eq0-clause-served : goal.returns-then-buffer-eq0-clause-served
 returns-then-buffer-eq0-clause-served g c = elim c.answer_lines.ensures.served [
   | inl served ↦ inl (inl served)
-  | inr refused ↦ inr (refused.0, inl refused.1, refused.2)
+  | inr refused ↦ inr (record { why = refused.why; refused = inl refused.refused; told = refused.told })
 ]
 
 pub returns-in-Err-clause-served : goal.returns-in-Err-clause-served
@@ -39,5 +39,5 @@ returns-in-Err-clause-served g c =
     let all = rw c.in-Err.ensures.refused at c.answer_lines-in-Err.ensures.served in
     elim all [
       | inl served ↦ inl (inl served)
-      | inr refused ↦ inr (refused.0, inl refused.1, refused.2)
+      | inr refused ↦ inr (record { why = refused.why; refused = inl refused.refused; told = refused.told })
     ]

@@ -2,7 +2,7 @@ use Rattle.std.proofs.Common.{◌≡◌, ◌<◌, ◌↔◌, length, refl, rules
 use Rattle.vm_types.specs.declared.sizes.TheConstants.{FIRST_DATA}
 use Rattle.vm_disk.proofs.MomentLemmas.{read_once}
 use Rattle.vm_sums.specs.Sums.{IsWithoutSum}
-use Rattle.vm_cli.specs.Openings.{LacksSum}
+use Rattle.vm_cli.specs.program.Openings.{LacksSum}
 use Rattle.vm_cli.specs.declared.program.opening.NoStore.TheVariants.{WithoutSums}
 use Rattle.vm_cli.proofs.OpeningLemmas.{not_of_slot}
 use Rattle.vm_cli.proofs.program.opening.damaged.Goals.{then-n-ge-FIRST_DATA-via-then-n-ge-FIRST_DATA, then-n-ge-FIRST_DATA-via-else-n-ge-FIRST_DATA+then-n-blocks}

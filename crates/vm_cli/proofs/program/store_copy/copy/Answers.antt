@@ -1,5 +1,5 @@
 use Rattle.std.proofs.Common.{◌+◌, ◌∷◌, ◌∙◌, ap, inl, inr, is_some, refl, sym, Some}
-use Rattle.vm_cli.specs.Places.{WasLent}
+use Rattle.vm_cli.specs.program.Places.{WasLent}
 use Rattle.vm_cli.proofs.CopyingLemmas.{copied_between}
 use Rattle.vm_cli.proofs.FilesLemmas.{keeps_all, synced_alone}
 use Rattle.vm_cli.proofs.program.store_copy.copy.Goals as goal

@@ -1,9 +1,10 @@
-use Rattle.std.proofs.Common.{◌≡◌, true, ap, inl, sym, subst}
+use Rattle.std.proofs.Common.{◌≡◌, true, ap, inl, inr, refl, sym, subst}
 use Rattle.vm_types.specs.State.{opened}
 use Rattle.vm_disk.specs.Disk.{Goes}
 use Rattle.vm_disk.specs.Moments.{Throughout}
 use Rattle.vm_disk.proofs.MomentLemmas.{then_reads}
 use Rattle.vm_store.specs.Refused.{IsAtMostSynced}
+use Rattle.vm_cli.specs.program.Exits.SaysNoCopy.{copy_refused}
 use Rattle.vm_cli.proofs.CopyingLemmas.{copied_from, in_use_shown}
 use Rattle.vm_cli.proofs.PassLemmas.{goes_both}
 use Rattle.vm_cli.proofs.program.store_copy.copy_disk.Goals as goal
@@ -30,3 +31,6 @@ returns-in-Ok-clause-copied g c place honest =
       in_use_shown g.P.D.Disk _ store synced.same opens,
       copied_from _ _ _ _ _ _ _ _ _ _ _ _ _ _ _ first (ap g.P.D.Disk.state c.close.ensures.disk) makes,
     )
+
+pub returns-in-Err-clause-ends : goal.returns-in-Err-clause-ends
+returns-in-Err-clause-ends g c = inr (refl, (_, copy_refused c.in-Err.why, c.unopened.ensures))

@@ -2,6 +2,7 @@ use Rattle.std.proofs.Common.{◌≡◌, ◌≢◌, ◌∙◌, ap, inl, inr, ari
 use Rattle.vm_types.specs.declared.refusal.Refusal.TheVariants.{AlreadyAStore, BadSize, Device}
 use Rattle.vm_cli.proofs.CopyingLemmas.{why_none}
 use Rattle.vm_cli.proofs.FilesLemmas.{enough_blocks}
+use Rattle.vm_cli.specs.program.Exits.SaysNoCopy.{copy_refused}
 use Rattle.vm_cli.specs.declared.program.opening.NoStore.TheVariants.{Refused}
 use Rattle.vm_cli.proofs.program.store_copy.copy_onto.Goals as goal
 
@@ -59,5 +60,5 @@ pub returns-in-Err-clause-ends : goal.returns-in-Err-clause-ends
 returns-in-Err-clause-ends g c =
     elim c.drop_copy.ensures.ends [
       | inl stopped ↦ inl (stopped.1, inr (stopped.0, refl))
-      | inr told ↦ inr (refl, (_, inr (inr (Refused c.in-Err.refusal, refl)), told))
+      | inr told ↦ inr (refl, (_, copy_refused (Refused c.in-Err.refusal), told))
     ]

@@ -1,16 +1,28 @@
 use Rattle.std.proofs.Common.{◌≡◌, ◌+◌, ◌∷◌, ◌∙◌, true, false, ap, arith, inr, refl, rules, subst, sym}
+use Rattle.std.specs.Prelude.{codes}
 use Rattle.vm_types.specs.declared.refusal.Refusal.TheVariants.{Memory}
-use Rattle.vm_cli.specs.Copies.{blocks_for}
-use Rattle.vm_cli.specs.Places.{Lacks}
+use Rattle.vm_cli.specs.program.Copies.{blocks_for}
+use Rattle.vm_cli.specs.program.Exits.{SaysNoCopy, file_text}
+use Rattle.vm_cli.specs.program.Exits.SaysNoCopy.{copy_refused, name_denied, part_denied}
+use Rattle.vm_cli.specs.program.Places.{Lacks}
 use Rattle.vm_cli.specs.declared.program.opening.NoStore.TheVariants.{Refused}
 use Rattle.vm_cli.proofs.CopyingLemmas.{as_asked, makes_laid, makes_taken, makes_unmade, part_apart}
 use Rattle.vm_cli.proofs.program.store_copy.copy_store.Goals as goal
 
 pub returns-in_default-clause-ends : goal.returns-in_default-clause-ends
-returns-in_default-clause-ends g c = inr (refl, (_, inr (inr (Refused Memory, refl)), search rules))
+returns-in_default-clause-ends g c = inr (refl, (_, copy_refused (Refused Memory), search rules))
 
 pub returns-in-Err-clause-ends : goal.returns-in-Err-clause-ends
-returns-in-Err-clause-ends g c = inr (refl, (_, inr (inr (Refused c.in-Err.refusal, refl)), c.refused.ensures))
+returns-in-Err-clause-ends g c = inr (refl, (_, copy_refused (Refused c.in-Err.refusal), c.refused.ensures))
+
+pub returns-then-not-lacks-clause-ends : goal.returns-then-not-lacks-clause-ends
+returns-then-not-lacks-clause-ends g c = inr (refl, (_, name_denied, c.no_file.ensures))
+
+pub returns-in_default-create-clause-ends : goal.returns-in_default-create-clause-ends
+returns-in_default-create-clause-ends g c =
+    let named = c.as_str-part.ensures.value ∙ c.in-Ok-part_name.ensures in
+    let said : SaysNoCopy c.args.to.now (file_text (codes "altctl: cannot create ") c.as_str-part.result.now) = subst (λ name. SaysNoCopy c.args.to.now (file_text (codes "altctl: cannot create ") name)) (sym named) part_denied in
+    inr (refl, (_, said, c.no_file-in_default-create.ensures))
 
 pub returns-then-not-lacks-clause-files : goal.returns-then-not-lacks-clause-files
 returns-then-not-lacks-clause-files g c honest there well s holds =

@@ -1,6 +1,10 @@
 use Rattle.std.proofs.Common.{◌∷◌, ◌∙◌, ap, inr, refl, sym}
+use Rattle.vm_cli.specs.program.Exits.SaysNoCopy.{name_denied}
 use Rattle.vm_cli.proofs.CopyingLemmas.{names}
 use Rattle.vm_cli.proofs.program.store_copy.name_copy.Goals as goal
+
+pub returns-else-is_named-clause-ends : goal.returns-else-is_named-clause-ends
+returns-else-is_named-clause-ends g c = inr (refl, (_, name_denied, c.no_file.ensures))
 
 pub returns-else-is_named-clause-named : goal.returns-else-is_named-clause-named
 returns-else-is_named-clause-named g c apart honest =

@@ -2,7 +2,7 @@ use Rattle.std.proofs.Common.{◌≡◌, false, take}
 use Rattle.vm_types.specs.Shape.{shape}
 use Rattle.vm_types.specs.State.{State}
 use Rattle.vm_store.specs.Store.{Holds, has_failed}
-use Rattle.vm_cli.specs.StoreCounts.{checkpoint_count}
+use Rattle.vm_cli.specs.program.StoreCounts.{checkpoint_count}
 use Rattle.vm_cli.proofs.program.store_counts.count_checkpoints.Given as goal
 
 -- the checkpoints of the alternatives so far are counted

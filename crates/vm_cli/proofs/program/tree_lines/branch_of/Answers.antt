@@ -1,6 +1,6 @@
 use Rattle.std.proofs.Common.{◌≡◌, ◌∙◌, ap, inl, inr, refl}
 use Rattle.vm_store.specs.Tallies.{tally_in}
-use Rattle.vm_cli.specs.Branches.{numbers}
+use Rattle.vm_cli.specs.program.Branches.{numbers}
 use Rattle.vm_cli.proofs.program.tree_lines.branch_of.Goals as goal
 
 pub returns-clause-drawn : goal.returns-clause-drawn

@@ -2,8 +2,8 @@ use Rattle.std.proofs.Common.{◌≡◌, true, false, None, take}
 use Rattle.vm_types.specs.Shape.{shape}
 use Rattle.vm_types.specs.State.{State}
 use Rattle.vm_store.specs.Store.{Holds, disk_of, has_failed}
-use Rattle.vm_cli.specs.Branches.{branches_of}
-use Rattle.vm_cli.specs.Talk.{Passes}
+use Rattle.vm_cli.specs.program.Branches.{branches_of}
+use Rattle.vm_cli.specs.session.Session.{Passes}
 use Rattle.vm_cli.proofs.program.tree_lines.survey_listed.Given as goal
 
 -- the store was only read, and the alternatives so far are there

@@ -6,8 +6,8 @@ use Rattle.vm_disk.specs.Moments.{Throughout}
 use Rattle.vm_disk.proofs.GoesLemmas.{goes_then}
 use Rattle.vm_disk.proofs.MomentLemmas.{then_reads}
 use Rattle.vm_store.specs.Refused.{IsAtMostSynced, IsRefused}
-use Rattle.vm_cli.specs.Exits.{Tells}
-use Rattle.vm_cli.specs.Known.{written_to}
+use Rattle.vm_cli.specs.program.Exits.{Tells}
+use Rattle.vm_cli.specs.session.Known.{written_to}
 use Rattle.vm_cli.specs.declared.program.Exit.TheVariants.{Done}
 use Rattle.vm_cli.specs.declared.program.opening.NoStore.TheVariants.{Refused}
 use Rattle.vm_cli.proofs.OpeningLemmas.{device_untold, memory_untold}
@@ -30,15 +30,15 @@ returns-in-Ok-drawn-clause-told g c honest =
     let earlier = passes.goes.earlier there in
     let opens = c.in-Ok.ensures.opened.opens earlier in
     let text = is_ok _ c.draw_store-drawn.result _ c.in-Ok-drawn.is (c.draw_store-drawn.ensures.drawn there c.in-Ok.ensures.opened.well (opened opens.seen) opens.stands.holds) in
-    inl (
-      opens.seen,
-      record {
+    inl (record {
+      seen = opens.seen;
+      shown = record {
         goes = subst (λ d. Goes ⊥ old (g.D.Disk.state d)) (sym c.close-disk.ensures.disk) (goes_both _ _ _ c.in-Ok.ensures.opened.goes (passes_goes _ _ passes));
         shown = opens.shown;
         moments = subst (λ d. Throughout old (g.D.Disk.state d) (IsAtMostSynced old.now)) (sym c.close-disk.ensures.disk) (then_reads _ _ _ _ (c.in-Ok.ensures.opened.moments earlier) (passes.reads there refl));
-      },
-      subst (λ t. Tells Done c.show.result output t) (c.deref.ensures.value ∙ text) c.show.ensures,
-    )
+      };
+      told = subst (λ t. Tells Done c.show.result output t) (c.deref.ensures.value ∙ text) c.show.ensures;
+    })
 
 pub returns-in-Err-drawn-clause-told : goal.returns-in-Err-drawn-clause-told
 returns-in-Err-drawn-clause-told g c honest =
@@ -49,9 +49,9 @@ returns-in-Err-drawn-clause-told g c honest =
     let earlier = passes.goes.earlier there in
     let opens = c.in-Ok.ensures.opened.opens earlier in
     let why = is_err _ c.draw_store-drawn.result _ c.in-Err-drawn.is (c.draw_store-drawn.ensures.refused there c.in-Ok.ensures.opened.well (opened opens.seen) opens.stands.holds) in
-    inr (
-      Refused refusal,
-      record {
+    inr (record {
+      why = Refused refusal;
+      refused = record {
         goes = subst (λ d. Goes (refusal ≡ Device) old (g.D.Disk.state d)) (sym c.close-disk.ensures.disk)
             (goes_then _ _ _ _ _ _ c.in-Ok.ensures.opened.goes c.draw_store-drawn.ensures.any (λ is. c.in-Err-drawn.is ∙ ap Err is));
         why = λ _. elim why [
@@ -60,9 +60,9 @@ returns-in-Err-drawn-clause-told g c honest =
         ];
         earlier = λ _. elim why [ inl device ↦ device_untold _ _ device | inr memory ↦ memory_untold _ _ memory ];
         moments = λ _. subst (λ d. Throughout old (g.D.Disk.state d) (IsAtMostSynced old.now)) (sym c.close-disk.ensures.disk) (then_reads _ _ _ _ (c.in-Ok.ensures.opened.moments earlier) (passes.reads there refl));
-      },
-      c.refused.ensures,
-    )
+      };
+      told = c.refused.ensures;
+    })
 
 pub returns-in-Err-drawn-clause-ends : goal.returns-in-Err-drawn-clause-ends
 returns-in-Err-drawn-clause-ends g c = inr (refl, (Refused c.in-Err-drawn.refusal, c.refused.ensures))

@@ -1,5 +1,6 @@
-use Rattle.std.proofs.Common.{◌∙◌, ap, inl, inr, is_some, sym, Some}
-use Rattle.vm_cli.specs.Places.{KeepsOthers, WasLent}
+use Rattle.std.proofs.Common.{◌∙◌, ap, inl, inr, is_some, refl, sym, Some}
+use Rattle.vm_cli.specs.program.Exits.{no_store_text}
+use Rattle.vm_cli.specs.program.Places.{KeepsOthers, WasLent}
 use Rattle.vm_cli.proofs.FilesLemmas.{keeps_all, synced_alone}
 use Rattle.vm_cli.proofs.program.tree_view.tree.Goals as goal
 
@@ -13,21 +14,21 @@ returns-clause-files g c honest =
     let others : KeepsOthers c.args.file.now before after = λ other apart. back.others other apart ∙ found.same other in
     elim (c.show_disk-exit.ensures.told back.honest) [
       | inl drawn ↦
-          let held = found.held (drawn.1.goes.earlier back.honest) in
-          let same = back.holds ∙ ap Some (synced_alone _ _ drawn.1.moments) ∙ sym held.0 in
+          let held = found.held (drawn.shown.goes.earlier back.honest) in
+          let same = back.holds ∙ ap Some (synced_alone _ _ drawn.shown.moments) ∙ sym held.0 in
           inl (record {
             same = keeps_all c.args.file.now before after others same;
             found = c.in-Some.disk;
             back = c.show_disk-exit.result.1;
             held = held.0;
             lent = lent;
-            seen = drawn.0;
-            shown = drawn.1;
-            told = drawn.2;
+            seen = drawn.seen;
+            shown = drawn.shown;
+            told = drawn.told;
           })
       | inr refused ↦
-          let held = found.held (refused.1.goes.earlier back.honest) in
-          let same = back.holds ∙ ap Some (synced_alone _ _ (refused.1.moments back.honest)) ∙ sym held.0 in
+          let held = found.held (refused.refused.goes.earlier back.honest) in
+          let same = back.holds ∙ ap Some (synced_alone _ _ (refused.refused.moments back.honest)) ∙ sym held.0 in
           inr (record {
             same = keeps_all c.args.file.now before after others same;
             told = inr (record {
@@ -35,12 +36,18 @@ returns-clause-files g c honest =
               back = c.show_disk-exit.result.1;
               held = held.0;
               lent = lent;
-              why = refused.0;
-              refused = refused.1;
-              told = refused.2;
+              why = refused.why;
+              refused = refused.refused;
+              told = refused.told;
             });
           })
     ]
 
 pub returns-in_default-clause-files : goal.returns-in_default-clause-files
 returns-in_default-clause-files g c honest = inr (record { same = (c.look.ensures.honest honest).same; told = inl (c.look.ensures.asked.none (ap is_some c.in_default.is), (c.look.ensures.honest honest).same_came, c.no_file.ensures) })
+
+pub returns-clause-says : goal.returns-clause-says
+returns-clause-says g c = elim c.show_disk-exit.ensures.ends [
+  | inl drawn ↦ inl drawn
+  | inr (empty, (why, told)) ↦ inr (empty, (no_store_text why, inr (why, refl), told))
+]

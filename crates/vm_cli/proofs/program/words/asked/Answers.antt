@@ -2,8 +2,8 @@ use Rattle.std.proofs.Common.{◌≡◌, Some, None, codes, ap, sym, refl, ◌�
 use Rattle.std.proofs.lemmas.Result.{IfOk-weaker}
 use Rattle.clap.specs.Words.{Text, first_of, found_of, rows_of, subcommand_rows_of}
 use Rattle.clap.proofs.WalkLemmas.{first_value-rows}
-use Rattle.vm_cli.specs.Words.{asked_by, asked_of, run_by}
-use Rattle.vm_cli.specs.declared.talk.Grouping.{Grouping}
+use Rattle.vm_cli.specs.program.Words.{asked_by, asked_of, run_by}
+use Rattle.vm_cli.specs.declared.session.Grouping.{Grouping}
 use Rattle.vm_cli.proofs.Matches.{asked_of-entered, subcommand_rows-parts}
 use Rattle.vm_cli.proofs.program.words.asked.Goals as goal
 

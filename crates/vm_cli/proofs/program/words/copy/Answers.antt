@@ -1,6 +1,6 @@
 use Rattle.std.proofs.Common.{◌∙◌, ap}
 use Rattle.std.proofs.lemmas.Result.{IfOk-weaker}
-use Rattle.vm_cli.specs.Words.{with_lock}
+use Rattle.vm_cli.specs.program.Words.{with_lock}
 use Rattle.vm_cli.proofs.Commands.{local_arg, with_arg}
 use Rattle.vm_cli.proofs.program.words.copy.Goals as goal
 

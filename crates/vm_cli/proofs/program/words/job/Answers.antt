@@ -3,7 +3,7 @@ use Rattle.std.specs.String.{string_bytes}
 use Rattle.clap.specs.Words.{App, FailsBy, HasKind, fault_of, is_simple, subcommand_of, subcommand_rows_of}
 use Rattle.clap.specs.Faults.{is_simple_and_free}
 use Rattle.clap.specs.declared.error.Error.{Error}
-use Rattle.vm_cli.specs.Words.{Wanted, altctl, asked_of, wanted_of}
+use Rattle.vm_cli.specs.program.Words.{Wanted, altctl, asked_of, wanted_of}
 use Rattle.vm_cli.specs.declared.program.task.Job.{Job}
 use Rattle.vm_cli.proofs.Asked.{asks}
 use Rattle.vm_cli.proofs.Matches.{passed_on}

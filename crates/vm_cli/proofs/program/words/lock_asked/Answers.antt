@@ -1,7 +1,7 @@
 use Rattle.std.proofs.Common.{◌≡◌, Some, None, codes, sym, refl, ◌∙◌}
 use Rattle.clap.specs.Words.{first_of, found_of, rows_of, subcommand_rows_of}
 use Rattle.clap.proofs.WalkLemmas.{first_value-rows}
-use Rattle.vm_cli.specs.Locks.{lock_by, lock_of}
+use Rattle.vm_cli.specs.program.Locks.{lock_by, lock_of}
 use Rattle.vm_cli.proofs.Matches.{subcommand_rows-parts}
 use Rattle.vm_cli.proofs.program.words.lock_asked.Goals as goal
 

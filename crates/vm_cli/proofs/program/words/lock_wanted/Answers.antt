@@ -3,8 +3,8 @@ use Rattle.std.specs.String.{string_bytes}
 use Rattle.clap.specs.Words.{App, FailsBy, HasKind, fault_of, is_simple, subcommand_of, subcommand_rows_of}
 use Rattle.clap.specs.Faults.{is_simple_and_free}
 use Rattle.clap.specs.declared.error.Error.{Error}
-use Rattle.vm_cli.specs.Locks.{lock_of}
-use Rattle.vm_cli.specs.Words.{altctl}
+use Rattle.vm_cli.specs.program.Locks.{lock_of}
+use Rattle.vm_cli.specs.program.Words.{altctl}
 use Rattle.vm_cli.specs.declared.program.file_lock.LockWanted.{LockWanted}
 use Rattle.vm_cli.proofs.Matches.{passed_on}
 use Rattle.vm_cli.proofs.program.words.lock_wanted.Goals as goal

@@ -1,7 +1,7 @@
 use Rattle.std.proofs.Common.{◌≡◌, ℕ, List, Option, [], ◌++◌, get_or, option_copied, ap, ap₂, sym, ◌∙◌, arith}
 use Rattle.std.proofs.lemmas.List.{get_or-map, length-map}
 use Rattle.vm_types.specs.declared.change.Change.{Change}
-use Rattle.vm_cli.specs.Listings.{change_text}
+use Rattle.vm_cli.specs.answers.Listings.{change_text}
 use Rattle.vm_cli.proofs.answers.listing.ChangesListing.push_line.Goals as goal
 
 pub returns : goal.returns

@@ -2,7 +2,7 @@ use Rattle.std.proofs.Common.{◌≡◌, ℕ, List, Option, [], ◌++◌, get_or
 use Rattle.std.proofs.lemmas.List.{get_or-map, length-map}
 use Rattle.vm_types.specs.declared.change.Conflict.{Conflict}
 use Rattle.vm_types.specs.declared.key.Key.{Key}
-use Rattle.vm_cli.specs.Listings.{conflict_text}
+use Rattle.vm_cli.specs.answers.Listings.{conflict_text}
 use Rattle.vm_cli.proofs.answers.listing.ConflictsListing.push_line.Goals as goal
 
 pub returns : goal.returns

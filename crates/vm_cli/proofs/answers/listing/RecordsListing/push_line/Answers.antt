@@ -1,7 +1,7 @@
 use Rattle.std.proofs.Common.{ℕ, List, [], ◌++◌, ap, ap₂, sym, ◌∙◌, arith}
 use Rattle.std.proofs.lemmas.List.{get_or-map, length-map}
 use Rattle.vm_types.specs.declared.key.Key.{Key}
-use Rattle.vm_cli.specs.Listings.{record_text}
+use Rattle.vm_cli.specs.answers.Listings.{record_text}
 use Rattle.vm_cli.proofs.answers.listing.RecordsListing.push_line.Goals as goal
 
 pub returns : goal.returns

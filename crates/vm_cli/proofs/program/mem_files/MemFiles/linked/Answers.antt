@@ -1,7 +1,7 @@
 use Rattle.std.proofs.Common.{◌≡◌, Some, ap, sym, ◌∙◌, string_bytes}
 use Rattle.vm_disk.specs.Memory.{memory_state}
 use Rattle.vm_disk.specs.declared.memory.MemDisk.{MemDisk}
-use Rattle.vm_cli.specs.MemFiles.{files_state}
+use Rattle.vm_cli.specs.program.MemFiles.{files_state}
 use Rattle.vm_cli.proofs.MemFilesLemmas.{links, ok_is}
 use Rattle.vm_cli.proofs.program.mem_files.MemFiles.linked.Goals as goal
 

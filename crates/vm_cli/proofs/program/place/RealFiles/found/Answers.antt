@@ -2,7 +2,7 @@ use Rattle.std.proofs.Common.{◌≡◌, true, ap, inr, sym, subst, ◌∙◌}
 use Rattle.vm_disk.specs.System.{KeepsState, name_of, opening_of, system_state}
 use Rattle.vm_disk.specs.declared.system.SystemFile.{SystemFile}
 use Rattle.vm_cli.proofs.RealFilesLemmas.{finds}
-use Rattle.vm_cli.specs.Progress.{file_below}
+use Rattle.vm_cli.specs.program.Progress.{file_below}
 use Rattle.vm_cli.proofs.program.place.RealFiles.found.Goals as goal
 
 pub returns-clause-honest : goal.returns-clause-honest

@@ -1,7 +1,7 @@
 use Rattle.std.proofs.Common.{ap, inr, sym, ◌∙◌}
 use Rattle.vm_disk.specs.System.{name_of, opening_of}
 use Rattle.vm_cli.proofs.RealFilesLemmas.{finds, kept_as_is}
-use Rattle.vm_cli.specs.Progress.{file_below}
+use Rattle.vm_cli.specs.program.Progress.{file_below}
 use Rattle.vm_cli.proofs.program.place.RealFiles.looked.Goals as goal
 
 pub returns-clause-honest : goal.returns-clause-honest

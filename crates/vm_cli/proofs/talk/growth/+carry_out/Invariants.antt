@@ -1,4 +1,0 @@
-use Rattle.vm_cli.proofs.talk.growth.+carry_out.Given as goal
-
-abbrev pub decreases-carry_out : goal.decreases-carry_out
-decreases-carry_out g l = l.growths

@@ -1,0 +1,20 @@
+-- What the program does, says and leaves.
+pub mod Branches
+pub mod CachedLines
+pub mod Copies
+pub mod DelayedLines
+pub mod DiskUses
+pub mod Exits
+pub mod Files
+pub mod Given
+pub mod Locks
+pub mod MemFiles
+pub mod Openings
+pub mod Places
+pub mod Progress
+pub mod RealFiles
+pub mod Runs
+pub mod Selector
+pub mod StoreCounts
+pub mod Told
+pub mod Words

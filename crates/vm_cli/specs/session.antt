@@ -1,0 +1,21 @@
+-- What a session answers, and what the store and a crash have of it.
+pub mod Fairness
+pub mod Feeds
+pub mod Keeps
+pub mod Known
+pub mod LineEndings
+pub mod LineReading
+pub mod LineUses
+pub mod PlannerCalls
+pub mod PlannerLines
+pub mod Planners
+pub mod Rounds
+pub mod Served
+pub mod Session
+pub mod SessionKinds
+pub mod Standing
+pub mod StreamCalls
+pub mod StreamKeeps
+pub mod Streams
+pub mod Waiting
+pub mod WaitingCalls
