@@ -1,44 +1,13 @@
 -- What is said by the lines of a stream in which many planners speak.
-use Rattle.std.proofs.Common.{◌≡◌, ◌==◌, ◌∙◌, ℕ, Bool, true, false, List, [], ◌∷◌, Option, Some, None, codes, if◌then◌else◌, length, refl, arith}
+use Rattle.std.proofs.Common.{◌≡◌, ◌==◌, ℕ, Bool, true, false, List, [], ◌∷◌, Option, Some, None, codes, if◌then◌else◌, refl}
 use Rattle.std.specs.Prelude.{option_map, unwrap_or}
 use Rattle.std.specs.Str.{bytes_eq}
 use Rattle.vm_cli.specs.lines.Lines.{IsPart}
-use Rattle.vm_cli.specs.lines.Pieces.{before_mark, behind_mark}
-use Rattle.vm_cli.specs.session.PlannerLines.{Saying, SaysPart, after_word, first_planner, joins, leaves, lone_go, lone_planner, said_by, saying_by, saying_of, says, strange, without_spaces}
+use Rattle.vm_cli.specs.lines.Pieces.{after_word, behind_mark, without_spaces}
+use Rattle.vm_cli.specs.session.PlannerLines.{Saying, SaysPart, first_planner, joins, leaves, lone_go, lone_planner, said_by, saying_by, saying_of, says, strange}
 use Rattle.vm_cli.specs.lines.Requests.{is_comment}
 use Rattle.vm_cli.specs.lines.Spaces.{words_of}
 use Rattle.vm_cli.specs.declared.session.planner_line.When.TheVariants.{Later, Now}
-use Rattle.vm_cli.proofs.Spaces.{words_of-pieces}
-
--- spaces at the front stand in no word
-words_of-without_spaces : (bytes : List ℕ) → words_of bytes ≡ words_of (without_spaces bytes)
-words_of-without_spaces [] = refl
-words_of-without_spaces (b ∷ bytes) = go (b == 32) refl (words_of-without_spaces bytes)
-  where
-    go : (space : Bool) → (b == 32) ≡ space → words_of bytes ≡ words_of (without_spaces bytes) → words_of (b ∷ bytes) ≡ words_of (without_spaces (b ∷ bytes))
-    go true is same = rw is same
-    go false is same = rw (is, is) refl
-
--- bytes without spaces at their front have a first word, if there are any
-without_spaces-none : (bytes : List ℕ) → [] ≡ before_mark 32 (without_spaces bytes) → without_spaces bytes ≡ []
-without_spaces-none [] none = refl
-without_spaces-none (b ∷ bytes) none = go (b == 32) refl none (without_spaces-none bytes)
-  where
-    go : (space : Bool) → (b == 32) ≡ space → [] ≡ before_mark 32 (without_spaces (b ∷ bytes)) → ([] ≡ before_mark 32 (without_spaces bytes) → without_spaces bytes ≡ [])
-        → without_spaces (b ∷ bytes) ≡ []
-    go true is none' later = rw is (later (rw is at none'))
-    go false is none' later = let bad = rw (is, is) at none' in cc
-
--- a line whose first word has no byte has no word
-pub words_of-none : (bytes word : List ℕ) → word ≡ before_mark 32 (without_spaces bytes) → (length word == 0) ≡ true → words_of bytes ≡ []
-words_of-none bytes [] first empty = rw (words_of-without_spaces bytes, without_spaces-none bytes first) refl
-words_of-none bytes (b ∷ word) first empty = absurd (grind (arith, empty))
-
--- the words of any other line: its first word, and those of all that follows
-pub words_of-word : (bytes word rest : List ℕ) → word ≡ before_mark 32 (without_spaces bytes) → rest ≡ after_word bytes → (length word == 0) ≡ false
-    → words_of bytes ≡ word ∷ words_of rest
-words_of-word bytes [] rest first behind some = absurd (grind (arith, some))
-words_of-word bytes (b ∷ word) rest first behind some = words_of-without_spaces bytes ∙ words_of-pieces (without_spaces bytes) (b ∷ word) rest first behind
 
 behind_mark-part : (mark : ℕ) (bytes : List ℕ) → IsPart bytes → IsPart (behind_mark mark bytes)
 behind_mark-part mark [] part = part

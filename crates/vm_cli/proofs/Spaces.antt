@@ -1,8 +1,8 @@
 -- The first piece of a text, and the first word of a line.
-use Rattle.std.proofs.Common.{◌≡◌, ◌<◌, ◌≤◌, ◌+◌, ◌-◌, ◌==◌, ℕ, Bool, true, false, List, [], ◌∷◌, length, take, drop, get_or, zero, suc, refl, arith, add-one}
+use Rattle.std.proofs.Common.{◌≡◌, ◌<◌, ◌≤◌, ◌+◌, ◌-◌, ◌==◌, ◌∙◌, ℕ, Bool, true, false, List, [], ◌∷◌, length, take, drop, get_or, zero, suc, refl, arith, add-one}
 use Rattle.std.proofs.lemmas.List.{take_rest}
 use Rattle.std.specs.List.{slice_split, filter}
-use Rattle.vm_cli.specs.lines.Pieces.{before_mark, behind_mark}
+use Rattle.vm_cli.specs.lines.Pieces.{after_word, before_mark, behind_mark, without_spaces}
 use Rattle.vm_cli.specs.lines.Spaces.{is_some_byte, with_word, words_of}
 
 other : (b mark : ℕ) → (b ≡ mark → ⊥) → (b == mark) ≡ false
@@ -81,3 +81,33 @@ words_of-few (b ∷ bytes) = go (b == 32) refl (split bytes) (words_of-few bytes
         let with_piece = with_word-longer (before_mark 32 bytes) (words_of (behind_mark 32 bytes)) in
         let longer = rw (← words_of-first bytes) at with_piece in
         rw (e, parts.1, parts.2) (omega (arith, few, longer))
+
+-- spaces at the front stand in no word
+words_of-without_spaces : (bytes : List ℕ) → words_of bytes ≡ words_of (without_spaces bytes)
+words_of-without_spaces [] = refl
+words_of-without_spaces (b ∷ bytes) = go (b == 32) refl (words_of-without_spaces bytes)
+  where
+    go : (space : Bool) → (b == 32) ≡ space → words_of bytes ≡ words_of (without_spaces bytes) → words_of (b ∷ bytes) ≡ words_of (without_spaces (b ∷ bytes))
+    go true is same = rw is same
+    go false is same = rw (is, is) refl
+
+-- bytes without spaces at their front have a first word, if there are any
+without_spaces-none : (bytes : List ℕ) → [] ≡ before_mark 32 (without_spaces bytes) → without_spaces bytes ≡ []
+without_spaces-none [] none = refl
+without_spaces-none (b ∷ bytes) none = go (b == 32) refl none (without_spaces-none bytes)
+  where
+    go : (space : Bool) → (b == 32) ≡ space → [] ≡ before_mark 32 (without_spaces (b ∷ bytes)) → ([] ≡ before_mark 32 (without_spaces bytes) → without_spaces bytes ≡ [])
+        → without_spaces (b ∷ bytes) ≡ []
+    go true is none' later = rw is (later (rw is at none'))
+    go false is none' later = let bad = rw (is, is) at none' in cc
+
+-- a line whose first word has no byte has no word
+pub words_of-none : (bytes word : List ℕ) → word ≡ before_mark 32 (without_spaces bytes) → (length word == 0) ≡ true → words_of bytes ≡ []
+words_of-none bytes [] first empty = rw (words_of-without_spaces bytes, without_spaces-none bytes first) refl
+words_of-none bytes (b ∷ word) first empty = absurd (grind (arith, empty))
+
+-- the words of any other line: its first word, and those of all that follows
+pub words_of-word : (bytes word rest : List ℕ) → word ≡ before_mark 32 (without_spaces bytes) → rest ≡ after_word bytes → (length word == 0) ≡ false
+    → words_of bytes ≡ word ∷ words_of rest
+words_of-word bytes [] rest first behind some = absurd (grind (arith, some))
+words_of-word bytes (b ∷ word) rest first behind some = words_of-without_spaces bytes ∙ words_of-pieces (without_spaces bytes) (b ∷ word) rest first behind

@@ -3,7 +3,7 @@ use Rattle.std.specs.Prelude.{◌==◌, ℕ, List, [], ◌∷◌, Option, Some, 
 use Rattle.std.specs.Str.{bytes_eq}
 use Rattle.vm_cli.specs.lines.Lines.{IsPart}
 use Rattle.vm_cli.specs.lines.Numbers.{number_of}
-use Rattle.vm_cli.specs.lines.Pieces.{behind_mark}
+use Rattle.vm_cli.specs.lines.Pieces.{after_word}
 use Rattle.vm_cli.specs.lines.Requests.{is_comment}
 use Rattle.vm_cli.specs.lines.Spaces.{words_of}
 use Rattle.vm_cli.specs.declared.session.planner_line.PlannerLine.{PlannerLine}
@@ -25,15 +25,6 @@ pub data Saying : Type 0 where
   releases : Saying
   -- the line is none of the known ones
   strange : Saying
-
--- the bytes without the spaces (32) at their front
-abbrev pub without_spaces : List ℕ → List ℕ
-without_spaces [] = []
-without_spaces (b ∷ bytes) = if b == 32 then without_spaces bytes else b ∷ bytes
-
--- all that follows the first space after the first word
-abbrev pub after_word : List ℕ → List ℕ
-after_word bytes = behind_mark 32 (without_spaces bytes)
 
 -- a number from 1
 abbrev pub from_one : ℕ → Option ℕ

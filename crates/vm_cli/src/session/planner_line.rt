@@ -1,13 +1,14 @@
 //! A line of a stream in which many planners speak to one store.
-ghost use Rattle.std.specs.Prelude.{◌≡◌, [], IfSome, MatchOption, option_map};
+ghost use Rattle.std.specs.Prelude.{◌≡◌, option_map};
 ghost use Rattle.vm_cli.specs.lines.Lines.{IsPart};
-ghost use Rattle.vm_cli.specs.session.PlannerLines.{SaysPart, after_word, first_planner, lone_planner as lone_planner_of, planner_of, said_by, saying, saying_of, without_spaces};
+ghost use Rattle.vm_cli.specs.session.PlannerLines.{SaysPart, first_planner, lone_planner as lone_planner_of, planner_of, said_by, saying, saying_of};
 ghost use Rattle.vm_cli.specs.session.PlannerLines.Saying.{says};
-ghost use Rattle.vm_cli.specs.lines.Spaces.{BeginsWith, words_of};
+ghost use Rattle.vm_cli.specs.lines.Pieces.{after_word};
+ghost use Rattle.vm_cli.specs.lines.Spaces.{words_of};
 
 use crate::lines::arguments::ends;
 use crate::lines::number::number;
-use crate::lines::pieces::{first_piece, first_word};
+use crate::lines::pieces::first_word;
 
 /// When a batch is carried out that ends with a line.
 #[derive(Clone, Copy)]
@@ -42,7 +43,7 @@ pub(crate) fn planner_line(line: &[u8]) -> PlannerLine<'_>
     // What is said by a line without a line feed has none.
     ensures part { IsPart line.now → SaysPart (saying result) }
 {
-    let Some((verb, rest)) = word_and_rest(line) else {
+    let Some((verb, rest)) = first_word(line) else {
         return PlannerLine::Nothing;
     };
     if verb.first() == Some(&b'#') {
@@ -75,7 +76,7 @@ fn said<'a>(verb: &[u8], rest: &'a [u8]) -> Option<PlannerLine<'a>>
 fn planner_says<'a>(when: When, rest: &'a [u8]) -> Option<PlannerLine<'a>>
     ensures { option_map saying result ≡ option_map (λ n. says when n (after_word rest.now)) (first_planner (words_of rest.now)) }
 {
-    let (word, line) = word_and_rest(rest)?;
+    let (word, line) = first_word(rest)?;
     Some(PlannerLine::Says(when, planner(word)?, line))
 }
 
@@ -96,28 +97,4 @@ fn planner(word: &[u8]) -> Option<u32>
         0 => None,
         number => Some(number as u32),
     }
-}
-
-/// The first word of a line, and all that follows the first space after it.
-fn word_and_rest(line: &[u8]) -> Option<(&[u8], &[u8])>
-    ensures word { MatchOption result (words_of line.now ≡ [])
-        (λ p. BeginsWith line.now p.0.now p.1.now) }
-    ensures rest { IfSome result (λ p. p.1.now ≡ after_word line.now) }
-{
-    let (word, rest) = first_piece(skip_spaces(line), b' ');
-    if word.is_empty() {
-        return None;
-    }
-    Some((word, rest))
-}
-
-/// A line without the spaces at its front.
-fn skip_spaces(line: &[u8]) -> &[u8]
-    ensures { result.now ≡ without_spaces line.now }
-{
-    let mut rest = line;
-    while let [b' ', after @ ..] = rest {
-        rest = after;
-    }
-    rest
 }

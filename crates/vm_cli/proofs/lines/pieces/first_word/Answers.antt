@@ -1,13 +1,20 @@
-use Rattle.std.proofs.Common.{rules}
-use Rattle.vm_cli.proofs.Spaces.{words_of-pieces}
+use Rattle.std.proofs.Common.{◌≡◌, ◌==◌, length, true, false, rules}
+use Rattle.vm_cli.specs.lines.Pieces.{after_word, before_mark, without_spaces}
+use Rattle.vm_cli.proofs.Spaces.{words_of-none, words_of-word}
 use Rattle.vm_cli.proofs.lines.pieces.first_word.Goals as goal
 
-pub returns-then-not-is_empty : goal.returns-then-not-is_empty
-returns-then-not-is_empty c =
-    let words = words_of-pieces c.loop-rest.rest.now c.first_piece.result.0.now c.first_piece.result.1.now c.first_piece.ensures.piece c.first_piece.ensures.rest in
-    search rules
+pub returns-then-is_empty-clause-word : goal.returns-then-is_empty-clause-word
+returns-then-is_empty-clause-word c =
+    let word = c.first_piece.result.0.now in
+    let first : word ≡ before_mark 32 (without_spaces c.args.line.now) = search rules in
+    let empty : (length word == 0) ≡ true = cc in
+    words_of-none c.args.line.now word first empty
 
-pub loop-rest-preserved : goal.loop-rest-preserved
-loop-rest-preserved c =
-    let words = words_of-pieces c.loop-rest.rest.now c.first_piece.result.0.now c.first_piece.result.1.now c.first_piece.ensures.piece c.first_piece.ensures.rest in
-    search rules
+pub returns-clause-word : goal.returns-clause-word
+returns-clause-word c =
+    let word = c.first_piece.result.0.now in
+    let rest = c.first_piece.result.1.now in
+    let first : word ≡ before_mark 32 (without_spaces c.args.line.now) = search rules in
+    let behind : rest ≡ after_word c.args.line.now = search rules in
+    let some : (length word == 0) ≡ false = cc in
+    words_of-word c.args.line.now word rest first behind some

@@ -1,10 +1,10 @@
 use Rattle.std.proofs.Common.{◌≡◌, length}
-use Rattle.vm_cli.specs.lines.Spaces.{words_of}
-use Rattle.vm_cli.proofs.lines.pieces.first_word.Given as goal
+use Rattle.vm_cli.specs.lines.Pieces.{without_spaces}
+use Rattle.vm_cli.proofs.lines.pieces.skip_spaces.Given as goal
 
 -- only spaces so far
 abbrev pub invariant-loop-rest : goal.invariant-loop-rest
-invariant-loop-rest l = words_of l.fn.line ≡ words_of l.rest
+invariant-loop-rest l = without_spaces l.fn.line ≡ without_spaces l.rest
 
 abbrev pub decreases-loop-rest : goal.decreases-loop-rest
 decreases-loop-rest l = length l.rest
