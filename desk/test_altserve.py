@@ -23,6 +23,7 @@ from service_tests.test_limits import DocumentTests, UnreadTests, UsersTests
 from service_tests.test_lines import LineTests
 from service_tests.test_log import IndexTests, LogTests
 from service_tests.test_parts import PartsTests
+from service_tests.test_recent import RecentTests, RecordTests
 from service_tests.test_renewals import RenewalTests
 from service_tests.test_restore import RestoreTests
 from service_tests.test_rules import ActingTests, RulesTests

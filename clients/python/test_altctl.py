@@ -908,7 +908,7 @@ class ServiceTests(unittest.TestCase):
                 one.remove("north", row.table, row.number)
             self.assertEqual([], list(other.list("north")))
             names = [it.name for it in other.alternatives()]
-            self.assertEqual(["top", "north", ".service"], names)
+            self.assertCountEqual(["top", "north", ".service"], names)
 
     def test_many_queries_are_answered_together(self):
         with self.open() as service:

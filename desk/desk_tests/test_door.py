@@ -30,7 +30,7 @@ class DoorTests(AskingTest):
         # A cookie would be sent to each port of this machine, so none lets in.
         self.assertEqual(403, self.ask("/api/state", Cookie=f"altdesk-{self.port}={self.token}")[0])
         self.assertEqual(403, self.ask("/api/batch", "x", b'{"do":"drop","at":"north","seen":9}')[0])
-        self.assertEqual(["top", "north", "south", ".service"], [it.name for it in self.store().alternatives()])
+        self.assertCountEqual(["top", "north", "south", ".service"], [it.name for it in self.store().alternatives()])
 
     def test_the_page_itself_has_no_secret(self):
         for path in ("/", "/desk.css", "/leaflet.js", f"/?token={self.token}"):

@@ -98,7 +98,7 @@ class PageTests(DeskTest):
         browser.confirm()
         browser.says("Dropped variant.")
         browser.until(lambda: browser.text("#chosen").startswith("top,"))
-        self.assertEqual(["top", "north", "south", ".service"], [it.name for it in store.alternatives()])
+        self.assertCountEqual(["top", "north", "south", ".service"], [it.name for it in store.alternatives()])
 
     def test_what_was_not_seen_is_not_posted(self):
         browser = self.opened()

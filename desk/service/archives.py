@@ -24,6 +24,7 @@ MARK = re.compile(
 )
 OVERLAP = 256
 DROPPED = re.compile(rb'\{"dropped":(\d+),"archive":"([^"]*)"\}\n')
+NUMBER = re.compile(r"[0-9]{1,19}")
 TIME = re.compile(r"\d{4}-\d{2}-\d{2}(T\d{2}(:\d{2}(:\d{2}(\.\d+)?)?)?)?Z?")
 # So much is copied between two syncs: each stops the others.
 SYNCED = 1 << 20
@@ -47,7 +48,7 @@ class Dropped(NamedTuple):
 
 def is_moment(until: str) -> bool:
     """Whether a text is the number of a batch, or a time."""
-    return until.isdigit() or TIME.fullmatch(until) is not None
+    return NUMBER.fullmatch(until) is not None or TIME.fullmatch(until) is not None
 
 
 def is_after(number: int, at: str, until: str) -> bool:
@@ -108,8 +109,9 @@ class Target:
         except OSError as fault:
             raise Broken(f"the folder of {self.name} could not be synced: {fault}") from None
 
-    def forget(self) -> None:
-        """Removes it, unless it has its name."""
+    def close(self) -> None:
+        """Closes it, and removes it unless it has its name."""
+        os.close(self.file)
         with contextlib.suppress(FileNotFoundError):
             os.unlink(self.part)
 
@@ -166,11 +168,9 @@ def archived(journal: Journal, file: str, name: str, until: str) -> Iterator[byt
         rest = None
         yield b"ok %d %d\n" % (cut.highest, cut.at)
     finally:
-        archive.forget()
-        os.close(archive.file)
+        archive.close()
         if rest is not None:
-            rest.forget()
-            os.close(rest.file)
+            rest.close()
 
 
 def refused(fault: OSError) -> bytes:

@@ -144,8 +144,8 @@ class Copy:
 
     def _has_blocks(self) -> bool:
         """Whether enough blocks are free for a group, and for others until the copy is whole. The last batch of a group
-        may have as many lines as all before it."""
-        least = MARGIN + 2 * MARGIN * (2 * LAST_WORK + 1)
+        may have as many lines as all before it, and the service as many records."""
+        least = MARGIN + 2 * MARGIN * (4 * LAST_WORK + 1)
         return self.free - least >= max(0, self.spare - least) * (1 - self._progress())
 
     def _progress(self) -> float:
@@ -177,6 +177,7 @@ class Copy:
         self.commits += commits
         changed = 0
         for batch in batches:
+            changed += batch.own
             for line, answer in zip(batch.lines, batch.answers or []):
                 verb = line.split(b" ", 1)[0]
                 changed += int(answer.split()[1]) if verb == b"merge" and answer.startswith(b"ok ") else 1

@@ -16,8 +16,13 @@ class Batch:
     may_merge = False
     # What its lines count for among all that is held.
     held = 0
-    # It is tried by itself first if one of the last batches of its planner had others carried out again.
-    is_doubtful, is_alone, has_disturbed = False, False, False
+    # It comes first in its group if one of the last batches of its planner had others carried out again.
+    is_doubtful, has_disturbed = False, False
+    # It is carried out by itself, perhaps with its line in the journal's file before, and how often the program ended
+    # at it then. How many lines of the service were carried out with it.
+    is_alone, is_told_first, tries, own = False, False, 0, 0
+    # How it is refused if no earlier line is: how many lines it may have until then, and the place and the answer.
+    due: Optional[Tuple[int, int, bytes]] = None
 
     def __init__(
         self, person, lines=(), is_explicit=False, rules=None, source=None, seen: Optional[Dict[str, int]] = None
@@ -78,8 +83,8 @@ class Batch:
 
 
 def refused_place(answers: List[bytes]) -> Optional[int]:
-    """The position of the first answer that is a refusal."""
+    """The position of the line for which a batch was refused: the others are answered that they were not done."""
     for place, it in enumerate(answers):
-        if it.startswith(b"error "):
+        if it.startswith(b"error ") and not it.startswith(b"error 91 "):
             return place
     return None

@@ -1,47 +1,36 @@
 """Batches of lines over one store. Each takes effect as a whole or not at all, and is durable before it is answered.
-Batches that wait together share a commit."""
+Batches that wait together share a commit: the program decides which of them are committed."""
 import contextlib
 import errno
 import os
 import time
 import weakref
-from typing import Callable, Iterable, Iterator, List, NamedTuple, Optional, Sequence, Tuple
+from typing import Callable, Iterable, Iterator, List, Optional, Sequence, Tuple
 
-from service.batch import Batch, refused_place
 from service.archives import archived, refused, remove_parts
-from service.disk_room import AHEAD, LARGE, MARGIN, MOSTLY, ROOM, TAKING, DiskRoom, Uses
-from service.entries import Effect, Entries, remembered
-from service.journal import Broken, Journal
+from service.batch import Batch, refused_place
+from service.disk_room import MARGIN, ROOM
+from service.entries import Entries, remembered
+from service.group_room import GroupRoom
+from service.journal import Broken, Journal, head_of, now, parts_of
 from service.journal_log import Log
 from service.last_changes import LastChanges, independent
 from service.limits import refusal
-from service.lines import OWN
 from service.program import Ended
+from service.recent import stamp_of
 from service.rules import Rules
+from service.sending import Sent, carried_out, is_made, sent_of
 from service.status import SLOW_SECONDS, Commits, Room, Teller
 from service.store import Fatal, Store, stopped
 
+# Which part of the store's blocks may be taken between two stamps.
+HELD = 16
 # How often a batch is tried by itself after the program ended at it.
 TRIES = 3
-FULL = b"error 13 Full"
-DEVICE = b"error 15 Device"
-
-
-class Done(NamedTuple):
-    """A batch that was carried out and is not committed yet."""
-
-    number: int
-    batch: Batch
-    answers: List[bytes]
-    effect: Effect
-
-
-class Commit(NamedTuple):
-    """A commit that was asked for."""
-
-    last: int
-    done: List[Done]
-    entries: Entries
+FULL, BAD, UNSURE = b"error 13 Full", b"error 22 ", b"error 101 "
+# So many bytes more may a batch have in the journal than is known before it is carried out, and so many seconds may a
+# line of it take.
+MORE, LINE_SECONDS = 64, 1e-4
 
 
 class Batches:
@@ -52,24 +41,22 @@ class Batches:
         self.path = f"{store.file}.journal"
         remove_parts(store.file)
         self.journal = Journal(self.path, say)
-        if store.kept >= self.journal.next:
+        if store.kept >= self.journal.next + len(store.recent):
             found = self.journal.next - 1
             say(f"{self.path} ends at batch {found}, and the store holds batch {store.kept}: it goes on after that")
+        self.journal.mend(store.stamped, store.recent.values())
         self.journal.opened(store.kept)
         self.log = Log(self.path, writes=True)
         self.owners = f"{store.file}.owners"
         self._find_makers()
         self.changes = -1
         self.last_changes = LastChanges(store.kept)
-        # The batches that were sent last, and the commit that was asked for and has no answer yet.
-        self.sent: List[Batch] = []
-        self.asked: Optional[Commit] = None
+        # The number of the last record. Whether something was committed since the last stamp, how many blocks were
+        # taken, and whether the next group is to begin with one.
+        self.key, self.is_stale, self.is_due = max(store.recent, default=0), bool(store.recent), bool(store.recent)
+        self.taken = 0
         self.commits, self.room, self.teller = Commits(), Room(), Teller(say)
-        # The room on the disk, which blocks the next commit writes, and how many a change is expected to take. A
-        # marking may be of use when there is no room, unless somebody needs the free blocks to stay as they are.
-        self.disk_room, self.uses, self.each = DiskRoom(store.lock), Uses(), MOSTLY
-        self.may_mark: Callable[[], bool] = lambda: True
-        self.is_archiving = False
+        self.group_room, self.is_archiving = GroupRoom(store, self.ask), False
 
     # --- who made which alternative ---------------------------------------------------------------
 
@@ -119,14 +106,15 @@ class Batches:
     def _read_anew(self) -> None:
         """Reads the journal that has taken the place of the old one. Answers that are under way go on with the old
         one."""
-        weakref.finalize(self.log, close_files, [self.log.file, self.log.index.file])
+        weakref.finalize(self.log, os.close, self.log.file)
+        weakref.finalize(self.log, self.log.index.close)
         with contextlib.suppress(FileNotFoundError):
             os.unlink(f"{self.path}.index")
         self.log = Log(self.path, writes=True)
 
     def end(self) -> int:
         status = self.store.end()
-        self.disk_room.close()
+        self.group_room.disk.close()
         self.save()
         self.journal.close()
         self.log.close()
@@ -136,7 +124,7 @@ class Batches:
 
     def ask(self, lines: List[bytes]) -> List[bytes]:
         """The answers to queries that are answered with one line each."""
-        for _ in range(TRIES):
+        for _ in range(TRIES if lines else 0):
             try:
                 return self.store.program.ask(lines)
             except Ended:
@@ -154,36 +142,34 @@ class Batches:
 
     def look_at_room(self) -> None:
         """Asks how many blocks there are."""
-        answers = self.ask([b"blocks", b"free"])
-        if all(it.split()[0] in (b"blocks", b"free") for it in answers):
+        answers = self.ask([*ROOM])
+        if all(it.split()[0] in ROOM for it in answers):
             self.room.note(time.monotonic(), *(int(it.split()[1]) for it in answers))
 
     # --- batches ----------------------------------------------------------------------------------
 
     def carry_out(self, batches: List[Batch]) -> None:
-        """Carries out batches and commits them together. All of them are settled then, even if it raises Fatal."""
+        """Carries out batches and commits them, as many together as may be. All of them are settled then, even if it
+        raises Fatal."""
         try:
             for it in batches:
                 if it.rules is not self.rules:
                     self._look_at_rights(it)
-                if it.seen:
-                    self.look_at_changes(it)
-            self._look_at_disk(open_ones(batches))
-            doubtful = [it for it in batches if it.is_doubtful and not it.is_settled()]
-            for it in doubtful if len(batches) > 1 else ():
-                # One that is refused would have all others carried out again.
-                self._try(self._probe, [it])
-            self._try(self._attempt, independent(open_ones(batches), self.store.entries.parents))
-            for batch in open_ones(batches):
-                # If the program ended, any of them may be the reason: those not settled are tried one by one.
-                self.look_at_changes(batch)
-                for _ in range(TRIES):
-                    self._try(self._attempt, open_ones([batch]))
-                batch.refuse_if_open(refusal(99))
+            # The first of a group is refused without others being carried out again.
+            waiting = sorted(open_ones(batches), key=lambda it: not it.is_doubtful)
+            while waiting:
+                for it in waiting:
+                    if it.seen:
+                        self.look_at_changes(it)
+                group = self._group_of(open_ones(waiting))
+                if group:
+                    self._carry_out(group)
+                # What has found no room comes after what others have to do.
+                late = {it.source for it in waiting if it.is_alone and not it.is_told_first}
+                waiting = sorted(open_ones(waiting), key=lambda it: it.source in late)
         except Fatal:
-            unsure = [it.batch for it in self.asked.done] if self.asked else []
             for it in batches:
-                it.refuse_if_open(refusal(101 if it in unsure else 99))
+                it.refuse_if_open(refusal(99))
             raise
 
     def _look_at_rights(self, batch: Batch) -> None:
@@ -200,216 +186,233 @@ class Batches:
         if refused is not None:
             batch.refuse_if_open(refused)
 
-    # --- room on the disk -------------------------------------------------------------------------
+    # --- groups -----------------------------------------------------------------------------------
 
-    def _look_at_disk(self, batches: List[Batch]) -> None:
-        """Refuses batches for which the disk is likely to have no room, before they are carried out."""
-        wanted = sum([line.startswith(TAKING) for it in batches for line in it.lines])
-        if not wanted or self._lacking(wanted) is None:
-            return
-        for batch in batches:
-            changes = sum([line.startswith(TAKING) for line in batch.lines])
-            fault = self._lacking(changes) if changes else None
-            if fault is not None and self._mark():
-                fault = self._lacking(changes)
-            if fault is not None:
-                self._refuse_for_room(batch, fault)
+    def _group_of(self, waiting: List[Batch]) -> List[Sent]:
+        """The next batches that are carried out together; none if the first one is refused. What they need is judged by
+        the alternatives that there are, so one that makes or removes some is the last."""
+        group: List[Sent] = []
+        sources, late, changes, at, entries = set(), set(), 0, now(), self.store.entries.copy()
+        for batch in independent(waiting, self.store.entries.parents):
+            is_late = batch.source in late or bool(group) and batch.is_alone
+            if not is_late:
+                sent = self._sent(batch, at, entries)
+                changes += sent.effect.records + batch.own
+                # Where blocks may be wanting, one may be tried again, and what its planner sent after it has to wait.
+                is_scarce = batch.source in sources and (
+                    sent.effect.merges or self.group_room.known().free <= MARGIN * (2 * changes + 3)
+                )
+                is_late = bool(group) and (batch.is_alone or sent.due is not None) or is_scarce
+            if is_late:
+                late.add(batch.source)
+                entries = self.store.entries.copy()
+                continue
+            group.append(sent)
+            sources.add(batch.source)
+            if sent.effect.makes or batch.is_alone or sent.due:
+                break
+        return self._with_room(group) if group else group
 
-    def _lacking(self, changes: int) -> Optional[str]:
-        """Why there is likely to be no room for so many changes, as an error of the system; None if there is."""
-        uses = self.uses
-        if not uses.is_known:
-            self._look_at_uses()
-        expected = self.each * changes
-        return self.disk_room.lacking(uses.used + expected, uses.count + expected, uses.needed)
+    def _sent(self, batch: Batch, at: str, entries: Entries) -> Sent:
+        """What is sent of a batch, which changes these."""
+        sent = sent_of(batch, at, entries, self.rules, self.journal.next, self.key + 1)
+        self.key = max(self.key, sent.key)
+        return sent
 
-    def take_room(self) -> None:
-        """Has the file hold room ahead of need, so that commits seldom have to."""
-        uses = self.uses
-        if not uses.is_known:
-            self._look_at_uses()
-        self.disk_room.lacking(uses.used + AHEAD // 2, 0, uses.needed)
-        if self.disk_room.file is not None and uses.used > self.disk_room.end + LARGE and self._mark():
-            self.disk_room.lacking(uses.used + AHEAD // 2, 0, uses.needed)
-
-    def _mark(self) -> bool:
-        """Has the program mark, if that may be of use: what is not needed any more, and has room, is used again then.
-        Returns whether it has."""
-        may = self.uses.may_mark() and self.may_mark()
-        if may:
-            self._look_at_uses([b"reclaim"])
-            self.uses.needed = self.uses.used
-        return may
-
-    def _look_at_uses(self, lines: Sequence[bytes] = ()) -> None:
-        """Asks how many blocks there are, after these lines."""
-        try:
-            answers = self.store.program.ask([*lines, *ROOM])
-        except Ended as ended:
-            self._reopen(ended.answers)
-        else:
-            self.uses.note(lines, answers[: len(lines)], answers[len(lines) :])
-
-    def _refuse_for_room(self, batch: Batch, fault: str) -> None:
+    def _with_room(self, group: List[Sent]) -> List[Sent]:
+        """A group, if the disk has room for the blocks that it may take, or else the first batch of it, perhaps without
+        a record; none if that is refused for want of room."""
+        room, batch = self.group_room, group[0].batch
+        if room.lacking(group) is None:
+            return group
+        fault = room.lacking(group[:1], marks=True)
+        if fault is None:
+            return group[:1]
+        batch.own, own = 0, batch.own
+        if own and room.lacking(group[:1]) is None:
+            batch.is_told_first = batch.is_alone = True
+            return [self._sent(batch, "", self.store.entries.copy())]
         why, who = os.strerror(getattr(errno, fault)), batch.person.name
         self.teller.tell("no room", f"{self.store.file}: no room on the disk for a change of {who}: {why}")
         self.commits.refused += 1
         batch.refuse(batch.count, refusal(105, fault))
+        return []
 
-    # --- attempts ---------------------------------------------------------------------------------
-
-    def _try(self, work: Callable[[List[Batch]], None], batches: List[Batch]) -> None:
-        """Has batches carried out. If the program ends, those that have no effect and no refusal stay open."""
-        if not batches:
+    def _carry_out(self, group: List[Sent]) -> None:
+        """Has a group carried out, and takes in what came of it."""
+        self._look_at_files()
+        if not self._is_told(group):
             return
-        self.asked = None
-        try:
-            work(batches)
-        except Ended as ended:
-            self._reopen(ended.answers)
-            asked = self.asked
-            if asked is None:
-                refuse_last(self.sent, ended.answers)
-            elif self.store.kept == asked.last:
-                self._take(asked)
-        self.asked = None
+        stamps, begun = [stamp_of(self.store.kept)] if self._may_stamp(group) else [], time.monotonic()
+        came = carried_out(self.store.program, group, stamps)
+        seconds = time.monotonic() - begun
+        if came.is_stamped:
+            self.is_stale, self.taken = False, 0
+        self._note_uses(came.room)
+        done = [(sent, it) for sent, it in zip(group, came.verdicts) if is_made(it)]
+        self._take(done)
+        if group:
+            self._note(done, came.commits, seconds)
+        faults = {}
+        for place, (sent, answers) in enumerate(zip(group, came.verdicts)):
+            if answers is not None and sent.batch.answers is None:
+                faults[answers[refused_place(answers)]] = None
+                self._refuse(sent, answers, group[place + 1 :], len(group) > 1)
+        if any(it.startswith(UNSURE) for it in faults):
+            # The system may show what the device does not have, so nothing is looked up now.
+            raise Fatal("the device failed at a commit. The next start shows what it has")
+        if not came.room or None in came.verdicts:
+            self._go_on([it for it in group if not it.batch.is_settled()], came.is_sent, [*faults][-1:])
+        elif group and group[0].is_first_told() and not done:
+            self._opened()  # The file has a batch now that the store does not have.
 
-    def _reopen(self, answers: Sequence[bytes] = ()) -> None:
-        """Starts the program again, and journals which batches are in the store. A refusal may have been its last
-        answer."""
-        last = answers[-1].decode() if answers and answers[-1].startswith(b"error ") else "without a refusal"
+    def _note_uses(self, room: List[bytes]) -> None:
+        """Notes how many blocks there are. A stamp is due before those that the store holds for it are many."""
+        uses, before = self.group_room.uses, self.group_room.uses.used
+        uses.note(room)
+        # A marking hides how many were taken.
+        self.taken += uses.used - before if uses.used >= before else uses.blocks
+        self.is_due = self.is_due or self.taken > uses.blocks // HELD
+
+    def _is_told(self, group: List[Sent]) -> bool:
+        """Has the journal tell a batch that is told first, or have room for the lines of a group. If it has none, all
+        are refused."""
+        try:
+            if group and group[0].is_first_told():
+                [(batch, _, effect, *_)] = group
+                parts = parts_of(self.journal.next, head_of(now(), batch, effect.touched), effect.records, batch)
+                self._synced(lambda: self.journal.write(parts, self.journal.next))
+            else:
+                entries = [it.entry for it in group if it.entry is not None]
+                self.journal.make_room(sum([MORE + len(it.head) + len(it.tail) for it in entries]))
+            return True
+        except Fatal:
+            refuse_all(group, refusal(97, "EIO"))
+            raise
+        except OSError as fault:
+            if group:
+                self.teller.tell("not journaled", f"{self.path}: {os.strerror(fault.errno)}")
+            refuse_all(group, refusal(97, errno.errorcode[fault.errno]))
+            return False
+
+    # --- stamps -----------------------------------------------------------------------------------
+
+    def _may_stamp(self, group: List[Sent]) -> bool:
+        """Whether a group begins with a stamp. If so, the file surely tells all that the store's records do."""
+        if not (self.is_due and self.is_stale) or self.journal.unwritten or group and group[0].is_first_told():
+            return False
+        self.is_due = False
+        self._synced(self.journal.sync)
+        return True
+
+    def refresh(self) -> None:
+        """Has the store forget the entries that the file has, unless one of the two is not in its place any more."""
+        self.is_due = self.is_stale
+        if self.is_due and self.store.is_in_place() and self.journal.is_in_place():
+            self._carry_out([])
+
+    def tick(self, may_commit: bool) -> None:
+        """A while after a commit the next group begins with a stamp. If none comes, there is one by itself."""
+        if self.is_due and may_commit:
+            self.refresh()
+        self.is_due = self.is_stale
+
+    def _synced(self, work: Callable[[], None]) -> None:
+        """Does what syncs the journal."""
+        try:
+            work()
+        except Broken as fault:
+            raise Fatal(f"{self.path}: {fault}") from None
+        self.commits.sync_seconds += self.journal.sync_seconds
+
+    # --- what came of a group ---------------------------------------------------------------------
+
+    def _take(self, done: Sequence[Tuple[Sent, List[bytes]]]) -> None:
+        """Takes in what is in the store now, and writes it into the journal."""
+        text = bytearray()
+        for sent, answers in done:
+            batch, effect, number = sent.batch, sent.effect, self.journal.next
+            batch.answers = answers[: len(batch.lines)]
+            if sent.entry is not None:
+                merged = sum([int(it[3:]) for it in batch.answers if len(it) > 2]) if effect.merges else 0
+                text += sent.entry.line(number, effect.records + merged)
+                self.journal.next += 1
+            else:
+                number -= 1
+            self.is_stale, self.store.kept = sent.entry is not None, number
+            self.store.entries = sent.entries if effect.makes else self.store.entries
+            self.last_changes.note(number, effect.touched)
+        fault = self.journal.note(b'%s{"done":%d}\n' % (text, self.store.kept)) if done else None
+        if fault is not None:
+            self.say(f"{self.path}: {fault}: until there is space, it does not tell batch {self.store.kept}")
+
+    def _note(self, done: Sequence[Tuple[Sent, List[bytes]]], commits: int, seconds: float) -> None:
+        if commits:
+            self.commits.note(time.monotonic(), commits, len(done), seconds)
+        if seconds > SLOW_SECONDS + LINE_SECONDS * sum([len(it.lines) for it, _ in done]):
+            self.teller.tell("slow commit", f"batch {self.store.kept} took {seconds:.3f} s")
+
+    def _refuse(self, sent: Sent, answers: List[bytes], later: List[Sent], has_others: bool) -> None:
+        """Refuses a batch; or leaves it open if it is of use to try it otherwise, and nothing that its planner sent
+        later was carried out."""
+        batch, place = sent.batch, refused_place(answers)
+        answer, batch.has_disturbed = answers[place], batch.has_disturbed or has_others
+        may_wait = not any(it.batch.source is batch.source and it.batch.answers is not None for it in later)
+        if sent.due is not None:
+            place, answer = sent.due[1:] if place >= sent.due[0] else (place, answer)
+        elif place == len(sent.lines):
+            pass  # The commit failed.
+        elif place >= len(batch.lines) and sent.key and may_wait:
+            # There was no room for its record.
+            batch.is_told_first = batch.is_alone = True
+            return
+        elif answer == FULL and not batch.is_alone and (self.is_stale or has_others) and may_wait:
+            # By itself it may find room: what the store holds for others is free only after a commit.
+            batch.is_alone = self.is_due = True
+            return
+        elif answer.startswith(BAD) and place:
+            # It was not carried out, so an earlier line may be refused.
+            batch.due = place, place, answer
+            return
+        if answer == FULL:
+            self.teller.tell("full", f"{self.store.file} has no block for a change of {batch.person.name}")
+        self.commits.refused += 1
+        batch.refuse(min(place, batch.count), answer)
+
+    def _go_on(self, waiting: List[Sent], is_sent: bool, faults: List[bytes]) -> None:
+        """Starts the program again, which has ended. The store tells which batches were committed. Any of the others
+        may be the reason, so they are tried one by one."""
+        try:
+            self._start_again()
+        except Fatal:
+            refuse_all(waiting if is_sent else (), refusal(101))
+            raise
+        last, store = self.journal.next - 1, self.store
+        done = [it for it in waiting if it.key in store.recent or it.is_first_told() and store.stamped == last]
+        self._take([(it, [b"ok"] * len(it.batch.lines)) for it in done])
+        # What their merges were answered is not known.
+        refuse_all([it for it in done if it.effect.merges], refusal(101))
+        for batch in open_ones([it.batch for it in waiting]):
+            batch.is_alone, batch.tries = True, batch.tries + (len(waiting) == 1)
+            if batch.tries == TRIES:
+                batch.refuse(batch.count, refusal(99))
+        self._opened(faults)
+
+    def _reopen(self) -> None:
+        """Starts the program again between two groups."""
         self._start_again()
-        self.teller.tell("altctl ended", f"{last}; it was started again, after batch {self.store.kept}")
+        self._opened([])
 
     def _start_again(self) -> None:
         self.store.reopen()
-        self.uses.forget()
-        try:
-            self.journal.opened(self.store.kept)
-        except Broken as fault:
-            raise Fatal(f"{self.path}: {fault}") from None
+        self.group_room.uses.is_known, self.is_stale = False, bool(self.store.recent)
 
-    def _probe(self, batches: List[Batch]) -> None:
-        """Carries out one batch and takes it back, so it is refused if it would be."""
-        self.sent = batches
-        answers = self.store.program.ask(batches[0].lines)
-        self._judge(batches[0], answers, self.store.entries.copy(), False)
-        self.store.undo()
-
-    def _attempt(self, batches: List[Batch]) -> None:
-        """Carries out batches, until none of them is refused, and commits these."""
-        while batches:
-            last = self.journal.next + len(batches) - 1
-            lines = [line for batch in batches for line in batch.lines]
-            self.sent = batches
-            answers = self.store.program.ask(lines + stamp_of(last), ROOM, self.uses.note)
-            fault = next((it for it in answers[len(lines) :] if it != b"ok"), None)
-            entries = self.store.entries.copy()
-            done = self._judged(batches, answers, entries) if fault is None else None
-            if done:
-                lacking = self.disk_room.lacking(self.uses.front, self.uses.count, self.uses.needed)
-                if lacking is None:
-                    self._commit(Commit(last, done, entries))
-                else:
-                    self._give_up(done, lacking)
-                return
-            # What was refused may have had an effect, and the number of the next batch is not to be seen.
-            self.store.undo()
-            if fault is not None and len(batches) == 1:
-                batches[0].refuse(batches[0].count, fault)
-            elif fault is not None:
-                return  # They are tried one by one.
-            # Those that are tried by themselves come later, and with them all of the same planner.
-            alone = {it.source for it in batches if it.is_alone}
-            batches = [it for it in open_ones(batches) if it.source not in alone]
-
-    def _give_up(self, done: List[Done], fault: str) -> None:
-        """Takes batches back for which the disk has no room. One alone is refused; others are tried one by one. The
-        program is started again, since it would write their blocks with the next commit."""
-        if len(done) == 1:
-            self._refuse_for_room(done[0].batch, fault)
-        self.each = MARGIN
-        self._start_again()
-
-    def _judged(self, batches: List[Batch], answers: List[bytes], entries: Entries) -> Optional[List[Done]]:
-        """The batches that were carried out; None if one was refused that may have had an effect, so that others have
-        to be again."""
-        done, at = [], 0
-        for number, batch in enumerate(batches, self.journal.next):
-            its = answers[at : at + len(batch.lines)]
-            at += len(its)
-            effect, place = self._judge(batch, its, entries, len(batches) > 1)
-            if effect is not None and place is None:
-                done.append(Done(number, batch, its, effect))
-            elif effect is not None or len(its) > 1:
-                return None
-            elif batch.is_alone and sum(it.source is batch.source for it in batches) > 1:
-                return None  # The others of its planner have to wait for it.
-        return done
-
-    def _judge(self, batch, answers, entries, is_among_others) -> Tuple[Optional[Effect], Optional[int]]:
-        """Refuses a batch if a line of it was refused or lacks a right. Returns its effect, if it has one, and the
-        place of that line."""
-        place, effect = refused_place(answers), None
-        if place is None:
-            effect = entries.take(batch, answers, self.rules)
-            if effect.refused is None:
-                return effect, None
-            place, refused = effect.refused
-        elif answers[place] == FULL and is_among_others:
-            # By itself it may find room: what the others give back is free only after their commit.
-            batch.is_alone = True
-            return None, place
-        else:
-            refused = answers[place]
-        if refused == FULL:
-            self.teller.tell("full", f"{self.store.file} has no block for a change of {batch.person.name}")
-        self.commits.refused += 1
-        batch.has_disturbed = effect is not None or len(answers) > 1
-        batch.refuse(place, refused)
-        return effect, place
-
-    def _commit(self, commit: Commit) -> None:
-        self._look_at_files()
-        try:
-            self.journal.write(
-                [(it.number, it.batch, it.effect.touched, it.effect.records) for it in commit.done], commit.last
-            )
-        except Broken as fault:
-            refuse_all(commit.done, refusal(97, "EIO"))
-            raise Fatal(f"{self.path}: {fault}") from None
-        except OSError as fault:
-            self.teller.tell("not journaled", f"{self.path}: {os.strerror(fault.errno)}")
-            self.store.undo()
-            refuse_all(commit.done, refusal(97, errno.errorcode[fault.errno]))
-            return
-        self.asked, asked_at = commit, time.monotonic()
-        [answer] = self.store.program.ask([b"commit"])
-        if answer == DEVICE:
-            # The system may show what the device does not have, so nothing is looked up now.
-            raise Fatal("the device failed at a commit. The next start shows what it has")
-        if answer != b"ok":
-            refuse_all(commit.done, answer)
-            self._reopen()  # The journal has batches now that the store does not have.
-            return
-        self.store.kept, self.each = commit.last, MOSTLY
-        self.uses.committed()
-        self._take(commit)
-        now, sync_seconds = time.monotonic(), self.journal.sync_seconds
-        seconds = sync_seconds + now - asked_at
-        self.commits.note(now, len(commit.done), seconds, sync_seconds)
-        if seconds > SLOW_SECONDS:
-            self.teller.tell(
-                "slow commit", f"batch {commit.last} took {seconds:.3f} s, {sync_seconds:.3f} s of it for the journal"
-            )
-        self.journal.done(commit.last)
-
-    def _take(self, commit: Commit) -> None:
-        """Takes in what is in the store now."""
-        self.store.entries = commit.entries
-        for it in commit.done:
-            it.batch.answers = it.answers
-            self.last_changes.note(it.number, it.effect.touched)
+    def _opened(self, faults: Optional[List[bytes]] = None) -> None:
+        """Journals which batches are in the store, perhaps after a start of the program."""
+        self._synced(lambda: self.journal.opened(self.store.kept))
+        if faults is not None:
+            last = faults[0].decode() if faults else "without a refusal"
+            self.teller.tell("altctl ended", f"{last}; it was started again, after batch {self.store.kept}")
 
     def _look_at_files(self) -> None:
         """Nothing is committed to a file that has lost its name."""
@@ -418,37 +421,11 @@ class Batches:
                 raise Fatal(f"{path} was moved, removed or replaced while the service was at work")
 
 
-def close_files(files: Iterable[Optional[int]]) -> None:
-    for it in files:
-        if it is not None:
-            os.close(it)
-
-
-def stamp_of(number: int) -> List[bytes]:
-    """The lines that put the number of the last batch into the store."""
-    return [b"drop " + OWN, b"new %s top" % OWN, b"checkpoint %s %d" % (OWN, number)]
-
-
 def open_ones(batches: Iterable[Batch]) -> List[Batch]:
     return [it for it in batches if it.answers is None and it.refused is None]
 
 
-def refuse_all(done: Iterable[Done], answer: bytes) -> None:
+def refuse_all(group: Iterable[Sent], answer: bytes) -> None:
     """Refuses batches at their commit."""
-    for it in done:
+    for it in group:
         it.batch.refuse(it.batch.count, answer)
-
-
-def refuse_last(batches: List[Batch], answers: List[bytes]) -> None:
-    """If the program ended after it refused a line, refuses the batch of that line, or all of them if the line was the
-    service's."""
-    if not answers or not answers[-1].startswith(b"error "):
-        return
-    place = len(answers) - 1
-    for batch in batches:
-        if place < batch.count:
-            batch.refuse(place, answers[-1])
-            return
-        place -= batch.count
-    for batch in batches:
-        batch.refuse_if_open(answers[-1])

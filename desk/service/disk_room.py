@@ -1,8 +1,8 @@
 """Room on the disk for the blocks that batches write.
 
 In a file that grew, blocks that were never written are holes, and take room with their first write. A commit that finds
-none then cannot tell which part of it is there. So before each commit its blocks have room: where the file system can,
-the file holds it, taken some pieces ahead; elsewhere the disk has to have enough left.
+none then cannot tell which part of it is there. So before batches are carried out, the blocks that they may take have
+room: where the file system can, the file holds it, taken some pieces ahead; elsewhere the disk has to have enough left.
 
 The program takes the lowest free block each time, so a block that a batch takes lies below as many blocks as are in use
 after that."""
@@ -11,7 +11,7 @@ import errno
 import os
 import stat
 import time
-from typing import List, Optional, Sequence
+from typing import Optional, Sequence
 
 from service.locking import file_system_of
 
@@ -40,10 +40,10 @@ PLENTY, FRESH = 4 << 30, 0.5
 # How many written blocks the program keeps in memory: a quarter of the store's, but so many at least and at most.
 # One commit writes no more.
 MOST = 16_384, 65_536
-# The most blocks that a change takes, and how many one takes that is as most are: one for each level of its tree.
-MARGIN, MOSTLY = 17, 4
-# How lines begin that take blocks, and the lines that ask how many there are.
-TAKING, ROOM = (b"put ", b"remove ", b"merge ", b"back "), (b"blocks", b"free")
+# The most blocks that a change takes.
+MARGIN = 17
+# The lines that ask how many blocks there are.
+ROOM = (b"blocks", b"free")
 # File systems on which a block that has room needs no more when it is written. Others may put it elsewhere then.
 FIRM = {"ext4", "tmpfs"}
 # What a system answers if it cannot hold room at all.
@@ -137,60 +137,34 @@ class DiskRoom:
 
 def held(file: int, begin: int, length: int) -> int:
     """Has a file hold room for these bytes. Returns 0, or the error of the system."""
+    if _fallocate is None:
+        return errno.ENOSYS
     if _fallocate(file, KEEP_SIZE, begin, length) == 0:
         return 0
     return ctypes.get_errno()
 
 
 class Uses:
-    """Which blocks the next commit may write, by how many are in use now and then while lines are carried out."""
+    """How many blocks there are, how many are free, and how many were in use after a marking: those that are needed."""
 
     def __init__(self) -> None:
-        # How many blocks there are, how many are free, and how many were in use after a marking: those that are needed.
-        self.blocks, self.free, self.needed = 0, 0, 0
-        self.forget()
+        self.blocks, self.free, self.needed, self.is_known = 0, 0, 0, False
 
     @property
     def used(self) -> int:
         return self.blocks - self.free
 
-    def forget(self) -> None:
-        """The program was started again, and has nothing to write."""
-        self.is_known = False
-        self.committed()
-
-    def committed(self) -> None:
-        # All that the next commit writes lies below FRONT, and is no more than COUNT blocks.
-        self.front, self.count = FIRST, 0
-
-    def note(self, lines: Sequence[bytes], answers: Sequence[bytes], told: List[bytes]) -> None:
-        """Notes that lines were carried out, after which the lines ROOM were answered so."""
+    def note(self, told: Sequence[bytes]) -> None:
+        """Notes how the lines ROOM were answered."""
         counts = [int(it[1]) for it in map(bytes.split, told) if it[0] in ROOM]
         if len(counts) < len(ROOM):
             self.is_known = False
             return
-        changes = sum(map(changes_of, lines, answers))
         blocks, free = counts
-        used = blocks - free
-        # A marking gives blocks back, so the difference tells nothing. It comes only where few are free.
-        has_marked = used < self.used or b"reclaim" in lines or self.free < MARGIN * (2 * changes + 3)
-        taken = used - self.used
-        if has_marked:
-            taken = MARGIN * (changes + 1) if changes else 0
-        if self.is_known and taken:
-            self.front = max(self.front, min(blocks, max(used, self.used + taken)))
-            self.count += taken
-        if not self.is_known or used < self.used:
-            self.needed = used  # An opening marks, too.
+        if not self.is_known or blocks - free < self.used:
+            self.needed = blocks - free  # An opening marks, too.
         self.is_known, self.blocks, self.free = True, blocks, free
 
     def may_mark(self) -> bool:
         """Whether a marking may give back more than a few blocks."""
         return self.used - self.needed > max(2 * MARGIN, self.used // 16)
-
-
-def changes_of(line: bytes, answer: bytes) -> int:
-    """How many changes a line makes that may take blocks, so far as it is known."""
-    if line.startswith(b"merge ") and answer.startswith(b"ok "):
-        return int(answer.split()[1])
-    return line.startswith(TAKING)

@@ -2,7 +2,6 @@
 import json
 import os
 from collections import Counter
-from copy import copy
 from typing import Dict, List, NamedTuple, Optional, Set, Tuple
 
 from service.batch import Batch
@@ -24,12 +23,15 @@ MAKERS = {b"new", b"drop", b"checkpoint", b"uncheck"}
 
 
 class Effect(NamedTuple):
-    """What a batch has changed: which alternatives, and how many records; or the place and the refusal of a line that
-    needs a right."""
+    """What a batch changes if it is carried out: which alternatives, how many records beside those of its merges, how
+    many merges it has, and whether it makes or removes alternatives or checkpoints; or the place and the refusal of a
+    line that needs a right."""
 
     refused: Optional[Tuple[int, bytes]]
     touched: Set[str]
     records: int
+    merges: int
+    makes: bool
 
 
 class Entries:
@@ -46,8 +48,8 @@ class Entries:
 
     def copy(self) -> "Entries":
         """A copy, of which nothing is copied until it is changed. This one must not be changed before that."""
-        copied = copy(self)
-        copied.is_shared = True
+        copied = Entries.__new__(Entries)
+        copied.__dict__.update(self.__dict__, is_shared=True)
         return copied
 
     def _own(self) -> None:
@@ -58,38 +60,39 @@ class Entries:
 
     # --- what a batch changes ---------------------------------------------------------------------
 
-    def take(self, batch: Batch, answers: List[bytes], rules) -> Effect:
-        """Takes in what a batch has changed. Only now is it known which parents its alternatives have, so a line may
-        still need a right that its planner lacks. The caller then drops what was taken in."""
+    def take(self, batch: Batch, rules) -> Effect:
+        """Takes in what a batch changes. By the parents that its alternatives have, a line may still need a right that
+        its planner lacks. If it is refused, the caller drops what was taken in."""
         touched: Set[str] = set()
-        records, who = 0, ""
-        for place, (line, answer) in enumerate(zip(batch.lines, answers)):
+        records, merges, makes, who = 0, 0, False, ""
+        for place, line in enumerate(batch.lines):
             verb, *words = line.split(b" ", 3)
             if verb in OF_A_RECORD:
                 touched.add(words[0].decode())
                 records += 1
                 continue
             touched |= changed_by(verb, words, self.parents)
+            makes = makes or verb in MAKERS
             if verb == b"merge":
-                records += int(answer.split(b" ")[1])
+                merges += 1
             elif verb == b"post" or verb in MAKERS:
                 who = who or word(author(batch))
                 refused = self._take(verb, words, batch.person, who, rules)
                 if refused is not None:
-                    return Effect((place, refused), touched, records)
-        return Effect(None, touched, records)
+                    return Effect((place, refused), touched, records, merges, makes)
+        return Effect(None, touched, records, merges, makes)
 
     def _take(self, verb: bytes, words: List[bytes], person, who: str, rules) -> Optional[bytes]:
         if verb == b"post":
-            return rules.refusal_of_post(person, words[0], self.parents[words[0]])
+            return rules.refusal_of_post(person, words[0], self.parents.get(words[0]))
         self.note(verb, words, who)
         most = rules.most_entries(person) if verb in (b"new", b"checkpoint") else None
         return None if most is None or self.counts[who] <= most else refusal(102, most)
 
     def note(self, verb: bytes, words: List[bytes], who: str) -> None:
         """Notes what somebody's line has made or removed."""
-        if verb not in MAKERS:
-            return
+        if verb not in MAKERS or len(words) < 2 and verb != b"drop":
+            return  # The program refuses it.
         if self.is_shared:
             self._own()
         name = words[0].decode()
@@ -97,9 +100,9 @@ class Entries:
             self.parents[words[0]] = words[1]
             self._make(name, ITSELF, who)
         elif verb == b"checkpoint":
-            self._make(name, words[1].decode(), who)
+            self._make(name, words[1].decode("latin-1"), who)
         elif verb == b"uncheck":
-            self._remove(self.makers.get(name, {}), words[1].decode())
+            self._remove(self.makers.get(name, {}), words[1].decode("latin-1"))
         else:
             self.parents.pop(words[0], None)
             names = self.makers.pop(name, {})

@@ -137,8 +137,9 @@ class Index:
         except FileNotFoundError:
             self.file = None
             return
-        self.count = os.fstat(self.file).st_size // RECORD
-        # A crash of the machine may leave other bytes at its end, and another journal may have its name now.
+        # A record is durable before the next one is written: a crash of the machine may leave other bytes in the last
+        # one, and another journal may have its name now.
+        self.count = max(0, os.fstat(self.file).st_size // RECORD - 1)
         while self.count and not self._fits(self.count - 1):
             self.count -= 1
         self.count = self.count if self.count and self._fits(0) else 0
@@ -172,6 +173,7 @@ class Index:
         head = FORM.pack(part.begin, end, part.last, self._checksum(part.begin, end), part.has_openings)
         try:
             os.pwrite(self.file, head + bits, self.count * RECORD)
+            os.fdatasync(self.file)
         except OSError:
             return False
         self.count, self.end = self.count + 1, end

@@ -7,19 +7,8 @@ from bisect import bisect_right
 from typing import Iterator, List, NamedTuple, Optional, Tuple
 
 from service.journal import DONE, OPENED, PART, line_feed_before
-from service.journal_index import (
-    HEADS,
-    OPENINGS,
-    OVERLAP,
-    WIDE,
-    WIDE_VERBS,
-    Index,
-    Part,
-    part_end,
-    pieces,
-    places,
-    record_key,
-)
+from service.journal_index import HEADS, OPENINGS, OVERLAP, WIDE, WIDE_VERBS, Index, Part
+from service.journal_index import part_end, pieces, places, record_key
 from service.lines import word
 from service.renewals import is_told_in_one_line, summary
 

@@ -1,10 +1,10 @@
 """The limits and refusals of the service, as docs/PLANNERS.md lists them. One user may take a quarter of what all
 share."""
 
-# The longest line that the program takes.
-LINE_BYTES = 1_048_576
-# A batch between `begin` and `commit`.
-BATCH_LINES = 100_000
+# The longest line. The program takes one of 1,048,576 bytes, with the number of a planner before it.
+LINE_BYTES = 1_048_560
+# A batch between `begin` and `commit`. The program takes 100,000 lines, three of which may be the service's.
+BATCH_LINES = 99_997
 BATCH_BYTES = 64 << 20
 # How many seconds a batch may be held.
 HELD_SECONDS = 600

@@ -67,6 +67,15 @@ def turn_of(request: Request) -> int:
     return LONG if isinstance(request, Word) and request.words != [b"batches"] else SHORT
 
 
+def bytes_of(request: Optional[Request]) -> int:
+    """How many bytes the lines of a request are that count only while it waits."""
+    if isinstance(request, Batch):
+        return 0 if request.is_explicit else request.bytes
+    if isinstance(request, Word):
+        return sum(map(len, request.words))
+    return len(request if isinstance(request, bytes) else getattr(request, "line", b""))
+
+
 class Planner:
     """Its lines stay as they came until they are needed: only the lines of a batch that is held are taken at once."""
 
@@ -126,29 +135,14 @@ class Planner:
     def _limit_line(self) -> None:
         """Keeps nothing of an unfinished line that is too long, or too much beside all that its user has waiting."""
         size = len(self.text) - self.at
-        is_long = size > limits.LINE_BYTES
-        if (
-            is_long
-            or size > limits.RECEIVED_BYTES and not self.server.users.may_hold(self.person.uid, size - self.counted)
-        ):
+        is_long, users = size > limits.LINE_BYTES, self.server.users
+        if is_long or size > limits.RECEIVED_BYTES and not users.may_hold(self.person.uid, size - self.counted):
             self.skips = LONG_LINE if is_long else refusal(94)
             self.text, self.at, self.sought = bytearray(), 0, 0
 
     def _count_text(self) -> None:
         """What waits here counts if it is more than was received at once."""
-        first = self.first
-        line = (
-            first
-            if isinstance(first, bytes)
-            else first.line
-            if isinstance(first, Query)
-            else b"".join(getattr(first, "words", ()))
-        )
-        size = (
-            len(self.text)
-            - self.at
-            + (first.bytes if isinstance(first, Batch) and not first.is_explicit else len(line))
-        )
+        size = len(self.text) - self.at + bytes_of(self.first)
         size = size if size > limits.RECEIVED_BYTES else 0
         self.server.users.count_held(self.person.uid, size - self.counted)
         self.counted = size
@@ -385,10 +379,8 @@ class Planner:
     def _tell(self, refused: Optional[bytes], line: bytes) -> None:
         """Tells the operator of a line that a right was missing for."""
         if refused is not None and refused.startswith(b"error 90 "):
-            what = printable(line[:TOLD])
-            self.server.batches.teller.tell(
-                "denied", f"{self.person.name}, uid {self.person.uid}: {what}: {refused[9:].decode()}"
-            )
+            who, what = f"{self.person.name}, uid {self.person.uid}", printable(line[:TOLD])
+            self.server.batches.teller.tell("denied", f"{who}: {what}: {refused[9:].decode()}")
 
     # --- answers ----------------------------------------------------------------------------------
 

@@ -5,12 +5,13 @@ import subprocess
 from typing import Callable, Iterator, List, Sequence, Tuple
 
 from service.archives import dropped_from, is_after, is_moment
-from service.batches import stamp_of
+from service.batch import refused_place
 from service.journal import last_number, sync_folder
 from service.journal_log import Filter, Log
 from service.locking import locked
-from service.program import Ended
+from service.recent import stamp_of
 from service.store import Fatal, Store
+from service.stream import answered
 
 # As many lines are carried out between two commits.
 LINES = 4096
@@ -65,10 +66,10 @@ class Past:
         """The last batch up to a moment."""
         if not until:
             return self.last
-        if until.isdigit():
-            return int(until)
         if not is_moment(until):
             raise Impossible(f"{until} is no number of a batch, and no time like 2026-01-31T12:00:00Z")
+        if until.isdigit():
+            return int(until)
         number = 0
         for at, time, _ in self.rows(0):
             if is_after(at, time, until):
@@ -86,10 +87,8 @@ class Past:
             raise Impossible(self.what_is_missing(f"the backup is as of batch {backup}, and "))
         for it in (backup, number):
             if it > self.before and not any(first <= it <= end for first, end in self.ranges):
-                raise Impossible(
-                    f"batch {it} is not among those that led to the last state that the journal tells,"
-                    f" batch {self.last}"
-                )
+                last = f"the last state that the journal tells, batch {self.last}"
+                raise Impossible(f"batch {it} is not among those that led to {last}")
 
     def what_is_missing(self, why: str = "") -> str:
         path, archive = self.oldest
@@ -133,19 +132,15 @@ def carried_out(store: Store, past: Past, until: str) -> Tuple[int, int]:
     try:
         number = past.last_until(until)
         past.look(store.kept, number)
-        count, lines = 0, 0
+        count, lines = 0, []
         for at, batch in batches_after(past, store.kept, number):
-            if lines + len(batch) > LINES and lines:
-                commit(store, at - 1)
-                lines = 0
-            for line, answer in zip(batch, store.program.ask(batch)):
-                if answer.startswith(b"error "):
-                    raise Impossible(f"batch {at}: {line.decode()}: {answer.decode()}")
-            count, lines = count + 1, lines + len(batch)
-        commit(store, number)
+            if len(lines) + len(batch) > LINES and lines:
+                commit(store, lines, at - 1)
+                lines = []
+            count += 1
+            lines += [(at, it) for it in batch]
+        commit(store, lines, number)
         return number, count
-    except Ended:
-        raise Fatal("the program ended") from None
     finally:
         store.end()
 
@@ -165,8 +160,18 @@ def batches_after(past: Past, after: int, last: int) -> Iterator[Tuple[int, List
         yield number, lines
 
 
-def commit(store: Store, number: int) -> None:
-    """Makes what was carried out durable, as of a batch."""
-    answers = store.program.ask([*stamp_of(number), b"commit"])
-    if answers != [b"ok"] * len(answers):
-        raise Fatal(f"it could not be committed: {b', '.join(answers).decode()}")
+def commit(store: Store, lines: List[Tuple[int, bytes]], number: int) -> None:
+    """Carries out lines, each of a batch, and makes them durable as of the last one. A stamp has a place of its own, as
+    there may be as many lines as a batch can have."""
+    sent = [[line for _, line in lines], stamp_of(number)]
+    *carried, stamp = answered(store.program, sent if lines else sent[1:]).verdicts
+    if stamp is None or None in carried:
+        raise Fatal("the program ended")
+    for answers in carried:
+        place = refused_place(answers)
+        if place is not None and place < len(lines):
+            at, line = lines[place]
+            raise Impossible(f"batch {at}: {line.decode()}: {answers[place].decode()}")
+    faults = [it for answers in (*carried, stamp) for it in answers if it.startswith(b"error ")]
+    if faults:
+        raise Fatal(f"it could not be committed: {faults[-1].decode()}")

@@ -51,7 +51,7 @@ class Server:
         # The backup that is under way, and those that are wanted, this one first.
         self.copy: Optional[Copy] = None
         self.wanted = deque()
-        batches.may_mark = lambda: self.copy is None
+        batches.group_room.may_mark = lambda: self.copy is None
         # Until this time the next group may wait for this many planners.
         self.expected, self.gathers_until = 0, 0.0
         self.is_listening, self.begun = False, time.monotonic()
@@ -144,18 +144,18 @@ class Server:
                 self._tick(now)
 
     def _has_work(self) -> bool:
-        return (
-            bool(self.unseen or self.logs) or any(it.is_ready() for it in self.waiting) or self.batches.log.has_more()
-        )
+        waits = self.unseen or self.logs or any(it.is_ready() for it in self.waiting)
+        return bool(waits) or self.batches.log.has_more()
 
     def _tick(self, now: float) -> None:
         for planner in list(self.planners):
             planner.forget_if_late(now)
             planner.close_if_late(now)
         self._listen()
+        self.batches.tick(self.copy is None)
         self.batches.save()
         self.batches.look_at_room()
-        self.batches.take_room()
+        self.batches.group_room.take_ahead()
         self.disk.note(now)
 
     def _round(self) -> None:
@@ -191,15 +191,15 @@ class Server:
                 planner.settled(it)
             elif isinstance(it, Word):
                 self._answer_word(planner, it)
+            elif isinstance(it, Query):
+                planner.answer(next(answers) + b"\n")
             else:
-                planner.answer(
-                    next(answers) + b"\n" if isinstance(it, Query) else it if isinstance(it, bytes) else it.text()
-                )
+                planner.answer(it if isinstance(it, bytes) else it.text())
 
     def _commit_group(self) -> None:
         """Carries out small batches and commits them together."""
         begun, commits = time.monotonic(), self.batches.commits
-        count, seconds = commits.count, commits.seconds
+        count = commits.count
         group = self._group()
         if not group:
             return
@@ -208,9 +208,11 @@ class Server:
         finally:
             for planner, batch in group:
                 planner.settled(batch)
-        now, seconds = time.monotonic(), commits.seconds - seconds
-        if commits.count > count:
-            self.pace.note(self.groups.taken, now - begun - seconds, seconds / (commits.count - count))
+        now, count = time.monotonic(), commits.count - count
+        if count:
+            # The program does not tell how long the commits themselves took: each syncs twice.
+            commit_seconds = min((now - begun) / count, 2 * self.batches.journal.sync_seconds)
+            self.pace.note(self.groups.taken, now - begun - count * commit_seconds, commit_seconds)
         # A planner with an answer often sends the next line at once. Waiting a little for it avoids two groups that
         # alternate.
         self.expected = len({planner for planner, _ in group} | self.waiting.keys())
@@ -230,10 +232,8 @@ class Server:
     def _carry_out_long(self) -> None:
         """Carries out one request that does not belong in a group."""
         copy = self.copy
-        may_commit = copy is None or copy.may_commit()
-        admits = lambda it: (  # noqa: E731
-            not isinstance(it, Batch) or may_commit and (copy is None or copy.admits(it))
-        )
+        may_commit = copy is not None and copy.may_commit()
+        admits = lambda it: not isinstance(it, Batch) or copy is None or may_commit and copy.admits(it)  # noqa: E731
         for planner, request in self.long.take(self.waiting, 1, admits):
             if isinstance(request, Batch):
                 try:
@@ -247,8 +247,8 @@ class Server:
                 self._answer_word(planner, request)
 
     def _answer_word(self, planner: Planner, request: Word) -> None:
-        verb, *others = request.words
-        person = request.person
+        (verb, *others), person = request.words, request.person
+        texts = [it.decode("latin-1") for it in others]
         if verb == b"whoami" and not others:
             planner.answer(" ".join(["planner", person.name, str(person.uid), *sorted(person.groups)]).encode() + b"\n")
         elif verb == b"batches" and not others:
@@ -260,16 +260,11 @@ class Server:
         elif verb == b"backup" and len(others) == 1 and NAME.fullmatch(others[0]):
             if self._has_right(person, planner, "backup"):
                 planner.job = self.wanted
-                self.wanted.append((planner, others[0].decode()))
+                self.wanted.append((planner, texts[0]))
                 self._begin_backup()
-        elif (
-            verb == b"archive"
-            and len(others) == 2
-            and NAME.fullmatch(others[0])
-            and is_moment(others[1].decode("latin-1"))
-        ):
+        elif verb == b"archive" and len(others) == 2 and NAME.fullmatch(others[0]) and is_moment(texts[1]):
             if self._has_right(person, planner, "archive"):
-                planner.job = self.batches.archive(*(it.decode() for it in others))
+                planner.job = self.batches.archive(*texts)
                 self.logs.append(planner)
         else:
             planner.answer(BAD_LINE + b"\n")
@@ -317,6 +312,8 @@ class Server:
     def _begin_backup(self) -> None:
         """Begins the next backup that is wanted, if none is under way."""
         while self.wanted and self.copy is None:
+            # A copy needs no entries that the journal has.
+            self.batches.refresh()
             self._go_on(lambda: self.backups.begin(self.wanted[0][1]))
 
     def _go_on(self, begin: Callable[[], Copy]) -> None:

@@ -17,8 +17,8 @@ FIGURES = {
     "batches_total": ("counter", "batches that were committed"),
     "refused_batches_total": ("counter", "batches that were refused when they were carried out"),
     "commits_total": ("counter", "commits"),
-    "commit_seconds_total": ("counter", "the time that commits took, with the journal's sync"),
-    "commit_seconds_slowest": ("gauge", "the time that the slowest commit of the last minute took"),
+    "commit_seconds_total": ("counter", "the time that groups of batches took, from the first line to the last answer"),
+    "commit_seconds_slowest": ("gauge", "the time that the slowest group of the last minute took"),
     "sync_seconds_total": ("counter", "the time that syncs of the journal took"),
     "planners": ("gauge", "connections"),
     "users": ("gauge", "users with connections"),
@@ -102,9 +102,9 @@ class Commits:
         self.count, self.batches, self.refused, self.seconds, self.sync_seconds = 0, 0, 0, 0.0, 0.0
         self.slowest: Deque[Tuple[float, float]] = deque()
 
-    def note(self, now: float, batches: int, seconds: float, sync_seconds: float) -> None:
-        self.count, self.batches = self.count + 1, self.batches + batches
-        self.seconds, self.sync_seconds = self.seconds + seconds, self.sync_seconds + sync_seconds
+    def note(self, now: float, count: int, batches: int, seconds: float) -> None:
+        """Notes that so many batches were committed, by so many commits."""
+        self.count, self.batches, self.seconds = self.count + count, self.batches + batches, self.seconds + seconds
         # Only those that may still be the slowest of a minute.
         while self.slowest and self.slowest[-1][1] <= seconds:
             self.slowest.pop()

@@ -11,6 +11,8 @@ from service.limits import refusal
 from service.locking import is_of_volume, move, written_by
 from service.lines import OWN
 from service.program import Ended, Program
+from service.recent import entries_of
+from service.stream import answered
 
 # How often a start that a signal ended is tried.
 TRIES = 3
@@ -24,16 +26,19 @@ class Fatal(Exception):
 
 
 class Store:
-    """Between two batches the store holds nothing uncommitted. Each commit includes the number of its last batch, as
-    the name of the only checkpoint of the alternative `.service`. A checkpoint takes no block, so a full store can
-    still be emptied. The alternative is made anew each time, so it keeps no old version of `top` in use."""
+    """Between two batches the store holds nothing uncommitted. Its alternative `.service` tells which batch is the last
+    one (recent.py). A checkpoint takes no block, so a full store can still be emptied. The alternative is made anew now
+    and then, so it keeps no old version of `top` in use for long."""
 
     def __init__(self, file: str, altctl: str, options: List[str], lock: int, say: Callable[[object], None]):
         self.file, self.altctl, self.lock, self.say = file, altctl, lock, say
         # The descriptor that has the lock. On a volume it is that of the open file that the program writes with.
         self.held = lock
-        self.words = [altctl, "run", *options, "--", file]
-        self.entries, self.kept, self.has_rollback = Entries(), 0, False
+        self.words = [altctl, "serve", "--planners", *options, "--", file]
+        self.grows = any(it.startswith("--grow") for it in options)
+        self.entries = Entries()
+        # The last batch, the one as of which the last stamp is, and what the records tell of those after that.
+        self.kept, self.stamped, self.recent = 0, 0, {}
         # How often the program was started.
         self.starts = 0
         self.program = self._start()
@@ -50,7 +55,8 @@ class Store:
             self._take_lock_back()
             self.program, self.starts = self._started(), self.starts + 1
             try:
-                self.has_rollback = self.program.ask([b"rollback"]) == [b"ok"]
+                if not self.program.join():
+                    raise Fatal("altctl has no memory for the lines of many planners")
                 self._give_lock()
                 self._look()
                 if OWN not in self.entries.parents:
@@ -60,6 +66,8 @@ class Store:
                 status = self.program.end()
                 if status >= 0:
                     break
+        if status == 2:
+            raise Fatal(f"{self.altctl} does not know `serve --planners`: it is of an earlier release")
         reason = why_unopened(self.file, False)
         raise Fatal(f"altctl ended with status {status} at its start" + (f"\n{self.file}: {reason}" if reason else ""))
 
@@ -103,33 +111,31 @@ class Store:
         raise Fatal(f"altctl cannot be started\n{self.altctl}: {os.strerror(reason.errno)}")
 
     def _look(self) -> None:
-        """Reads the alternatives, and the number of the last batch."""
+        """Reads the alternatives, and which batch is the last one."""
         self.entries.parents = {name: parent for _, name, parent in self.rows(b"alts")}
+        self.kept, self.stamped, self.recent = 0, 0, {}
         if OWN not in self.entries.parents:
-            self.kept = 0
             return
         names = [name for _, name in self.rows(b"checks " + OWN)]
-        if len(names) != 1 or not names[0].isdigit():
-            raise Fatal(f"the alternative {OWN.decode()} is not one that a service has made")
-        self.kept = int(names[0])
+        try:
+            [self.stamped] = map(int, names)
+            self.recent = entries_of(self.rows(b"changes " + OWN), self.stamped)
+        except ValueError:
+            raise Fatal(f"the alternative {OWN.decode()} is not one that a service has made") from None
+        self.kept = max([number for number, _ in self.recent.values()], default=self.stamped)
 
     def _begin(self) -> None:
         """Makes the service's own alternative."""
-        answers = self.program.ask([b"new %s top" % OWN, b"checkpoint %s %d" % (OWN, self.kept), b"commit"])
+        [answers] = answered(self.program, [[b"new %s top" % OWN, b"checkpoint %s 0" % OWN]]).verdicts
         if answers != [b"ok"] * 3:
             self.program.end()
-            raise Fatal(f"the alternative {OWN.decode()} cannot be made: {b', '.join(answers).decode()}")
+            raise Fatal(f"the alternative {OWN.decode()} cannot be made: {b', '.join(answers or []).decode()}")
         self.entries.parents[OWN] = b"top"
 
     def reopen(self) -> None:
         """Starts the program again, which drops everything uncommitted."""
         self.program.end(kills=True)
         self._start()
-
-    def undo(self) -> None:
-        """Drops everything uncommitted."""
-        if not self.has_rollback or self.program.ask([b"rollback"]) != [b"ok"]:
-            self.reopen()
 
     def end(self) -> int:
         return self.program.end()

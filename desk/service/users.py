@@ -37,12 +37,9 @@ class Users:
 
     def hold(self, uid: int, size: int) -> bool:
         """Counts the size of lines that are held, unless it is too much."""
-        user, most = self.by_number[uid], limits.HELD_BYTES
-        if user.held + size > of_one_user(most) or self.held + size > most:
-            return False
-        user.held += size
-        self.held += size
-        return True
+        fits = self.may_hold(uid, size)
+        self.count_held(uid, size if fits else 0)
+        return fits
 
     def count_held(self, uid: int, size: int) -> None:
         """Counts the size of lines that are held all the same, or no longer are."""
@@ -51,18 +48,14 @@ class Users:
 
     def may_hold(self, uid: int, size: int) -> bool:
         """Whether that much more may be held for a user."""
-        return (
-            self.by_number[uid].held + size <= of_one_user(limits.HELD_BYTES) and self.held + size <= limits.HELD_BYTES
-        )
+        return is_within(self.by_number[uid].held + size, self.held + size, limits.HELD_BYTES)
 
     def keep(self, uid: int, size: int) -> bool:
         """Counts the size of unread answers in memory, unless it is too much."""
-        user, most = self.by_number[uid], limits.UNREAD_BYTES_OF_ALL
-        if user.in_memory + size > of_one_user(most) or self.in_memory + size > most:
-            return False
-        user.in_memory += size
-        self.in_memory += size
-        return True
+        of_user = self.by_number[uid].in_memory + size
+        fits = is_within(of_user, self.in_memory + size, limits.UNREAD_BYTES_OF_ALL)
+        self.count_kept(uid, size if fits else 0)
+        return fits
 
     def count_kept(self, uid: int, size: int) -> None:
         """Counts the size of unread answers that are in memory all the same, or no longer are."""
@@ -72,10 +65,12 @@ class Users:
     def file(self, uid: int, size: int) -> bool:
         """Counts the size of unread answers in files, unless it is too much."""
         user = self.by_number[uid]
-        if size > 0 and (
-            user.in_files + size > of_one_user(limits.UNREAD_FILES) or self.in_files + size > limits.UNREAD_FILES
-        ):
+        if size > 0 and not is_within(user.in_files + size, self.in_files + size, limits.UNREAD_FILES):
             return False
         user.in_files += size
         self.in_files += size
         return True
+
+
+def is_within(of_user: int, of_all: int, limit: int) -> bool:
+    return of_user <= of_one_user(limit) and of_all <= limit

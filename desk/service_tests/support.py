@@ -15,6 +15,7 @@ import unittest
 from pathlib import Path
 
 from service.journal_log import Log, filter_of
+from service.recent import last_batch
 
 DESK = Path(__file__).resolve().parent.parent
 ALTSERVE = str(DESK / "altserve")
@@ -104,6 +105,10 @@ class Raw:
             rows += self.read()
         return rows
 
+    def last_batch(self):
+        """The last batch in the store."""
+        return last_batch(self.rows("checks .service"), self.rows("changes .service"))
+
     def rest(self):
         """All that is answered when no more lines come."""
         self.socket.shutdown(socket.SHUT_WR)
@@ -182,7 +187,7 @@ class ServiceTest(unittest.TestCase):
     def program(self):
         """The process of the program that the service has started."""
         children = Path(f"/proc/{self.service.pid}/task/{self.service.pid}/children").read_text().split()
-        [child] = [it for it in children if b"\0run\0" in Path(f"/proc/{it}/cmdline").read_bytes()]
+        [child] = [it for it in children if b"\0serve\0" in Path(f"/proc/{it}/cmdline").read_bytes()]
         return int(child)
 
     @contextlib.contextmanager

@@ -114,6 +114,10 @@ class ArchiveTests(ArchiveCase):
         self.assertEqual(before, Path(self.journal).read_bytes())
         with self.planner() as one:
             self.assertEqual(["error 22 BadLine"] * 3, one.ask("archive", "archive a", "archive a b"))
+            # Digits of which Python makes no number.
+            one.socket.sendall(b"archive a \xb2\n")
+            one.send("archive a " + "9" * 5000)
+            self.assertEqual(["error 22 BadLine"] * 2, one.read(2))
         self.stop()
         ran = self.altserve("archive", "--until", "3", f"{self.folder}/none", "a")
         self.assertEqual(

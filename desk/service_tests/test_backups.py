@@ -91,7 +91,7 @@ class BackupTests(ServiceTest):
 
     def test_changes_beside_the_last_copy(self):
         os.unlink(self.file)
-        self.create(8192)
+        self.create(16384)
         self.start_slow()
         with self.planner() as one, self.planner() as other, self.planner() as third:
             other.ask("new a top")
@@ -116,15 +116,15 @@ class BackupTests(ServiceTest):
 
     def test_how_many_blocks_are_used_beside_the_last_copy(self):
         copy = Copy.__new__(Copy)
-        # 17 for each change of 128 lines, twice, as many for one more, and 17: 4,403.
+        # 17 for each change of 128 lines and as many records, twice, as many for one more, and 17: 8,755.
         for spare, free, progress, due in (
-            (14403, 14403, 0.0, True),
-            (14403, 14402, 0.0, False),
-            (14403, 9403, 0.5, True),
-            (14403, 9402, 0.5, False),
-            (14403, 4403, 1.0, True),
-            (14403, 4402, 1.0, False),
-            (4402, 4402, 0.5, False),
+            (18755, 18755, 0.0, True),
+            (18755, 18754, 0.0, False),
+            (18755, 13755, 0.5, True),
+            (18755, 13754, 0.5, False),
+            (18755, 8755, 1.0, True),
+            (18755, 8754, 1.0, False),
+            (8754, 8754, 0.5, False),
         ):
             copy.spare, copy.free = spare, free
             with mock.patch.object(Copy, "_progress", return_value=progress):

@@ -11,28 +11,20 @@ from service import limits
 from service_tests.support import ALTCTL, LONG, ServiceTest, kept_batches
 
 
-# The program without the word `rollback`, as earlier versions, and with one of later ones: `copy FROM TO`, which leaves
-# a file NAME.copied behind.
+# The program with a word of earlier ones: `copy FROM TO`, which leaves a file NAME.copied behind.
 OTHER = """#!{python}
-import shutil, subprocess, sys
+import os, shutil, sys
 
 if sys.argv[1] == "copy":
     shutil.copy(sys.argv[-2], sys.argv[-1])
     open(sys.argv[-2] + ".copied", "w").close()
     sys.exit()
-program = subprocess.Popen([{altctl!r}, *sys.argv[1:]], stdin=subprocess.PIPE, stdout=subprocess.PIPE, close_fds=False)
-for line in sys.stdin.buffer:
-    answer = b"error 22 BadLine\\n"
-    if line != b"rollback\\n":
-        program.stdin.write(line)
-        program.stdin.flush()
-        answer = program.stdout.readline()
-        while answer.split()[0] in (b"record", b"alternative", b"checkpoint", b"change", b"conflict"):
-            sys.stdout.buffer.write(answer)
-            answer = program.stdout.readline()
-    sys.stdout.buffer.write(answer)
-    sys.stdout.buffer.flush()
-program.communicate()
+os.execv({altctl!r}, [{altctl!r}, *sys.argv[1:]])
+"""
+# One without the words `serve --planners`.
+EARLIER = """#!/bin/sh
+if [ "$1" = serve ]; then exit 2; fi
+exec {altctl} "$@"
 """
 
 
@@ -75,7 +67,7 @@ class BatchTests(ServiceTest):
                 ["begin", "put top 1 2 a", "drop x", "commit"],
             ):
                 one.ask(*lines)
-                self.assertEqual(["checkpoint 1", "end 1"], one.rows("checks .service"), lines)
+                self.assertEqual((1, "end 1"), (one.last_batch(), one.rows("changes .service")[-1]), lines)
             self.assertEqual(["ok"], one.ask("put top 1 3 a"))
             self.assertEqual(["record 1 1 a", "record 1 3 a", "end 2"], one.rows("list top"))
 
@@ -171,15 +163,21 @@ class BatchTests(ServiceTest):
         with self.planner() as one:
             self.assertFalse(self.refuse_a_batch(one))
 
-    def test_another_program_is_started_again_or_copies_by_itself(self):
+    def other(self, text):
         program = Path(self.folder, "other")
-        program.write_text(OTHER.format(python=sys.executable, altctl=ALTCTL))
+        program.write_text(text.format(python=sys.executable, altctl=os.path.abspath(ALTCTL)))
         program.chmod(0o755)
-        self.start("--program", str(program))
+        return str(program)
+
+    def test_another_program_copies_by_itself(self):
+        self.start("--program", self.other(OTHER))
         with self.planner() as one:
-            self.assertTrue(self.refuse_a_batch(one))
             self.assertEqual("ok", one.ask("backup a")[0].split()[0])
         self.assertTrue(os.path.exists(f"{self.file}.copied"))
+
+    def test_an_earlier_program_is_refused(self):
+        status, said = self.failed("--program", self.other(EARLIER))
+        self.assertEqual((3, True), (status, "does not know `serve --planners`" in said), said)
 
     def test_a_batch_is_forgotten(self):
         self.start()

@@ -11,29 +11,40 @@ from service.rules import Person, Rules
 from service.store import Fatal, Store
 from service_tests.support import ALTCTL, ServiceTest, entries
 
+# How many records a batch changes whose entry is too long for a record.
+LARGE = 17
+
 
 class CrashTests(ServiceTest):
     def test_store_and_journal_agree_wherever_the_machine_stops(self):
         moments = self.moments()
         self.assertGreater(len(moments), 12)
+        numbers = {it.split()[7]: it.split()[1] for it in entries(self.journal)}
         shown = set()
         for store, synced, journal in moments:
-            # Of what was not synced any part may be there, and other bytes in the place of the rest.
-            for length in {*range(synced, len(journal), 40), max(synced, len(journal) - 1), len(journal)}:
-                for text in {journal[:length], journal[:length] + bytes(len(journal) - length)}:
-                    shown.add(self.shown_after(store, text))
-        self.assertEqual({0, 2, 4, 5}, shown)
+            for text in self.left_of(synced, journal):
+                shown.add(self.shown_after(store, text, numbers))
+        self.assertEqual({0, 2, 4, 5, 5 + LARGE, 6 + LARGE}, shown)
+
+    def left_of(self, synced, journal):
+        """What may be there: of what was not synced any part, and other bytes in the place of the rest or of others."""
+        step = max(40, (len(journal) - synced) // 8)
+        for length in {*range(synced, len(journal), step), max(synced, len(journal) - 1), len(journal)}:
+            rest = len(journal) - length
+            yield journal[:length]
+            yield journal[:length] + bytes(rest)
+            yield journal[:length] + b"\n{}\xff\0"[: rest // 2] + journal[length + rest // 2 :]
+            yield journal[:length] + bytes(rest // 2) + journal[length + rest // 2 :]
 
     def batches(self, lock, say):
         return Batches(Store(self.file, ALTCTL, [], lock, say), Rules(f"{self.file}.rules"), say)
 
     def moments(self):
-        """Store and journal before and after each step of three commits, and how much of the journal is synced. A crash
-        within a commit of the program leaves the store as before or as after it: that is proved."""
+        """Store and journal before and after each step of some commits and stamps, and how much of the journal is
+        synced. A crash within a commit of the program leaves the store as before or as after it: that is proved."""
         lock = locked(self.file)
         batches = self.batches(lock, self.fail)
         program, journal = batches.store.program, batches.journal
-        ask, append, sync = program.ask, journal._append, journal._sync
         moments, synced = {}, journal.end
 
         def note():
@@ -50,24 +61,32 @@ class CrashTests(ServiceTest):
 
             return step
 
-        program.ask, journal._append, journal._sync = map(noting, (ask, append, sync))
+        sync = journal.sync
+        program.exchange, journal._append, journal.sync = map(noting, (program.exchange, journal._append, sync))
         person = Person(os.geteuid(), "anna", frozenset())
-        groups = [[[1], [2]], [[3, 4]], [[5]]]
-        for group in groups:
-            batches.carry_out([Batch(person, [b"put top 1 %d a" % it for it in numbers]) for numbers in group])
+        # The last but one has an entry that is too long for a record.
+        large = [b"put top 1 %d %s" % (it, b"x" * 4000) for it in range(6, 6 + LARGE)]
+        for group in [[[1], [2]], [[3, 4]], [], [[5]], [large], [[6 + LARGE]]]:
+            lines = [[it if isinstance(it, bytes) else b"put top 1 %d a" % it for it in batch] for batch in group]
+            batches.carry_out([Batch(person, it) for it in lines])
+            if not group:
+                batches.refresh()
+        self.assertEqual(6, len(entries(self.journal, "alternative=top")) - LARGE)
         batches.end()
         os.close(lock)
         return list(moments)
 
-    def shown_after(self, store, journal):
-        """How many records are there after such a crash, all of which the journal tells."""
+    def shown_after(self, store, journal, numbers):
+        """How many records are there after such a crash, all of which the journal tells, by the numbers that their
+        batches had."""
         Path(self.file).write_bytes(store)
         Path(self.journal).write_bytes(journal)
         lock = locked(self.file)
         batches = self.batches(lock, lambda _: None)
         rows = [it[2].decode() for it in batches.store.rows(b"list top")]
-        told = [it.split(" ")[7] for it in entries(self.journal)]
-        self.assertEqual(rows, told)
+        told = [it.split(" ") for it in entries(self.journal)]
+        self.assertEqual(rows, [it[7] for it in told])
+        self.assertEqual([numbers[it] for it in rows], [it[1] for it in told])
         batches.end()
         os.close(lock)
         return len(rows)

@@ -7,38 +7,89 @@ from pathlib import Path
 
 from service_tests.support import ALTCTL, ALTSERVE, ServiceTest
 
-# A program that does something else at the line that the file NAME.fault names. The file is `WHAT LINE`.
+# A program that does something else at the line that the file NAME.fault names: `WHAT LINE`, where the line `commit`
+# stands for `go`, at which all that waits is carried out. Another line of the file counts after that.
 FAULTY = """#!{python}
 import os, signal, subprocess, sys
 
 name = sys.argv[0] + ".fault"
 program = subprocess.Popen([{altctl!r}, *sys.argv[1:]], stdin=subprocess.PIPE, stdout=subprocess.PIPE, close_fds=False)
+ROWS = (b"@", b"record", b"alternative", b"checkpoint", b"change", b"conflict")
+# How many lines the batches have that were begun or wait, what is answered in place of one, and where the device fails.
+held, instead, failing = {{}}, b"", None
 
-def ask(line):
+def is_answered(text):
+    return text.count(b"\\n") > 1 and not text.splitlines()[-1].startswith(ROWS)
+
+def ask(line, is_over=is_answered):
     program.stdin.write(line)
     program.stdin.flush()
-    answers = program.stdout.readline()
-    while answers.splitlines()[-1].split()[0] in (b"record", b"alternative", b"checkpoint", b"change", b"conflict"):
-        answers += program.stdout.readline()
-    return answers
+    text = b""
+    while not is_over(text):
+        text += program.stdout.readline()
+    return text
+
+def go():
+    return ask(b"go\\n", lambda text: text.endswith(b"@0\\nok\\n"))
+
+def fault(line):
+    first, _, others = (open(name, "rb").read() if os.path.exists(name) else b"- nothing").partition(b"\\n")
+    what, begin = first.split(b" ", 1)
+    if not line.startswith(begin):
+        return b""
+    os.unlink(name)
+    if others:
+        open(name, "wb").write(others)
+    if what == b"dies":
+        die()
+    return what
+
+def die():
+    program.kill()
+    os.kill(os.getpid(), signal.SIGKILL)
+
+def say(text):
+    sys.stdout.buffer.write(text)
+    sys.stdout.buffer.flush()
+
+def end(batches, answer):
+    for number, place in batches:
+        lines = [b"error 91 NotDone %d" % (place + 1)] * (held[number] + 1)
+        lines[place] = answer
+        say(b"\\n".join([b"@%d" % number, *lines, b""]))
+    program.kill()
+    sys.exit(3)
 
 for line in sys.stdin.buffer:
-    what, begin = open(name, "rb").read().split(b" ", 1) if os.path.exists(name) else (b"", b"nothing")
-    if not line.startswith(begin):
-        answers = ask(line)
-    else:
-        os.unlink(name)
+    verb, number, said = (line.rstrip(b"\\n") + b"  ").split(b" ", 2)
+    said = said[:-2]
+    if verb == b"go":
+        what = fault(b"commit")
         if what.startswith(b"after"):
-            ask(line)
-        if what.endswith(b"dies"):
-            program.kill()
-            os.kill(os.getpid(), signal.SIGKILL)
-        answers = b"error " + what.split(b"-")[-1].replace(b"_", b" ") + b"\\n"
-    sys.stdout.buffer.write(answers)
-    sys.stdout.buffer.flush()
-    if answers == b"error 15 Device\\n":
-        program.kill()
-        sys.exit(3)
+            go()
+            what = what[6:]
+            if what == b"dies":
+                die()
+        if what:
+            end(held.items(), b"error 101 Unsure")
+        if failing:
+            end([failing], b"error 15 Device")
+        say(go().replace(b"error 6 IsTop", instead))
+        held = {{}}
+    elif verb.startswith(b"#") or verb == b"later":
+        program.stdin.write(line)
+    elif verb == b"line" and int(number) in held:
+        what = fault(said)
+        if what == b"15_Device":
+            failing = int(number), held[int(number)]
+        elif what:
+            instead, line = b"error " + what.replace(b"_", b" "), b"line %s drop top\\n" % number
+        held[int(number)] += 1
+        program.stdin.write(line)
+    else:
+        fault(said)
+        held.update({{int(number): 0}} if said == b"begin" else {{}})
+        say(ask(line))
 program.communicate()
 """
 # Has a call of the service on its journal fail once the file FAULT is there.
@@ -118,7 +169,7 @@ class DeviceTests(ServiceTest):
             for what, lines in {
                 "after-dies commit": ["put top 1 1 a"],
                 "dies commit": ["put top 1 2 a"],
-                "dies checkpoint": ["begin", "new a top", "put top 1 3 a", "commit"],
+                "dies put .service": ["begin", "new a top", "put top 1 3 a", "commit"],
             }.items():
                 self.fail(what)
                 self.assertEqual(["ok"] * len(lines), one.ask(*lines), what)
@@ -129,39 +180,50 @@ class DeviceTests(ServiceTest):
             ["1", "2", "top", "3"], self.told()[:2] + [it.split()[-1] for it in self.log()[2:3]] + self.told()[3:]
         )
 
-    def test_a_commit_that_is_refused(self):
-        with self.planner() as one:
-            self.fail("16_Memory commit")
-            due = ["ok", "error 91 NotDone 2", "error 16 Memory"]
-            self.assertEqual(due, one.ask("begin", "put top 1 1 a", "commit"))
-            self.assertEqual(["none", "ok"], one.ask("get top 1 1", "put top 1 2 a"))
-        self.stop()
-        self.assertEqual(["2"], self.told())
-        self.assertEqual(["2"], self.records())
-
     def test_a_stamp_that_is_refused(self):
+        """Then the next one comes later, and all entries stay in the store until then."""
+        with self.planner() as one:
+            self.assertEqual(["ok"], one.ask("put top 1 1 a"))
+            self.fail("16_Memory checkpoint .service")
+            self.until(lambda: not os.path.exists(f"{self.faulty}.fault"))
+            self.assertEqual(["ok"], one.ask("put top 1 2 a"))
+            self.until(lambda: one.rows("checks .service") == ["checkpoint 2", "end 1"])
+            self.assertEqual((["end 0"], 2), (one.rows("changes .service"), one.last_batch()))
+        self.stop()
+        self.assertEqual(["1", "2"], self.told())
+
+    def test_a_record_that_is_refused(self):
+        """Then the journal's file tells the batch first."""
         with self.planner() as one, self.planner() as other:
-            self.fail("16_Memory checkpoint .service")
-            due = ["ok", "error 91 NotDone 2", "error 16 Memory"]
-            self.assertEqual(due, one.ask("begin", "put top 1 1 a", "commit"))
-            self.assertEqual(["checkpoint 0", "end 1", "end 0"], one.rows("checks .service") + one.rows("list top"))
-            # Among others, each is tried by itself.
+            self.fail("16_Memory put .service")
+            self.assertEqual(["ok"] * 3, one.ask("begin", "put top 1 1 a", "commit"))
+            self.assertEqual((1, ["end 0"]), (one.last_batch(), one.rows("changes .service")))
+            # What its planner has sent behind it was carried out, so it can no more be.
             other.ask("whoami")
-            self.fail("16_Memory checkpoint .service")
+            self.fail("16_Memory put .service")
             with self.halted(), self.planner() as third:
                 third.send("get top 1 1")
                 self.until(third.is_read)
-                one.send("put top 1 1 a")
-                other.send("put top 1 2 a")
-            self.assertEqual(["ok", "ok"], one.read() + other.read())
-            self.assertEqual("end 2", one.rows("list top")[-1])
+                one.send("put top 1 2 a", "put top 1 2 b")
+            self.assertEqual(["error 16 Memory", "ok", "value b"], one.read(2) + one.ask("get top 1 2"))
+            # By itself it is refused if the stamp is.
+                # By itself it is refused if the stamp is.
+            self.fail("16_Memory put .service\n16_Memory checkpoint .service")
+            due = ["ok", "error 91 NotDone 2", "error 16 Memory"]
+            self.assertEqual(due, one.ask("begin", "put top 1 3 a", "commit"))
+            self.assertEqual(["none", "ok"], one.ask("get top 1 3", "put top 1 4 a"))
+        self.stop()
+        self.assertEqual(["1", "2", "4"], self.told())
+        self.assertEqual(["1 put top 1 1 a", "2 put top 1 2 b", "4 put top 1 4 a"], self.log())
 
-    def test_the_device_fails_at_a_line_of_the_service(self):
+    def test_the_device_fails_at_a_line(self):
         with self.planner() as one:
-            self.fail("15_Device checkpoint .service")
+            self.fail("15_Device put top 1 1 a")
             self.assertEqual(
                 ["error 15 Device", "none", "ok"], one.ask("put top 1 1 a", "get top 1 1", "put top 1 1 b")
             )
+            self.fail("15_Device put .service")
+            self.assertEqual(["ok", "value c"], one.ask("put top 1 1 c", "get top 1 1"))
 
     def test_a_restore_whose_program_fails(self):
         with self.planner() as one:
@@ -171,7 +233,7 @@ class DeviceTests(ServiceTest):
         backup, new = f"{self.file}.backups/early", f"{self.folder}/new"
         for what, due in {
             "dies put top": "the program ended",
-            "13_Full commit": "it could not be committed: ok, ok, ok, error 13 Full",
+            "13_Full checkpoint .service": "it could not be committed: error 13 Full",
         }.items():
             self.fail(what)
             words = [sys.executable, ALTSERVE, "restore", "--program", str(self.faulty), backup, self.journal, new]
@@ -216,17 +278,32 @@ class SyncTests(ServiceTest):
         return status
 
     def test_the_journal_cannot_be_synced(self):
+        """The service ends. What its file may lack is in the store."""
         self.start_failing("fdatasync", True)
         with self.planner() as one:
             self.assertEqual(["ok"], one.ask("put top 1 1 a"))
             Path(self.fault).touch()
-            self.assertEqual(["error 97 NotJournaled EIO", ""], one.ask("put top 1 2 a") + one.read())
+            self.assertEqual(["ok", ""], one.ask("put top 1 2 a") + one.read())
+        self.assertEqual(3, self.ended())
+        self.assertIn("the journal could not be synced", self.said.read_text())
+        os.truncate(self.journal, Path(self.journal).read_bytes().index(b'{"batch":1') + 40)
+        self.start()
+        with self.planner() as one:
+            self.assertEqual(["record 1 1 a", "record 1 2 a", "end 2"], one.rows("list top"))
+            self.assertEqual(["ok"], one.ask("put top 1 3 a"))
+        self.assertEqual([f"{it} put top 1 {it} a" for it in (1, 2, 3)], self.log())
+
+    def test_the_journal_cannot_be_synced_before_a_batch(self):
+        self.start_failing("fdatasync", True)
+        lines = [f"put top 1 {it} {'x' * 4000}" for it in range(20)]
+        with self.planner() as one:
+            Path(self.fault).touch()
+            due = ["ok", *["error 91 NotDone 21"] * 20, "error 97 NotJournaled EIO", ""]
+            self.assertEqual(due, one.ask("begin", *lines, "commit") + one.read())
         self.assertEqual(3, self.ended())
         self.start()
         with self.planner() as one:
-            self.assertEqual(["record 1 1 a", "end 1"], one.rows("list top"))
-            self.assertEqual(["ok"], one.ask("put top 1 3 a"))
-        self.assertEqual(["1 put top 1 1 a", "3 put top 1 3 a"], self.log())
+            self.assertEqual(["end 0"], one.rows("list top"))
 
     def stop_at_a_new_start(self, call, is_journals):
         """Has a call fail from the moment on at which the program is killed: the service can't start it again, and
@@ -235,7 +312,9 @@ class SyncTests(ServiceTest):
         with self.planner() as one:
             self.assertEqual(["ok"], one.ask("put top 1 1 a"))
             Path(self.fault).touch()
-            os.kill(self.program(), signal.SIGKILL)
+            program = self.program()
+            os.kill(program, signal.SIGKILL)
+            self.until(lambda: Path(f"/proc/{program}/stat").read_text().rpartition(")")[2].split()[0] == "Z")
             self.assertEqual(["error 99 Stopped"], one.ask("put top 1 2 a"))
         self.assertEqual(3, self.ended())
 
@@ -263,6 +342,6 @@ subprocess.Popen = noting("start", subprocess.Popen)"""
             os.kill(self.program(), signal.SIGKILL)
             self.assertEqual(["ok"], one.ask("put top 1 1 a"))
         text = Path(calls).read_text().splitlines()
-        of_store = [it.split()[0] for it in text if it.endswith(self.file) or it == "start run"]
+        of_store = [it.split()[0] for it in text if it.endswith(self.file) or it == "start serve"]
         self.assertEqual(["fsync", "drop", "start"] * 2, of_store)
         self.assertEqual(["fsync", "drop"], [it.split()[0] for it in text if it.endswith(self.journal)])

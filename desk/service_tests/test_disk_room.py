@@ -8,8 +8,8 @@ from types import SimpleNamespace
 from unittest import mock
 
 from service import disk_room
-from service.disk_room import AHEAD, BLOCK, FIRST, LARGE, LEFT, MOST, PIECE, PIECES, PLENTY, SMALL, DiskRoom, Uses
-from service.journal import Journal
+from service.disk_room import AHEAD, BLOCK, LARGE, LEFT, MOST, PIECE, PIECES, PLENTY, SMALL, DiskRoom, Uses
+from service.journal import Journal, entry_of, head_of, now, parts_of
 from service_tests.support import entries
 
 
@@ -123,10 +123,10 @@ class DiskRoomTests(unittest.TestCase):
 
     def test_how_often_the_system_is_asked(self):
         room = self.room(10 * PIECE, PLENTY, "fuse.glusterfs")
-        with mock.patch.object(disk_room.time, "monotonic", lambda: now):
-            for now, free, due in ((1, PLENTY, PLENTY), (1.4, 0, PLENTY), (2, PLENTY - 1, PLENTY - 1), (2, 5, 5)):
+        with mock.patch.object(disk_room.time, "monotonic", lambda: at):
+            for at, free, due in ((1, PLENTY, PLENTY), (1.4, 0, PLENTY), (2, PLENTY - 1, PLENTY - 1), (2, 5, 5)):
                 self.free = free
-                self.assertEqual(due, room._free(), now)
+                self.assertEqual(due, room._free(), at)
 
     def test_errors_of_the_system(self):
         for fault, due in ((errno.EDQUOT, "EDQUOT"), (errno.EIO, "EIO")):
@@ -170,55 +170,26 @@ class DiskRoomTests(unittest.TestCase):
 
 
 class UsesTests(unittest.TestCase):
-    def noted(self, *steps, free=1000):
-        """What is known after lines that left so many of 2,000 blocks free."""
-        uses = Uses()
-        uses.note([], [], told(2000, free))
-        for lines, answers, blocks, left in steps:
-            uses.note(lines, answers, told(blocks, left))
-        return uses.front, uses.count
-
-    def test_blocks_that_lines_took(self):
-        put, ok = [b"put top 1 1 a"], [b"ok"]
-        self.assertEqual((FIRST, 0), self.noted())
-        self.assertEqual((1003, 3), self.noted((put, ok, 2000, 997)))
-        self.assertEqual((1005, 5), self.noted((put, ok, 2000, 997), (put, ok, 2000, 995)))
-        self.assertEqual((FIRST, 0), self.noted(([b"new a top", b"reclaim"], ok * 2, 2000, 1100)))
-        # A growth takes none.
-        self.assertEqual((1003, 3), self.noted(([b"grow 4000", *put], ok * 2, 4000, 2997)))
-
-    def test_a_marking_hides_what_lines_took(self):
-        put, ok = [b"put top 1 1 a"], [b"ok"]
-        # 17 for the change, and as many for a marking in which it looked for them.
-        self.assertEqual((1034, 34), self.noted((put, ok, 2000, 1200)))
-        self.assertEqual((1034, 34), self.noted(([b"put top 1 1 a", b"reclaim"], ok * 2, 2000, 999)))
-        self.assertEqual((1960 + 34, 34), self.noted((put, ok, 2000, 38), free=40))
-        # A merge has made as many changes as it says.
-        self.assertEqual((1000 + 17 * 31, 17 * 31), self.noted(([b"merge a"], [b"ok 30"], 2000, 999)))
-        self.assertEqual((1003, 3), self.noted(([b"merge a"], [b"ok 2"], 2000, 997)))
-        # No block lies behind the last one.
-        self.assertEqual(2000, self.noted((put * 100, ok * 100, 2000, 500))[0])
-
     def test_what_is_not_known(self):
         uses = Uses()
         self.assertFalse(uses.is_known)
-        uses.note([b"put top 1 1 a"], [b"ok"], told(2000, 1000))
-        self.assertEqual((True, FIRST, 0), (uses.is_known, uses.front, uses.count))
-        uses.note([b"put top 1 1 a"], [b"ok"], told(2000, 990))
-        uses.committed()
-        self.assertEqual((True, FIRST, 0, 1010), (uses.is_known, uses.front, uses.count, uses.used))
-        uses.note([], [], [b"error 22 BadLine", b"free 3"])
+        uses.note(told(2000, 1000))
+        self.assertEqual((True, 2000, 1000, 1000), (uses.is_known, uses.blocks, uses.free, uses.used))
+        uses.note([b"error 22 BadLine", b"free 3"])
+        self.assertFalse(uses.is_known)
+        uses.note(told(2000, 990))
+        uses.note([])
         self.assertFalse(uses.is_known)
 
     def test_a_marking_that_would_be_of_use(self):
         uses = Uses()
-        uses.note([], [], told(2000, 1000))
+        uses.note(told(2000, 1000))
         self.assertFalse(uses.may_mark())
-        uses.note([], [], told(2000, 938))
+        uses.note(told(2000, 938))
         self.assertFalse(uses.may_mark())
-        uses.note([], [], told(2000, 900))
+        uses.note(told(2000, 900))
         self.assertTrue(uses.may_mark())
-        uses.note([], [], told(2000, 950))
+        uses.note(told(2000, 950))
         self.assertEqual((1050, False), (uses.needed, uses.may_mark()))
 
 
@@ -234,13 +205,13 @@ class OpenedTests(unittest.TestCase):
             journal = Journal(path, said.append)
             journal.opened(0)
             batch = SimpleNamespace(person=SimpleNamespace(uid=1, name="a", through=None), lines=[b"put top 1 1 a"])
-            journal.write([(1, batch, ["top"], 1)], 1)
+            journal.write(parts_of(1, head_of(now(), batch, ["top"]), 1, batch), 1)
             with mock.patch.object(os, "write", side_effect=OSError(errno.ENOSPC, "no space")):
                 journal.opened(0)
                 self.assertIn("until there is space, it does not tell that altctl was started", said[-1])
             self.assertEqual([], entries(path, kept=0))
-            journal.write([(2, batch, ["top"], 1)], 2)
-            journal.done(2)
+            journal.make_room(100)
+            journal.note(entry_of(now(), batch, ["top"]).line(2, 1) + b'{"done":2}\n')
             journal.close()
             self.assertEqual(["2"], [it.split()[1] for it in entries(path)])
             lines = [it.split(":")[0] for it in Path(path).read_text().splitlines()]

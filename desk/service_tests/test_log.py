@@ -3,6 +3,7 @@ it."""
 import json
 import os
 import random
+import signal
 import subprocess
 import sys
 import unittest
@@ -140,7 +141,9 @@ class IndexTests(unittest.TestCase):
             log.close()
         # Nor is one that a crash has cut, or has left other bytes in.
         whole = Path(f"{self.path}.index").read_bytes()
-        for left in (whole[:-7], whole[: -journal_index.RECORD] + bytes(journal_index.RECORD), b"", bytes(9999)):
+        size = journal_index.RECORD
+        lost = whole[:-size] + bytes(size), whole[: 40 - size] + bytes(size - 40)
+        for left in (whole[:-7], *lost, b"", bytes(9999)):
             Path(f"{self.path}.index").write_bytes(left)
             log = Log(self.path, writes=True)
             self.assertEqual(wanted(self.path, record="2:5"), self.ask(log, ["record=2:5"]))
@@ -261,7 +264,7 @@ class LogTests(ServiceTest):
 from service import journal
 real = os.write
 def write(file, text):
-    if os.path.exists({self.folder + "/full"!r}) and bytes(text).startswith(b'{{"done"') and b"batch" not in text:
+    if os.path.exists({self.folder + "/full"!r}) and bytes(text).startswith((b'{{"batch"', b'{{"done"')):
         raise OSError(errno.ENOSPC, "no space")
     return real(file, text)
 os.write = write"""
@@ -269,16 +272,21 @@ os.write = write"""
         with self.planner() as one:
             self.assertEqual(["ok"], one.ask("put top 1 1 a"))
             Path(self.folder, "full").touch()
+            # What was committed is in the store, and nothing more is until the journal tells it.
             self.assertEqual(["ok"], one.ask("put top 1 2 a"))
-            self.assertEqual("end 2", one.rows("log")[-1])
             self.assertIn("batch 2", self.said.read_text())
             self.assertEqual(["1 put top 1 1 a"], self.log())
+            self.assertEqual(["error 97 NotJournaled ENOSPC"], one.ask("put top 1 3 a"))
+            self.assertEqual(2, one.last_batch())
+            Path(self.folder, "full").unlink()
             self.assertEqual(["ok"], one.ask("put top 1 3 a"))
             self.assertEqual("end 3", one.rows("log")[-1])
-        self.assertEqual(["1 put top 1 1 a", "2 put top 1 2 a"], self.log())
-        self.stop()
+            # If it is killed before, the next start has it from the store.
+            Path(self.folder, "full").touch()
+            self.assertEqual(["ok"], one.ask("put top 1 4 a"))
+        self.stop(signal.SIGKILL)
         self.start()
-        self.assertEqual(["1 put top 1 1 a", "2 put top 1 2 a", "3 put top 1 3 a"], self.log())
+        self.assertEqual([f"{it} put top 1 {it} a" for it in (1, 2, 3, 4)], self.log())
 
     def test_an_older_and_then_a_newer_backup_are_put_back(self):
         self.start()

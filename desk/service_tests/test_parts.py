@@ -4,29 +4,11 @@ import unittest
 from types import SimpleNamespace
 
 from service.backups import Copy
-from service.batch import Batch
-from service.batches import refuse_last
 from service.planner import Planner
 from service.users import Users
 
 
 class PartsTests(unittest.TestCase):
-    def test_the_program_ended_after_it_refused_a_line(self):
-        full = b"error 13 Full"
-
-        def refused(answers):
-            """The refusals of three batches of two lines each, in a group that ended with these answers."""
-            batches = [Batch(None, [b"put top 1 1 a"] * 2) for _ in range(3)]
-            refuse_last(batches, answers)
-            return [it.refused for it in batches]
-
-        self.assertEqual([None, (1, full), None], refused([b"ok"] * 3 + [full]))
-        self.assertEqual([None, None, (0, full)], refused([b"ok"] * 4 + [full]))
-        # A line of the service comes after all of them.
-        self.assertEqual([(2, full)] * 3, refused([b"ok"] * 7 + [full]))
-        for answers in [], [b"ok"] * 3:
-            self.assertEqual([None] * 3, refused(answers))
-
     def test_a_planner_who_is_closed(self):
         watched, forgotten = [], []
         one, other = socket.socketpair()

@@ -71,7 +71,7 @@ class RestoreTests(ServiceTest):
                         )
                     )
                 one.ask(*lines)
-                last = int(one.rows("checks .service")[0].split()[1])
+                last = one.last_batch()
                 states[last] = self.shown(one)
                 if number == 20:
                     self.assertEqual("ok", one.ask("backup early")[0].split()[0])
@@ -117,7 +117,7 @@ class RestoreTests(ServiceTest):
             )
         self.assertEqual((10, 10), found)
         # Two batches of two lines fit into five.
-        self.assertEqual([2, 4, 6, 8, 10], [it.args[1] for it in commit.call_args_list])
+        self.assertEqual([2, 4, 6, 8, 10], [it.args[2] for it in commit.call_args_list])
         self.assertEqual(
             20, len([it for it in self.shown_by(f"{self.folder}/new")["list top"] if it.startswith("record ")])
         )

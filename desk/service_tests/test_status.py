@@ -32,7 +32,7 @@ class StatusTests(ServiceTest):
             due = {"blocks": 256, "alternatives": 2, "batches_total": 3, "refused_batches_total": 1, "planners": 2}
             due.update(users=1, logs=0, waiting_planners=0)
             self.assertEqual(due, {name: found[name] for name in due})
-            self.assertEqual(f"checkpoint {found['last_batch']:.0f}", one.rows("checks .service")[0])
+            self.assertEqual(found["last_batch"], one.last_batch())
             self.assertEqual(f"free {found['free_blocks']:.0f}", one.ask("free")[0])
             self.assertEqual(os.path.getsize(self.journal), found["journal_bytes"])
             self.assertEqual(len("put a 1 4 a") + 64, found["held_bytes"])
@@ -113,8 +113,8 @@ class RoomTests(unittest.TestCase):
     def test_the_slowest_commit(self):
         commits = Commits()
         for now, seconds in ((0, 5.0), (10, 1.0), (20, 3.0), (70, 2.0)):
-            commits.note(now, 2, seconds, 0.5)
-        self.assertEqual((4, 8, 11.0, 2.0), (commits.count, commits.batches, commits.seconds, commits.sync_seconds))
+            commits.note(now, 1, 2, seconds)
+        self.assertEqual((4, 8, 11.0), (commits.count, commits.batches, commits.seconds))
         self.assertEqual([5.0, 3.0, 2.0, 0.0], [commits.slowest_since(it) for it in (0, 11, 21, 71)])
 
     def test_how_many_more_events_there_were(self):

@@ -162,9 +162,24 @@ class StoreTests(ServiceTest):
                 other.send("put top 1 3 a")
                 os.unlink(program)
                 os.kill(it, signal.SIGKILL)
-            # The commit had not been asked for, so nothing was made.
+            # The first line had not been sent, so nothing was made.
             self.assertEqual(["error 99 Stopped"] * 2 + [""], one.read(3))
             self.assertEqual(["error 99 Stopped"], other.read())
+        self.assertEqual(3, self.service.wait(60))
+
+    def test_a_store_that_is_lost_after_a_line_was_sent(self):
+        program = f"{self.folder}/altctl"
+        os.symlink(os.path.abspath(ALTCTL), program)
+        self.start("--program", program)
+        with self.planner() as one:
+            self.assertEqual(["ok"], one.ask("put top 1 1 a"))
+            with self.halted() as it:
+                one.send("put top 1 2 a", "put top 1 3 a")
+                time.sleep(0.3)
+                os.unlink(program)
+                os.kill(it, signal.SIGKILL)
+            # The program may have had both lines, so whether they were committed is not known.
+            self.assertEqual(["error 101 Unsure"] * 2 + [""], one.read(3))
         self.assertEqual(3, self.service.wait(60))
 
     def test_a_store_that_grows(self):
