@@ -73,6 +73,7 @@ if [ -n "$quick" ]; then
     try 300 faults/damage.py --files 300
     try 600 ../desk/test_altserve.py StoreTests
     try 600 faults/kill_service.py "$tools/../altctl" 2
+    try 600 faults/crash_service.py "$tools/../altctl" 4
     try 600 ../desk/test_altgis.py InterruptionTests
 else
     # Over the libraries that are proved for the program. Without it the tests of the store in memory are skipped.
@@ -99,6 +100,7 @@ else
     try 900 ../desk/test_altcarry.py
     try 1800 release/test_package.py
     try 300 faults/kill_service.py "$tools/../altctl" 20
+    try 600 faults/crash_service.py "$tools/../altctl" 50
     try 600 faults/full_disk.py
     try 900 faults/travels.py "$tools/../altctl" 40
     try 300 faults/replicated.sh
