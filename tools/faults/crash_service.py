@@ -418,7 +418,7 @@ class Trial:
 
     def journal(self, file):
         """The journal, behind all archives."""
-        found = Journal(self.service.is_of_stream())
+        found = Journal()
         text = Path(f"{file}.journal").read_bytes()
         while text.startswith(b'{"dropped":'):
             name = json.loads(text.split(b"\n")[0])["archive"]

@@ -243,11 +243,9 @@ class Planner:
 
 
 class Journal:
-    """The lines of a journal, as a reader of its own takes them. A service that drives `altctl run` leaves out the
-    numbers of lines that were refused, and lines that were torn before others that are whole."""
+    """The lines of a journal, as a reader of its own takes them."""
 
-    def __init__(self, is_of_stream):
-        self.is_of_stream = is_of_stream
+    def __init__(self):
         # The batches in the store, in their order, the last one of them, and the highest number.
         self.kept, self.last, self.highest = [], 0, 0
         # Those of which it is not told yet what became of them.
@@ -261,14 +259,13 @@ class Journal:
             try:
                 self.take(json.loads(line))
             except (ValueError, KeyError, TypeError):
-                if self.is_of_stream:
-                    raise Failure(f"a line of the journal is none: {line[:100]} .. {line[-100:]}") from None
+                raise Failure(f"a line of the journal is none: {line[:100]} .. {line[-100:]}") from None
         if self.waiting:
             raise Failure(f"the journal ends with a batch of which it isn't told what became of it: {self.waiting[-1]}")
 
     def take(self, line):
         if "batch" in line:
-            if line["batch"] <= self.highest or self.is_of_stream and line["batch"] > self.highest + 1:
+            if line["batch"] != self.highest + 1:
                 raise Failure(f"after batch {self.highest} the journal has {line}")
             self.highest = line["batch"]
             self.waiting.append(line)
@@ -277,10 +274,10 @@ class Journal:
             self.highest = line["dropped"]
             return
         last = line["done"] if "done" in line else line["last"]
-        if last < self.last or last > self.highest and self.is_of_stream:
+        if not self.last <= last <= self.highest:
             raise Failure(f"after batch {self.last} of {self.highest} in the store the journal says {line}")
         if "next" in line:
-            if line["next"] <= self.highest or self.is_of_stream and line["next"] > self.highest + 1:
+            if line["next"] != self.highest + 1:
                 raise Failure(f"after batch {self.highest} the journal says {line}")
             self.highest = line["next"] - 1
         self.kept += [it for it in self.waiting if it["batch"] <= last]
@@ -292,7 +289,7 @@ class GrowingJournal(Journal):
     as it is."""
 
     def __init__(self, path):
-        super().__init__(True)
+        super().__init__()
         self.path, self.at, self.tail = path, 0, b""
 
     def settled(self):
@@ -427,10 +424,6 @@ class Service:
         tasks = Path(f"/proc/{self.process.pid}/task").iterdir()
         return [child for it in tasks for child in (it / "children").read_text().split()]
 
-    def is_of_stream(self):
-        """Whether its program is `altctl serve --planners`."""
-        return any(b"--planners" in Path(f"/proc/{it}/cmdline").read_bytes() for it in self.programs())
-
     def kill_program(self):
         """Kills the program. Returns False if there is none at this moment."""
         try:
@@ -525,7 +518,6 @@ class Trial:
         connection = self.service.connect()
         try:
             connection.ask(["whoami"])
-            self.journal.is_of_stream = self.service.is_of_stream()
             self.replay(self.journal.settled())
             compare(connection, self.state, self.journal)
         finally:
