@@ -193,7 +193,11 @@ fn manner(words: &[String]) -> Result<Manner> {
 }
 
 /// Plays a session.
-fn play_session(alloc: Global, store: &mut Store<FuseDisk<MemDisk>>, step: &mut Step) -> Result<()> {
+fn play_session(
+    alloc: Global,
+    store: &mut Store<FuseDisk<MemDisk>>,
+    step: &mut Step,
+) -> Result<()> {
     let manner = manner(step.words.as_slice())?;
     let mut input = Input {
         bytes: step.input.as_bytes(),
