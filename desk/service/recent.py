@@ -5,7 +5,7 @@ in between. The file of the journal gets the line after the commit, and once it 
 alternative anew, without records: the name of its only checkpoint is the last batch that the file surely has.
 
 The parts of a line are values of one number, in tables from 65535 down, and numbers rise with the batches. A value
-begins with digits by chance, so nobody can have put it into `top` before, where it would not show as a change. The
+begins with random digits, so nobody can have put it into `top` before, where it would not show as a change. The
 number of a batch is not known before its commit. So its record has the least that it can have, and the number is that,
 or one more than that of the batch before it."""
 import os
