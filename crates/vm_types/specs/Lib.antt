@@ -20,4 +20,3 @@ pub mod Step
 pub mod Texts
 pub mod Tree
 pub mod Versions
-pub mod Walked

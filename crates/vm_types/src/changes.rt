@@ -1,66 +1,64 @@
 //! A list of changes, packed.
-ghost use Rattle.std.specs.Prelude.{◌≡◌, ◌<◌, ◌≤◌, ◌∷◌, ◌++◌, [], length, slice_get, slice_index_or, option_copied, IsTrue, ◌↔◌, IfOk, IfSome, OnOk, OnErr};
+ghost use Rattle.std.specs.Prelude.{◌≡◌, ◌<◌, ◌≤◌, ◌∷◌, ◌++◌, [], length, slice_index_or, option_copied, IfSome, OnOk, OnErr};
 ghost use Rattle.vm_types.specs.Bytes.{longest};
 ghost use Rattle.vm_types.specs.declared.change.Change.{Change};
-ghost use Rattle.vm_types.specs.Walked.{changes_left};
 
-use crate::values::{Piece, Values, whole_value};
+use crate::packed::{Packed, PackedIter, PackedList};
+use crate::values::{Piece, Values};
 use crate::{Change, Key};
-use std::alloc::{AllocError, Global};
-use std::marker::Model;
+use std::alloc::AllocError;
 
-/// A change: its key, and where its values lie.
-#[derive(Clone, Copy, Debug)]
-struct ChangeRow {
-    key: Key,
-    before: Option<Piece>,
-    after: Option<Piece>,
-}
-
-/// A list of changes that takes memory only for what it holds: 64 bytes per change, and the bytes
+/// A list of changes that takes memory only for what it holds: 48 bytes per change, and the bytes
 /// of their values. The values lie one after another in a single run of bytes.
-#[derive(Debug, Drop)]
-pub struct Changes {
-    rows: Vec<ChangeRow>,
-    values: Values,
+pub type Changes = PackedList<Change, 2>;
+
+impl Packed<2> for Change {
+    ghost use Rattle.std.proofs.Common.{arith};
+    ghost use Rattle.vm_types.specs.Packed.{change_of};
+
+    ghost item = { change_of };
+
+    ghost few = { Prim.omega arith };
+
+    fn whole(key: Key, pieces: &[Piece], values: &Values) -> Self {
+        Change {
+            key,
+            before: values.whole(pieces[0]),
+            after: values.whole(pieces[1]),
+        }
+    }
 }
 
-impl Model for Changes {
-    ghost use Rattle.std.specs.Prelude.{List, length};
-    ghost use Rattle.vm_types.specs.declared.change.Change.{Change};
+impl<'a> Iterator for PackedIter<'a, Change, 2> {
+    ghost use Rattle.std.specs.Iterator.{at_most};
+    ghost use Rattle.std.specs.Prelude.{length};
+    ghost use Rattle.vm_types.specs.Packed.{Takes, lent_change};
 
-    ghost Value = { List Change };
+    type Item = (Key, Option<&'a [u8]>, Option<&'a [u8]>);
 
-    ghost use Rattle.vm_types.specs.Packed.{changes_in, AllLieIn, ChangeLiesIn};
+    ghost next_gives = { Takes lent_change };
 
-    ghost view = { λ c. changes_in c.values c.rows.items };
+    ghost remaining = { λ left. at_most (length left) };
 
-    ghost invariant = { λ c. AllLieIn ChangeLiesIn (length c.values) c.rows.items };
+    fn next(&mut self) -> Option<(Key, Option<&'a [u8]>, Option<&'a [u8]>)> {
+        let (key, pieces, values) = self.next_row()?;
+        Some((key, values.get(pieces[0]), values.get(pieces[1])))
+    }
+}
+
+impl<'a> IntoIterator for &'a Changes {
+    type Item = (Key, Option<&'a [u8]>, Option<&'a [u8]>);
+
+    type IntoIter = PackedIter<'a, Change, 2>;
+
+    ghost into_iter_gives = { λ list left. left ≡ list.now };
+
+    fn into_iter(self) -> PackedIter<'a, Change, 2> {
+        self.iter()
+    }
 }
 
 impl Changes {
-    /// An empty list. Takes no memory.
-    pub fn new(alloc: Global) -> Self
-        ensures { result ≡ [] }
-    {
-        Changes {
-            rows: Vec::new(alloc),
-            values: Values::new(alloc),
-        }
-    }
-
-    pub fn len(&self) -> usize
-        ensures { result ≡ length self.now }
-    {
-        self.rows.len()
-    }
-
-    pub fn is_empty(&self) -> bool
-        ensures { IsTrue result ↔ (self.now ≡ []) }
-    {
-        self.rows.is_empty()
-    }
-
     /// Appends a change. If memory cannot be allocated, the list does not change.
     pub fn push(
         &mut self,
@@ -77,11 +75,7 @@ impl Changes {
         } ∷ []) }
         ensures err { OnErr result (self.new ≡ self.old) }
     {
-        self.rows.reserve(1)?;
-        let before = self.values.add_if_any(before)?;
-        let after = self.values.add_if_any(after)?;
-        self.rows.push_reserved(ChangeRow { key, before, after });
-        Ok(())
+        self.push_row(key, &[before, after])
     }
 
     /// The key of change `i`.
@@ -89,7 +83,8 @@ impl Changes {
         requires { i < length self.now }
         ensures { (d : Change) → result ≡ (slice_index_or self.now i d).key }
     {
-        self.rows[i].key
+        let (key, _, _) = self.row(i);
+        key
     }
 
     /// The bytes of its value before, if it has one.
@@ -98,7 +93,8 @@ impl Changes {
         ensures value { (d : Change) → option_copied result ≡ (slice_index_or self.now i d).before }
         ensures short { IfSome result (λ value. length value.now ≤ longest) }
     {
-        self.values.get_if_any(self.rows[i].before)
+        let (_, pieces, values) = self.row(i);
+        values.get(pieces[0])
     }
 
     /// The bytes of its value after, if it has one.
@@ -107,86 +103,7 @@ impl Changes {
         ensures value { (d : Change) → option_copied result ≡ (slice_index_or self.now i d).after }
         ensures short { IfSome result (λ value. length value.now ≤ longest) }
     {
-        self.values.get_if_any(self.rows[i].after)
-    }
-
-    /// Each change, its key with its value before and its value after, in order.
-    pub fn iter(&self) -> ChangesIter<'_>
-        ensures { changes_left result ≡ self.now }
-    {
-        ChangesIter {
-            changes: self,
-            at: 0,
-        }
-    }
-
-    /// Change `i`, if there is one.
-    pub fn at(&self, i: usize) -> Option<Change>
-        ensures { result ≡ slice_get self.now i }
-    {
-        if i >= self.len() {
-            return None;
-        }
-        Some(Change {
-            key: self.key(i),
-            before: whole_value(self.before(i)),
-            after: whole_value(self.after(i)),
-        })
-    }
-
-    /// The same list, with each value in the space of the longest possible one.
-    pub fn to_vec(&self, alloc: Global) -> Result<Vec<Change>, AllocError>
-        ensures { IfOk result (λ changes. changes.items ≡ self.now) }
-    {
-        let mut changes = Vec::new(alloc);
-        let mut i = 0;
-        while let Some(change) = self.at(i) {
-            changes.extend_from_slice(&[change])?;
-            i += 1;
-        }
-        Ok(changes)
-    }
-}
-
-/// The changes of a list, from an index on.
-#[derive(Clone, Copy)]
-pub struct ChangesIter<'a> {
-    changes: &'a Changes,
-    at: usize,
-}
-
-impl<'a> Iterator for ChangesIter<'a> {
-    ghost use Rattle.std.specs.Iterator.{at_most};
-    ghost use Rattle.vm_types.specs.Walked.{changes_left, TakesChange};
-
-    type Item = (Key, Option<&'a [u8]>, Option<&'a [u8]>);
-
-    ghost next_gives = { TakesChange };
-
-    ghost remaining = { λ s. at_most (length (changes_left s)) };
-
-    fn next(&mut self) -> Option<(Key, Option<&'a [u8]>, Option<&'a [u8]>)> {
-        if self.at >= self.changes.len() {
-            return None;
-        }
-        let i = self.at;
-        self.at += 1;
-        Some((
-            self.changes.key(i),
-            self.changes.before(i),
-            self.changes.after(i),
-        ))
-    }
-}
-
-impl<'a> IntoIterator for &'a Changes {
-    type Item = (Key, Option<&'a [u8]>, Option<&'a [u8]>);
-
-    type IntoIter = ChangesIter<'a>;
-
-    ghost into_iter_gives = { λ changes iter. changes_left iter ≡ changes.now };
-
-    fn into_iter(self) -> ChangesIter<'a> {
-        self.iter()
+        let (_, pieces, values) = self.row(i);
+        values.get(pieces[1])
     }
 }

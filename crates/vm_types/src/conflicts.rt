@@ -1,67 +1,70 @@
 //! A list of conflicts, packed.
-ghost use Rattle.std.specs.Prelude.{◌≡◌, ◌<◌, ◌≤◌, ◌∷◌, ◌++◌, [], length, slice_get, slice_index_or, option_copied, IsTrue, ◌↔◌, IfOk, IfSome, OnOk, OnErr};
+ghost use Rattle.std.specs.Prelude.{◌≡◌, ◌<◌, ◌≤◌, ◌∷◌, ◌++◌, [], length, slice_index_or, option_copied, IfSome, OnOk, OnErr};
 ghost use Rattle.vm_types.specs.Bytes.{longest};
 ghost use Rattle.vm_types.specs.declared.change.Conflict.{Conflict};
-ghost use Rattle.vm_types.specs.Walked.{conflicts_left};
 
-use crate::values::{Piece, Values, whole_value};
+use crate::packed::{Packed, PackedIter, PackedList};
+use crate::values::{Piece, Values};
 use crate::{Conflict, Key};
-use std::alloc::{AllocError, Global};
-use std::marker::Model;
+use std::alloc::AllocError;
 
-/// A conflict: its key, and where its values lie.
-#[derive(Clone, Copy, Debug)]
-struct ConflictRow {
-    key: Key,
-    base: Option<Piece>,
-    parent: Option<Piece>,
-    mine: Option<Piece>,
-}
-
-/// A list of conflicts that takes memory only for what it holds: 88 bytes per conflict, and the
+/// A list of conflicts that takes memory only for what it holds: 64 bytes per conflict, and the
 /// bytes of their values. The values lie one after another in a single run of bytes.
-#[derive(Debug, Drop)]
-pub struct Conflicts {
-    rows: Vec<ConflictRow>,
-    values: Values,
+pub type Conflicts = PackedList<Conflict, 3>;
+
+impl Packed<3> for Conflict {
+    ghost use Rattle.std.proofs.Common.{arith};
+    ghost use Rattle.vm_types.specs.Packed.{conflict_of};
+
+    ghost item = { conflict_of };
+
+    ghost few = { Prim.omega arith };
+
+    fn whole(key: Key, pieces: &[Piece], values: &Values) -> Self {
+        Conflict {
+            key,
+            base: values.whole(pieces[0]),
+            parent: values.whole(pieces[1]),
+            mine: values.whole(pieces[2]),
+        }
+    }
 }
 
-impl Model for Conflicts {
-    ghost use Rattle.std.specs.Prelude.{List, length};
-    ghost use Rattle.vm_types.specs.declared.change.Conflict.{Conflict};
+impl<'a> Iterator for PackedIter<'a, Conflict, 3> {
+    ghost use Rattle.std.specs.Iterator.{at_most};
+    ghost use Rattle.std.specs.Prelude.{length};
+    ghost use Rattle.vm_types.specs.Packed.{Takes, lent_conflict};
 
-    ghost Value = { List Conflict };
+    type Item = (Key, Option<&'a [u8]>, Option<&'a [u8]>, Option<&'a [u8]>);
 
-    ghost use Rattle.vm_types.specs.Packed.{conflicts_in, AllLieIn, ConflictLiesIn};
+    ghost next_gives = { Takes lent_conflict };
 
-    ghost view = { λ c. conflicts_in c.values c.rows.items };
+    ghost remaining = { λ left. at_most (length left) };
 
-    ghost invariant = { λ c. AllLieIn ConflictLiesIn (length c.values) c.rows.items };
+    fn next(&mut self) -> Option<(Key, Option<&'a [u8]>, Option<&'a [u8]>, Option<&'a [u8]>)> {
+        let (key, pieces, values) = self.next_row()?;
+        Some((
+            key,
+            values.get(pieces[0]),
+            values.get(pieces[1]),
+            values.get(pieces[2]),
+        ))
+    }
+}
+
+impl<'a> IntoIterator for &'a Conflicts {
+    type Item = (Key, Option<&'a [u8]>, Option<&'a [u8]>, Option<&'a [u8]>);
+
+    type IntoIter = PackedIter<'a, Conflict, 3>;
+
+    ghost into_iter_gives = { λ list left. left ≡ list.now };
+
+    fn into_iter(self) -> PackedIter<'a, Conflict, 3> {
+        self.iter()
+    }
 }
 
 impl Conflicts {
-    /// An empty list. Takes no memory.
-    pub fn new(alloc: Global) -> Self
-        ensures { result ≡ [] }
-    {
-        Conflicts {
-            rows: Vec::new(alloc),
-            values: Values::new(alloc),
-        }
-    }
-
-    pub fn len(&self) -> usize
-        ensures { result ≡ length self.now }
-    {
-        self.rows.len()
-    }
-
-    pub fn is_empty(&self) -> bool
-        ensures { IsTrue result ↔ (self.now ≡ []) }
-    {
-        self.rows.is_empty()
-    }
-
     /// Appends a conflict. If memory cannot be allocated, the list does not change.
     pub fn push(
         &mut self,
@@ -81,17 +84,7 @@ impl Conflicts {
         } ∷ []) }
         ensures err { OnErr result (self.new ≡ self.old) }
     {
-        self.rows.reserve(1)?;
-        let base = self.values.add_if_any(base)?;
-        let parent = self.values.add_if_any(parent)?;
-        let mine = self.values.add_if_any(mine)?;
-        self.rows.push_reserved(ConflictRow {
-            key,
-            base,
-            parent,
-            mine,
-        });
-        Ok(())
+        self.push_row(key, &[base, parent, mine])
     }
 
     /// The key of conflict `i`.
@@ -99,7 +92,8 @@ impl Conflicts {
         requires { i < length self.now }
         ensures { (d : Conflict) → result ≡ (slice_index_or self.now i d).key }
     {
-        self.rows[i].key
+        let (key, _, _) = self.row(i);
+        key
     }
 
     /// The bytes of the value in the base, if there is one.
@@ -108,7 +102,8 @@ impl Conflicts {
         ensures value { (d : Conflict) → option_copied result ≡ (slice_index_or self.now i d).base }
         ensures short { IfSome result (λ value. length value.now ≤ longest) }
     {
-        self.values.get_if_any(self.rows[i].base)
+        let (_, pieces, values) = self.row(i);
+        values.get(pieces[0])
     }
 
     /// The bytes of the value in the parent, if there is one.
@@ -117,7 +112,8 @@ impl Conflicts {
         ensures value { (d : Conflict) → option_copied result ≡ (slice_index_or self.now i d).parent }
         ensures short { IfSome result (λ value. length value.now ≤ longest) }
     {
-        self.values.get_if_any(self.rows[i].parent)
+        let (_, pieces, values) = self.row(i);
+        values.get(pieces[1])
     }
 
     /// The bytes of the alternative's own value, if there is one.
@@ -126,89 +122,7 @@ impl Conflicts {
         ensures value { (d : Conflict) → option_copied result ≡ (slice_index_or self.now i d).mine }
         ensures short { IfSome result (λ value. length value.now ≤ longest) }
     {
-        self.values.get_if_any(self.rows[i].mine)
-    }
-
-    /// Each conflict in order: its key with the values in the base, in the parent and in the
-    /// alternative.
-    pub fn iter(&self) -> ConflictsIter<'_>
-        ensures { conflicts_left result ≡ self.now }
-    {
-        ConflictsIter {
-            conflicts: self,
-            at: 0,
-        }
-    }
-
-    /// Conflict `i`, if there is one.
-    pub fn at(&self, i: usize) -> Option<Conflict>
-        ensures { result ≡ slice_get self.now i }
-    {
-        if i >= self.len() {
-            return None;
-        }
-        Some(Conflict {
-            key: self.key(i),
-            base: whole_value(self.base(i)),
-            parent: whole_value(self.parent(i)),
-            mine: whole_value(self.mine(i)),
-        })
-    }
-
-    /// The same list, with each value in the space of the longest possible one.
-    pub fn to_vec(&self, alloc: Global) -> Result<Vec<Conflict>, AllocError>
-        ensures { IfOk result (λ conflicts. conflicts.items ≡ self.now) }
-    {
-        let mut conflicts = Vec::new(alloc);
-        let mut i = 0;
-        while let Some(conflict) = self.at(i) {
-            conflicts.extend_from_slice(&[conflict])?;
-            i += 1;
-        }
-        Ok(conflicts)
-    }
-}
-
-/// The conflicts of a list, from an index on.
-#[derive(Clone, Copy)]
-pub struct ConflictsIter<'a> {
-    conflicts: &'a Conflicts,
-    at: usize,
-}
-
-impl<'a> Iterator for ConflictsIter<'a> {
-    ghost use Rattle.std.specs.Iterator.{at_most};
-    ghost use Rattle.vm_types.specs.Walked.{conflicts_left, TakesConflict};
-
-    type Item = (Key, Option<&'a [u8]>, Option<&'a [u8]>, Option<&'a [u8]>);
-
-    ghost next_gives = { TakesConflict };
-
-    ghost remaining = { λ s. at_most (length (conflicts_left s)) };
-
-    fn next(&mut self) -> Option<(Key, Option<&'a [u8]>, Option<&'a [u8]>, Option<&'a [u8]>)> {
-        if self.at >= self.conflicts.len() {
-            return None;
-        }
-        let i = self.at;
-        self.at += 1;
-        Some((
-            self.conflicts.key(i),
-            self.conflicts.base(i),
-            self.conflicts.parent(i),
-            self.conflicts.mine(i),
-        ))
-    }
-}
-
-impl<'a> IntoIterator for &'a Conflicts {
-    type Item = (Key, Option<&'a [u8]>, Option<&'a [u8]>, Option<&'a [u8]>);
-
-    type IntoIter = ConflictsIter<'a>;
-
-    ghost into_iter_gives = { λ conflicts iter. conflicts_left iter ≡ conflicts.now };
-
-    fn into_iter(self) -> ConflictsIter<'a> {
-        self.iter()
+        let (_, pieces, values) = self.row(i);
+        values.get(pieces[2])
     }
 }

@@ -1,68 +1,68 @@
 //! A list of records, packed.
-ghost use Rattle.std.specs.Prelude.{◌≡◌, ◌<◌, ◌≤◌, ◌∷◌, ◌++◌, ℕ, List, [], length, slice_get, slice_index_or, IsTrue, ◌↔◌, IfOk, OnOk, OnErr};
+ghost use Rattle.std.specs.Prelude.{◌≡◌, ◌<◌, ◌≤◌, ◌∷◌, ◌++◌, ℕ, List, [], length, slice_index_or, OnOk, OnErr};
 ghost use Rattle.vm_types.specs.Bytes.{longest};
 ghost use Rattle.vm_types.specs.declared.key.Key.{Key};
-ghost use Rattle.vm_types.specs.Walked.{left_of};
 
+use crate::packed::{Packed, PackedIter, PackedList};
 use crate::values::{Piece, Values};
 use crate::{Key, Value};
-use std::alloc::{AllocError, Global};
-use std::marker::Model;
+use std::alloc::AllocError;
 
 /// A list of records that takes memory only for what it holds: 32 bytes per record, and the bytes
-/// of its value. The values lie one after another in a single run of bytes.
-#[derive(Debug, Drop)]
-pub struct Records {
-    rows: Vec<(Key, Piece)>,
-    values: Values,
+/// of its value. The values lie one after another in a single run of bytes. Each row has a value,
+/// since a push gives it one: one that is absent would be read as empty.
+pub type Records = PackedList<(Key, Value), 1>;
+
+impl Packed<1> for (Key, Value) {
+    ghost use Rattle.std.proofs.Common.{arith};
+    ghost use Rattle.vm_types.specs.Packed.{record_of};
+
+    ghost item = { record_of };
+
+    ghost few = { Prim.omega arith };
+
+    fn whole(key: Key, pieces: &[Piece], values: &Values) -> Self {
+        (key, values.whole(pieces[0]).unwrap_or(Value::default()))
+    }
 }
 
-impl Model for Records {
-    ghost use Rattle.std.specs.Prelude.{ℕ, List, length};
-    ghost use Rattle.vm_types.specs.declared.key.Key.{Key};
+impl<'a> Iterator for PackedIter<'a, (Key, Value), 1> {
+    ghost use Rattle.std.specs.Iterator.{at_most};
+    ghost use Rattle.std.specs.Prelude.{length};
+    ghost use Rattle.vm_types.specs.Packed.{Takes, lent_record};
 
-    ghost Value = { List (Key × List ℕ) };
+    type Item = (Key, &'a [u8]);
 
-    ghost use Rattle.vm_types.specs.Packed.{records_in, AllLieIn, RecordLiesIn};
+    ghost next_gives = { Takes lent_record };
 
-    ghost view = { λ r. records_in r.values r.rows.items };
+    ghost remaining = { λ left. at_most (length left) };
 
-    ghost invariant = { λ r. AllLieIn RecordLiesIn (length r.values) r.rows.items };
+    fn next(&mut self) -> Option<(Key, &'a [u8])> {
+        let (key, pieces, values) = self.next_row()?;
+        Some((key, values.get(pieces[0]).unwrap_or_default()))
+    }
+}
+
+impl<'a> IntoIterator for &'a Records {
+    type Item = (Key, &'a [u8]);
+
+    type IntoIter = PackedIter<'a, (Key, Value), 1>;
+
+    ghost into_iter_gives = { λ list left. left ≡ list.now };
+
+    fn into_iter(self) -> PackedIter<'a, (Key, Value), 1> {
+        self.iter()
+    }
 }
 
 impl Records {
-    /// An empty list. Takes no memory.
-    pub fn new(alloc: Global) -> Self
-        ensures { result ≡ [] }
-    {
-        Records {
-            rows: Vec::new(alloc),
-            values: Values::new(alloc),
-        }
-    }
-
-    pub fn len(&self) -> usize
-        ensures { result ≡ length self.now }
-    {
-        self.rows.len()
-    }
-
-    pub fn is_empty(&self) -> bool
-        ensures { IsTrue result ↔ (self.now ≡ []) }
-    {
-        self.rows.is_empty()
-    }
-
     /// Appends a record. If memory cannot be allocated, the list does not change.
     pub fn push(&mut self, key: Key, value: &[u8]) -> Result<(), AllocError>
         requires { length value.now ≤ longest }
         ensures ok { OnOk result (self.new ≡ self.old ++ (key, value.now) ∷ []) }
         ensures err { OnErr result (self.new ≡ self.old) }
     {
-        self.rows.reserve(1)?;
-        let piece = self.values.add(value)?;
-        self.rows.push_reserved((key, piece));
-        Ok(())
+        self.push_row(key, &[Some(value)])
     }
 
     /// The key of record `i`.
@@ -70,7 +70,8 @@ impl Records {
         requires { i < length self.now }
         ensures { (d : Key × List ℕ) → result ≡ (slice_index_or self.now i d).0 }
     {
-        self.rows[i].0
+        let (key, _, _) = self.row(i);
+        key
     }
 
     /// The bytes of its value.
@@ -79,82 +80,7 @@ impl Records {
         ensures value { (d : Key × List ℕ) → result.now ≡ (slice_index_or self.now i d).1 }
         ensures short { length result.now ≤ longest }
     {
-        let (_, piece) = self.rows[i];
-        self.values.get(piece)
-    }
-
-    /// Each record in order: a key and the bytes of its value.
-    pub fn iter(&self) -> RecordsIter<'_>
-        ensures { left_of result ≡ self.now }
-    {
-        RecordsIter {
-            records: self,
-            at: 0,
-        }
-    }
-
-    /// Record `i`, if there is one.
-    pub fn at(&self, i: usize) -> Option<(Key, Value)>
-        ensures { result ≡ slice_get self.now i }
-    {
-        if i >= self.len() {
-            return None;
-        }
-        let Some(value) = Value::new(self.value(i)) else {
-            unreachable!();
-        };
-        Some((self.key(i), value))
-    }
-
-    /// The same list, with each value in the space of the longest possible one.
-    pub fn to_vec(&self, alloc: Global) -> Result<Vec<(Key, Value)>, AllocError>
-        ensures { IfOk result (λ records. records.items ≡ self.now) }
-    {
-        let mut records = Vec::new(alloc);
-        let mut i = 0;
-        while let Some(record) = self.at(i) {
-            records.push(record)?;
-            i += 1;
-        }
-        Ok(records)
-    }
-}
-
-/// The records of a list, from an index on.
-#[derive(Clone, Copy)]
-pub struct RecordsIter<'a> {
-    records: &'a Records,
-    at: usize,
-}
-
-impl<'a> Iterator for RecordsIter<'a> {
-    ghost use Rattle.std.specs.Iterator.{at_most};
-    ghost use Rattle.vm_types.specs.Walked.{left_of, TakesRecord};
-
-    type Item = (Key, &'a [u8]);
-
-    ghost next_gives = { TakesRecord };
-
-    ghost remaining = { λ s. at_most (length (left_of s)) };
-
-    fn next(&mut self) -> Option<(Key, &'a [u8])> {
-        if self.at >= self.records.len() {
-            return None;
-        }
-        let i = self.at;
-        self.at += 1;
-        Some((self.records.key(i), self.records.value(i)))
-    }
-}
-
-impl<'a> IntoIterator for &'a Records {
-    type Item = (Key, &'a [u8]);
-
-    type IntoIter = RecordsIter<'a>;
-
-    ghost into_iter_gives = { λ records iter. left_of iter ≡ records.now };
-
-    fn into_iter(self) -> RecordsIter<'a> {
-        self.iter()
+        let (_, pieces, values) = self.row(i);
+        values.get(pieces[0]).unwrap_or_default()
     }
 }
