@@ -1,5 +1,5 @@
 -- What is held of a batch.
-use Rattle.std.proofs.Common.{◌≡◌, inl, inr, ◌+◌, ℕ, suc, true, false, is_some, List, [], ◌∷◌, ◌++◌, Option, None, Some, length, sum_by, ap, sym, subst, refl, ◌∙◌, arith}
+use Rattle.std.proofs.Common.{◌≡◌, ◌+◌, ℕ, suc, true, false, is_some, List, [], ◌∷◌, ◌++◌, Option, None, Some, length, sum_by, ap, sym, subst, refl, ◌∙◌, arith}
 use Rattle.std.proofs.lemmas.List.{length-append}
 use Rattle.std.proofs.lemmas.List.Sums.{sum_by-append}
 use Rattle.vm_types.specs.declared.refusal.Refusal.TheVariants.{Memory}
@@ -7,6 +7,7 @@ use Rattle.vm_cli.specs.lines.Input.{HoldsLine, KindHolds}
 use Rattle.vm_cli.specs.declared.lines.line.LineKind.TheVariants.{Kept}
 use Rattle.vm_cli.specs.answers.Replies.{reply_text}
 use Rattle.vm_cli.specs.session.Streams.{Adds, Held, HoldsLines, IsHeldBy, IsTooLarge, count_of, losing}
+use Rattle.vm_cli.specs.session.Streams.AddsTo.{batch_too_large, line_added, no_memory_for_change}
 use Rattle.vm_cli.specs.session.Streams.Held.{holds, lost}
 use Rattle.vm_cli.specs.session.Session.{error_text}
 use Rattle.vm_cli.specs.declared.answers.reply.Reply.TheVariants as reply
@@ -61,14 +62,14 @@ module _ (was : Option Lost) (lines : List Line) (count bytes : ℕ) (part : Lis
     -- a line is lost, since memory ran out
     pub adds_wanting : (held : Held) → IsHeldBy was lines count bytes held → IsHeldBy was' lines' count' bytes' (losing (error_text Memory) held)
         → (x : Held) × IsHeldBy was' lines' count' bytes' x × Adds part held x
-    adds_wanting (holds parts) h is = (losing (error_text Memory) (holds parts), is, inr (inl refl))
+    adds_wanting (holds parts) h is = (losing (error_text Memory) (holds parts), is, no_memory_for_change refl)
     adds_wanting (lost place answer all) h is = let found : was ≡ Some h.0 = h.1 in cc
 
     -- or since there are too many
     pub adds_large : (held : Held) → IsHeldBy was lines count bytes held → IsHeldBy was' lines' count' bytes' (losing (reply_text reply.TooLarge) held)
         → ((parts : List (List ℕ)) → HoldsLines lines parts → bytes ≡ sum_by length parts → IsTooLarge parts part)
         → (x : Held) × IsHeldBy was' lines' count' bytes' x × Adds part held x
-    adds_large (holds parts) h is large = (losing (reply_text reply.TooLarge) (holds parts), is, inr (inr (refl, large parts h.1 h.3)))
+    adds_large (holds parts) h is large = (losing (reply_text reply.TooLarge) (holds parts), is, batch_too_large refl (large parts h.1 h.3))
     adds_large (lost place answer all) h is large = let found : was ≡ Some h.0 = h.1 in cc
 
   -- a line is held
@@ -82,7 +83,7 @@ module _ (was : Option Lost) (lines : List Line) (count bytes : ℕ) (part : Lis
       omega (arith, h.2, length-append parts (part ∷ [])),
       ap (λ n. n + length part) h.3 ∙ sym (sum-more parts part),
     ),
-    inl refl,
+    line_added refl,
   )
   adds_line line one none (lost place answer all) h = let found : was ≡ Some h.0 = h.1 in cc
 

@@ -1,11 +1,13 @@
 -- The lines of a batch, carried out one after another.
-use Rattle.std.proofs.Common.{◌≡◌, inl, inr, ◌<◌, ◌+◌, ◌++◌, ◌∙◌, ℕ, zero, suc, add-one, Bool, true, false, List, [], ◌∷◌, Some, Ok, Err, ap, sym, refl, subst, arith, length, take, slice_index_or}
+use Rattle.std.proofs.Common.{◌≡◌, ◌<◌, ◌+◌, ◌++◌, ◌∙◌, ℕ, zero, suc, add-one, Bool, true, false, List, [], ◌∷◌, Some, Ok, Err, ap, sym, refl, subst, arith, length, take, slice_index_or}
 use Rattle.std.proofs.Math.Seq.{drop-append_seam}
 use Rattle.vm_types.specs.State.{State, after}
 use Rattle.vm_store.specs.declared.store.Store.{Store}
 use Rattle.vm_cli.specs.session.Feeds.{Writes}
+use Rattle.vm_cli.specs.session.Known.{between}
 use Rattle.vm_cli.specs.lines.Input.{HoldsLine}
 use Rattle.vm_cli.specs.session.Streams.{HoldsLines, StopsIn, answer_after, trying, why_text}
+use Rattle.vm_cli.specs.session.Streams.IsStopped.{no_memory_for_answer, failed_so, refused_so}
 use Rattle.vm_cli.specs.session.Session.{HandlesLine, HasAnswered}
 use Rattle.vm_cli.specs.declared.lines.line.Line.{Line}
 use Rattle.vm_cli.specs.declared.session.Manner.{Manner}
@@ -51,7 +53,7 @@ held_count lines parts h = sym (held_length lines parts h)
 module _ {D : Type 0} {members : _} (old mid new : Store D members) (s : State) (how : Manner) (parts : List (List ℕ)) (i : ℕ) (line : Line) (text : List ℕ)
     (answered : HasAnswered old mid s (trying how) (take i parts) text) (at : IsAt line parts i) where
   -- one more line was carried out
-  pub lines_more : (refused : Bool) (items : List ℕ) → Writes (trying how) (HandlesLine mid new (after s answered.commands answered.answers) (trying how) at.part) (Ok refused) (Some text) (Some items)
+  pub lines_more : (refused : Bool) (items : List ℕ) → Writes (trying how) (HandlesLine mid new (after s answered.commands answered.answers) (trying how) at.part) (Ok refused) (between (Some text) (Some items))
       → HasAnswered old new s (trying how) (take (i + 1) parts) items
   lines_more refused items it =
       subst (λ ls. HasAnswered old new s (trying how) ls items) (sym at.more)
@@ -60,7 +62,7 @@ module _ {D : Type 0} {members : _} (old mid new : Store D members) (s : State) 
       (answered-line mid new (after s answered.commands answered.answers) (trying how) at.part it.text it.says (λ stop. sym it.told ∙ it.goes_on stop))))
 
   -- it was the last
-  pub lines_stop : (why : ServeFault) (items : List ℕ) → Writes (trying how) (HandlesLine mid new (after s answered.commands answered.answers) (trying how) at.part) (Err why) (Some text) (Some items)
+  pub lines_stop : (why : ServeFault) (items : List ℕ) → Writes (trying how) (HandlesLine mid new (after s answered.commands answered.answers) (trying how) at.part) (Err why) (between (Some text) (Some items))
       → (n : ℕ) → n ≡ length text → StopsIn old new s how parts i (why_text (answer_after why n) items)
   lines_stop fault.Read items writes n is = absurd writes
   lines_stop fault.Unsure items writes n is = absurd writes
@@ -76,7 +78,7 @@ module _ {D : Type 0} {members : _} (old mid new : Store D members) (s : State) 
     at = at.place;
     carried = answered;
     handled = it.says;
-    says = inl (rw (it.written, is) (drop-append_seam text it.text), inl it.refused);
+    says = refused_so (rw (it.written, is) (drop-append_seam text it.text)) it.refused;
   }
   lines_stop fault.Store items it n is = record {
     mid = mid;
@@ -90,7 +92,7 @@ module _ {D : Type 0} {members : _} (old mid new : Store D members) (s : State) 
     at = at.place;
     carried = answered;
     handled = it.says;
-    says = inl (rw (it.written, is) (drop-append_seam text it.text), inr refl);
+    says = failed_so (rw (it.written, is) (drop-append_seam text it.text)) refl;
   }
   lines_stop fault.Write items it n is = record {
     mid = mid;
@@ -104,5 +106,5 @@ module _ {D : Type 0} {members : _} (old mid new : Store D members) (s : State) 
     at = at.place;
     carried = answered;
     handled = it.says;
-    says = inr refl;
+    says = no_memory_for_answer refl;
   }

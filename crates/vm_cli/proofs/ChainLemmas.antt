@@ -105,18 +105,18 @@ module _ {D : Type 0} {members : _} where
   -- a command whose answer was the last
   pub tries_once : (left most : ℕ) (command : Command) (old new : Store D members) (answer : Result Answer Refusal) (text : List ℕ) → CarriesOut old new command answer → text ≡ answer_text answer
       → (answer ≡ Err Full → (most ≤ blocks_of new) ⊎ (left ≡ 0)) → TriesSome left most command old new text
-  tries_once left most command old new answer text carries says full = ((command, answer) ∷ [], (refl, carries, says, full))
+  tries_once left most command old new answer text carries says full = record { each = (command, answer) ∷ []; tries = (refl, carries, says, full) }
 
   -- one before which the store grew
   pub tries_again : (left growths most : ℕ) → growths ≡ suc left → (command : Command) (old mid new : Store D members) (grow : Command) (answer : Result Answer Refusal) (done : Answer) (text : List ℕ)
       → GrowsFirst most command old mid command grow answer (Ok done) → TriesSome left most command mid new text → TriesSome growths most command old new text
   tries_again left growths most is command old mid new grow answer done text first further =
-      rw is ((command, answer) ∷ ((grow, Ok done) ∷ further.0), (mid, first, further.1))
+      rw is (record { each = (command, answer) ∷ ((grow, Ok done) ∷ further.each); tries = (mid, first, further.tries) })
 
   -- one for which it could not
   pub tries_no_more : (left growths most : ℕ) → growths ≡ suc left → (command : Command) (old new : Store D members) (grow : Command) (answer : Result Answer Refusal) (refusal : Refusal) (text : List ℕ)
       → GrowsFirst most command old new command grow answer (Err refusal) → text ≡ error_text refusal → TriesSome growths most command old new text
-  tries_no_more left growths most is command old new grow answer refusal text first says = rw is ((command, answer) ∷ ((grow, Err refusal) ∷ []), (first, says))
+  tries_no_more left growths most is command old new grow answer refusal text first says = rw is (record { each = (command, answer) ∷ ((grow, Err refusal) ∷ []); tries = (first, says) })
 
   -- a store whose command was answered Full has not failed
   pub full_sound : (old new : Store D members) (command : Command) (answer : Result Answer Refusal) → CarriesOut old new command answer → answer ≡ Err Full → has_failed new ≡ false

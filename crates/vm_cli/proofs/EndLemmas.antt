@@ -24,7 +24,7 @@ use Rattle.vm_cli.proofs.SessionLemmas.{last-is}
 
 -- a session goes on through two calls
 pub stays_then : {D W : Type 0} {members : _} (old mid new : Session W D members) → Stays old mid → Stays mid new → Stays old new
-stays_then old mid new first second = (second.0 ∙ first.0, second.1 ∙ first.1, second.2 ∙ first.2)
+stays_then old mid new first second = record { store = second.store ∙ first.store; writer = second.writer ∙ first.writer; manner = second.manner ∙ first.manner }
 
 -- its manner is this
 pub feeds_as : {D W : Type 0} {members : _} (contents : W → Option (List ℕ)) (on on' : Manner) {bytes : List ℕ} {line line' : Line} {result : Result Bool ServeFault} {old new : Session W D members} → on ≡ on'

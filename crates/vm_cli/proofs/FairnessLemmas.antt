@@ -1,5 +1,5 @@
 -- At most one batch of each planner waits.
-use Rattle.std.proofs.Common.{◌≡◌, ◌==◌, ◌||◌, inl, inr, ◌++◌, ◌∙◌, ℕ, Bool, true, false, List, [], ◌∷◌, Option, Result, Ok, Err, ap, sym, refl, subst, append-nil, arith}
+use Rattle.std.proofs.Common.{◌≡◌, ◌==◌, ◌||◌, ◌++◌, ◌∙◌, ℕ, Bool, true, false, List, [], ◌∷◌, Option, Result, Ok, Err, ap, sym, refl, subst, append-nil, arith}
 use Rattle.std.proofs.lemmas.Bool.Decides.{nat_tests}
 use Rattle.vm_types.specs.State.{State}
 use Rattle.vm_disk.specs.declared.disk.Disk.{Ghosts}
@@ -14,6 +14,10 @@ use Rattle.vm_cli.specs.session.Known.{SessionStreams}
 use Rattle.vm_cli.specs.session.PlannerLines.{Saying, saying_of}
 use Rattle.vm_cli.specs.session.PlannerLines.Saying.{joins, leaves, nothing, releases, says, strange}
 use Rattle.vm_cli.specs.session.Planners.{Gathering, TakesAlone, TakesBehind, TakesOne, TakesWhen, gathering, planners, settles_first, with_none_waiting}
+use Rattle.vm_cli.specs.session.Planners.IsSpoken.{line_said, not_joined}
+use Rattle.vm_cli.specs.session.Planners.TakesLater.{put_off, taken_at_once}
+use Rattle.vm_cli.specs.session.Planners.TakesOne.{line_taken, line_too_long, no_memory_for_line}
+use Rattle.vm_cli.specs.session.Planners.TakesSettled.{ended_settling, settled_first}
 use Rattle.vm_cli.specs.session.Rounds.{Round, after_rounds}
 use Rattle.vm_cli.specs.session.Streams.{Held}
 use Rattle.vm_cli.specs.session.Waiting.{Waiting, waits}
@@ -71,9 +75,9 @@ free_settled (says when number part) = refl
 module _ {D : Type 0} {members : Ghosts D} (old new : Store D members) (s : State) (how : Manner) where
   put_once : (when : When) (number : ℕ) (stage : Option Held) (part text : List ℕ) (course : Course) (stage' : Option Held) (round : Round) (waiting more : List Waiting)
       → TakesWhen when old new s how number stage part text course stage' round more → waits number waiting ≡ false → WaitOnce waiting → WaitOnce (waiting ++ more)
-  put_once Now number stage part text course stage' round waiting more (its, none) free once = subst (λ m. WaitOnce (waiting ++ m)) (sym none) (subst WaitOnce (sym (append-nil waiting)) once)
-  put_once Later number stage part text course stage' round waiting more (inl (its, none)) free once = subst (λ m. WaitOnce (waiting ++ m)) (sym none) (subst WaitOnce (sym (append-nil waiting)) once)
-  put_once Later number stage part text course stage' round waiting more (inr off) free once =
+  put_once Now number stage part text course stage' round waiting more its free once = subst (λ m. WaitOnce (waiting ++ m)) (sym its.none) (subst WaitOnce (sym (append-nil waiting)) once)
+  put_once Later number stage part text course stage' round waiting more (taken_at_once its) free once = subst (λ m. WaitOnce (waiting ++ m)) (sym its.none) (subst WaitOnce (sym (append-nil waiting)) once)
+  put_once Later number stage part text course stage' round waiting more (put_off off) free once =
       subst (λ m. WaitOnce (waiting ++ m)) (sym off.waits) (once_behind waiting off.it once (ap (λ n. waits n waiting) off.own ∙ free))
 
   alone_once : (saying : Saying) (text : List ℕ) (course : Course) (at at' : Gathering) (rounds : List Round) → TakesAlone old new s how saying text course at at' rounds
@@ -83,24 +87,24 @@ module _ {D : Type 0} {members : Ghosts D} (old new : Store D members) (s : Stat
   alone_once releases text course at at' rounds takes free once = subst WaitOnce (sym takes.waiting) once
   alone_once (joins number) text course at at' rounds takes free once = subst WaitOnce (sym takes.waiting) once
   alone_once (leaves number) text course at at' rounds takes free once = subst WaitOnce (sym takes.waiting) once
-  alone_once (says when number part) text course at at' rounds (inl said) free once =
+  alone_once (says when number part) text course at at' rounds (line_said said) free once =
       subst WaitOnce (sym said.waiting) (put_once when number said.stage part text course said.stage' said.round at.waiting said.more said.takes free once)
-  alone_once (says when number part) text course at at' rounds (inr unknown) free once = subst WaitOnce (sym unknown.waiting) once
+  alone_once (says when number part) text course at at' rounds (not_joined unknown) free once = subst WaitOnce (sym unknown.waiting) once
 
 module _ {D : Type 0} {members : Ghosts D} (old new : Store D members) (s : State) (how : Manner) where
   behind_once : (settles : Bool) (saying : Saying) (text : List ℕ) (course : Course) (at at' : Gathering) (rounds : List Round) → settles_first saying at.waiting ≡ settles
       → TakesBehind settles old new s how saying text course at at' rounds → WaitOnce at.waiting → WaitOnce at'.waiting
   behind_once false saying text course at at' rounds is takes once = alone_once old new s how saying text course at at' rounds takes (free_unsettled saying at.waiting is) once
-  behind_once true saying text course at at' rounds is (inl first) once =
+  behind_once true saying text course at at' rounds is (settled_first first) once =
       alone_once first.mid new (after_rounds s first.first) how saying first.more first.next (with_none_waiting at) at' first.later first.takes (free_settled saying) tt
-  behind_once true saying text course at at' rounds is (inr ends) once = subst (λ (it : Gathering). WaitOnce it.waiting) (sym ends.held) tt
+  behind_once true saying text course at at' rounds is (ended_settling ends) once = subst (λ (it : Gathering). WaitOnce it.waiting) (sym ends.held) tt
 
   -- a line leaves at most one batch of each planner waiting, if no more than that waited before it
   line_once : (at : Gathering) (part text : List ℕ) (course : Course) (at' : Gathering) (rounds : List Round) → TakesOne old new s how at part text course at' rounds
       → WaitOnce at.waiting → WaitOnce at'.waiting
-  line_once at part text course at' rounds (inl wanting) once = subst WaitOnce (sym wanting.waiting) once
-  line_once at part text course at' rounds (inr (inl (long, told))) once = subst WaitOnce (sym told.waiting) once
-  line_once at part text course at' rounds (inr (inr (short, takes))) once =
+  line_once at part text course at' rounds (no_memory_for_line wanting) once = subst WaitOnce (sym wanting.waiting) once
+  line_once at part text course at' rounds (line_too_long long told) once = subst WaitOnce (sym told.waiting) once
+  line_once at part text course at' rounds (line_taken short takes) once =
       behind_once (settles_first (saying_of (without_return part)) at.waiting) (saying_of (without_return part)) text course at at' rounds refl takes once
 
 -- ---- all lines

@@ -12,7 +12,7 @@ use Rattle.vm_types.specs.State.{State, after, next}
 use Rattle.vm_store.specs.Store.{Holds, has_failed, disk_of}
 use Rattle.vm_store.specs.declared.store.Store.{Store}
 use Rattle.vm_cli.specs.answers.Carried.{WritesStart}
-use Rattle.vm_cli.specs.session.Feeds.{Fed, Writes}
+use Rattle.vm_cli.specs.session.Feeds.{Fed, Writes, chunk}
 use Rattle.vm_cli.specs.session.Known.{between}
 use Rattle.vm_cli.specs.lines.Lines.{IsPart, lines_of, onto_first}
 use Rattle.vm_cli.specs.session.Session.{Done, EndsSession, HandlesLine, HasAnswered, ServesLines, Stood, AnswersEach, after_each, after_line, each_answer, each_command, with_answer, with_command}
@@ -274,7 +274,7 @@ module _ {D : Type 0} {members : _} where
     }
 
     pub serves-line : (result : Result Bool ServeFault) (a b : Option (List ℕ)) (others : List (List ℕ)) → OnOk result (others ≡ [])
-        → Writes on (HandlesLine old new s on line) result a b → ServesLines old new s on result (between a b) (line ∷ others)
+        → Writes on (HandlesLine old new s on line) result (between a b) → ServesLines old new s on result (between a b) (line ∷ others)
     serves-line (Ok refused) a b others none it =
         subst (λ ls. ServesLines old new s on (Ok refused) (between a b) (line ∷ ls)) (sym none)
         (record { text = it.text; answered = answered-line old new s on line it.text it.says (λ stop. sym it.told ∙ it.goes_on stop); told = it.told; written = it.written })
@@ -324,7 +324,7 @@ lines-end (b ∷ from) more part =
 module _ {D : Type 0} {members : _} where
   module _ (store : Store D members) (s : State) (on : Manner) (from : List ℕ) where
     -- no byte
-    pub fed-nothing : (a : Option (List ℕ)) → Fed store store s on false [] from from a a
+    pub fed-nothing : (a : Option (List ℕ)) → Fed store store s on false (chunk from [] from) (between a a)
     fed-nothing a = record {
       lines = [];
       text = [];
@@ -335,7 +335,7 @@ module _ {D : Type 0} {members : _} where
     }
 
     -- bytes of the line
-    pub fed-part : (bytes : List ℕ) (a : Option (List ℕ)) → Fed store store s on false bytes from (from ++ bytes) a a
+    pub fed-part : (bytes : List ℕ) (a : Option (List ℕ)) → Fed store store s on false (chunk from bytes (from ++ bytes)) (between a a)
     fed-part bytes a = record {
       lines = [];
       text = [];
@@ -351,7 +351,7 @@ module _ {D : Type 0} {members : _} where
     cut-line more =
         ap (λ bs. lines_of (from ++ bs)) (append_assoc bytes (10 ∷ []) more) ∙ ap lines_of (sym (append_assoc from bytes (10 ∷ more))) ∙ lines-end (from ++ bytes) more part
 
-    pub fed-line : (refused : Bool) → Writes on (HandlesLine old new s on (from ++ bytes)) (Ok refused) a b → Fed old new s on refused (bytes ++ 10 ∷ []) from [] a b
+    pub fed-line : (refused : Bool) → Writes on (HandlesLine old new s on (from ++ bytes)) (Ok refused) (between a b) → Fed old new s on refused (chunk from (bytes ++ 10 ∷ []) []) (between a b)
     fed-line refused it = record {
       lines = (from ++ bytes) ∷ [];
       text = it.text;
@@ -361,18 +361,18 @@ module _ {D : Type 0} {members : _} where
       written = it.written;
     }
 
-    pub ended-line : (why : ServeFault) (more : List ℕ) → Writes on (HandlesLine old new s on (from ++ bytes)) (Err why) a b
+    pub ended-line : (why : ServeFault) (more : List ℕ) → Writes on (HandlesLine old new s on (from ++ bytes)) (Err why) (between a b)
         → ServesLines old new s on (Err why) (between a b) (lines_of (from ++ ((bytes ++ 10 ∷ []) ++ more)))
     ended-line why more writes =
         subst (λ ls. ServesLines old new s on (Err why) (between a b) ls) (sym (cut-line more)) (serves-line old new s on (from ++ bytes) (Err why) a b (lines_of more) tt writes)
 
   -- further bytes
-  module _ (old mid new : Store D members) (s : State) (on : Manner) (refused : Bool) (bytes then from middle : List ℕ) (a b c : Option (List ℕ)) (first : Fed old mid s on refused bytes from middle a b) where
+  module _ (old mid new : Store D members) (s : State) (on : Manner) (refused : Bool) (bytes then from middle : List ℕ) (a b c : Option (List ℕ)) (first : Fed old mid s on refused (chunk from bytes middle) (between a b)) where
     cut-join : (more : List ℕ) → lines_of (from ++ ((bytes ++ then) ++ more)) ≡ first.lines ++ lines_of (middle ++ (then ++ more))
     cut-join more = ap (λ bs. lines_of (from ++ bs)) (append_assoc bytes then more) ∙ first.cut (then ++ more)
 
-    pub fed-join : (again : Bool) (to : List ℕ) → Fed mid new (after s first.answered.commands first.answered.answers) on again then middle to b c
-        → Fed old new s on (refused || again) (bytes ++ then) from to a c
+    pub fed-join : (again : Bool) (to : List ℕ) → Fed mid new (after s first.answered.commands first.answered.answers) on again (chunk middle then to) (between b c)
+        → Fed old new s on (refused || again) (chunk from (bytes ++ then) to) (between a c)
     unfolding answered-join
     fed-join again to second = record {
       lines = first.lines ++ second.lines;

@@ -10,6 +10,8 @@ use Rattle.vm_store.specs.Commands.{CarriesOut}
 use Rattle.vm_store.specs.Store.{GrowsOn, Holds, has_failed}
 use Rattle.vm_store.specs.declared.store.Store.{Store}
 use Rattle.vm_cli.specs.session.Feeds.{AnsweredOrWanting, HandlesRequest, HandlesOrWants, Replied, Replies, TriesSome}
+use Rattle.vm_cli.specs.session.Feeds.AnsweredOrWanting.{out_of_memory, request_answered}
+use Rattle.vm_cli.specs.session.Known.{Written, between}
 use Rattle.vm_cli.specs.lines.Input.{HoldsLine, KindHolds, without_return}
 use Rattle.vm_cli.specs.answers.Replies.{ends_session, is_error, reply_text}
 use Rattle.vm_cli.specs.lines.Requests.{asked_in, request_of}
@@ -32,22 +34,25 @@ use Rattle.vm_cli.proofs.ChainLemmas.{Chain, Led, chain_holds, chain_one, led_at
 use Rattle.vm_cli.proofs.PassLemmas.{failed_or, grows_any, grows_none, never_both, passes_command, passes_left, passes_none}
 
 -- a reply that is the whole answer
-pub replied_whole : (P : List ℕ → Bool → Type 0) (reply : Reply) (a : Option (List ℕ)) (rest : List ℕ) → rest ≡ [] → P (reply_text reply) (ends_session reply) → Replied P reply a a rest
+pub replied_whole : (P : List ℕ → Bool → Type 0) (reply : Reply) (a : Option (List ℕ)) (rest : List ℕ) → rest ≡ [] → P (reply_text reply) (ends_session reply) → Replied P reply (between a a) rest
 replied_whole P reply a rest none p = record { whole = []; says = p; tells = refl; carries = rw none (carries-nothing a []) }
 
 -- a reply behind what stands in the text
-pub replied_with : (P : List ℕ → Bool → Type 0) (reply : Reply) (a : Option (List ℕ)) (text : List ℕ) → P (text ++ reply_text reply) (ends_session reply) × (is_error (text ++ reply_text reply) ≡ is_error (reply_text reply)) → Replied P reply a a text
-replied_with P reply a text p = record { whole = text; says = p.0; tells = p.1; carries = carries-nothing a text }
+pub replied_with : (P : List ℕ → Bool → Type 0) (reply : Reply) (a : Option (List ℕ)) (text : List ℕ) → P (text ++ reply_text reply) (ends_session reply) → is_error (text ++ reply_text reply) ≡ is_error (reply_text reply) → Replied P reply (between a a) text
+replied_with P reply a text says tells = record { whole = text; says = says; tells = tells; carries = carries-nothing a text }
 
 -- a reply behind no text
-pub with_nothing : (P : List ℕ → Bool → Type 0) (reply : Reply) (text : List ℕ) → text ≡ [] → P (reply_text reply) (ends_session reply) → P (text ++ reply_text reply) (ends_session reply) × (is_error (text ++ reply_text reply) ≡ is_error (reply_text reply))
-with_nothing P reply text none p = rw none (p, refl)
+pub with_nothing : (P : List ℕ → Bool → Type 0) (reply : Reply) (text : List ℕ) → text ≡ [] → P (reply_text reply) (ends_session reply) → P (text ++ reply_text reply) (ends_session reply)
+with_nothing P reply text none p = rw none p
+
+pub tells_nothing : (reply : Reply) (text : List ℕ) → text ≡ [] → is_error (text ++ reply_text reply) ≡ is_error (reply_text reply)
+tells_nothing reply text none = rw none refl
 
 -- what is said of each answer
-pub replies_as : (P Q : List ℕ → Bool → Type 0) → ((text : List ℕ) (ends : Bool) → P text ends → Q text ends) → (r : Result Reply WriteFault) (a b : Option (List ℕ)) (rest : List ℕ) → Replies P r a b rest
-    → Replies Q r a b rest
-replies_as P Q f (Ok reply) a b rest p = record { whole = p.whole; says = f _ _ p.says; tells = p.tells; carries = p.carries }
-replies_as P Q f (Err fault) a b rest p = record { whole = p.whole; ends = p.ends; says = f _ _ p.says; begins = p.begins }
+pub replies_as : (P Q : List ℕ → Bool → Type 0) → ((text : List ℕ) (ends : Bool) → P text ends → Q text ends) → (r : Result Reply WriteFault) (output : Written) (rest : List ℕ) → Replies P r output rest
+    → Replies Q r output rest
+replies_as P Q f (Ok reply) output rest p = record { whole = p.whole; says = f _ _ p.says; tells = p.tells; carries = p.carries }
+replies_as P Q f (Err fault) output rest p = record { whole = p.whole; ends = p.ends; says = f _ _ p.says; begins = p.begins }
 
 module _ {D : Type 0} {members : _} (store : Store D members) (s : State) where
   -- the store was asked nothing
@@ -89,7 +94,7 @@ module _ {D : Type 0} {members : _} (store : Store D members) (s : State) where
 
   -- a request for which there was no memory
   pub memory_told : (request : Request) → HandlesOrWants store store s request (reply_text (reply.Refused Memory)) false
-  memory_told request = unmoved false _ (inl (does_nothing, refl))
+  memory_told request = unmoved false _ (out_of_memory does_nothing refl)
 
   -- a line for which there was no memory
   pub memory_handled : (on : Manner) (part : List ℕ) → HandlesLine store store s on part (reply_text (reply.Refused Memory)) false
@@ -106,26 +111,26 @@ module _ {D : Type 0} {members : _} (old new : Store D members) (s : State) wher
   pub asked_handled : (asked : Request) (text : List ℕ) (ends : Bool) → HandlesRequest old new s asked text ends → HandlesOrWants old new s asked text ends
   asked_handled asked text ends handled = record {
     done = handled.done;
-    answers = inr handled.answers;
+    answers = request_answered handled.answers;
     passes = handled.passes;
     still = handled.still;
     holds = handled.holds;
   }
 
-  pub asked_replied : (asked : Request) (r : Result Reply WriteFault) (a b : Option (List ℕ)) (rest : List ℕ) → Replies (HandlesRequest old new s asked) r a b rest
-      → Replies (HandlesOrWants old new s asked) r a b rest
+  pub asked_replied : (asked : Request) (r : Result Reply WriteFault) (output : Written) (rest : List ℕ) → Replies (HandlesRequest old new s asked) r output rest
+      → Replies (HandlesOrWants old new s asked) r output rest
   asked_replied asked = replies_as (HandlesRequest old new s asked) (HandlesOrWants old new s asked) (asked_handled asked)
 
   -- a line of words
   line_answered : (on : Manner) (words : List (List ℕ)) (part text : List ℕ) (ends : Bool) (was : Done) → length part ≤ 1048576 → words ≡ words_of (without_return part)
       → AnsweredOrWanting old new s (asked_in on.on_command (request_of words)) text ends was → Answered old new s on part text ends was
-  line_answered on words part text ends was short same (inl memory) = wanting memory.0 memory.1
-  line_answered on words part text ends was short same (inr answered) =
+  line_answered on words part text ends was short same (out_of_memory nothing says) = wanting nothing says
+  line_answered on words part text ends was short same (request_answered answered) =
       as_asked short (subst (λ ws. AnsweredRequest old new s (asked_in on.on_command (request_of ws)) text ends was) same answered)
 
   pub kept_handled : (on : Manner) (line : Line) (part : List ℕ) → HoldsLine line part → line.kind ≡ Kept → (bytes : List ℕ) → bytes ≡ without_return line.bytes.items
-      → (r : Result Reply WriteFault) (a b : Option (List ℕ)) (rest : List ℕ) → Replies (HandlesOrWants old new s (asked_in on.on_command (request_of (words_of bytes)))) r a b rest
-      → Replies (HandlesLine old new s on part) r a b rest
+      → (r : Result Reply WriteFault) (output : Written) (rest : List ℕ) → Replies (HandlesOrWants old new s (asked_in on.on_command (request_of (words_of bytes)))) r output rest
+      → Replies (HandlesLine old new s on part) r output rest
   kept_handled on line part h is bytes whose =
       let kept : KindHolds Kept line.bytes.items part = rw is at h.kind in
       let same : words_of bytes ≡ words_of (without_return part) = ap words_of (whose ∙ ap without_return kept.0) in
@@ -222,8 +227,8 @@ module _ {D : Type 0} {members : _} (old new : Store D members) (s : State) (mos
     where
       either : (has_failed old ≡ false) ⊎ (has_failed old ≡ true) → HandlesRequest old new s (Request.Growing most command) text ends
       either (inl sound) =
-          let each = (tried sound).0 in
-          let tries = (tried sound).1 in
+          let each = (tried sound).each in
+          let tries = (tried sound).tries in
           record {
             done = Some each;
             answers = met sound (last sound) tries;

@@ -4,15 +4,18 @@ use Rattle.std.specs.Io.KnownBytes.{Appends}
 use Rattle.vm_types.specs.State.{State}
 use Rattle.vm_disk.specs.declared.disk.Disk.{Ghosts}
 use Rattle.vm_store.specs.declared.store.Store.{Store}
+use Rattle.vm_cli.specs.session.Known.{between, written_to}
 use Rattle.vm_cli.specs.session.SessionKinds.{Course, Tells}
 use Rattle.vm_cli.specs.lines.Input.{HoldsLine}
 use Rattle.vm_cli.specs.session.LineUses.{IsUse, use_of}
-use Rattle.vm_cli.specs.session.PlannerCalls.{AreWaiting, IsWaiting, PutsBehind}
+use Rattle.vm_cli.specs.session.PlannerCalls.{AreWaiting, IsWaiting, PutsBehind, WaitsBehind}
 use Rattle.vm_cli.specs.session.Planners.{IsLastOf, TakesIts, TakesWhen, is_heard, is_last_in, is_some}
+use Rattle.vm_cli.specs.session.Planners.TakesLater.{put_off, taken_at_once}
 use Rattle.vm_cli.specs.session.Rounds.{Round}
 use Rattle.vm_cli.specs.session.Rounds.Round.{idle}
 use Rattle.vm_cli.specs.session.StreamCalls.{SaysThen, SettlesBatch, scene}
 use Rattle.vm_cli.specs.session.Streams.{Adds, Held, IsHeld, IsHeldBy, IsStage, SettlesHeld, TakesAs, Verdict, batch_course, batch_text, count_of, settled_text, verdict_result}
+use Rattle.vm_cli.specs.session.Streams.AddsTo.{batch_too_large, line_added, no_memory_for_change}
 use Rattle.vm_cli.specs.session.Streams.Held.{holds, lost}
 use Rattle.vm_cli.specs.session.Waiting.{Waiting, label}
 use Rattle.vm_cli.specs.declared.lines.line.Line.{Line}
@@ -43,8 +46,7 @@ some_held was lines count bytes (holds (first ∷ others)) is none some = (first
 some_held was lines count bytes (lost place answer all) is none some = let found : was ≡ Some is.0 = is.1 in cc
 
 pub queue_put : (number : ℕ) (batch : Batch) (own : WaitingBatch) → own.number ≡ number → own.batch ≡ batch → batch.lost ≡ None → 0 < length batch.lines.items → (queue queue' : List WaitingBatch) → queue' ≡ queue ++ own ∷ []
-    → (held : Held) → IsHeld batch held → (first : List ℕ) × (lines : List (List ℕ)) × (held ≡ holds (first ∷ lines))
-    × ((waiting : List Waiting) → AreWaiting queue waiting → AreWaiting queue' (waiting ++ record { number = number; is_begun = batch.is_open; lines = first ∷ lines } ∷ []))
+    → (held : Held) → IsHeld batch held → WaitsBehind number batch.is_open queue queue' held
 queue_put number batch own named same none some queue queue' more held is =
     let lines = some_held batch.lost batch.lines.items batch.count batch.bytes held is none some in
     let it : Waiting = record { number = number; is_begun = batch.is_open; lines = lines.0 ∷ lines.1 } in
@@ -53,7 +55,7 @@ queue_put number batch own named same none some queue queue' more held is =
       begun = ap (λ (b : Batch). b.is_open) same;
       lines = subst (λ (b : Batch). IsHeld b (holds (lines.0 ∷ lines.1))) (sym same) (subst (IsHeld batch) lines.2 is);
     } in
-    (lines.0, lines.1, lines.2, λ waiting are. subst (λ them. AreWaiting them (waiting ++ it ∷ [])) (sym more) (queue_more queue waiting own it are waits))
+    record { first = lines.0; lines = lines.1; some = lines.2; waits = λ waiting are. subst (λ them. AreWaiting them (waiting ++ it ∷ [])) (sym more) (queue_more queue waiting own it are waits) }
 
 -- ---- a line with which a batch ends
 
@@ -79,9 +81,9 @@ ending_last : (used : LineUse) (stage : Option Held) (part : List ℕ) (whole : 
 ending_last line.Commit (Some (holds [])) part whole is first lines some it begun them = cc
 ending_last line.Commit (Some (holds (f ∷ others))) part whole is first lines some it begun them = (begun, cc)
 ending_last line.Commit (Some (lost place answer count)) part whole is first lines some it begun them = cc
-ending_last line.Change None part whole (inl is) first lines some it begun them = (begun, cc)
-ending_last line.Change None part whole (inr (inl is)) first lines some it begun them = cc
-ending_last line.Change None part whole (inr (inr is)) first lines some it begun them = let lost_so = is.0 in cc
+ending_last line.Change None part whole (line_added is) first lines some it begun them = (begun, cc)
+ending_last line.Change None part whole (no_memory_for_change is) first lines some it begun them = cc
+ending_last line.Change None part whole (batch_too_large is large) first lines some it begun them = cc
 ending_last used stage part whole is first lines some it begun them = absurd is
 
 -- it is carried out
@@ -139,14 +141,14 @@ ready_alone used said old new same closed last adds = record { begun = same; end
 
 module _ {D : Type 0} {members : Ghosts D} (old new : Store D members) (s : State) (how : Manner) (number : ℕ) (stage : Option Held) (part : List ℕ) where
   at_once : (when : When) (text : List ℕ) (course : Course) (stage' : Option Held) (round : Round) → TakesIts old new s how number stage part text course stage' round → TakesWhen when old new s how number stage part text course stage' round []
-  at_once Now text course stage' round takes = (takes, refl)
-  at_once Later text course stage' round takes = inl (takes, refl)
+  at_once Now text course stage' round takes = record { takes = takes; none = refl }
+  at_once Later text course stage' round takes = taken_at_once (record { takes = takes; none = refl })
 
   -- at once
   pub told_at_once : (when : When) (queue queue' : List WaitingBatch) → queue' ≡ queue → (P : Option Held → Type 0) (result : Result Bool ServeFault) (a b : Option (List ℕ))
-      → Tells how (λ text course. (stage' : Option Held) × (round : Round) × P stage' × TakesIts old new s how number stage part text course stage' round) result a b
+      → Tells how (λ text course. (stage' : Option Held) × (round : Round) × P stage' × TakesIts old new s how number stage part text course stage' round) result (between a b)
       → Tells how (λ text course. (stage' : Option Held) × (round : Round) × (more : List Waiting) × P stage' × ((waiting : List Waiting) → AreWaiting queue waiting → AreWaiting queue' (waiting ++ more))
-      × TakesWhen when old new s how number stage part text course stage' round more) result a b
+      × TakesWhen when old new s how number stage part text course stage' round more) result (between a b)
   told_at_once when queue queue' same P result a b told =
       tells_as how
       (λ text course. (stage' : Option Held) × (round : Round) × P stage' × TakesIts old new s how number stage part text course stage' round)
@@ -158,20 +160,21 @@ module _ {D : Type 0} {members : Ghosts D} (old new : Store D members) (s : Stat
 pub told_later : {D : Type 0} {members : Ghosts D} (store : Store D members) (s : State) (how : Manner) (number : ℕ) (stage : Option Held) (part : List ℕ) (used : LineUse) (said : Line) (queue queue' : List WaitingBatch) (before after held : BatchSession)
     → IsReady used said before.batch held.batch → is_last_in before.batch.is_open used ≡ true → IsUse how.on_command part used → PutsBehind number queue queue' held after → IsStage before.batch stage → HoldsLine said part → (a : Option (List ℕ))
     → Tells how (λ text course. (stage' : Option Held) × (round : Round) × (more : List Waiting) × IsStage after.batch stage' × ((waiting : List Waiting) → AreWaiting queue waiting → AreWaiting queue' (waiting ++ more))
-    × TakesWhen Later store store s how number stage part text course stage' round more) (Ok false) a a
+    × TakesWhen Later store store s how number stage part text course stage' round more) (Ok false) (between a a)
 told_later store s how number stage part used said queue queue' before after held ready last is put staged holding a =
     let whole = ready.ending stage part staged holding in
     let waits = put.waits whole.0 whole.1 in
-    let it : Waiting = record { number = number; is_begun = held.batch.is_open; lines = waits.0 ∷ waits.1 } in
-    let ends : IsLastOf used stage part it = ending_last used stage part whole.0 whole.2 waits.0 waits.1 waits.2 it (ready.begun ∙ stage_begun before.batch stage staged) refl in (
-      [],
-      (
+    let it : Waiting = record { number = number; is_begun = held.batch.is_open; lines = waits.first ∷ waits.lines } in
+    let ends : IsLastOf used stage part it = ending_last used stage part whole.0 whole.2 waits.first waits.lines waits.some it (ready.begun ∙ stage_begun before.batch stage staged) refl in
+    record {
+      text = [];
+      says = (
         None,
         idle,
         it ∷ [],
         put.closed,
-        waits.3,
-        inr (record {
+        waits.waits,
+        put_off (record {
           it = it;
           own = refl;
           last = subst (λ u. IsLastOf u stage part it) (use_found how.on_command part before.batch.is_open used last is) ends;
@@ -182,16 +185,16 @@ told_later store s how number stage part used said queue queue' before after hel
           came_so = refl;
           waits = refl;
         }),
-      ),
-      (λ stop. refl),
-      Appends-nil a,
-    )
+      );
+      goes_on = λ stop. refl;
+      written = Appends-nil a;
+    }
 
 -- or it is carried out, behind its label
 pub told_settled : {D W : Type 0} {members : Ghosts D} (contents : W → Option (List ℕ)) (old new : Store D members) (s : State) (how : Manner) (number : ℕ) (stage : Option Held) (part : List ℕ) (used : LineUse) (said : Line) (before : Batch) (labelled after : BatchSession) (begin middle end : W)
     → IsReady used said before labelled.batch → is_last_in before.is_open used ≡ true → IsUse how.on_command part used → labelled.manner ≡ how → Appends (contents begin) (contents middle) (label number)
     → (result : Result Bool ServeFault) → SettlesBatch contents before.is_open result (scene labelled old middle) (scene after new end) → IsStage before stage → HoldsLine said part
-    → Tells how (λ text course. (stage' : Option Held) × (round : Round) × IsStage after.batch stage' × TakesIts old new s how number stage part text course stage' round) result (contents begin) (contents end)
+    → Tells how (λ text course. (stage' : Option Held) × (round : Round) × IsStage after.batch stage' × TakesIts old new s how number stage part text course stage' round) result (written_to contents begin end)
 told_settled contents old new s how number stage part used said before labelled after begin middle end ready last is same written result settles staged holding =
     let whole = ready.ending stage part staged holding in
     let settled = settles.settled s whole.0 whole.1 in
@@ -200,9 +203,9 @@ told_settled contents old new s how number stage part used said before labelled 
     (sym (heard_last before.is_open used last) ∙ ap (λ b. is_heard b used) begun)
     (tells_verdict labelled.manner
     (λ text course. (stage' : Option Held) × (round : Round) × IsStage after.batch stage' × TakesAs old new s labelled.manner used stage part text course stage' round)
-    (settled_text (is_some stage) (count_of whole.0) settled.0) (contents middle) (contents end) settled.0 result
-    (None, settled.1, settles.closed, ending_settles old new s labelled.manner used stage part whole.0 whole.2 settled.0 settled.1 settled.2)
-    (subst (λ b. SaysThen contents (settled_text b (count_of whole.0) settled.0) (verdict_result labelled.manner settled.0) result middle end) begun settled.3))
+    (settled_text (is_some stage) (count_of whole.0) settled.verdict) (contents middle) (contents end) settled.verdict result
+    (None, settled.round, settles.closed, ending_settles old new s labelled.manner used stage part whole.0 whole.2 settled.verdict settled.round settled.settles)
+    (subst (λ b. SaysThen contents (settled_text b (count_of whole.0) settled.verdict) (verdict_result labelled.manner settled.verdict) result middle end) begun settled.said))
 
 -- ---- the session in which it is taken
 

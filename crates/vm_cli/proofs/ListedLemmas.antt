@@ -1,5 +1,5 @@
 -- How a query for a list is answered.
-use Rattle.std.proofs.Common.{◌≡◌, ◌≢◌, ◌⊎◌, inl, inr, ℕ, Bool, true, false, List, [], ◌∷◌, ◌++◌, map, flat_map, Option, None, Result, Ok, Err, IfErr, IfOk, Vec, refl, ap, sym, subst, ◌∙◌}
+use Rattle.std.proofs.Common.{◌≡◌, ◌≢◌, ◌⊎◌, inl, inr, ℕ, Bool, true, false, List, [], ◌∷◌, ◌++◌, map, flat_map, None, Result, Ok, Err, IfErr, IfOk, Vec, refl, ap, sym, subst, ◌∙◌}
 use Rattle.std.proofs.lemmas.List.{length-map}
 use Rattle.vm_types.specs.declared.refusal.Refusal.{Refusal}
 use Rattle.vm_types.specs.declared.refusal.Refusal.TheVariants.{Device, Failed, Memory, NoSuchAlternative}
@@ -9,7 +9,8 @@ use Rattle.vm_store.specs.Answers.{IsDueOrMemory}
 use Rattle.vm_store.specs.Store.{Holds, has_failed}
 use Rattle.vm_store.specs.declared.store.Store.{Store}
 use Rattle.vm_cli.specs.answers.Carried.{Carries, WritesStart}
-use Rattle.vm_cli.specs.session.Feeds.{HandlesRequest, ListReplied, Replied, Replies, joined}
+use Rattle.vm_cli.specs.session.Feeds.{HandlesRequest, Replied, Replies, RepliesWithList, joined}
+use Rattle.vm_cli.specs.session.Known.{Written, between}
 use Rattle.vm_cli.specs.answers.Replies.{ends_session, is_error, reply_text}
 use Rattle.vm_cli.specs.session.Session.{Meets, Passes, SaysAnswer, SaysFailed, Stood, error_text, list_lines}
 use Rattle.vm_cli.specs.declared.answers.reply.Reply.{Reply}
@@ -41,12 +42,12 @@ is_none (Err refusal) other not nor (inl memory) is = not (let e : Err refusal �
 is_none (Err refusal) other not nor (inr none) is = nor (let e : Err refusal ≡ Err other = is in cc)
 
 -- a list ends the session only where the store had failed
-pub list_goes_on : {T : Type 0} (lines : T → List (List ℕ)) (answer : Result T Refusal) (r : Result Reply WriteFault) (a b : Option (List ℕ)) (rest : List ℕ) (failed : Bool) → failed ≡ false → answer ≢ Err Failed
-    → ListReplied lines answer r a b rest → IfOk r (λ reply. ends_session reply ≡ failed)
-list_goes_on lines (Ok list) (Ok reply) a b rest failed sound only replied = ap ends_session replied.0 ∙ sym sound
-list_goes_on lines (Ok list) (Err fault) a b rest failed sound only replied = _
-list_goes_on lines (Err refusal) (Ok reply) a b rest failed sound only replied = replied.0.last (λ is. only (ap Err is)) ∙ sym sound
-list_goes_on lines (Err refusal) (Err fault) a b rest failed sound only replied = absurd replied
+pub list_goes_on : {T : Type 0} (lines : T → List (List ℕ)) (answer : Result T Refusal) (r : Result Reply WriteFault) (output : Written) (rest : List ℕ) (failed : Bool) → failed ≡ false → answer ≢ Err Failed
+    → RepliesWithList lines answer r output rest → IfOk r (λ reply. ends_session reply ≡ failed)
+list_goes_on lines (Ok list) (Ok reply) output rest failed sound only replied = ap ends_session replied.end ∙ sym sound
+list_goes_on lines (Ok list) (Err fault) output rest failed sound only replied = _
+list_goes_on lines (Err refusal) (Ok reply) output rest failed sound only replied = replied.refuses.last (λ is. only (ap Err is)) ∙ sym sound
+list_goes_on lines (Err refusal) (Err fault) output rest failed sound only replied = absurd replied
 
 -- the lines of a list, one after another
 joined_map : {X : Type 0} (line : X → List ℕ) (xs : List X) → joined (map line xs) ≡ flat_map line xs
@@ -61,21 +62,21 @@ module _ {D : Type 0} {members : _} (old new : Store D members) (s : State) (que
       (fails : (text : List ℕ) (ends : Bool) → text ≡ error_text Failed → ends ≡ true → SaysFailed query text ends) where
     -- its answer is due where `Known` holds, and it is replied to so
     pub list_handled : (answer : Result T Refusal) → (has_failed old ≡ false → answer ≡ Err Device → Fails) → (has_failed old ≡ true → answer ≡ Err Failed) → (has_failed old ≡ false → answer ≢ Err Failed)
-        → (has_failed old ≡ false → Known → IsListOf items answer due) → (r : Result Reply WriteFault) (a b : Option (List ℕ)) (rest : List ℕ) → ListReplied (λ list. map line (items list)) answer r a b rest
-        → Replies (HandlesRequest old new s query) r a b rest
-    list_handled (Ok list) device refused only value (Ok reply) a b rest replied =
+        → (has_failed old ≡ false → Known → IsListOf items answer due) → (r : Result Reply WriteFault) (output : Written) (rest : List ℕ) → RepliesWithList (λ list. map line (items list)) answer r output rest
+        → Replies (HandlesRequest old new s query) r output rest
+    list_handled (Ok list) device refused only value (Ok reply) output rest replied =
         let sound = was_sound (has_failed old) list refused in
-        list_replies Known (HandlesRequest old new s query) Fails line (items list) due (Ok reply) a b rest plain
-        (λ text says. told old new s query passes same left holds text sound (meets text sound says)) (λ known. value sound known) (replied.0 ∙ ap End (length-map (items list) line)) (subst (Carries a b rest) (joined_map line (items list)) replied.1) _
-    list_handled (Ok list) device refused only value (Err fault) a b rest replied =
+        list_replies Known (HandlesRequest old new s query) Fails line (items list) due (Ok reply) output rest plain
+        (λ text says. told old new s query passes same left holds text sound (meets text sound says)) (λ known. value sound known) (replied.end ∙ ap End (length-map (items list) line)) (subst (Carries output.before output.after rest) (joined_map line (items list)) replied.carries) _
+    list_handled (Ok list) device refused only value (Err fault) output rest replied =
         let sound = was_sound (has_failed old) list refused in
-        list_replies Known (HandlesRequest old new s query) Fails line (items list) due (Err fault) a b rest plain
-        (λ text says. told old new s query passes same left holds text sound (meets text sound says)) (λ known. value sound known) _ _ (subst (WritesStart a b) (joined_map line (items list)) replied)
-    list_handled (Err refusal) device refused only value (Ok reply) a b rest replied =
-        let whole : Replied (HandlesRequest old new s query) reply a a rest =
-        replied_whole (HandlesRequest old new s query) reply a rest replied.2
-        (refusal_handled old new s query passes same left holds refusal reply replied.0.text replied.0.last replied.0.failed
+        list_replies Known (HandlesRequest old new s query) Fails line (items list) due (Err fault) output rest plain
+        (λ text says. told old new s query passes same left holds text sound (meets text sound says)) (λ known. value sound known) _ _ (subst (WritesStart output.before output.after) (joined_map line (items list)) replied)
+    list_handled (Err refusal) device refused only value (Ok reply) output rest replied =
+        let whole : Replied (HandlesRequest old new s query) reply (between output.before output.before) rest =
+        replied_whole (HandlesRequest old new s query) reply output.before rest replied.alone
+        (refusal_handled old new s query passes same left holds refusal reply replied.refuses.text replied.refuses.last replied.refuses.failed
         (λ failed. let e = refused failed in cc) (λ sound is. only sound (ap Err is)) fails
-        (λ sound. meets (reply_text reply) sound (says_refusal Known Fails line due refusal (reply_text reply) (λ is. device sound (ap Err is)) (λ is. only sound (ap Err is)) replied.0.text (λ known. value sound known)))) in
-        subst (λ o. Replied (HandlesRequest old new s query) reply a o rest) (sym replied.1) whole
-    list_handled (Err refusal) device refused only value (Err fault) a b rest replied = absurd replied
+        (λ sound. meets (reply_text reply) sound (says_refusal Known Fails line due refusal (reply_text reply) (λ is. device sound (ap Err is)) (λ is. only sound (ap Err is)) replied.refuses.text (λ known. value sound known)))) in
+        subst (λ now. Replied (HandlesRequest old new s query) reply (between output.before now) rest) (sym replied.unwritten) whole
+    list_handled (Err refusal) device refused only value (Err fault) output rest replied = absurd replied

@@ -8,13 +8,21 @@ use Rattle.vm_store.specs.declared.store.Store.{Store}
 use Rattle.vm_cli.specs.session.SessionKinds.{Course}
 use Rattle.vm_cli.specs.session.SessionKinds.Course.{proceeds}
 use Rattle.vm_cli.specs.lines.Input.{without_return}
-use Rattle.vm_cli.specs.session.LineUses.{no_memory, use_of}
+use Rattle.vm_cli.specs.session.LineUses.{use_of}
 use Rattle.vm_cli.specs.session.PlannerLines.{Saying, saying_of}
 use Rattle.vm_cli.specs.session.PlannerLines.Saying.{joins, leaves, nothing, releases, says, strange}
-use Rattle.vm_cli.specs.session.Planners.{EndsSettling, Gathering, IsLastOf, Joins, Leaves, PutsOff, SaysIt, Seat, TakesAlone, TakesBehind, TakesItFor, TakesIts, TakesOne, TakesWhen, planners, seat, settles_first, with_none_waiting}
+use Rattle.vm_cli.specs.session.Planners.{EndsSettling, Gathering, IsLastOf, IsUnwritten, Joins, Leaves, SaysIt, Seat, TakesAlone, TakesBehind, TakesIts, TakesLater, TakesOne, TakesWhen, planners, seat, settles_first, with_none_waiting}
+use Rattle.vm_cli.specs.session.Planners.IsSpoken.{line_said, not_joined}
+use Rattle.vm_cli.specs.session.Planners.Joins.{no_memory_for_seat, seated_before, welcomed}
+use Rattle.vm_cli.specs.session.Planners.Leaves.{parted, unknown_planner}
+use Rattle.vm_cli.specs.session.Planners.TakesIts.{taken_for_use, taken_without_memory, unlabelled}
+use Rattle.vm_cli.specs.session.Planners.TakesLater.{put_off, taken_at_once}
+use Rattle.vm_cli.specs.session.Planners.TakesOne.{line_taken, line_too_long, no_memory_for_line}
+use Rattle.vm_cli.specs.session.Planners.TakesSettled.{ended_settling, settled_first}
 use Rattle.vm_cli.specs.session.Rounds.{AllWhole, IsWholeRound, Round, after_rounds}
 use Rattle.vm_cli.specs.session.Streams.{Held, Takes}
 use Rattle.vm_cli.specs.session.Streams.Held.{holds, lost}
+use Rattle.vm_cli.specs.session.Streams.Takes.{for_its_use, without_memory}
 use Rattle.vm_cli.specs.session.Session.{Passes}
 use Rattle.vm_cli.specs.session.Waiting.{SettlesWaiting, Waiting, then_course}
 use Rattle.vm_cli.specs.declared.session.Manner.{Manner}
@@ -48,13 +56,13 @@ StaySeated seats seats' =
     ⊎ ((before : List Seat) × (it : Seat) × (behind : List Seat) × (seats ≡ before ++ it ∷ behind) × (seats' ≡ before ++ behind)))
 
 joins_seated : (number : ℕ) (seats : List Seat) (text : List ℕ) (count : ℕ) (seats' : List Seat) → Joins number seats text count seats' → StaySeated seats seats'
-joins_seated number seats text count seats' (inl welcome) = inr (inl (number, welcome.seated))
-joins_seated number seats text count seats' (inr (inl wanting)) = inl wanting.seated
-joins_seated number seats text count seats' (inr (inr present)) = inl present.1.seated
+joins_seated number seats text count seats' (welcomed it) = inr (inl (number, it.seated))
+joins_seated number seats text count seats' (no_memory_for_seat told) = inl told.seated
+joins_seated number seats text count seats' (seated_before present told) = inl told.seated
 
 leaves_seated : (number : ℕ) (seats : List Seat) (text : List ℕ) (count : ℕ) (seats' : List Seat) → Leaves number seats text count seats' → StaySeated seats seats'
-leaves_seated number seats text count seats' (inl parts) = inr (inr (parts.before, seat number parts.stage, parts.behind, parts.sits.cut, parts.seated))
-leaves_seated number seats text count seats' (inr unknown) = inl unknown.told.seated
+leaves_seated number seats text count seats' (parted parts) = inr (inr (parts.before, seat number parts.stage, parts.behind, parts.sits.cut, parts.seated))
+leaves_seated number seats text count seats' (unknown_planner unknown) = inl unknown.told.seated
 
 module _ (P : Option Held → Type 0) where
   -- of some, and of others
@@ -142,8 +150,8 @@ module _ {D : Type 0} {members : Ghosts D} where
       inl (record { same = takes.same; came_so = takes.came_so; seated = joins_seated number at.seats text takes.count at'.seats takes.answer; waiting = takes.waiting })
   came_alone old new s how (leaves number) text course at at' rounds takes =
       inl (record { same = takes.same; came_so = takes.came_so; seated = leaves_seated number at.seats text takes.count at'.seats takes.answer; waiting = takes.waiting })
-  came_alone old new s how (says when number part) text course at at' rounds (inl line) = inr (record { when = when; number = number; part = part; text = text; line = line })
-  came_alone old new s how (says when number part) text course at at' rounds (inr unknown) =
+  came_alone old new s how (says when number part) text course at at' rounds (line_said line) = inr (record { when = when; number = number; part = part; text = text; line = line })
+  came_alone old new s how (says when number part) text course at at' rounds (not_joined unknown) =
       inl (record { same = unknown.same; came_so = unknown.came_so; seated = inl unknown.answer.told.seated; waiting = unknown.waiting })
 
   -- what waits was carried out before the line was taken
@@ -170,7 +178,7 @@ module _ {D : Type 0} {members : Ghosts D} where
   came_behind : (first : Bool) (old new : Store D members) (s : State) (how : Manner) (saying : Saying) (text : List ℕ) (course : Course) (at at' : Gathering) (rounds : List Round)
       → TakesBehind first old new s how saying text course at at' rounds → CameOfLine old new s how course at at' rounds
   came_behind false old new s how saying text course at at' rounds takes = inl (came_alone old new s how saying text course at at' rounds takes)
-  came_behind true old new s how saying text course at at' rounds (inl it) =
+  came_behind true old new s how saying text course at at' rounds (settled_first it) =
       inr
       (inl
       (record {
@@ -185,29 +193,30 @@ module _ {D : Type 0} {members : Ghosts D} where
         goes = it.goes;
         came_so = it.came_so;
       }))
-  came_behind true old new s how saying text course at at' rounds (inr ends) = inr (inr (record { text = text; ends = ends }))
+  came_behind true old new s how saying text course at at' rounds (ended_settling ends) = inr (inr (record { text = text; ends = ends }))
 
   came_of : (old new : Store D members) (s : State) (how : Manner) (at : Gathering) (part text : List ℕ) (course : Course) (at' : Gathering) (rounds : List Round)
       → TakesOne old new s how at part text course at' rounds → CameOfLine old new s how course at at' rounds
-  came_of old new s how at part text course at' rounds (inl wanting) =
+  came_of old new s how at part text course at' rounds (no_memory_for_line wanting) =
       inl (inl (record { same = wanting.same; came_so = wanting.came_so; seated = inl wanting.answer.seated; waiting = wanting.waiting }))
-  came_of old new s how at part text course at' rounds (inr (inl (long, told))) = inl (inl (record { same = told.same; came_so = told.came_so; seated = inl told.answer.seated; waiting = told.waiting }))
-  came_of old new s how at part text course at' rounds (inr (inr (short, takes))) =
+  came_of old new s how at part text course at' rounds (line_too_long long told) = inl (inl (record { same = told.same; came_so = told.came_so; seated = inl told.answer.seated; waiting = told.waiting }))
+  came_of old new s how at part text course at' rounds (line_taken short takes) =
       let saying = saying_of (without_return part) in
       came_behind (settles_first saying at.waiting) old new s how saying text course at at' rounds takes
 
-  -- a line of a planner's own session is one of a session with batches
+  -- a line of a planner's own session is one of a session with batches, if its label could be written
   taken_alone : (old new : Store D members) (s : State) (how : Manner) (number : ℕ) (stage : Option Held) (part text : List ℕ) (course : Course) (stage' : Option Held) (round : Round)
-      → TakesItFor old new s how no_memory number stage part text course stage' round ⊎ TakesItFor old new s how (use_of how.on_command part) number stage part text course stage' round
-      → (said : List ℕ) × Takes old new s how stage part said course stage' round
-  taken_alone old new s how number stage part text course stage' round (inl wanting) = (wanting.said, inl wanting.takes)
-  taken_alone old new s how number stage part text course stage' round (inr found) = (found.said, inr found.takes)
+      → TakesIts old new s how number stage part text course stage' round
+      → IsUnwritten old new number stage text course stage' round ⊎ ((said : List ℕ) × Takes old new s how stage part said course stage' round)
+  taken_alone old new s how number stage part text course stage' round (unlabelled unsaid) = inl unsaid
+  taken_alone old new s how number stage part text course stage' round (taken_without_memory wanting) = inr (wanting.said, without_memory wanting.takes)
+  taken_alone old new s how number stage part text course stage' round (taken_for_use found) = inr (found.said, for_its_use found.takes)
 
   -- it was taken at once, or the batch that ends with it waits
   taken_when : (when : When) (old new : Store D members) (s : State) (how : Manner) (number : ℕ) (stage : Option Held) (part text : List ℕ) (course : Course) (stage' : Option Held) (round : Round) (more : List Waiting)
       → TakesWhen when old new s how number stage part text course stage' round more
-      → (TakesIts old new s how number stage part text course stage' round × (more ≡ [])) ⊎ PutsOff old new (use_of how.on_command part) number stage part text course stage' round more
-  taken_when Now old new s how number stage part text course stage' round more takes = inl takes
+      → TakesLater old new s how number stage part text course stage' round more
+  taken_when Now old new s how number stage part text course stage' round more takes = taken_at_once takes
   taken_when Later old new s how number stage part text course stage' round more takes = takes
 
   -- ---- a disk that is honest after a line was so before it
@@ -220,17 +229,18 @@ module _ {D : Type 0} {members : Ghosts D} where
     same_honest same = subst (λ (x : Store D members). (members.state (disk_of x)).honest ≡ true) same honest
 
     its_earlier : (course : Course) (number : ℕ) (stage : Option Held) (part text : List ℕ) (stage' : Option Held) (round : Round) → TakesIts old new t how number stage part text course stage' round → WasHonest
-    its_earlier course number stage part text stage' round (inl unsaid) = same_honest unsaid.same
-    its_earlier course number stage part text stage' round (inr taken) =
-        let alone = taken_alone old new t how number stage part text course stage' round taken in
-        takes_earlier old new t how stage part alone.0 course stage' round alone.1 honest
+    its_earlier course number stage part text stage' round takes =
+        elim (taken_alone old new t how number stage part text course stage' round takes) [
+          | inl unsaid ↦ same_honest unsaid.same
+          | inr alone ↦ takes_earlier old new t how stage part alone.0 course stage' round alone.1 honest
+        ]
 
     alone_earlier : (course : Course) (at at' : Gathering) (rounds : List Round) → CameOf old new t how course at at' rounds → WasHonest
     alone_earlier course at at' rounds (inl unasked) = same_honest unasked.same
     alone_earlier course at at' rounds (inr it) =
         elim (taken_when it.when old new t how it.number it.line.stage it.part it.text course it.line.stage' it.line.round it.line.more it.line.takes) [
-          | inl taken ↦ its_earlier course it.number it.line.stage it.part it.text it.line.stage' it.line.round taken.0
-          | inr off ↦ same_honest off.same
+          | taken_at_once taken ↦ its_earlier course it.number it.line.stage it.part it.text it.line.stage' it.line.round taken.takes
+          | put_off off ↦ same_honest off.same
         ]
 
   one_earlier : (old new : Store D members) (t : State) (how : Manner) (honest : (members.state (disk_of new)).honest ≡ true) (course : Course) (at at' : Gathering) (rounds : List Round) → CameOfLine old new t how course at at' rounds
@@ -246,10 +256,11 @@ module _ {D : Type 0} {members : Ghosts D} where
   module _ (start : DiskState) (s : State) (before : List Round) (old new : Store D members) (kept : KeepsOn start s old before) (honest : (members.state (disk_of new)).honest ≡ true) (how : Manner) where
     its_kept : (course : Course) (number : ℕ) (stage : Option Held) (part text : List ℕ) (stage' : Option Held) (round : Round) → TakesIts old new (after_rounds s before) how number stage part text course stage' round
         → KeptSo start s course new (before ++ round ∷ [])
-    its_kept course number stage part text stage' round (inl unsaid) = keeps_idle start s before old new kept honest how course round unsaid.came_so unsaid.same
-    its_kept course number stage part text stage' round (inr taken) =
-        let alone = taken_alone old new (after_rounds s before) how number stage part text course stage' round taken in
-        takes_kept start s before old new kept honest how stage part alone.0 course stage' round alone.1
+    its_kept course number stage part text stage' round takes =
+        elim (taken_alone old new (after_rounds s before) how number stage part text course stage' round takes) [
+          | inl unsaid ↦ keeps_idle start s before old new kept honest how course round unsaid.came_so unsaid.same
+          | inr alone ↦ takes_kept start s before old new kept honest how stage part alone.0 course stage' round alone.1
+        ]
 
     alone_kept : (course : Course) (at at' : Gathering) (rounds : List Round) → CameOf old new (after_rounds s before) how course at at' rounds → KeptSo start s course new (before ++ rounds)
     alone_kept course at at' rounds (inl unasked) =
@@ -259,8 +270,8 @@ module _ {D : Type 0} {members : Ghosts D} where
     alone_kept course at at' rounds (inr it) =
         subst (λ rs. KeptSo start s course new (before ++ rs)) (sym it.line.came_so)
         (elim (taken_when it.when old new (after_rounds s before) how it.number it.line.stage it.part it.text course it.line.stage' it.line.round it.line.more it.line.takes) [
-          | inl taken ↦ its_kept course it.number it.line.stage it.part it.text it.line.stage' it.line.round taken.0
-          | inr off ↦ keeps_idle start s before old new kept honest how course it.line.round off.came_so off.same
+          | taken_at_once taken ↦ its_kept course it.number it.line.stage it.part it.text it.line.stage' it.line.round taken.takes
+          | put_off off ↦ keeps_idle start s before old new kept honest how course it.line.round off.came_so off.same
         ])
 
   one_kept : (start : DiskState) (s : State) (before : List Round) (old new : Store D members) → KeepsOn start s old before → (members.state (disk_of new)).honest ≡ true → (how : Manner) (course : Course) (at at' : Gathering) (rounds : List Round)
@@ -281,20 +292,21 @@ module _ {D : Type 0} {members : Ghosts D} where
   module _ (old new : Store D members) (t : State) (how : Manner) where
     its_whole : (course : Course) (number : ℕ) (stage : Option Held) (part text : List ℕ) (stage' : Option Held) (round : Round) → TakesIts old new t how number stage part text course stage' round
         → StageChanges how.on_command stage → IsWholeRound round × StageChanges how.on_command stage'
-    its_whole course number stage part text stage' round (inl unsaid) all = (idle_whole round unsaid.came_so, subst (StageChanges how.on_command) (sym unsaid.held) all)
-    its_whole course number stage part text stage' round (inr taken) all =
-        let alone = taken_alone old new t how number stage part text course stage' round taken in
-        takes_whole how old new t part alone.0 course stage' round stage all alone.1
+    its_whole course number stage part text stage' round takes all =
+        elim (taken_alone old new t how number stage part text course stage' round takes) [
+          | inl unsaid ↦ (idle_whole round unsaid.came_so, subst (StageChanges how.on_command) (sym unsaid.held) all)
+          | inr alone ↦ takes_whole how old new t part alone.0 course stage' round stage all alone.1
+        ]
 
     -- also if the batch that ends with it waits
     when_whole : (course : Course) (when : When) (number : ℕ) (stage : Option Held) (part text : List ℕ) (stage' : Option Held) (round : Round) (more : List Waiting) → TakesWhen when old new t how number stage part text course stage' round more
         → StageChanges how.on_command stage → IsWholeRound round × StageChanges how.on_command stage' × AllWaiting how.on_command more
     when_whole course when number stage part text stage' round more takes all =
         elim (taken_when when old new t how number stage part text course stage' round more takes) [
-          | inl taken ↦
-              let one = its_whole course number stage part text stage' round taken.0 all in
-              (one.0, one.1, subst (AllWaiting how.on_command) (sym taken.1) tt)
-          | inr off ↦
+          | taken_at_once taken ↦
+              let one = its_whole course number stage part text stage' round taken.takes all in
+              (one.0, one.1, subst (AllWaiting how.on_command) (sym taken.none) tt)
+          | put_off off ↦
               let only = last_changes how.on_command part (use_of how.on_command part) stage off.it refl all off.last in
               (idle_whole round off.came_so, subst (StageChanges how.on_command) (sym off.outside) tt, subst (AllWaiting how.on_command) (sym off.waits) (only, tt))
         ]
@@ -331,18 +343,19 @@ module _ {D : Type 0} {members : Ghosts D} where
   module _ (old new : Store D members) (t : State) (how : Manner) (refuses : how.on_command ≡ Refuse) where
     its_passes : (course : Course) (number : ℕ) (stage : Option Held) (part text : List ℕ) (stage' : Option Held) (round : Round) → TakesIts old new t how number stage part text course stage' round
         → IsReading stage → Passes old new None × IsReading stage'
-    its_passes course number stage part text stage' round (inl unsaid) reading = (passes_left old new unsaid.same, subst IsReading (sym unsaid.held) reading)
-    its_passes course number stage part text stage' round (inr taken) reading =
-        let alone = taken_alone old new t how number stage part text course stage' round taken in
-        takes_passes how refuses old new t stage reading part alone.0 course stage' round alone.1
+    its_passes course number stage part text stage' round takes reading =
+        elim (taken_alone old new t how number stage part text course stage' round takes) [
+          | inl unsaid ↦ (passes_left old new unsaid.same, subst IsReading (sym unsaid.held) reading)
+          | inr alone ↦ takes_passes how refuses old new t stage reading part alone.0 course stage' round alone.1
+        ]
 
     -- and no batch is put off
     when_passes : (course : Course) (when : When) (number : ℕ) (stage : Option Held) (part text : List ℕ) (stage' : Option Held) (round : Round) (more : List Waiting) → TakesWhen when old new t how number stage part text course stage' round more
         → IsReading stage → Passes old new None × IsReading stage' × (more ≡ [])
     when_passes course when number stage part text stage' round more takes reading =
         elim (taken_when when old new t how number stage part text course stage' round more takes) [
-          | inl taken ↦ let one = its_passes course number stage part text stage' round taken.0 reading in (one.0, one.1, taken.1)
-          | inr off ↦ absurd (never_last part (use_of how.on_command part) stage off.it (subst (λ on. IsOther (use_of on part)) (sym refuses) (use_other part)) reading off.last)
+          | taken_at_once taken ↦ let one = its_passes course number stage part text stage' round taken.takes reading in (one.0, one.1, taken.none)
+          | put_off off ↦ absurd (never_last part (use_of how.on_command part) stage off.it (subst (λ on. IsOther (use_of on part)) (sym refuses) (use_other part)) reading off.last)
         ]
 
     alone_passes : (course : Course) (at at' : Gathering) (rounds : List Round) → CameOf old new t how course at at' rounds → AreReading at → Passes old new None × AreReading at'

@@ -1,9 +1,11 @@
 -- Batches that wait: in parts, by whose they are, and as they are forgotten.
-use Rattle.std.proofs.Common.{◌≡◌, inl, inr, ◌||◌, ◌==◌, ◌+◌, ◌<◌, ◌++◌, ◌∙◌, ℕ, zero, suc, Bool, true, false, if◌then◌else◌, List, [], ◌∷◌, Option, Result, not, Ok, Err, ap, sym, refl, subst, append_assoc, append-nil, length, take, drop, get_or, arith}
+use Rattle.std.proofs.Common.{◌≡◌, ◌||◌, ◌==◌, ◌+◌, ◌<◌, ◌++◌, ◌∙◌, ℕ, zero, suc, Bool, true, false, if◌then◌else◌, List, [], ◌∷◌, Option, Result, not, Ok, Err, ap, sym, refl, subst, append_assoc, append-nil, length, take, drop, get_or, arith}
 use Rattle.std.proofs.lemmas.List.{drop_more, take-append-drop, take_more}
 use Rattle.std.specs.Io.KnownBytes.{Appends}
 use Rattle.vm_cli.specs.answers.Carried.{WritesStart}
+use Rattle.vm_cli.specs.session.Known.{between}
 use Rattle.vm_cli.specs.session.SessionKinds.{AnswersThen, counted_result, some_lines}
+use Rattle.vm_cli.specs.session.SessionKinds.AnswersThen.{answer_cut, answered_so}
 use Rattle.vm_cli.specs.session.PlannerCalls.{AreWaiting, IsWaiting}
 use Rattle.vm_cli.specs.session.Planners.{wait_some}
 use Rattle.vm_cli.specs.session.Streams.{forgotten_text}
@@ -139,7 +141,7 @@ module _ (queue : List WaitingBatch) (place : ℕ) (own : WaitingBatch) (is : ow
 
   -- the writer fails in one
   pub forgotten_short : (why : ServeFault) → ((it : Waiting) → IsWaiting own it → (why ≡ fault.Write) × WritesStart b c (label it.number ++ forgotten_text (owed it)))
-      → (waiting : List Waiting) → AreWaiting queue waiting → (behind : List ℕ) (goes : Result Bool ServeFault) → AnswersThen (forgotten_texts waiting ++ behind) goes (Err why) a c
+      → (waiting : List Waiting) → AreWaiting queue waiting → (behind : List ℕ) (goes : Result Bool ServeFault) → AnswersThen (forgotten_texts waiting ++ behind) goes (Err why) (between a c)
   forgotten_short why put waiting are behind goes =
       let cut = cut_at queue place own is within waiting are in
       let text = label cut.it.number ++ forgotten_text (owed cut.it) in
@@ -160,18 +162,17 @@ counted_then false n last is = is
 
 module _ (queue : List WaitingBatch) (a b c : Option (List ℕ)) (all : AreForgotten queue a b) (on old_on : OnRefusal) (same : on ≡ old_on) (tells : old_on ≡ Tell) (waiting : List Waiting) (are : AreWaiting queue waiting) (text : List ℕ) (count : ℕ) where
   -- the end was answered
-  pub end_then : (empty : Bool) → empty ≡ (length queue == 0) → (last : Bool) → AnswersThen text (counted_result on count) (Ok last) b c
-      → AnswersThen (forgotten_texts waiting ++ text) (counted_result old_on (if wait_some waiting then 1 else count)) (Ok (not empty || last)) a c
-  end_then empty is last (inl h) =
-      let goes : counted_result Tell count ≡ Ok last = sym (h.0 ∙ ap (λ (o : OnRefusal). counted_result o count) (same ∙ tells)) in
+  pub end_then : (empty : Bool) → empty ≡ (length queue == 0) → (last : Bool) → AnswersThen text (counted_result on count) (Ok last) (between b c)
+      → AnswersThen (forgotten_texts waiting ++ text) (counted_result old_on (if wait_some waiting then 1 else count)) (Ok (not empty || last)) (between a c)
+  end_then empty is last (answered_so came wrote) =
+      let goes : counted_result Tell count ≡ Ok last = sym (came ∙ ap (λ (o : OnRefusal). counted_result o count) (same ∙ tells)) in
       let both = counted_then (wait_some waiting) count last goes in
-      inl (
-        ap (λ some. Ok (some || last)) (sym (some_wait queue waiting are empty is)) ∙ sym (ap (λ (o : OnRefusal). counted_result o (if wait_some waiting then 1 else count)) tells ∙ both),
-        Appends-then a b c (forgotten_texts waiting) text (all waiting are) h.1,
-      )
-  end_then empty is last (inr h) = let bad = h.0 in cc
+      answered_so
+      (ap (λ some. Ok (some || last)) (sym (some_wait queue waiting are empty is)) ∙ sym (ap (λ (o : OnRefusal). counted_result o (if wait_some waiting then 1 else count)) tells ∙ both))
+      (Appends-then a b c (forgotten_texts waiting) text (all waiting are) wrote)
+  end_then empty is last (answer_cut came begun) = let bad = came in cc
 
   -- or the writer failed in that
-  pub end_short : (why : ServeFault) (goes : Result Bool ServeFault) → AnswersThen text (counted_result on count) (Err why) b c → AnswersThen (forgotten_texts waiting ++ text) goes (Err why) a c
-  end_short why goes (inl h) = let goes_on : Err why ≡ Ok (some_lines count) = h.0 ∙ ap (λ (o : OnRefusal). counted_result o count) (same ∙ tells) ∙ tell_counted count in cc
-  end_short why goes (inr h) = inr (h.0, begins-then a b c text (forgotten_texts waiting ++ text) (record { sent = forgotten_texts waiting; split = refl; written = all waiting are }) h.1)
+  pub end_short : (why : ServeFault) (goes : Result Bool ServeFault) → AnswersThen text (counted_result on count) (Err why) (between b c) → AnswersThen (forgotten_texts waiting ++ text) goes (Err why) (between a c)
+  end_short why goes (answered_so came wrote) = let goes_on : Err why ≡ Ok (some_lines count) = came ∙ ap (λ (o : OnRefusal). counted_result o count) (same ∙ tells) ∙ tell_counted count in cc
+  end_short why goes (answer_cut came begun) = answer_cut came (begins-then a b c text (forgotten_texts waiting ++ text) (record { sent = forgotten_texts waiting; split = refl; written = all waiting are }) begun)

@@ -10,7 +10,8 @@ use Rattle.vm_store.specs.Queries.{Queries}
 use Rattle.vm_store.specs.Store.{has_failed}
 use Rattle.vm_store.specs.declared.store.Store.{Store}
 use Rattle.vm_cli.specs.lines.Asking.{Request}
-use Rattle.vm_cli.specs.session.Feeds.{Asks, AsksBy, AsksInto, HandlesRequest, HandlesOrWants, ListReplied, QueriesBy, QueriesWith, Replies, Stays, SessionGoesOn}
+use Rattle.vm_cli.specs.session.Feeds.{Asks, AsksBy, AsksInto, HandlesRequest, HandlesOrWants, QueriesBy, QueriesWith, Replies, RepliesWithList, Stays, SessionGoesOn, written_in}
+use Rattle.vm_cli.specs.session.Known.{Written, between}
 use Rattle.vm_cli.specs.answers.Replies.{ends_session, is_error, reply_text}
 use Rattle.vm_cli.specs.lines.Requested.{list_for}
 use Rattle.vm_cli.specs.lines.Requests.{asked_in}
@@ -88,52 +89,52 @@ module _ {D : Type 0} {members : _} where
   nothing_by store asked nothing =
       asked_as store store asked Request.Nothing nothing reply.Nothing (record { store = nothing_asked store reply.Nothing refl; answers = λ s. nothing_handled store s })
 
-module _ {D W : Type 0} {members : _} (contents : W → Option (List ℕ)) where
-  -- a request that a session handled
-  pub in_session : (request : Request) (result : Result Reply WriteFault) (old new : Session W D members) → Stays old new → AsksInto contents request result old.store.now new.store.now old.writer.now new.writer.now new.text
-      → Asks contents request result old new
-  in_session request result old new same asks = record { same = same; asks = asks }
+-- a request that a session handled
+pub in_session : {D W : Type 0} {members : _} (contents : W → Option (List ℕ)) (request : Request) (result : Result Reply WriteFault) (old new : Session W D members) → Stays old new
+    → AsksInto request result old.store.now new.store.now (written_in contents old new) new.text → Asks contents request result old new
+in_session contents request result old new same asks = record { same = same; asks = asks }
 
+module _ {D : Type 0} {members : _} where
   -- a reply alone
-  pub reply_into : (old new : Store D members) (request : Request) (reply : Reply) (writer : W) (text : List ℕ) → text ≡ [] → AsksBy request reply old new
-      → AsksInto contents request (Ok reply) old new writer writer text
-  reply_into old new request reply writer text none by =
+  pub reply_into : (old new : Store D members) (request : Request) (reply : Reply) (a : Option (List ℕ)) (text : List ℕ) → text ≡ [] → AsksBy request reply old new
+      → AsksInto request (Ok reply) old new (between a a) text
+  reply_into old new request reply a text none by =
       let short : length text ≡ 0 = rw none refl in
       record {
         room = omega (arith, short);
         store = by.store;
-        answers = λ s. asked_replied old new s request (Ok reply) _ _ text (replied_whole (HandlesRequest old new s request) reply _ text none (by.answers s));
+        answers = λ s. asked_replied old new s request (Ok reply) (between a a) text (replied_whole (HandlesRequest old new s request) reply a text none (by.answers s));
       }
 
   -- a query whose answer the text has
-  pub query_with : (old new : Store D members) (query : Request) (reply : Reply) (writer : W) (text : List ℕ) → QueriesWith query reply text old new → AsksInto contents query (Ok reply) old new writer writer text
-  query_with old new query reply writer text by = record {
+  pub query_with : (old new : Store D members) (query : Request) (reply : Reply) (a : Option (List ℕ)) (text : List ℕ) → QueriesWith query reply text old new → AsksInto query (Ok reply) old new (between a a) text
+  query_with old new query reply a text by = record {
     room = by.room;
     store = query_ends old new reply by.store;
-    answers = λ s. asked_replied old new s query (Ok reply) _ _ text (replied_with (HandlesRequest old new s query) reply _ text (by.answers s));
+    answers = λ s. asked_replied old new s query (Ok reply) (between a a) text (replied_with (HandlesRequest old new s query) reply a text (by.answers s) by.tells);
   }
 
   -- a request for which there was no memory
-  pub memory_into : (store : Store D members) (request : Request) (writer : W) (text : List ℕ) → text ≡ [] → AsksInto contents request (Ok (reply.Refused Memory)) store store writer writer text
-  memory_into store request writer text none =
+  pub memory_into : (store : Store D members) (request : Request) (a : Option (List ℕ)) (text : List ℕ) → text ≡ [] → AsksInto request (Ok (reply.Refused Memory)) store store (between a a) text
+  memory_into store request a text none =
       let short : length text ≡ 0 = rw none refl in
       record {
         room = omega (arith, short);
         store = nothing_asked store (reply.Refused Memory) refl;
-        answers = λ s. replied_whole (HandlesOrWants store store s request) (reply.Refused Memory) _ text none (memory_told store s request);
+        answers = λ s. replied_whole (HandlesOrWants store store s request) (reply.Refused Memory) a text none (memory_told store s request);
       }
 
   -- a request that only reads, in a session where this is done with commands
-  pub reads_in : (on : OnCommand) (old new : Store D members) (request : Request) → is_reading request ≡ true → (r : Result Reply WriteFault) (writer writer' : W) (text : List ℕ) → AsksInto contents request r old new writer writer' text
-      → AsksInto contents (asked_in on request) r old new writer writer' text
-  reads_in on old new request reads r writer writer' text into =
-      subst (λ (asked : Request). AsksInto contents asked r old new writer writer' text) (sym (reads_alone on request reads)) into
+  pub reads_in : (on : OnCommand) (old new : Store D members) (request : Request) → is_reading request ≡ true → (r : Result Reply WriteFault) (output : Written) (text : List ℕ) → AsksInto request r old new output text
+      → AsksInto (asked_in on request) r old new output text
+  reads_in on old new request reads r output text into =
+      subst (λ (asked : Request). AsksInto asked r old new output text) (sym (reads_alone on request reads)) into
 
   -- a query that only reads, with an answer that may be written in part
   pub query_into : (old new : Store D members) (query : Request) → Passes old new None → has_failed new ≡ has_failed old → (has_failed old ≡ true → new ≡ old)
-      → (r : Result Reply WriteFault) (writer writer' : W) (text : List ℕ) → OnOk r (length text + 1024 ≤ 65536) → (has_failed old ≡ false → IfOk r (λ reply. ends_session reply ≡ has_failed new))
-      → ((s : State) → Replies (HandlesRequest old new s query) r (contents writer) (contents writer') text) → AsksInto contents query r old new writer writer' text
-  query_into old new query passes same left r writer writer' text room last replies = record {
+      → (r : Result Reply WriteFault) (output : Written) (text : List ℕ) → OnOk r (length text + 1024 ≤ 65536) → (has_failed old ≡ false → IfOk r (λ reply. ends_session reply ≡ has_failed new))
+      → ((s : State) → Replies (HandlesRequest old new s query) r output text) → AsksInto query r old new output text
+  query_into old new query passes same left r output text room last replies = record {
     room = room;
     store = record {
       goes = passes.goes;
@@ -141,7 +142,7 @@ module _ {D W : Type 0} {members : _} (contents : W → Option (List ℕ)) where
       failing = λ sound failed. absurd (never_both _ (same ∙ sound) failed);
       left = left;
     };
-    answers = λ s. asked_replied old new s query r _ _ text (replies s);
+    answers = λ s. asked_replied old new s query r output text (replies s);
   }
 
   -- one whose answer is a list that the store read
@@ -149,13 +150,13 @@ module _ {D W : Type 0} {members : _} (contents : W → Option (List ℕ)) where
       → ((x : X) (rest : List ℕ) → is_error (line x ++ rest) ≡ false)
       → ((s : State) (text : List ℕ) → has_failed new ≡ false → SaysAnswer (Failing old new) (list_lines line) (λ answer. Stood old new s → IsListing answer (due s)) text → Meets old new s query text None)
       → ((text : List ℕ) (ends : Bool) → text ≡ error_text Failed → ends ≡ true → SaysFailed query text ends)
-      → (r : Result Reply WriteFault) (writer writer' : W) (text : List ℕ) → OnOk r (length text + 1024 ≤ 65536) → ListReplied (λ list. map line list) answer r (contents writer) (contents writer') text
-      → AsksInto contents query r old new writer writer' text
-  listed_into old new query line due answer said plain meets fails r writer writer' text room list =
+      → (r : Result Reply WriteFault) (output : Written) (text : List ℕ) → OnOk r (length text + 1024 ≤ 65536) → RepliesWithList (λ list. map line list) answer r output text
+      → AsksInto query r old new output text
+  listed_into old new query line due answer said plain meets fails r output text room list =
       let passes = passes_reads old new (goes_any _ _ _ said.any) said.reads said.unchanged in
-      query_into old new query passes said.failed said.no_calls r writer writer' text room
-      (λ sound. list_goes_on _ answer r _ _ _ _ (said.failed ∙ sound) (said.only_then sound) list)
+      query_into old new query passes said.failed said.no_calls r output text room
+      (λ sound. list_goes_on _ answer r output text _ (said.failed ∙ sound) (said.only_then sound) list)
       (λ s.
       list_handled old new s query passes said.failed said.no_calls (λ stood. said.state stood.honest s stood.holds)
       (Stood old new s) (Failing old new) line (λ list. list) (due s) plain (λ text sound says. meets s text (said.failed ∙ sound) says) fails
-      answer (λ sound. said.any.fault) said.refused said.only_then (λ sound stood. said.value stood.honest sound s stood.holds) r _ _ text list)
+      answer (λ sound. said.any.fault) said.refused said.only_then (λ sound stood. said.value stood.honest sound s stood.holds) r output text list)

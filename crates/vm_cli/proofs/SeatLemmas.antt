@@ -1,11 +1,15 @@
 -- Planners and their seats: those who have joined, in parts, and how one of them is found.
-use Rattle.std.proofs.Common.{◌≡◌, ◌≢◌, inl, ◌||◌, ◌+◌, ◌<◌, ◌≤◌, ◌++◌, ◌∙◌, ℕ, zero, suc, Bool, true, false, if◌then◌else◌, is_some, List, [], ◌∷◌, Option, None, Some, Result, Err, ap, sym, refl, subst, arith, append-nil, append_assoc, length, take, drop, get_or}
+use Rattle.std.proofs.Common.{◌≡◌, ◌≢◌, ◌||◌, ◌+◌, ◌<◌, ◌≤◌, ◌++◌, ◌∙◌, ℕ, zero, suc, Bool, true, false, if◌then◌else◌, is_some, List, [], ◌∷◌, Option, None, Some, Result, Err, ap, sym, refl, subst, arith, append-nil, append_assoc, length, take, drop, get_or}
 use Rattle.std.proofs.lemmas.List.{drop_at, drop_more, get_or_at, length-append, take-append-drop, take_all, take_at, take_more}
 use Rattle.std.specs.Io.KnownBytes.{Appends}
 use Rattle.vm_cli.specs.answers.Carried.{WritesStart}
 use Rattle.vm_cli.specs.session.SessionKinds.{AnswersThen, counted_result, some_lines}
+use Rattle.vm_cli.specs.session.SessionKinds.AnswersThen.{answered_so}
 use Rattle.vm_cli.specs.session.PlannerCalls.{AnswersSeats, AreWithin, IsPlaceOf, StaysAtRest}
+use Rattle.vm_cli.specs.session.Known.{between}
 use Rattle.vm_cli.specs.session.Planners.{AreSeats, IsAbsent, IsDone, IsPresent, IsTold, Joins, Leaves, Seat, Sits, half_text, hold_some, parting_count, parting_text, partings, seat, seats_end_count, seats_end_text}
+use Rattle.vm_cli.specs.session.Planners.Joins.{welcomed}
+use Rattle.vm_cli.specs.session.Planners.Leaves.{parted}
 use Rattle.vm_cli.specs.answers.Replies.{reply_text}
 use Rattle.vm_cli.specs.session.StreamCalls.{KeepsSession}
 use Rattle.vm_cli.specs.session.Streams.{Held, IsStage, ok_text}
@@ -155,8 +159,8 @@ within_last n (planner ∷ before) behind all = within_last n before behind all.
 -- one has this number
 pub present_at : (number : ℕ) (planners : List Planner) (place : Option ℕ) → is_some place ≡ true → IsPlaceOf number planners place → (seats : List Seat) → AreSeats planners seats → IsPresent number seats
 present_at number planners None some at seats are = cc
-present_at number planners (Some place) some (before, planner, behind, split, at, named, only) seats are =
-    let sat = sits_at number before planner behind named only planners split seats are in
+present_at number planners (Some place) some stands seats are =
+    let sat = sits_at number stands.before stands.planner stands.behind stands.named stands.only planners stands.cut seats are in
     record { stage = sat.stage; before = sat.earlier; behind = sat.later; sits = sat.sits }
 
 -- none has
@@ -191,36 +195,36 @@ module _ (old new : PlannersSession) (result : Result Bool ServeFault) (before a
   -- what is an answer of one kind is one of another
   pub seats_as : (P Q : List Seat → List ℕ → ℕ → List Seat → Type 0)
       → ((seats : List Seat) → AreSeats old.planners.items seats → (text : List ℕ) (count : ℕ) (seats' : List Seat) → P seats text count seats' → Q seats text count seats')
-      → AnswersSeats P result old new before after → AnswersSeats Q result old new before after
+      → AnswersSeats P result old new (between before after) → AnswersSeats Q result old new (between before after)
   seats_as P Q of answers = record {
     stays = answers.stays;
     waiting = answers.waiting;
     answered = λ seats are.
         let told = answers.answered seats are in
-        (told.0, told.1, told.2, told.3, of seats are told.0 told.1 told.2 told.4, told.5);
+        record { text = told.text; count = told.count; seats' = told.seats'; seated = told.seated; answer = of seats are told.text told.count told.seats' told.answer; said = told.said };
   }
 
   -- a planner is told a refusal
   pub seats_told : (number : ℕ) (said : List ℕ) → KeepsSession old.session new.session → new.planners.items ≡ old.planners.items → new.waiting.items ≡ old.waiting.items
-      → AnswersThen (label number ++ said) (counted_result old.session.manner.on_refusal 1) result before after → AnswersSeats (IsTold number said) result old new before after
+      → AnswersThen (label number ++ said) (counted_result old.session.manner.on_refusal 1) result (between before after) → AnswersSeats (IsTold number said) result old new (between before after)
   seats_told number said same planners waiting answers = record {
     stays = rests_same old new same planners;
     waiting = waiting;
-    answered = λ seats are. (label number ++ said, 1, seats, subst (λ them. AreSeats them seats) (sym planners) are, record { says = refl; refused = refl; seated = refl }, answers);
+    answered = λ seats are. record { text = label number ++ said; count = 1; seats' = seats; seated = subst (λ them. AreSeats them seats) (sym planners) are; answer = record { says = refl; refused = refl; seated = refl }; said = answers };
   }
 
   -- or that all is done
   pub seats_done : KeepsSession old.session new.session → new.planners.items ≡ old.planners.items → new.waiting.items ≡ old.waiting.items
-      → AnswersThen (label 0 ++ ok_text) (counted_result old.session.manner.on_refusal 0) result before after → AnswersSeats IsDone result old new before after
+      → AnswersThen (label 0 ++ ok_text) (counted_result old.session.manner.on_refusal 0) result (between before after) → AnswersSeats IsDone result old new (between before after)
   seats_done same planners waiting answers = record {
     stays = rests_same old new same planners;
     waiting = waiting;
-    answered = λ seats are. (label 0 ++ ok_text, 0, seats, subst (λ them. AreSeats them seats) (sym planners) are, record { says = refl; refused = refl; seated = refl }, answers);
+    answered = λ seats are. record { text = label 0 ++ ok_text; count = 0; seats' = seats; seated = subst (λ them. AreSeats them seats) (sym planners) are; answer = record { says = refl; refused = refl; seated = refl }; said = answers };
   }
 
   -- the same session, as far as anybody asks
   pub seats_from : (mid : PlannersSession) (P : List Seat → List ℕ → ℕ → List Seat → Type 0) → mid.planners.items ≡ old.planners.items → mid.waiting.items ≡ old.waiting.items → mid.session ≡ old.session
-      → AnswersSeats P result mid new before after → AnswersSeats P result old new before after
+      → AnswersSeats P result mid new (between before after) → AnswersSeats P result old new (between before after)
   seats_from mid P planners waiting session answers = record {
     stays = record {
       manner = answers.stays.manner ∙ ap (λ (it : BatchSession). it.manner) session;
@@ -230,7 +234,14 @@ module _ (old new : PlannersSession) (result : Result Bool ServeFault) (before a
     waiting = answers.waiting ∙ waiting;
     answered = λ seats are.
         let told = answers.answered seats (subst (λ them. AreSeats them seats) (sym planners) are) in
-        (told.0, told.1, told.2, told.3, told.4, subst (λ (it : BatchSession). AnswersThen told.0 (counted_result it.manner.on_refusal told.1) result before after) session told.5);
+        record {
+          text = told.text;
+          count = told.count;
+          seats' = told.seats';
+          seated = told.seated;
+          answer = told.answer;
+          said = subst (λ (it : BatchSession). AnswersThen told.text (counted_result it.manner.on_refusal told.count) result (between before after)) session told.said;
+        };
   }
 
   -- ---- a planner joins
@@ -238,29 +249,36 @@ module _ (old new : PlannersSession) (result : Result Bool ServeFault) (before a
   -- it is new
   pub seats_more : (number : ℕ) (planner : Planner) → ((seats : List Seat) → AreSeats old.planners.items seats → IsAbsent number seats) → planner.number ≡ number → IsStage planner.batch None → planner.batch.count ≡ 0
       → KeepsSession old.session new.session → new.planners.items ≡ old.planners.items ++ planner ∷ [] → new.waiting.items ≡ old.waiting.items
-      → AnswersThen (label number ++ ok_text) (counted_result old.session.manner.on_refusal 0) result before after → AnswersSeats (Joins number) result old new before after
+      → AnswersThen (label number ++ ok_text) (counted_result old.session.manner.on_refusal 0) result (between before after) → AnswersSeats (Joins number) result old new (between before after)
   seats_more number planner absent named none empty same planners waiting answers = record {
     stays = rests_kept old new same (λ n all.
         subst (AreWithin (n + 1)) (sym planners)
         (within_joined (n + 1) old.planners.items (planner ∷ []) (within_more n (n + 1) (omega arith) old.planners.items all) (omega (arith, empty), tt)));
     waiting = waiting;
-    answered = λ seats are. (
-      label number ++ ok_text,
-      0,
-      seats ++ seat number None ∷ [],
-      subst (λ them. AreSeats them (seats ++ seat number None ∷ [])) (sym planners) (seats_around old.planners.items planner [] seats number None [] are named none tt),
-      inl (record { absent = absent seats are; says = refl; refused = refl; seated = refl }),
-      answers,
-    );
+    answered = λ seats are. record {
+      text = label number ++ ok_text;
+      count = 0;
+      seats' = seats ++ seat number None ∷ [];
+      seated = subst (λ them. AreSeats them (seats ++ seat number None ∷ [])) (sym planners) (seats_around old.planners.items planner [] seats number None [] are named none tt);
+      answer = welcomed (record { absent = absent seats are; says = refl; refused = refl; seated = refl });
+      said = answers;
+    };
   }
 
   -- ---- a planner leaves
 
   pub seats_less : (number place : ℕ) → IsPlaceOf number old.planners.items (Some place) → (left : Planner) → left ≡ get_or old.planners.items place left
       → KeepsSession old.session new.session → new.planners.items ≡ take place old.planners.items ++ drop (place + 1) old.planners.items → new.waiting.items ≡ old.waiting.items
-      → ((it : Seat) → left.number ≡ it.number → IsStage left.batch it.stage → AnswersThen (parting_text it) (counted_result old.session.manner.on_refusal left.batch.count) result before after)
-      → AnswersSeats (Leaves number) result old new before after
-  seats_less number place (earlier, planner, later, split, at, named, only) left is same planners waiting answers =
+      → ((it : Seat) → left.number ≡ it.number → IsStage left.batch it.stage → AnswersThen (parting_text it) (counted_result old.session.manner.on_refusal left.batch.count) result (between before after))
+      → AnswersSeats (Leaves number) result old new (between before after)
+  seats_less number place stands left is same planners waiting answers =
+      let earlier = stands.before in
+      let planner = stands.planner in
+      let later = stands.behind in
+      let split = stands.cut in
+      let at = stands.at in
+      let named = stands.named in
+      let only = stands.only in
       let found : left ≡ planner = is ∙ planner_at earlier planner later old.planners.items place split at left in
       let rest : new.planners.items ≡ earlier ++ later = planners ∙ planner_cut earlier planner later old.planners.items place split at in
       record {
@@ -271,15 +289,16 @@ module _ (old new : PlannersSession) (result : Result Bool ServeFault) (before a
         waiting = waiting;
         answered = λ seats are.
             let sat = sits_at number earlier planner later named only old.planners.items split seats are in
-            let held = subst (λ it. IsStage it.batch sat.stage) (sym found) sat.held in (
-              parting_text (seat number sat.stage),
-              parting_count sat.stage,
-              sat.earlier ++ sat.later,
-              subst (λ them. AreSeats them (sat.earlier ++ sat.later)) (sym rest) (seats_joined earlier later sat.earlier sat.later sat.first sat.last),
-              inl (record { stage = sat.stage; before = sat.earlier; behind = sat.later; sits = sat.sits; says = refl; refused = refl; seated = refl }),
-              subst (λ n. AnswersThen (parting_text (seat number sat.stage)) (counted_result old.session.manner.on_refusal n) result before after) (stage_count left.batch sat.stage held)
-                  (answers (seat number sat.stage) (ap (λ it. it.number) found ∙ named) held),
-            );
+            let held = subst (λ it. IsStage it.batch sat.stage) (sym found) sat.held in
+            record {
+              text = parting_text (seat number sat.stage);
+              count = parting_count sat.stage;
+              seats' = sat.earlier ++ sat.later;
+              seated = subst (λ them. AreSeats them (sat.earlier ++ sat.later)) (sym rest) (seats_joined earlier later sat.earlier sat.later sat.first sat.last);
+              answer = parted (record { stage = sat.stage; before = sat.earlier; behind = sat.later; sits = sat.sits; says = refl; refused = refl; seated = refl });
+              said = subst (λ n. AnswersThen (parting_text (seat number sat.stage)) (counted_result old.session.manner.on_refusal n) result (between before after)) (stage_count left.batch sat.stage held)
+                  (answers (seat number sat.stage) (ap (λ it. it.number) found ∙ named) held);
+            };
       }
 
 -- ---- all of them leave
@@ -347,7 +366,7 @@ module _ (planners : List Planner) (place : ℕ) (half refused : ℕ) (a b c : O
 
   -- the writer fails in what one of them is told
   pub left_short : (why : ServeFault) → ((it : Seat) → planner.number ≡ it.number → IsStage planner.batch it.stage → (why ≡ fault.Write) × WritesStart b c (parting_text it))
-      → (seats : List Seat) → AreSeats planners seats → (goes : Result Bool ServeFault) → AnswersThen (seats_end_text seats half) goes (Err why) a c
+      → (seats : List Seat) → AreSeats planners seats → (goes : Result Bool ServeFault) → AnswersThen (seats_end_text seats half) goes (Err why) (between a c)
   left_short why put seats are goes =
       let split = parted_at planners place planner within ∙ ap (λ it. take place planners ++ it ∷ drop (place + 1) planners) (sym is) in
       let cut = seats_cut (take place planners) planner (drop (place + 1) planners) seats (subst (λ them. AreSeats them seats) split are) in
@@ -361,22 +380,22 @@ module _ (planners : List Planner) (place : ℕ) (half refused : ℕ) (a b c : O
 -- all of them have left
 module _ (planners : List Planner) (place : ℕ) (half refused : ℕ) (a b c : Option (List ℕ)) (left : HaveLeft (take place planners) half refused a b) (whole : length planners ≤ place)
     (old new : Manner) (same : new ≡ old) (result : Result Bool ServeFault) (seats : List Seat) (are : AreSeats planners seats) where
-  left_then : AnswersThen (half_text half) (counted_result new.on_refusal refused) result b c → AnswersThen (seats_end_text seats half) (counted_result old.on_refusal (seats_end_count seats half)) result a c
+  left_then : AnswersThen (half_text half) (counted_result new.on_refusal refused) result (between b c) → AnswersThen (seats_end_text seats half) (counted_result old.on_refusal (seats_end_count seats half)) result (between a c)
   left_then answers =
       let taken = subst (λ them. AreSeats them seats) (sym (take_all place planners whole)) are in
-      subst (λ (manner : Manner). AnswersThen (seats_end_text seats half) (counted_result manner.on_refusal (seats_end_count seats half)) result a c) same
-      (subst (λ n. AnswersThen (seats_end_text seats half) (counted_result new.on_refusal n) result a c) (left.count seats taken)
+      subst (λ (manner : Manner). AnswersThen (seats_end_text seats half) (counted_result manner.on_refusal (seats_end_count seats half)) result (between a c)) same
+      (subst (λ n. AnswersThen (seats_end_text seats half) (counted_result new.on_refusal n) result (between a c)) (left.count seats taken)
       (written_behind a b c (partings seats) (half_text half) (counted_result new.on_refusal refused) result (left.said seats taken) answers))
 
   -- the input ends in the middle of a line
-  pub left_within : 0 < half → AnswersThen (label 0 ++ reply_text reply.HalfLine) (counted_result new.on_refusal refused) result b c
-      → AnswersThen (seats_end_text seats half) (counted_result old.on_refusal (seats_end_count seats half)) result a c
-  left_within some answers = left_then (subst (λ text. AnswersThen text (counted_result new.on_refusal refused) result b c) (sym (of half some)) answers)
+  pub left_within : 0 < half → AnswersThen (label 0 ++ reply_text reply.HalfLine) (counted_result new.on_refusal refused) result (between b c)
+      → AnswersThen (seats_end_text seats half) (counted_result old.on_refusal (seats_end_count seats half)) result (between a c)
+  left_within some answers = left_then (subst (λ text. AnswersThen text (counted_result new.on_refusal refused) result (between b c)) (sym (of half some)) answers)
     where
       of : (n : ℕ) → 0 < n → half_text n ≡ label 0 ++ reply_text reply.HalfLine
       of zero lt = absurd (omega arith)
       of (suc n) lt = refl
 
   -- or behind one
-  pub left_whole : half ≡ 0 → b ≡ c → result ≡ counted_result new.on_refusal refused → AnswersThen (seats_end_text seats half) (counted_result old.on_refusal (seats_end_count seats half)) result a c
-  left_whole none still is = left_then (inl (is, subst (Appends b c) (ap half_text (sym none)) (subst (λ end. Appends b end []) still (Appends-nil b))))
+  pub left_whole : half ≡ 0 → b ≡ c → result ≡ counted_result new.on_refusal refused → AnswersThen (seats_end_text seats half) (counted_result old.on_refusal (seats_end_count seats half)) result (between a c)
+  left_whole none still is = left_then (answered_so is (subst (Appends b c) (ap half_text (sym none)) (subst (λ end. Appends b end []) still (Appends-nil b))))

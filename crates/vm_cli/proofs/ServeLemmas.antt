@@ -5,7 +5,7 @@ use Rattle.std.proofs.KnownBytes.{Consumes-trans, Consumes-whole}
 use Rattle.std.specs.Io.KnownBytes.{Consumes, IsAtEnd}
 use Rattle.vm_types.specs.State.{State, after}
 use Rattle.vm_store.specs.declared.store.Store.{Store}
-use Rattle.vm_cli.specs.session.Feeds.{Fed, Writes}
+use Rattle.vm_cli.specs.session.Feeds.{Fed, Writes, chunk}
 use Rattle.vm_cli.specs.session.Known.{between, streams_of}
 use Rattle.vm_cli.specs.lines.Lines.{IsPart, lines_of, onto_first}
 use Rattle.vm_cli.specs.lines.Input.{is_nil}
@@ -40,7 +40,7 @@ last-line (b ∷ c ∷ to) part e =
     let other : (b == 10) ≡ false = grind (arith, nat_tests, part.0) in
     rw other (ap (onto_first b) (last-line (c ∷ to) part.1 refl))
 
-module _ {D : Type 0} {members : _} (old mid : Store D members) (s : State) (on : Manner) (refused : Bool) (bytes to : List ℕ) (a b : Option (List ℕ)) (f : Fed old mid s on refused bytes [] to a b) where
+module _ {D : Type 0} {members : _} (old mid : Store D members) (s : State) (on : Manner) (refused : Bool) (bytes to : List ℕ) (a b : Option (List ℕ)) (f : Fed old mid s on refused (chunk [] bytes to) (between a b)) where
   cut-all : lines_of bytes ≡ f.lines ++ lines_of (to ++ [])
   cut-all = ap lines_of (sym (append-nil bytes)) ∙ f.cut []
 
@@ -56,7 +56,7 @@ module _ {D : Type 0} {members : _} (old mid : Store D members) (s : State) (on 
 
   -- it ended within a line
   pub serves-last : (new : Store D members) (c known : Option (List ℕ)) (r : Result Bool ServeFault) → IfSome known (λ own. own ≡ bytes) → IsPart to → is_nil to ≡ false
-      → Writes on (HandlesLine mid new (after s f.answered.commands f.answered.answers) on to) r b c → Serves old new s on (joined refused r) (streams_of known a c)
+      → Writes on (HandlesLine mid new (after s f.answered.commands f.answered.answers) on to) r (between b c) → Serves old new s on (joined refused r) (streams_of known a c)
   serves-last new c known r own part e w =
       let lines : lines_of bytes ≡ f.lines ++ (to ∷ []) = cut-all ∙ ap (λ ls. f.lines ++ ls) (last-line to part e) in
       let line = serves-line mid new (after s f.answered.commands f.answered.answers) on to r b c [] (on_ok r refl) w in

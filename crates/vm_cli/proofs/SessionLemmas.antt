@@ -5,6 +5,7 @@ use Rattle.vm_types.specs.declared.refusal.Refusal.{Refusal}
 use Rattle.vm_types.specs.declared.refusal.Refusal.TheVariants.{Device, Failed}
 use Rattle.vm_cli.specs.answers.Carried.{WritesStart, Carries}
 use Rattle.vm_cli.specs.session.Feeds.{Replies}
+use Rattle.vm_cli.specs.session.Known.{Written}
 use Rattle.vm_cli.specs.answers.Replies.{found_text, is_error, reply_text}
 use Rattle.vm_types.specs.Queries.{IsListing}
 use Rattle.vm_cli.specs.session.Session.{SaysAnswer, error_text, list_lines, list_text}
@@ -53,21 +54,21 @@ says_items C Fails line items due is = record {
 }
 
 -- a list is written as is due
-pub list_replies : {X : Type 0} (C : Type 0) (P : List ℕ → Bool → Type 0) (Fails : Type 0) (line : X → List ℕ) (items : List X) (due : Result (List X) Refusal) (r : Result Reply WriteFault) (a b : Option (List ℕ)) (rest : List ℕ)
+pub list_replies : {X : Type 0} (C : Type 0) (P : List ℕ → Bool → Type 0) (Fails : Type 0) (line : X → List ℕ) (items : List X) (due : Result (List X) Refusal) (r : Result Reply WriteFault) (output : Written) (rest : List ℕ)
     → ((x : X) (rest : List ℕ) → is_error (line x ++ rest) ≡ false) → ((text : List ℕ) → SaysAnswer Fails (list_lines line) (λ answer. C → IsListing answer due) text → P text false)
-    → (C → due ≡ Ok items) → IfOk r (λ reply. reply ≡ End (length items)) → OnOk r (Carries a b rest (flat_map line items)) → OnErr r (WritesStart a b (flat_map line items))
-    → Replies P r a b rest
-list_replies C P Fails line items due (Ok reply) a b rest plain lift is ends carries begins = record {
+    → (C → due ≡ Ok items) → IfOk r (λ reply. reply ≡ End (length items)) → OnOk r (Carries output.before output.after rest (flat_map line items)) → OnErr r (WritesStart output.before output.after (flat_map line items))
+    → Replies P r output rest
+list_replies C P Fails line items due (Ok reply) output rest plain lift is ends carries begins = record {
   whole = flat_map line items;
   says = rw ends (lift (list_text line items) (says_items C Fails line items due is));
   tells = rw ends (plain_list line plain items (length items));
   carries = carries;
 }
-list_replies C P Fails line items due (Err fault) a b rest plain lift is ends carries begins = record {
+list_replies C P Fails line items due (Err fault) output rest plain lift is ends carries begins = record {
   whole = list_text line items;
   ends = false;
   says = lift (list_text line items) (says_items C Fails line items due is);
-  begins = begins-more a b (flat_map line items) _ begins;
+  begins = begins-more output.before output.after (flat_map line items) _ begins;
 }
 
 -- a list is refused

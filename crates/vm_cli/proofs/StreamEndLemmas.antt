@@ -1,5 +1,5 @@
 -- How a session ends in which lines are answered one after another.
-use Rattle.std.proofs.Common.{◌≡◌, inl, inr, ◌||◌, ◌++◌, ◌∙◌, ℕ, zero, suc, Bool, true, false, List, [], ◌∷◌, Option, IfSome, Result, Ok, Err, ap, sym, refl, subst, append_assoc, append-nil}
+use Rattle.std.proofs.Common.{◌≡◌, ◌||◌, ◌++◌, ◌∙◌, ℕ, zero, suc, Bool, true, false, List, [], ◌∷◌, Option, IfSome, Result, Ok, Err, ap, sym, refl, subst, append_assoc, append-nil}
 use Rattle.std.proofs.KnownBytes.{Consumes-nil, Consumes-whole}
 use Rattle.std.specs.Io.KnownBytes.{Appends, IsAtEnd}
 use Rattle.vm_types.specs.State.{State, opened}
@@ -8,6 +8,7 @@ use Rattle.vm_store.specs.Shown.{new_store}
 use Rattle.vm_store.specs.declared.store.Store.{Store}
 use Rattle.vm_cli.specs.answers.Carried.{WritesStart}
 use Rattle.vm_cli.specs.session.SessionKinds.{AnswersThen, Course, EndsInput, EndsWithLine, HasTaken, RunsStream, ServesInput, SessionKind, TakesEach, TakesTo, Tells, counted_result, ended_lines, half_lines, some_lines}
+use Rattle.vm_cli.specs.session.SessionKinds.AnswersThen.{answer_cut, answered_so}
 use Rattle.vm_cli.specs.session.SessionKinds.LastAnswered.{end_answered, line_answered}
 use Rattle.vm_cli.specs.session.SessionKinds.LastRefused.{end_refuses, line_refused}
 use Rattle.vm_cli.specs.session.Known.{SessionStreams, between, streams_of}
@@ -193,32 +194,36 @@ module _ {D : Type 0} {members : Ghosts D} {kind : SessionKind D members} {IsHel
       takes = takes;
     }
 
-    serves_stop : (more : List ℕ) (why : ServeFault) → Tells how Answered (Err why) b c → ServesInput kind old new s how (Err why) (between a c) (ended_with (part ++ (10 ∷ more)))
+    serves_stop : (more : List ℕ) (why : ServeFault) → Tells how Answered (Err why) (between b c) → ServesInput kind old new s how (Err why) (between a c) (ended_with (part ++ (10 ∷ more)))
     serves_stop more fault.Read tells = absurd tells
-    serves_stop more fault.Store (said, answered, written) =
-        record { text = so_far.text ++ said; ended = ends_line more over said answered; written = Appends-then a b c so_far.text said so_far.written written }
-    serves_stop more fault.Unsure (said, answered, written) =
-        record { text = so_far.text ++ said; ended = ends_line more over said answered; written = Appends-then a b c so_far.text said so_far.written written }
-    serves_stop more fault.Refused (said, answered, stop, written) =
-        record { text = so_far.text ++ said; stop = stop; last = line_refused (ends_line more (proceeds true) said answered); written = Appends-then a b c so_far.text said so_far.written written }
-    serves_stop more fault.Write (said, course, answered, begun) =
-        record { text = so_far.text ++ said; last = line_answered course (ends_line more course said answered); begun = begins-behind a b c so_far.text said so_far.written begun }
+    serves_stop more fault.Store it =
+        record { text = so_far.text ++ it.text; ended = ends_line more over it.text it.says; written = Appends-then a b c so_far.text it.text so_far.written it.written }
+    serves_stop more fault.Unsure it =
+        record { text = so_far.text ++ it.text; ended = ends_line more over it.text it.says; written = Appends-then a b c so_far.text it.text so_far.written it.written }
+    serves_stop more fault.Refused it =
+        record { text = so_far.text ++ it.text; stop = it.stop; last = line_refused (ends_line more (proceeds true) it.text it.says); written = Appends-then a b c so_far.text it.text so_far.written it.written }
+    serves_stop more fault.Write it =
+        record { text = so_far.text ++ it.text; last = line_answered it.course (ends_line more it.course it.text it.says); begun = begins-behind a b c so_far.text it.text so_far.written it.begun }
 
     -- or it goes on
-    line_more : (refused : Bool) → Tells how Answered (Ok refused) b c → HasServed kind IsHeld' old new s how (streams_of input a c) rest' after (again || refused)
-    line_more refused (said, (stage', rounds, held, takes), goes_on, written) = record {
-      parts = so_far.parts ++ part ∷ [];
-      text = so_far.text ++ said;
-      stage = stage';
-      held = held;
-      took = subst (λ bs. Took input rest' [] bs after) (sym (ended-more so_far.parts part)) line_took;
-      taken = record {
-        rounds = so_far.taken.rounds ++ rounds;
-        each = each_more kind how so_far.parts old mid new s kind.start so_far.text so_far.stage so_far.taken.rounds again so_far.taken.each part said refused stage' rounds takes;
-        goes_on = λ stop. neither again refused (so_far.taken.goes_on stop) (goes_on stop);
-      };
-      written = Appends-then a b c so_far.text said so_far.written written;
-    }
+    line_more : (refused : Bool) → Tells how Answered (Ok refused) (between b c) → HasServed kind IsHeld' old new s how (streams_of input a c) rest' after (again || refused)
+    line_more refused it =
+        let said = it.text in
+        let stage' = it.says.0 in
+        let rounds = it.says.1 in
+        record {
+          parts = so_far.parts ++ part ∷ [];
+          text = so_far.text ++ said;
+          stage = stage';
+          held = it.says.2;
+          took = subst (λ bs. Took input rest' [] bs after) (sym (ended-more so_far.parts part)) line_took;
+          taken = record {
+            rounds = so_far.taken.rounds ++ rounds;
+            each = each_more kind how so_far.parts old mid new s kind.start so_far.text so_far.stage so_far.taken.rounds again so_far.taken.each part said refused stage' rounds it.says.3;
+            goes_on = λ stop. neither again refused (so_far.taken.goes_on stop) (it.goes_on stop);
+          };
+          written = Appends-then a b c so_far.text said so_far.written it.written;
+        }
 
   -- the end of the input was answered
   module _ (c : Option (List ℕ)) (half : List ℕ) (unbroken : IsPart half) where
@@ -251,13 +256,13 @@ module _ {D : Type 0} {members : Ghosts D} {kind : SessionKind D members} {IsHel
     counted (suc n) is Ignore stops written = record { text = so_far.text ++ said; again = again; last = true; ended = ends_so (suc n) is; told = refl; written = written }
     counted (suc n) is Tell stops written = record { text = so_far.text ++ said; again = again; last = true; ended = ends_so (suc n) is; told = refl; written = written }
 
-    serves_end : (result : Result Bool ServeFault) → AnswersThen said (counted_result how.on_refusal count) result b c → ServesInput kind old mid s how (joined again result) (between a c) (ended_with half)
-    serves_end result (inr h) =
-        subst (λ r. ServesInput kind old mid s how (joined again r) (between a c) (ended_with half)) (sym h.0)
-        (record { text = so_far.text ++ said; last = end_answered again (some_lines count) ends_input; begun = begins-behind a b c so_far.text said so_far.written h.1 })
-    serves_end result (inl h) =
-        subst (λ r. ServesInput kind old mid s how (joined again r) (between a c) (ended_with half)) (sym h.0)
-        (counted count refl how.on_refusal refl (Appends-then a b c so_far.text said so_far.written h.1))
+    serves_end : (result : Result Bool ServeFault) → AnswersThen said (counted_result how.on_refusal count) result (between b c) → ServesInput kind old mid s how (joined again result) (between a c) (ended_with half)
+    serves_end result (answer_cut came begun) =
+        subst (λ r. ServesInput kind old mid s how (joined again r) (between a c) (ended_with half)) (sym came)
+        (record { text = so_far.text ++ said; last = end_answered again (some_lines count) ends_input; begun = begins-behind a b c so_far.text said so_far.written begun })
+    serves_end result (answered_so came wrote) =
+        subst (λ r. ServesInput kind old mid s how (joined again r) (between a c) (ended_with half)) (sym came)
+        (counted count refl how.on_refusal refl (Appends-then a b c so_far.text said so_far.written wrote))
 
 -- ---- so does a session, however it is told
 
@@ -276,7 +281,7 @@ module _ {D : Type 0} {members : Ghosts D} {kind : SessionKind D members} {IsHel
   -- a line was read, and taken in the manner of the session
   module _ (now : Manner) (same : now ≡ how) (new : Store D members) (c rest' : Option (List ℕ)) (part after : List ℕ) (took : Took rest rest' unread (part ++ 10 ∷ []) after) (IsHeld' : kind.Stage → Type 0) where
     abbrev IsTaken : Result Bool ServeFault → Manner → Type 0
-    IsTaken result m = (s : State) (stage : kind.Stage) → IsHeld stage → Tells m (TakesTo kind IsHeld' mid new s m stage part) result b c
+    IsTaken result m = (s : State) (stage : kind.Stage) → IsHeld stage → Tells m (TakesTo kind IsHeld' mid new s m stage part) result (between b c)
 
     -- with it the session ends
     pub serves_line : (why : ServeFault) → FeedsOn (Err why) mid new → IsTaken (Err why) now → RunsStream kind how (Err why) old new (streams_of input a c)
@@ -302,7 +307,7 @@ module _ {D : Type 0} {members : Ghosts D} {kind : SessionKind D members} {IsHel
   -- the end of the input was answered, in so many lines
   module _ (now : Manner) (same : now ≡ how) (c rest' : Option (List ℕ)) (half after : List ℕ) (took : Took rest rest' unread half after) (none : after ≡ []) (end : IsAtEnd rest') (unbroken : IsPart half) (result : Result Bool ServeFault) where
     abbrev IsAnswered : Manner → ℕ → Type 0
-    IsAnswered m n = (stage : kind.Stage) → IsHeld stage → AnswersThen (kind.end_text stage n) (counted_result m.on_refusal (kind.end_count stage n)) result b c
+    IsAnswered m n = (stage : kind.Stage) → IsHeld stage → AnswersThen (kind.end_text stage n) (counted_result m.on_refusal (kind.end_count stage n)) result (between b c)
 
     pub serves_rest : (n : ℕ) → n ≡ half_lines half → IsAnswered now n → RunsStream kind how (joined again result) old mid (streams_of input a c)
     serves_rest n is answered = record {

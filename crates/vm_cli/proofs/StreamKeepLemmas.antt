@@ -18,6 +18,7 @@ use Rattle.vm_cli.specs.session.Rounds.{Round, after_round, after_rounds, all_an
 use Rattle.vm_cli.specs.session.Rounds.Round.{broken, committed, idle, undone, unsure}
 use Rattle.vm_cli.specs.session.Streams.{Applies, Commits, Held, LeavesUnsure, Settles, SettlesHeld, StopsIn, Takes, TakesAs, Undoes, Verdict, batch_course, carried_by, course_of, trying}
 use Rattle.vm_cli.specs.session.Streams.Held.{holds, lost}
+use Rattle.vm_cli.specs.session.Streams.Takes.{for_its_use, without_memory}
 use Rattle.vm_cli.specs.session.Streams.Verdict.{fails, succeeds}
 use Rattle.vm_cli.specs.session.Session.{Answered, Done, HandlesLine, HasAnswered, Stood, AnswersEach, after_line, with_answer, with_command}
 use Rattle.vm_cli.specs.declared.session.Manner.{Manner}
@@ -74,25 +75,25 @@ module _ {D : Type 0} {members : _} where
 
   came : (old new : Store D members) (t : State) (on : Manner) (used : LineUse) (stage : Option Held) (part text : List ℕ) (course : Course) (stage' : Option Held) (round : Round)
       → TakesAs old new t on used stage part text course stage' round → CameSo old new t on used part text course round
-  came old new t on line.Nothing None part text course stage' round takes = inl (takes.0, takes.4)
-  came old new t on line.Begin None part text course stage' round takes = inl (takes.0, takes.4)
-  came old new t on line.Commit None part text course stage' round takes = inl (takes.0, takes.4)
-  came old new t on line.Abort None part text course stage' round takes = inl (takes.0, takes.4)
-  came old new t on (line.Refused said) None part text course stage' round takes = inl (takes.0, takes.4)
-  came old new t on line.Query None part text course stage' round takes = inr (inl (refl, takes.0, takes.1, takes.2, takes.4))
+  came old new t on line.Nothing None part text course stage' round takes = inl (takes.same, takes.came_so)
+  came old new t on line.Begin None part text course stage' round takes = inl (takes.same, takes.came_so)
+  came old new t on line.Commit None part text course stage' round takes = inl (takes.same, takes.came_so)
+  came old new t on line.Abort None part text course stage' round takes = inl (takes.same, takes.came_so)
+  came old new t on (line.Refused said) None part text course stage' round takes = inl (takes.same, takes.came_so)
+  came old new t on line.Query None part text course stage' round takes = inr (inl (refl, takes.ends, takes.handled, takes.goes, takes.came_so))
   came old new t on line.Change None part text course stage' round takes = inr (inr (takes.held, takes.verdict, takes.settles, takes.goes))
-  came old new t on line.Nothing (Some held) part text course stage' round takes = inl (takes.0, takes.4)
-  came old new t on line.Begin (Some held) part text course stage' round takes = inl (takes.0, takes.4)
-  came old new t on line.Query (Some held) part text course stage' round takes = inl (takes.0, takes.4)
-  came old new t on (line.Refused said) (Some held) part text course stage' round takes = inl (takes.0, takes.4)
-  came old new t on line.Change (Some held) part text course stage' round takes = inl (takes.2.0, takes.2.4)
-  came old new t on line.Abort (Some held) part text course stage' round takes = inl (takes.0, takes.4)
+  came old new t on line.Nothing (Some held) part text course stage' round takes = inl (takes.same, takes.came_so)
+  came old new t on line.Begin (Some held) part text course stage' round takes = inl (takes.same, takes.came_so)
+  came old new t on line.Query (Some held) part text course stage' round takes = inl (takes.same, takes.came_so)
+  came old new t on (line.Refused said) (Some held) part text course stage' round takes = inl (takes.same, takes.came_so)
+  came old new t on line.Change (Some held) part text course stage' round takes = inl (takes.said.same, takes.said.came_so)
+  came old new t on line.Abort (Some held) part text course stage' round takes = inl (takes.same, takes.came_so)
   came old new t on line.Commit (Some held) part text course stage' round takes = inr (inr (held, takes.verdict, takes.settles, takes.goes))
 
   came_takes : (old new : Store D members) (t : State) (on : Manner) (stage : Option Held) (part text : List ℕ) (course : Course) (stage' : Option Held) (round : Round)
       → Takes old new t on stage part text course stage' round → CameSo old new t on (use_of on.on_command part) part text course round
-  came_takes old new t on stage part text course stage' round (inr found) = came old new t on (use_of on.on_command part) stage part text course stage' round found
-  came_takes old new t on stage part text course stage' round (inl wanting) = by (came old new t on no_memory stage part text course stage' round wanting)
+  came_takes old new t on stage part text course stage' round (for_its_use found) = came old new t on (use_of on.on_command part) stage part text course stage' round found
+  came_takes old new t on stage part text course stage' round (without_memory wanting) = by (came old new t on no_memory stage part text course stage' round wanting)
     where
       by : CameSo old new t on no_memory part text course round → CameSo old new t on (use_of on.on_command part) part text course round
       by (inl none) = inl none

@@ -1,5 +1,5 @@
 -- A line of a session with batches in which commands are refused only reads.
-use Rattle.std.proofs.Common.{◌≡◌, inl, inr, ℕ, Bool, true, false, List, [], ◌∷◌, codes, length, nat_lt, if◌then◌else◌, Option, None, Some, sym, subst}
+use Rattle.std.proofs.Common.{◌≡◌, ℕ, Bool, true, false, List, [], ◌∷◌, codes, length, nat_lt, if◌then◌else◌, Option, None, Some, sym, subst}
 use Rattle.vm_types.specs.State.{State}
 use Rattle.vm_types.specs.declared.command.Command.{Command}
 use Rattle.vm_types.specs.declared.command.Command.TheVariants.{Commit, Rollback}
@@ -13,6 +13,7 @@ use Rattle.vm_cli.specs.session.Rounds.{Round}
 use Rattle.vm_cli.specs.lines.Spaces.{words_of}
 use Rattle.vm_cli.specs.session.Streams.{Held, Takes, TakesAs}
 use Rattle.vm_cli.specs.session.Streams.Held.{holds, lost}
+use Rattle.vm_cli.specs.session.Streams.Takes.{for_its_use, without_memory}
 use Rattle.vm_cli.specs.session.Session.{Passes}
 use Rattle.vm_cli.specs.declared.lines.line.TheConstants.{MAX_BYTES}
 use Rattle.vm_cli.specs.declared.session.Manner.{Manner}
@@ -71,30 +72,30 @@ module _ {D : Type 0} {members : _} (how : Manner) (refuses : how.on_command ≡
   as_passes : (old new : Store D members) (s : State) (used : LineUse) → IsOther used → (stage : Option Held) → IsReading stage → (part text : List ℕ) (course : Course) (stage' : Option Held) (round : Round)
       → TakesAs old new s how used stage part text course stage' round → Passes old new None × IsReading stage'
   as_passes old new s line.Change other stage reading part text course stage' round takes = absurd other
-  as_passes old new s line.Nothing other None reading part text course stage' round takes = left_so old new takes.0 None stage' takes.3 tt
-  as_passes old new s line.Begin other None reading part text course stage' round takes = left_so old new takes.0 (Some (holds [])) stage' takes.3 tt
-  as_passes old new s line.Commit other None reading part text course stage' round takes = left_so old new takes.0 None stage' takes.3 tt
-  as_passes old new s line.Abort other None reading part text course stage' round takes = left_so old new takes.0 None stage' takes.3 tt
-  as_passes old new s (line.Refused said) other None reading part text course stage' round takes = left_so old new takes.0 None stage' takes.3 tt
+  as_passes old new s line.Nothing other None reading part text course stage' round takes = left_so old new takes.same None stage' takes.held tt
+  as_passes old new s line.Begin other None reading part text course stage' round takes = left_so old new takes.same (Some (holds [])) stage' takes.held tt
+  as_passes old new s line.Commit other None reading part text course stage' round takes = left_so old new takes.same None stage' takes.held tt
+  as_passes old new s line.Abort other None reading part text course stage' round takes = left_so old new takes.same None stage' takes.held tt
+  as_passes old new s (line.Refused said) other None reading part text course stage' round takes = left_so old new takes.same None stage' takes.held tt
   as_passes old new s line.Query other None reading part text course stage' round takes =
-      (line_passes old new s how refuses part text takes.0 takes.1, subst IsReading (sym takes.3) tt)
+      (line_passes old new s how refuses part text takes.ends takes.handled, subst IsReading (sym takes.outside) tt)
   as_passes old new s used other (Some (holds (p ∷ parts))) reading part text course stage' round takes = absurd reading
-  as_passes old new s line.Nothing other (Some (holds [])) reading part text course stage' round takes = left_so old new takes.0 (Some (holds [])) stage' takes.3 tt
-  as_passes old new s line.Begin other (Some (holds [])) reading part text course stage' round takes = left_so old new takes.0 _ stage' takes.3 tt
-  as_passes old new s line.Query other (Some (holds [])) reading part text course stage' round takes = left_so old new takes.0 _ stage' takes.3 tt
-  as_passes old new s (line.Refused said) other (Some (holds [])) reading part text course stage' round takes = left_so old new takes.0 _ stage' takes.3 tt
-  as_passes old new s line.Abort other (Some (holds [])) reading part text course stage' round takes = left_so old new takes.0 None stage' takes.3 tt
+  as_passes old new s line.Nothing other (Some (holds [])) reading part text course stage' round takes = left_so old new takes.same (Some (holds [])) stage' takes.held tt
+  as_passes old new s line.Begin other (Some (holds [])) reading part text course stage' round takes = left_so old new takes.same _ stage' takes.held tt
+  as_passes old new s line.Query other (Some (holds [])) reading part text course stage' round takes = left_so old new takes.same _ stage' takes.held tt
+  as_passes old new s (line.Refused said) other (Some (holds [])) reading part text course stage' round takes = left_so old new takes.same _ stage' takes.held tt
+  as_passes old new s line.Abort other (Some (holds [])) reading part text course stage' round takes = left_so old new takes.same None stage' takes.held tt
   as_passes old new s line.Commit other (Some (holds [])) reading part text course stage' round takes = left_so old new takes.settles.0 None stage' takes.outside tt
-  as_passes old new s line.Nothing other (Some (lost place answer count)) reading part text course stage' round takes = left_so old new takes.0 _ stage' takes.3 tt
-  as_passes old new s line.Begin other (Some (lost place answer count)) reading part text course stage' round takes = left_so old new takes.0 _ stage' takes.3 tt
-  as_passes old new s line.Query other (Some (lost place answer count)) reading part text course stage' round takes = left_so old new takes.0 _ stage' takes.3 tt
-  as_passes old new s (line.Refused said) other (Some (lost place answer count)) reading part text course stage' round takes = left_so old new takes.0 _ stage' takes.3 tt
-  as_passes old new s line.Abort other (Some (lost place answer count)) reading part text course stage' round takes = left_so old new takes.0 None stage' takes.3 tt
+  as_passes old new s line.Nothing other (Some (lost place answer count)) reading part text course stage' round takes = left_so old new takes.same _ stage' takes.held tt
+  as_passes old new s line.Begin other (Some (lost place answer count)) reading part text course stage' round takes = left_so old new takes.same _ stage' takes.held tt
+  as_passes old new s line.Query other (Some (lost place answer count)) reading part text course stage' round takes = left_so old new takes.same _ stage' takes.held tt
+  as_passes old new s (line.Refused said) other (Some (lost place answer count)) reading part text course stage' round takes = left_so old new takes.same _ stage' takes.held tt
+  as_passes old new s line.Abort other (Some (lost place answer count)) reading part text course stage' round takes = left_so old new takes.same None stage' takes.held tt
   as_passes old new s line.Commit other (Some (lost place answer count)) reading part text course stage' round takes = left_so old new takes.settles.0 None stage' takes.outside tt
 
   -- a line
   pub takes_passes : (old new : Store D members) (s : State) (stage : Option Held) → IsReading stage → (part text : List ℕ) (course : Course) (stage' : Option Held) (round : Round)
       → Takes old new s how stage part text course stage' round → Passes old new None × IsReading stage'
-  takes_passes old new s stage reading part text course stage' round (inl wanting) = as_passes old new s no_memory tt stage reading part text course stage' round wanting
-  takes_passes old new s stage reading part text course stage' round (inr found) =
+  takes_passes old new s stage reading part text course stage' round (without_memory wanting) = as_passes old new s no_memory tt stage reading part text course stage' round wanting
+  takes_passes old new s stage reading part text course stage' round (for_its_use found) =
       as_passes old new s (use_of how.on_command part) (subst (λ on. IsOther (use_of on part)) (sym refuses) (use_other part)) stage reading part text course stage' round found

@@ -1,12 +1,14 @@
 -- Batches that wait, and are carried out together.
-use Rattle.std.proofs.Common.{◌≡◌, ◌≢◌, inl, inr, ◌<◌, ◌≤◌, ◌+◌, ◌-◌, ◌||◌, ◌++◌, ◌∙◌, ℕ, zero, suc, Bool, true, false, List, [], ◌∷◌, Option, Result, Ok, Err, ap, sym, refl, subst, arith, add-one, append-nil, append_assoc, get_or, length, set, take, drop, take-append-drop}
+use Rattle.std.proofs.Common.{◌≡◌, ◌≢◌, ◌<◌, ◌≤◌, ◌+◌, ◌-◌, ◌||◌, ◌++◌, ◌∙◌, ℕ, zero, suc, Bool, true, false, List, [], ◌∷◌, Option, Result, Ok, Err, ap, sym, refl, subst, arith, add-one, append-nil, append_assoc, get_or, length, set, take, drop, take-append-drop}
 use Rattle.std.proofs.lemmas.List.{drop-drop, drop-set, drop-set-add, drop-take, drop_more, length-drop, length-take, map-append, take-set, take-take}
 use Rattle.std.specs.Io.KnownBytes.{Appends}
 use Rattle.std.specs.Prelude.{slice_range}
 use Rattle.vm_types.specs.State.{State, after}
 use Rattle.vm_store.specs.declared.store.Store.{Store}
 use Rattle.vm_cli.specs.answers.Carried.{WritesStart}
-use Rattle.vm_cli.specs.session.SessionKinds.{Course, Tells}
+use Rattle.vm_cli.specs.session.Known.{between}
+use Rattle.vm_cli.specs.session.SessionKinds.{AnswersThen, Course, Tells}
+use Rattle.vm_cli.specs.session.SessionKinds.AnswersThen.{answer_cut, answered_so}
 use Rattle.vm_cli.specs.session.SessionKinds.Course.{over, proceeds, unwritten}
 use Rattle.vm_cli.specs.session.Feeds.{FeedsOn}
 use Rattle.vm_cli.specs.session.PlannerCalls.{AreWaiting, IsWaiting}
@@ -17,7 +19,11 @@ use Rattle.vm_cli.specs.session.Streams.{CommitsOrNot, Undoes, Verdict, carried_
 use Rattle.vm_cli.specs.session.Streams.Verdict.{fails, succeeds}
 use Rattle.vm_cli.specs.session.Session.{EndsBy, HasAnswered}
 use Rattle.vm_cli.specs.session.Waiting.{CarriesAll, EndsInRound, RefusesOne, SettlesWaiting, TakesRound, Waiting, both, committed_texts, then_course, unsure_texts, waiting_text}
-use Rattle.vm_cli.specs.session.WaitingCalls.{KeepsWaiting, StayWaiting, StopsAt, TriesRange, WritesThen, first_left, is_refused, kept_answers, own_text, placed_behind, round_result, shared_texts, shared_verdict, sure_result}
+use Rattle.vm_cli.specs.session.Waiting.EndsInRound.{commit_unsure, store_failed}
+use Rattle.vm_cli.specs.session.Waiting.HasNoRound.{none_left, writer_failed}
+use Rattle.vm_cli.specs.session.Waiting.SettlesSome.{further_rounds, last_round}
+use Rattle.vm_cli.specs.session.Waiting.TakesRound.{alone_refused, group_committed, group_undone}
+use Rattle.vm_cli.specs.session.WaitingCalls.{KeepsWaiting, StayWaiting, StopsAt, TriesRange, first_left, is_refused, kept_answers, own_text, placed_behind, round_result, shared_texts, shared_verdict, sure_result}
 use Rattle.vm_cli.specs.declared.answers.reply.Reply.TheVariants as reply
 use Rattle.vm_cli.specs.declared.session.Manner.{Manner}
 use Rattle.vm_cli.specs.declared.session.OnRefusal.TheVariants.{Stop}
@@ -159,19 +165,39 @@ module _ {D : Type 0} {members : _} where
   -- one more was carried out
   pub carries_more : (old mid new : Store D members) (s : State) (how : Manner) (before : List Waiting) (it : Waiting) (answers : List (List ℕ)) (text : List ℕ) (earlier : Commanded) → CarriesAll old mid s how before answers earlier
       → HasAnswered mid new (after s earlier.commands earlier.answers) (trying how) it.lines text → (batch : Commanded) × CarriesAll old new s how (before ++ it ∷ []) (answers ++ text ∷ []) batch
-  carries_more old mid new s how [] it answers text earlier (same, none, nothing) answered =
+  carries_more old mid new s how [] it answers text earlier none answered =
       let here : HasAnswered old new s (trying how) it.lines text =
-      subst (λ (m : Store D members). HasAnswered m new s (trying how) it.lines text) same (subst (λ (b : Commanded). HasAnswered mid new (after s b.commands b.answers) (trying how) it.lines text) nothing answered) in (
+      subst (λ (m : Store D members). HasAnswered m new s (trying how) it.lines text) none.same (subst (λ (b : Commanded). HasAnswered mid new (after s b.commands b.answers) (trying how) it.lines text) none.nothing answered) in (
         both (record { commands = here.commands; answers = here.answers }) (record { commands = []; answers = [] }),
-        (new, text, [], record { commands = []; answers = [] }, here, ap (λ xs. xs ++ text ∷ []) none, refl, (refl, refl, refl)),
+        record {
+          mid = new;
+          first = text;
+          others = [];
+          later = record { commands = []; answers = [] };
+          carried = here;
+          texts = ap (λ xs. xs ++ text ∷ []) none.silent;
+          came = refl;
+          more = record { same = refl; silent = refl; nothing = refl };
+        },
       )
-  carries_more old mid new s how (first ∷ before) it answers text earlier (between, said, others, later, carried, those, all, rest) answered =
+  carries_more old mid new s how (first ∷ before) it answers text earlier those answered =
+      let carried = those.carried in
+      let later = those.later in
       let state : after s earlier.commands earlier.answers ≡ after (after s carried.commands carried.answers) later.commands later.answers =
-      ap (λ (b : Commanded). after s b.commands b.answers) all
-      ∙ after-join (trying how) old between s first.lines said carried.commands later.commands carried.answers later.answers carried.refused carried.each in
-      let more = carries_more between mid new (after s carried.commands carried.answers) how before it others text later rest (subst (λ t. HasAnswered mid new t (trying how) it.lines text) state answered) in (
+      ap (λ (b : Commanded). after s b.commands b.answers) those.came
+      ∙ after-join (trying how) old those.mid s first.lines those.first carried.commands later.commands carried.answers later.answers carried.refused carried.each in
+      let more = carries_more those.mid mid new (after s carried.commands carried.answers) how before it those.others text later those.more (subst (λ t. HasAnswered mid new t (trying how) it.lines text) state answered) in (
         both (record { commands = carried.commands; answers = carried.answers }) more.0,
-        (between, said, others ++ text ∷ [], more.0, carried, ap (λ xs. xs ++ text ∷ []) those, refl, more.1),
+        record {
+          mid = those.mid;
+          first = those.first;
+          others = those.others ++ text ∷ [];
+          later = more.0;
+          carried = carried;
+          texts = ap (λ xs. xs ++ text ∷ []) those.texts;
+          came = refl;
+          more = more.1;
+        },
       )
 
 -- the answers that are kept, with those to one more
@@ -270,27 +296,38 @@ shared_tried (Ok u) = Ok Committed
 shared_tried (Err why) = Err why
 
 module _ {D T : Type 0} {members : _} (old mid new : Store D members) (acknowledged : Result T LastLine) (place : ℕ) (commits : CommitsOrNot mid new place acknowledged) (text : List ℕ) (result : Result T ServeFault) (a b : Option (List ℕ))
-    (said : WritesThen text (sure_result acknowledged) result a b) where
+    (said : AnswersThen text (sure_result acknowledged) result (between a b)) where
   pub shared_feeds : FeedsOn (Ok false) old mid → FeedsOn (round_result (shared_tried result)) old new
   shared_feeds first = by acknowledged commits said
     where
-      by : (found : Result T LastLine) → CommitsOrNot mid new place found → WritesThen text (sure_result found) result a b → FeedsOn (round_result (shared_tried result)) old new
-      by (Ok u) came (inl (is, written)) = subst (λ r. FeedsOn (round_result (shared_tried r)) old new) (sym is) (commit_feeds old mid new {T = T} (Ok u) place [] came first)
-      by (Ok u) came (inr (is, begun)) =
+      by : (found : Result T LastLine) → CommitsOrNot mid new place found → AnswersThen text (sure_result found) result (between a b) → FeedsOn (round_result (shared_tried result)) old new
+      by (Ok u) came (answered_so is written) = subst (λ r. FeedsOn (round_result (shared_tried r)) old new) (sym is) (commit_feeds old mid new {T = T} (Ok u) place [] came first)
+      by (Ok u) came (answer_cut is begun) =
           subst (λ r. FeedsOn (round_result (shared_tried r)) old new) (sym is) (feeds_over old new (Ok false) (commit_feeds old mid new {T = T} (Ok u) place [] came first) fault.Write tt)
-      by (Err stop) came (inl (is, written)) =
+      by (Err stop) came (answered_so is written) =
           subst (λ r. FeedsOn (round_result (shared_tried r)) old new) (sym is) (feeds_over old new _ (commit_feeds old mid new {T = T} (Err stop) place [] came first) fault.Unsure tt)
-      by (Err stop) came (inr (is, begun)) =
+      by (Err stop) came (answer_cut is begun) =
           subst (λ r. FeedsOn (round_result (shared_tried r)) old new) (sym is) (feeds_over old new _ (commit_feeds old mid new {T = T} (Err stop) place [] came first) fault.Write tt)
 
 module _ {D : Type 0} {members : _} (old new : Store D members) (s : State) (how : Manner) (waiting : List Waiting) (text : List ℕ) (round : Round) where
   -- a round was the last, as the writer failed behind it
   pub settles_cut : (rest : List Waiting) (refused : Bool) → TakesRound old new s how waiting rest text refused round → SettlesWaiting old new s how waiting text unwritten (round ∷ [])
-  settles_cut rest refused takes = inr (new, rest, text, [], refused, unwritten, takes, sym (append-nil text), refl, (refl, refl, inr refl))
+  settles_cut rest refused takes = further_rounds (record {
+    mid = new;
+    rest = rest;
+    said = text;
+    more = [];
+    refused = refused;
+    next = unwritten;
+    takes = takes;
+    texts = sym (append-nil text);
+    goes = refl;
+    others = record { same = refl; silent = refl; since = writer_failed refl };
+  })
 
   -- or the session ended in it
   pub settles_over : EndsInRound old new s how waiting text round → SettlesWaiting old new s how waiting text over (round ∷ [])
-  settles_over ends = inl (ends, refl, refl)
+  settles_over ends = last_round (record { ends = ends; last = refl; goes = refl })
 
 module _ {D : Type 0} {members : _} (old mid new : Store D members) (s : State) (how : Manner) (from to : ℕ) (few : from < to) (queue : List WaitingBatch) (within : to ≤ length queue) (waiting : List Waiting) (are : AreWaiting queue waiting) (batch : Commanded)
     (carried : CarriesAll old mid s how (slice_range waiting from to) (kept_answers (slice_range queue from to)) batch) (a b : Option (List ℕ)) where
@@ -298,11 +335,11 @@ module _ {D : Type 0} {members : _} (old mid new : Store D members) (s : State) 
   some_there = range_some waiting from to few (omega (arith, within, are_count queue waiting are))
 
   pub shared_round : {T : Type 0} (acknowledged : Result T LastLine) (place : ℕ) → CommitsOrNot mid new place acknowledged → (result : Result T ServeFault)
-      → WritesThen (shared_texts acknowledged (slice_range queue from to)) (sure_result acknowledged) result a b → TriesRange old new s how from to waiting (shared_tried result) a b
+      → AnswersThen (shared_texts acknowledged (slice_range queue from to)) (sure_result acknowledged) result (between a b) → TriesRange old new s how from to waiting (shared_tried result) (between a b)
   shared_round {T} (Ok u) place (answer, applies) result said = by said
     where
       takes : TakesRound old new s how (drop from waiting) (drop to waiting) (shared_texts {T = T} (Ok u) (slice_range queue from to)) false (committed batch answer)
-      takes = inl (record {
+      takes = group_committed (record {
         group = slice_range waiting from to;
         some = some_there;
         cut = range_split waiting from to (omega (arith, few));
@@ -319,15 +356,15 @@ module _ {D : Type 0} {members : _} (old mid new : Store D members) (s : State) 
         refuses = refl;
       })
 
-      by : WritesThen (shared_texts {T = T} (Ok u) (slice_range queue from to)) (Ok u) result a b → TriesRange old new s how from to waiting (shared_tried result) a b
-      by (inl (is, written)) = subst (λ r. TriesRange old new s how from to waiting (shared_tried {T = T} r) a b) (sym is) (shared_texts {T = T} (Ok u) (slice_range queue from to), committed batch answer, takes, written)
-      by (inr (is, begun)) =
-          subst (λ r. TriesRange old new s how from to waiting (shared_tried {T = T} r) a b) (sym is)
-          (shared_texts {T = T} (Ok u) (slice_range queue from to), unwritten, (committed batch answer ∷ [], settles_cut old new s how (drop from waiting) _ _ (drop to waiting) false takes), begun)
+      by : AnswersThen (shared_texts {T = T} (Ok u) (slice_range queue from to)) (Ok u) result (between a b) → TriesRange old new s how from to waiting (shared_tried result) (between a b)
+      by (answered_so is written) = subst (λ r. TriesRange old new s how from to waiting (shared_tried {T = T} r) (between a b)) (sym is) (record { text = shared_texts {T = T} (Ok u) (slice_range queue from to); round = committed batch answer; takes = takes; written = written })
+      by (answer_cut is begun) =
+          subst (λ r. TriesRange old new s how from to waiting (shared_tried {T = T} r) (between a b)) (sym is)
+          (record { text = shared_texts {T = T} (Ok u) (slice_range queue from to); course = unwritten; says = (committed batch answer ∷ [], settles_cut old new s how (drop from waiting) _ _ (drop to waiting) false takes); begun = begun })
   shared_round {T} (Err stop) place (refusal, applies, at, why_is, then_is) result said = by said
     where
       ends : EndsInRound old new s how (drop from waiting) (shared_texts {T = T} (Err stop) (slice_range queue from to)) (unsure batch refusal)
-      ends = inl (record {
+      ends = commit_unsure (record {
         group = slice_range waiting from to;
         rest = drop to waiting;
         some = some_there;
@@ -344,13 +381,13 @@ module _ {D : Type 0} {members : _} (old mid new : Store D members) (s : State) 
         };
       })
 
-      by : WritesThen (shared_texts {T = T} (Err stop) (slice_range queue from to)) (Err fault.Unsure) result a b → TriesRange old new s how from to waiting (shared_tried result) a b
-      by (inl (is, written)) =
-          subst (λ r. TriesRange old new s how from to waiting (shared_tried {T = T} r) a b) (sym is)
-          (shared_texts {T = T} (Err stop) (slice_range queue from to), (unsure batch refusal ∷ [], settles_over old new s how (drop from waiting) _ _ ends), written)
-      by (inr (is, begun)) =
-          subst (λ r. TriesRange old new s how from to waiting (shared_tried {T = T} r) a b) (sym is)
-          (shared_texts {T = T} (Err stop) (slice_range queue from to), over, (unsure batch refusal ∷ [], settles_over old new s how (drop from waiting) _ _ ends), begun)
+      by : AnswersThen (shared_texts {T = T} (Err stop) (slice_range queue from to)) (Err fault.Unsure) result (between a b) → TriesRange old new s how from to waiting (shared_tried result) (between a b)
+      by (answered_so is written) =
+          subst (λ r. TriesRange old new s how from to waiting (shared_tried {T = T} r) (between a b)) (sym is)
+          (record { text = shared_texts {T = T} (Err stop) (slice_range queue from to); says = (unsure batch refusal ∷ [], settles_over old new s how (drop from waiting) _ _ ends); written = written })
+      by (answer_cut is begun) =
+          subst (λ r. TriesRange old new s how from to waiting (shared_tried {T = T} r) (between a b)) (sym is)
+          (record { text = shared_texts {T = T} (Err stop) (slice_range queue from to); course = over; says = (unsure batch refusal ∷ [], settles_over old new s how (drop from waiting) _ _ ends); begun = begun })
 
 -- a line of one was refused, and all was undone or the store had failed
 module _ {D : Type 0} {members : _} (old last new : Store D members) (s : State) (how : Manner) (from at : ℕ) (order : from ≤ at) (queue : List WaitingBatch) (waiting : List Waiting) (are : AreWaiting queue waiting) (stop : LastLine)
@@ -386,12 +423,13 @@ module _ {D : Type 0} {members : _} (old last new : Store D members) (s : State)
   cut_there = range_split waiting from at order ∙ ap (λ ws. slice_range waiting from at ++ ws) stopped.first
 
   -- those before it are tried again
-  pub again_there : from < at → (to : ℕ) (a : Option (List ℕ)) → ((batch : Commanded) → (round : Round) × Undoes last new batch GoOn round) → TriesRange old new s how from to waiting (Ok (Undone at)) a a
+  pub again_there : from < at → (to : ℕ) (a : Option (List ℕ)) → ((batch : Commanded) → (round : Round) × Undoes last new batch GoOn round) → TriesRange old new s how from to waiting (Ok (Undone at)) (between a a)
   again_there few to a undoes =
-      let undone = undoes carried_there in (
-        [],
-        undone.0,
-        inr (inr (record {
+      let undone = undoes carried_there in
+      record {
+        text = [];
+        round = undone.0;
+        takes = group_undone (record {
           before = slice_range waiting from at;
           it = stopped.it;
           behind = stopped.behind;
@@ -402,9 +440,9 @@ module _ {D : Type 0} {members : _} (old last new : Store D members) (s : State)
           stays = refl;
           says = refl;
           refuses = refl;
-        })),
-        Appends-nil a,
-      )
+        });
+        written = Appends-nil a;
+      }
 
   -- it is the first of them
   first_there : at ≤ from → (round : Round) → Undoes last new carried_there GoOn round → TakesRound old new s how (drop from waiting) (drop (from + 1) waiting) (stopped_text GoOn) true round
@@ -413,31 +451,31 @@ module _ {D : Type 0} {members : _} (old last new : Store D members) (s : State)
       let none : slice_range waiting from at ≡ [] = ap (slice_range waiting from) same ∙ range_none waiting from in
       let first : drop from waiting ≡ stopped.it ∷ stopped.behind = ap (λ n. drop n waiting) (sym same) ∙ stopped.first in
       let rest : stopped.behind ≡ drop (from + 1) waiting = next_there first in
-      inr (inl (record {
+      alone_refused (record {
         it = stopped.it;
         cut = first ∙ ap (λ ws. stopped.it ∷ ws) rest;
         stops = subst (λ ws. RefusesOne old new s how ws stopped.it (stopped_text GoOn) GoOn round) none (refuses_there GoOn round undoes);
         refuses = refl;
-      }))
+      })
     where
       next_there : drop from waiting ≡ stopped.it ∷ stopped.behind → stopped.behind ≡ drop (from + 1) waiting
       next_there first = ap (drop 1) (sym first) ∙ drop-drop 1 from waiting
 
   pub first_refused : (to : ℕ) → at ≤ from → ((batch : Commanded) → (round : Round) × Undoes last new batch GoOn round) → (a b : Option (List ℕ)) → Appends a b (stopped_text GoOn)
-      → TriesRange old new s how from to waiting (Ok Refused) a b
-  first_refused to less undoes a b written = let undone = undoes carried_there in (stopped_text GoOn, undone.0, first_there less undone.0 undone.1, written)
+      → TriesRange old new s how from to waiting (Ok Refused) (between a b)
+  first_refused to less undoes a b written = let undone = undoes carried_there in record { text = stopped_text GoOn; round = undone.0; takes = first_there less undone.0 undone.1; written = written }
 
   pub first_unwritten : (to : ℕ) → at ≤ from → ((batch : Commanded) → (round : Round) × Undoes last new batch GoOn round) → (a b : Option (List ℕ)) → WritesStart a b (stopped_text GoOn)
-      → TriesRange old new s how from to waiting (Err fault.Write) a b
+      → TriesRange old new s how from to waiting (Err fault.Write) (between a b)
   first_unwritten to less undoes a b begun =
       let undone = undoes carried_there in
-      (stopped_text GoOn, unwritten, (undone.0 ∷ [], settles_cut old new s how (drop from waiting) _ _ (drop (from + 1) waiting) true (first_there less undone.0 undone.1)), begun)
+      record { text = stopped_text GoOn; course = unwritten; says = (undone.0 ∷ [], settles_cut old new s how (drop from waiting) _ _ (drop (from + 1) waiting) true (first_there less undone.0 undone.1)); begun = begun }
 
   -- the store had failed
   failed_there : (then : Then) → (then ≡ GoOn → ⊥) → (round : Round) → Undoes last new carried_there then round → EndsInRound old new s how (drop from waiting) (stopped_text then) round
   failed_there GoOn other round undoes = absurd (other refl)
   failed_there AsUnsure other round undoes = absurd undoes
-  failed_there AsFailed other round undoes = inr (record {
+  failed_there AsFailed other round undoes = store_failed (record {
     before = slice_range waiting from at;
     it = stopped.it;
     behind = stopped.behind;
@@ -446,16 +484,16 @@ module _ {D : Type 0} {members : _} (old last new : Store D members) (s : State)
   })
 
   pub failed_told : (to : ℕ) (then : Then) → (then ≡ GoOn → ⊥) → ((batch : Commanded) → (round : Round) × Undoes last new batch then round) → (a b : Option (List ℕ)) → Appends a b (stopped_text then)
-      → TriesRange old new s how from to waiting (Err fault.Store) a b
+      → TriesRange old new s how from to waiting (Err fault.Store) (between a b)
   failed_told to then other undoes a b written =
       let undone = undoes carried_there in
-      (stopped_text then, (undone.0 ∷ [], settles_over old new s how (drop from waiting) _ _ (failed_there then other undone.0 undone.1)), written)
+      record { text = stopped_text then; says = (undone.0 ∷ [], settles_over old new s how (drop from waiting) _ _ (failed_there then other undone.0 undone.1)); written = written }
 
   pub failed_unwritten : (to : ℕ) (then : Then) → (then ≡ GoOn → ⊥) → ((batch : Commanded) → (round : Round) × Undoes last new batch then round) → (a b : Option (List ℕ)) → WritesStart a b (stopped_text then)
-      → TriesRange old new s how from to waiting (Err fault.Write) a b
+      → TriesRange old new s how from to waiting (Err fault.Write) (between a b)
   failed_unwritten to then other undoes a b begun =
       let undone = undoes carried_there in
-      (stopped_text then, over, (undone.0 ∷ [], settles_over old new s how (drop from waiting) _ _ (failed_there then other undone.0 undone.1)), begun)
+      record { text = stopped_text then; course = over; says = (undone.0 ∷ [], settles_over old new s how (drop from waiting) _ _ (failed_there then other undone.0 undone.1)); begun = begun }
 
 -- what is told of the store then
 module _ {D : Type 0} {members : _} (old last new : Store D members) (first : FeedsOn (Err fault.Refused) old last) where
@@ -525,7 +563,18 @@ module _ {D : Type 0} {members : _} (old : Store D members) (s : State) (how : M
       on = λ new more course later settles.
           let state : after_rounds s (so_far.rounds ++ round ∷ []) ≡ after_round (after_rounds s so_far.rounds) round = rounds_append s so_far.rounds (round ∷ []) in
           let here : SettlesWaiting now new (after_rounds s so_far.rounds) how rest (said ++ more) (then_course one course) (round ∷ later) =
-          inr (mid, left, said, more, one, course, takes, refl, refl, subst (λ t. SettlesWaiting mid new t how left more course later) state settles) in
+          further_rounds (record {
+            mid = mid;
+            rest = left;
+            said = said;
+            more = more;
+            refused = one;
+            next = course;
+            takes = takes;
+            texts = refl;
+            goes = refl;
+            others = subst (λ t. SettlesWaiting mid new t how left more course later) state settles;
+          }) in
           let all = so_far.on new (said ++ more) (then_course one course) (round ∷ later) here in
           subst (λ t. SettlesWaiting old new s how waiting t (then_course again course) ((so_far.rounds ++ round ∷ []) ++ later)) (sym (append_assoc so_far.text said more))
           (subst (λ k. SettlesWaiting old new s how waiting (so_far.text ++ (said ++ more)) k ((so_far.rounds ++ round ∷ []) ++ later)) (again_then refused one course ∙ ap (λ r. then_course r course) (sym is))
@@ -534,11 +583,11 @@ module _ {D : Type 0} {members : _} (old : Store D members) (s : State) (how : M
 
   -- some were tried together
   pub settles_tried : (now mid : Store D members) (from to : ℕ) (own : Manner) → own ≡ how → (found tried : Tried) → found ≡ tried → (refused again : Bool) → again ≡ (refused || is_refused tried) → (a b c : Option (List ℕ))
-      → (so_far : SettlesSoFar now (drop from waiting) refused a b) → TriesRange now mid (after_rounds s so_far.rounds) own from to waiting (Ok found) b c → SettlesSoFar mid (drop (first_left from to tried) waiting) again a c
+      → (so_far : SettlesSoFar now (drop from waiting) refused a b) → TriesRange now mid (after_rounds s so_far.rounds) own from to waiting (Ok found) (between b c) → SettlesSoFar mid (drop (first_left from to tried) waiting) again a c
   settles_tried now mid from to own same found tried is refused again told a b c so_far tries =
-      let here : TriesRange now mid (after_rounds s so_far.rounds) how from to waiting (Ok tried) b c =
-      subst (λ m. TriesRange now mid (after_rounds s so_far.rounds) m from to waiting (Ok tried) b c) same (subst (λ t. TriesRange now mid (after_rounds s so_far.rounds) own from to waiting (Ok t) b c) is tries) in
-      settles_more now mid (drop from waiting) (drop (first_left from to tried) waiting) refused (is_refused tried) again told a b c so_far here.0 here.1 here.2 here.3
+      let here : TriesRange now mid (after_rounds s so_far.rounds) how from to waiting (Ok tried) (between b c) =
+      subst (λ m. TriesRange now mid (after_rounds s so_far.rounds) m from to waiting (Ok tried) (between b c)) same (subst (λ t. TriesRange now mid (after_rounds s so_far.rounds) own from to waiting (Ok t) (between b c)) is tries) in
+      settles_more now mid (drop from waiting) (drop (first_left from to tried) waiting) refused (is_refused tried) again told a b c so_far here.text here.round here.takes here.written
 
   -- what is told of a session that answers so
   abbrev pub IsSettled : Store D members → List ℕ → Course → Type 0
@@ -546,41 +595,48 @@ module _ {D : Type 0} {members : _} (old : Store D members) (s : State) (how : M
 
   module _ (now : Store D members) (rest : List Waiting) (refused : Bool) (a b : Option (List ℕ)) (so_far : SettlesSoFar now rest refused a b) where
     -- none is left
-    pub settles_all : rest ≡ [] → (how.on_refusal ≡ Stop → ⊥) → Tells how (IsSettled now) (Ok refused) a b
+    pub settles_all : rest ≡ [] → (how.on_refusal ≡ Stop → ⊥) → Tells how (IsSettled now) (Ok refused) (between a b)
     settles_all none telling =
-        let last : SettlesWaiting now now (after_rounds s so_far.rounds) how rest [] (proceeds false) [] = (refl, refl, inl (none, refl)) in
-        let all = so_far.on now [] (proceeds false) [] last in (
-          so_far.text,
-          (
+        let last : SettlesWaiting now now (after_rounds s so_far.rounds) how rest [] (proceeds false) [] = record { same = refl; silent = refl; since = none_left none refl } in
+        let all = so_far.on now [] (proceeds false) [] last in
+        record {
+          text = so_far.text;
+          says = (
             so_far.rounds,
             subst (λ rs. SettlesWaiting old now s how waiting so_far.text (proceeds refused) rs) (append-nil so_far.rounds)
                 (subst (λ k. SettlesWaiting old now s how waiting so_far.text k (so_far.rounds ++ [])) (again_none refused)
                 (subst (λ t. SettlesWaiting old now s how waiting t (then_course refused (proceeds false)) (so_far.rounds ++ [])) (append-nil so_far.text) all)),
-          ),
-          (λ stop. absurd (telling stop)),
-          so_far.written,
-        )
+          );
+          goes_on = λ stop. absurd (telling stop);
+          written = so_far.written;
+        }
 
     -- the session ends
-    pub settles_last : (new : Store D members) (why : ServeFault) (c : Option (List ℕ)) → Tells how (λ text course. (rounds : List Round) × SettlesWaiting now new (after_rounds s so_far.rounds) how rest text course rounds) (Err why) b c
-        → Tells how (IsSettled new) (Err why) a c
+    pub settles_last : (new : Store D members) (why : ServeFault) (c : Option (List ℕ)) → Tells how (λ text course. (rounds : List Round) × SettlesWaiting now new (after_rounds s so_far.rounds) how rest text course rounds) (Err why) (between b c)
+        → Tells how (IsSettled new) (Err why) (between a c)
     settles_last new fault.Read c tells = tells
-    settles_last new fault.Store c (text, settles, written) =
-        (so_far.text ++ text, (so_far.rounds ++ settles.0, so_far.on new text over settles.0 settles.1), Appends-then a b c so_far.text text so_far.written written)
-    settles_last new fault.Unsure c (text, settles, written) =
-        (so_far.text ++ text, (so_far.rounds ++ settles.0, so_far.on new text over settles.0 settles.1), Appends-then a b c so_far.text text so_far.written written)
-    settles_last new fault.Refused c (text, settles, stop, written) = (
-      so_far.text ++ text,
-      (
-        so_far.rounds ++ settles.0,
-        subst (λ k. SettlesWaiting old new s how waiting (so_far.text ++ text) k (so_far.rounds ++ settles.0)) (again_refused refused) (so_far.on new text (proceeds true) settles.0 settles.1),
-      ),
-      stop,
-      Appends-then a b c so_far.text text so_far.written written,
-    )
-    settles_last new fault.Write c (text, course, settles, begun) = (
-      so_far.text ++ text,
-      then_course refused course,
-      (so_far.rounds ++ settles.0, so_far.on new text course settles.0 settles.1),
-      begins-then a b c text (so_far.text ++ text) (record { sent = so_far.text; split = refl; written = so_far.written }) begun,
-    )
+    settles_last new fault.Store c it = record {
+      text = so_far.text ++ it.text;
+      says = (so_far.rounds ++ it.says.0, so_far.on new it.text over it.says.0 it.says.1);
+      written = Appends-then a b c so_far.text it.text so_far.written it.written;
+    }
+    settles_last new fault.Unsure c it = record {
+      text = so_far.text ++ it.text;
+      says = (so_far.rounds ++ it.says.0, so_far.on new it.text over it.says.0 it.says.1);
+      written = Appends-then a b c so_far.text it.text so_far.written it.written;
+    }
+    settles_last new fault.Refused c it = record {
+      text = so_far.text ++ it.text;
+      says = (
+        so_far.rounds ++ it.says.0,
+        subst (λ k. SettlesWaiting old new s how waiting (so_far.text ++ it.text) k (so_far.rounds ++ it.says.0)) (again_refused refused) (so_far.on new it.text (proceeds true) it.says.0 it.says.1),
+      );
+      stop = it.stop;
+      written = Appends-then a b c so_far.text it.text so_far.written it.written;
+    }
+    settles_last new fault.Write c it = record {
+      text = so_far.text ++ it.text;
+      course = then_course refused it.course;
+      says = (so_far.rounds ++ it.says.0, so_far.on new it.text it.course it.says.0 it.says.1);
+      begun = begins-then a b c it.text (so_far.text ++ it.text) (record { sent = so_far.text; split = refl; written = so_far.written }) it.begun;
+    }

@@ -1,5 +1,5 @@
 -- Batches that wait and are carried out together: each round carries out their lines as those of one batch.
-use Rattle.std.proofs.Common.{◌≡◌, inl, inr, ℕ, Bool, true, false, List, [], ◌∷◌, ◌++◌, Result, length, refl, sym, ap, ◌∙◌, subst, append_assoc, append-nil}
+use Rattle.std.proofs.Common.{◌≡◌, ℕ, Bool, true, false, List, [], ◌∷◌, ◌++◌, Result, length, refl, sym, ap, ◌∙◌, subst, append_assoc, append-nil}
 use Rattle.vm_types.specs.declared.answer.Answer.{Answer}
 use Rattle.vm_types.specs.declared.command.Command.{Command}
 use Rattle.vm_types.specs.declared.refusal.Refusal.{Refusal}
@@ -17,6 +17,9 @@ use Rattle.vm_cli.specs.session.Streams.{Settles, StopsIn, Undoes, Verdict, batc
 use Rattle.vm_cli.specs.session.Streams.Verdict.{fails, succeeds}
 use Rattle.vm_cli.specs.session.Session.{Answered, HandlesLine, HasAnswered, Stood, after_line, with_answer, with_command}
 use Rattle.vm_cli.specs.session.Waiting.{CarriesAll, CommitsAll, EndsInRound, LeavesAllUnsure, RefusesOne, SettlesWaiting, TakesRound, Waiting, both, then_course}
+use Rattle.vm_cli.specs.session.Waiting.EndsInRound.{commit_unsure, store_failed}
+use Rattle.vm_cli.specs.session.Waiting.SettlesSome.{further_rounds, last_round}
+use Rattle.vm_cli.specs.session.Waiting.TakesRound.{alone_refused, group_committed, group_undone}
 use Rattle.vm_cli.specs.declared.answers.reply.Reply.TheVariants as reply
 use Rattle.vm_cli.specs.declared.session.Manner.{Manner}
 use Rattle.vm_cli.specs.declared.session.OnCommand.{OnCommand}
@@ -84,16 +87,19 @@ module _ {D : Type 0} {members : _} where
     pub is : batch ≡ done_by answered.commands answered.answers
 
   carries_feeds : (group : List Waiting) (old new : Store D members) (s : State) (how : Manner) (answers : List (List ℕ)) (batch : Commanded) → CarriesAll old new s how group answers batch → AnswersSo old new s how (all_lines group) batch
-  carries_feeds [] old new s how answers batch (same, none, no_batch) =
-      subst (λ (x : Store D members). AnswersSo old x s how [] batch) (sym same) (record { text = []; answered = answered-none old s (trying how); is = no_batch })
-  carries_feeds (it ∷ group) old new s how answers batch (mid, first, others, later, carried, answers_are, batch_is, rest) =
-      let more = carries_feeds group mid new (after s carried.commands carried.answers) how others later rest in
+  carries_feeds [] old new s how answers batch none =
+      subst (λ (x : Store D members). AnswersSo old x s how [] batch) (sym none.same) (record { text = []; answered = answered-none old s (trying how); is = none.nothing })
+  carries_feeds (it ∷ group) old new s how answers batch next =
+      let mid = next.mid in
+      let first = next.first in
+      let carried = next.carried in
+      let more = carries_feeds group mid new (after s carried.commands carried.answers) how next.others next.later next.more in
       let these = commands-joined old mid new s (trying how) it.lines first carried (all_lines group) more.text more.answered in
       let those = answers-joined old mid new s (trying how) it.lines first carried (all_lines group) more.text more.answered in
       record {
         text = first ++ more.text;
         answered = answered-join old mid new s (trying how) it.lines first carried (all_lines group) more.text more.answered;
-        is = batch_is ∙ ap (λ b. both (done_by carried.commands carried.answers) b) more.is ∙ sym (done_same _ _ _ _ these those);
+        is = next.came ∙ ap (λ b. both (done_by carried.commands carried.answers) b) more.is ∙ sym (done_same _ _ _ _ these those);
       }
 
   -- they were committed together
@@ -254,22 +260,22 @@ module _ {D : Type 0} {members : _} where
   -- after it the session goes on
   round_taken : (old new : Store D members) (s : State) (how : Manner) (waiting rest : List Waiting) (text : List ℕ) (refused : Bool) (round : Round) → TakesRound old new s how waiting rest text refused round
       → (again : Bool) × IsOneBatch old new s how waiting (proceeds again) round
-  round_taken old new s how waiting rest text refused round (inl first) = (false, commits_one old new s how waiting first.group rest text round first.cut first.commits)
-  round_taken old new s how waiting rest text refused round (inr (inl lost)) = (true, refuses_one old new s how waiting [] lost.it rest text GoOn (proceeds true) round lost.cut (λ place why. refl) lost.stops)
-  round_taken old new s how waiting rest text refused round (inr (inr again)) =
+  round_taken old new s how waiting rest text refused round (group_committed first) = (false, commits_one old new s how waiting first.group rest text round first.cut first.commits)
+  round_taken old new s how waiting rest text refused round (alone_refused lost) = (true, refuses_one old new s how waiting [] lost.it rest text GoOn (proceeds true) round lost.cut (λ place why. refl) lost.stops)
+  round_taken old new s how waiting rest text refused round (group_undone again) =
       (true, refuses_one old new s how waiting again.before again.it again.behind again.unsaid GoOn (proceeds true) round again.cut (λ place why. refl) again.stops)
 
   -- or is over
   round_ended : (old new : Store D members) (s : State) (how : Manner) (waiting : List Waiting) (text : List ℕ) (round : Round) → EndsInRound old new s how waiting text round → IsOneBatch old new s how waiting over round
-  round_ended old new s how waiting text round (inl ends) = unsure_one old new s how waiting ends.group ends.rest text round ends.cut ends.leaves
-  round_ended old new s how waiting text round (inr ends) = refuses_one old new s how waiting ends.before ends.it ends.behind text AsFailed over round ends.cut (λ place why. refl) ends.stops
+  round_ended old new s how waiting text round (commit_unsure ends) = unsure_one old new s how waiting ends.group ends.rest text round ends.cut ends.leaves
+  round_ended old new s how waiting text round (store_failed ends) = refuses_one old new s how waiting ends.before ends.it ends.behind text AsFailed over round ends.cut (λ place why. refl) ends.stops
 
   -- those that wait on hold changes too
   rest_changes : (old new : Store D members) (s : State) (how : Manner) (waiting rest : List Waiting) (text : List ℕ) (refused : Bool) (round : Round) → TakesRound old new s how waiting rest text refused round
       → (on : OnCommand) → AllWaiting on waiting → AllWaiting on rest
-  rest_changes old new s how waiting rest text refused round (inl first) on all = (waiting_cut on first.group rest (subst (AllWaiting on) first.cut all)).1
-  rest_changes old new s how waiting rest text refused round (inr (inl lost)) on all = (subst (AllWaiting on) lost.cut all).1
-  rest_changes old new s how waiting rest text refused round (inr (inr again)) on all = subst (AllWaiting on) (sym again.stays) all
+  rest_changes old new s how waiting rest text refused round (group_committed first) on all = (waiting_cut on first.group rest (subst (AllWaiting on) first.cut all)).1
+  rest_changes old new s how waiting rest text refused round (alone_refused lost) on all = (subst (AllWaiting on) lost.cut all).1
+  rest_changes old new s how waiting rest text refused round (group_undone again) on all = subst (AllWaiting on) (sym again.stays) all
 
 module _ {D : Type 0} {members : Ghosts D} where
   -- ---- all that waits
@@ -277,14 +283,14 @@ module _ {D : Type 0} {members : Ghosts D} where
   -- a disk that is honest after it was so before it
   pub waiting_earlier : (rounds : List Round) (old new : Store D members) (s : State) (how : Manner) (waiting : List Waiting) (text : List ℕ) (course : Course) → SettlesWaiting old new s how waiting text course rounds
       → (members.state (disk_of new)).honest ≡ true → (members.state (disk_of old)).honest ≡ true
-  waiting_earlier [] old new s how waiting text course (same, none, ends) honest = subst (λ (x : Store D members). (members.state (disk_of x)).honest ≡ true) same honest
-  waiting_earlier (round ∷ rounds) old new s how waiting text course (inl (ends, none, last)) honest =
-      let one = round_ended old new s how waiting text round ends in
+  waiting_earlier [] old new s how waiting text course none honest = subst (λ (x : Store D members). (members.state (disk_of x)).honest ≡ true) none.same honest
+  waiting_earlier (round ∷ rounds) old new s how waiting text course (last_round it) honest =
+      let one = round_ended old new s how waiting text round it.ends in
       settles_earlier old new s how honest one.lines one.verdict round one.settles
-  waiting_earlier (round ∷ rounds) old new s how waiting text course (inr (mid, rest, said, more, refused, next, takes, texts, goes, settles)) honest =
-      let there = waiting_earlier rounds mid new (after_round s round) how rest more next settles honest in
-      let one = (round_taken old mid s how waiting rest said refused round takes).1 in
-      settles_earlier old mid s how there one.lines one.verdict round one.settles
+  waiting_earlier (round ∷ rounds) old new s how waiting text course (further_rounds it) honest =
+      let there = waiting_earlier rounds it.mid new (after_round s round) how it.rest it.more it.next it.others honest in
+      let one = (round_taken old it.mid s how waiting it.rest it.said it.refused round it.takes).1 in
+      settles_earlier old it.mid s how there one.lines one.verdict round one.settles
 
   -- what a crash leaves is kept
   module _ (start : DiskState) (s : State) (how : Manner) where
@@ -300,19 +306,19 @@ module _ {D : Type 0} {members : Ghosts D} where
 
     pub waiting_kept : (rounds : List Round) (old new : Store D members) (before : List Round) (waiting : List Waiting) (text : List ℕ) (course : Course) → SettlesWaiting old new (after_rounds s before) how waiting text course rounds
         → (members.state (disk_of new)).honest ≡ true → KeepsOn start s old before → KeptSo start s course new (before ++ rounds)
-    waiting_kept [] old new before waiting text course (same, none, ends) honest kept =
-        subst (KeptSo start s course new) (sym (append-nil before)) (kept_so start s course new before (subst (λ (x : Store D members). KeepsOn start s x before) (sym same) kept))
-    waiting_kept (round ∷ rounds) old new before waiting text course (inl (ends, none, last)) honest kept =
-        let one = round_ended old new (after_rounds s before) how waiting text round ends in
-        subst (λ c. KeptSo start s c new (before ++ round ∷ rounds)) (sym last)
-        (subst (λ rs. KeptSo start s over new (before ++ round ∷ rs)) (sym none) (one_kept old new before waiting over round kept honest one))
-    waiting_kept (round ∷ rounds) old new before waiting text course (inr (mid, rest, said, more, refused, next, takes, texts, goes, settles)) honest kept =
-        let there = waiting_earlier rounds mid new (after_round (after_rounds s before) round) how rest more next settles honest in
-        let taken = round_taken old mid (after_rounds s before) how waiting rest said refused round takes in
-        let on = subst (λ u. SettlesWaiting mid new u how rest more next rounds) (sym (rounds_append s before (round ∷ []))) settles in
-        let all = waiting_kept rounds mid new (before ++ round ∷ []) rest more next on honest (one_kept old mid before waiting (proceeds taken.0) round kept there taken.1) in
-        subst (λ c. KeptSo start s c new (before ++ round ∷ rounds)) (sym goes)
-        (then_kept refused next new (before ++ round ∷ rounds) (subst (KeptSo start s next new) (append_assoc before (round ∷ []) rounds) all))
+    waiting_kept [] old new before waiting text course none honest kept =
+        subst (KeptSo start s course new) (sym (append-nil before)) (kept_so start s course new before (subst (λ (x : Store D members). KeepsOn start s x before) (sym none.same) kept))
+    waiting_kept (round ∷ rounds) old new before waiting text course (last_round it) honest kept =
+        let one = round_ended old new (after_rounds s before) how waiting text round it.ends in
+        subst (λ c. KeptSo start s c new (before ++ round ∷ rounds)) (sym it.goes)
+        (subst (λ rs. KeptSo start s over new (before ++ round ∷ rs)) (sym it.last) (one_kept old new before waiting over round kept honest one))
+    waiting_kept (round ∷ rounds) old new before waiting text course (further_rounds it) honest kept =
+        let there = waiting_earlier rounds it.mid new (after_round (after_rounds s before) round) how it.rest it.more it.next it.others honest in
+        let taken = round_taken old it.mid (after_rounds s before) how waiting it.rest it.said it.refused round it.takes in
+        let on = subst (λ u. SettlesWaiting it.mid new u how it.rest it.more it.next rounds) (sym (rounds_append s before (round ∷ []))) it.others in
+        let all = waiting_kept rounds it.mid new (before ++ round ∷ []) it.rest it.more it.next on honest (one_kept old it.mid before waiting (proceeds taken.0) round kept there taken.1) in
+        subst (λ c. KeptSo start s c new (before ++ round ∷ rounds)) (sym it.goes)
+        (then_kept it.refused it.next new (before ++ round ∷ rounds) (subst (KeptSo start s it.next new) (append_assoc before (round ∷ []) rounds) all))
 
   -- its rounds are whole
   one_whole : (old new : Store D members) (s : State) (how : Manner) (waiting : List Waiting) (course : Course) (round : Round) → IsOneBatch old new s how waiting course round → AllWaiting how.on_command waiting → IsWholeRound round
@@ -321,21 +327,26 @@ module _ {D : Type 0} {members : Ghosts D} where
   pub waiting_whole : (rounds : List Round) (old new : Store D members) (s : State) (how : Manner) (waiting : List Waiting) (text : List ℕ) (course : Course) → SettlesWaiting old new s how waiting text course rounds
       → AllWaiting how.on_command waiting → AllWhole rounds
   waiting_whole [] old new s how waiting text course settles all = tt
-  waiting_whole (round ∷ rounds) old new s how waiting text course (inl (ends, none, last)) all =
-      (one_whole old new s how waiting over round (round_ended old new s how waiting text round ends) all, subst AllWhole (sym none) tt)
-  waiting_whole (round ∷ rounds) old new s how waiting text course (inr (mid, rest, said, more, refused, next, takes, texts, goes, settles)) all =
-      let taken = round_taken old mid s how waiting rest said refused round takes in (
-        one_whole old mid s how waiting (proceeds taken.0) round taken.1 all,
-        waiting_whole rounds mid new (after_round s round) how rest more next settles (rest_changes old mid s how waiting rest said refused round takes how.on_command all),
+  waiting_whole (round ∷ rounds) old new s how waiting text course (last_round it) all =
+      (one_whole old new s how waiting over round (round_ended old new s how waiting text round it.ends) all, subst AllWhole (sym it.last) tt)
+  waiting_whole (round ∷ rounds) old new s how waiting text course (further_rounds it) all =
+      let taken = round_taken old it.mid s how waiting it.rest it.said it.refused round it.takes in (
+        one_whole old it.mid s how waiting (proceeds taken.0) round taken.1 all,
+        waiting_whole rounds it.mid new (after_round s round) how it.rest it.more it.next it.others (rest_changes old it.mid s how waiting it.rest it.said it.refused round it.takes how.on_command all),
       )
 
   -- ---- where nothing waits, nothing is done
 
+  no_round_taken : (old new : Store D members) (s : State) (how : Manner) (rest : List Waiting) (text : List ℕ) (refused : Bool) (round : Round) → TakesRound old new s how [] rest text refused round → ⊥
+  no_round_taken old new s how rest text refused round (group_committed first) = first.some (none_before first.group rest first.cut)
+  no_round_taken old new s how rest text refused round (alone_refused lost) = never_one [] lost.it rest lost.cut
+  no_round_taken old new s how rest text refused round (group_undone again) = never_one again.before again.it again.behind again.cut
+
+  no_round_ended : (old new : Store D members) (s : State) (how : Manner) (text : List ℕ) (round : Round) → EndsInRound old new s how [] text round → ⊥
+  no_round_ended old new s how text round (commit_unsure ends) = ends.some (none_before ends.group ends.rest ends.cut)
+  no_round_ended old new s how text round (store_failed ends) = never_one ends.before ends.it ends.behind ends.cut
+
   pub none_settles : (rounds : List Round) (old new : Store D members) (s : State) (how : Manner) (text : List ℕ) (course : Course) → SettlesWaiting old new s how [] text course rounds → new ≡ old
-  none_settles [] old new s how text course (same, none, ends) = same
-  none_settles (round ∷ rounds) old new s how text course (inl (inl ends, none, last)) = absurd (ends.some (none_before ends.group ends.rest ends.cut))
-  none_settles (round ∷ rounds) old new s how text course (inl (inr ends, none, last)) = absurd (never_one ends.before ends.it ends.behind ends.cut)
-  none_settles (round ∷ rounds) old new s how text course (inr (mid, rest, said, more, refused, next, inl first, texts, goes, settles)) =
-      absurd (first.some (none_before first.group rest first.cut))
-  none_settles (round ∷ rounds) old new s how text course (inr (mid, rest, said, more, refused, next, inr (inl lost), texts, goes, settles)) = absurd (never_one [] lost.it rest lost.cut)
-  none_settles (round ∷ rounds) old new s how text course (inr (mid, rest, said, more, refused, next, inr (inr again), texts, goes, settles)) = absurd (never_one again.before again.it again.behind again.cut)
+  none_settles [] old new s how text course none = none.same
+  none_settles (round ∷ rounds) old new s how text course (last_round it) = absurd (no_round_ended old new s how text round it.ends)
+  none_settles (round ∷ rounds) old new s how text course (further_rounds it) = absurd (no_round_taken old it.mid s how it.rest it.said it.refused round it.takes)

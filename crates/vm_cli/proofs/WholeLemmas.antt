@@ -1,5 +1,5 @@
 -- What a batch carries out: its lines alone, of which none commits.
-use Rattle.std.proofs.Common.{◌≡◌, inl, inr, ◌++◌, ◌∙◌, ℕ, zero, suc, Bool, false, List, [], ◌∷◌, codes, length, nat_lt, if◌then◌else◌, Option, None, Some, Result, Ok, Err, ap, sym, subst, refl, arith}
+use Rattle.std.proofs.Common.{◌≡◌, ◌++◌, ◌∙◌, ℕ, zero, suc, Bool, false, List, [], ◌∷◌, codes, length, nat_lt, if◌then◌else◌, Option, None, Some, Result, Ok, Err, ap, sym, subst, refl, arith}
 use Rattle.std.proofs.lemmas.List.{length-append}
 use Rattle.vm_types.specs.declared.answer.Answer.{Answer}
 use Rattle.vm_types.specs.declared.command.Command.{Command}
@@ -19,7 +19,9 @@ use Rattle.vm_cli.specs.session.Rounds.Round.{idle}
 use Rattle.vm_cli.specs.lines.Settlements.{for_all}
 use Rattle.vm_cli.specs.lines.Spaces.{words_of}
 use Rattle.vm_cli.specs.session.Streams.{Adds, Held, Settles, SettlesHeld, StopsIn, Takes, TakesAs, Undoes, Verdict, carried_by, losing, trying}
+use Rattle.vm_cli.specs.session.Streams.AddsTo.{batch_too_large, line_added, no_memory_for_change}
 use Rattle.vm_cli.specs.session.Streams.Held.{holds, lost}
+use Rattle.vm_cli.specs.session.Streams.Takes.{for_its_use, without_memory}
 use Rattle.vm_cli.specs.session.Streams.Verdict.{fails, succeeds}
 use Rattle.vm_cli.specs.session.Session.{Answered, AnsweredRequest, AnswersCommand, AnswersMerge, AnswersWithin, Done, HasAnswered, Meets, AnswersEach, Tries, after_line, each_answer, each_command, with_answer, with_command}
 use Rattle.vm_cli.specs.session.Session.Answered.{as_asked, too_long, wanting}
@@ -175,9 +177,9 @@ changes_cut on [] part behind all = (tt, all.0)
 changes_cut on (first ∷ before) part behind all = let rest = changes_cut on before part behind all.1 in ((all.0, rest.0), rest.1)
 
 changes_added : (on : OnCommand) (part : List ℕ) → use_of on part ≡ line.Change → (held held' : Held) → Adds part held held' → AreChanges on held → AreChanges on held'
-changes_added on part is (holds parts) held' (inl more) all = subst (AreChanges on) (sym more) (changes_more on parts part all is)
-changes_added on part is (holds parts) held' (inr (inl none)) all = subst (AreChanges on) (sym none) tt
-changes_added on part is (holds parts) held' (inr (inr (large, so))) all = subst (AreChanges on) (sym large) tt
+changes_added on part is (holds parts) held' (line_added more) all = subst (AreChanges on) (sym more) (changes_more on parts part all is)
+changes_added on part is (holds parts) held' (no_memory_for_change none) all = subst (AreChanges on) (sym none) tt
+changes_added on part is (holds parts) held' (batch_too_large large so) all = subst (AreChanges on) (sym large) tt
 changes_added on part is (lost place answer count) held' adds all = subst (AreChanges on) (sym adds) tt
 
 changes_lost : (on : OnCommand) (answer : List ℕ) (held : Held) → AreChanges on (losing answer held)
@@ -234,23 +236,23 @@ module _ {D : Type 0} {members : _} where
 
     as_whole : (used : LineUse) (stage : Option Held) → (used ≡ line.Change → use_of how.on_command part ≡ line.Change) → StageChanges how.on_command stage → TakesAs old new s how used stage part text course stage' round
         → IsWholeRound round × StageChanges how.on_command stage'
-    as_whole line.Nothing None found all takes = said_whole None takes.4 takes.3 tt
-    as_whole line.Begin None found all takes = said_whole (Some (holds [])) takes.4 takes.3 tt
-    as_whole line.Commit None found all takes = said_whole None takes.4 takes.3 tt
-    as_whole line.Abort None found all takes = said_whole None takes.4 takes.3 tt
-    as_whole (line.Refused said) None found all takes = said_whole None takes.4 takes.3 tt
-    as_whole line.Query None found all takes = said_whole None takes.4 takes.3 tt
+    as_whole line.Nothing None found all takes = said_whole None takes.came_so takes.held tt
+    as_whole line.Begin None found all takes = said_whole (Some (holds [])) takes.came_so takes.held tt
+    as_whole line.Commit None found all takes = said_whole None takes.came_so takes.held tt
+    as_whole line.Abort None found all takes = said_whole None takes.came_so takes.held tt
+    as_whole (line.Refused said) None found all takes = said_whole None takes.came_so takes.held tt
+    as_whole line.Query None found all takes = said_whole None takes.came_so takes.outside tt
     as_whole line.Change None found all takes =
         let added = changes_added how.on_command part (found refl) (holds []) takes.held takes.adds tt in
         (held_whole how takes.held old new s takes.verdict round takes.settles added, subst (StageChanges how.on_command) (sym takes.outside) tt)
-    as_whole line.Nothing (Some held) found all takes = said_whole (Some held) takes.4 takes.3 all
-    as_whole line.Begin (Some held) found all takes = said_whole _ takes.4 takes.3 (changes_lost how.on_command _ held)
-    as_whole line.Query (Some held) found all takes = said_whole _ takes.4 takes.3 (changes_lost how.on_command _ held)
-    as_whole (line.Refused said) (Some held) found all takes = said_whole _ takes.4 takes.3 (changes_lost how.on_command _ held)
-    as_whole line.Change (Some held) found all takes = said_whole (Some takes.0) takes.2.4 takes.2.3 (changes_added how.on_command part (found refl) held takes.0 takes.1 all)
-    as_whole line.Abort (Some held) found all takes = said_whole None takes.4 takes.3 tt
+    as_whole line.Nothing (Some held) found all takes = said_whole (Some held) takes.came_so takes.held all
+    as_whole line.Begin (Some held) found all takes = said_whole _ takes.came_so takes.held (changes_lost how.on_command _ held)
+    as_whole line.Query (Some held) found all takes = said_whole _ takes.came_so takes.held (changes_lost how.on_command _ held)
+    as_whole (line.Refused said) (Some held) found all takes = said_whole _ takes.came_so takes.held (changes_lost how.on_command _ held)
+    as_whole line.Change (Some held) found all takes = said_whole (Some takes.held') takes.said.came_so takes.said.held (changes_added how.on_command part (found refl) held takes.held' takes.adds all)
+    as_whole line.Abort (Some held) found all takes = said_whole None takes.came_so takes.held tt
     as_whole line.Commit (Some held) found all takes = (held_whole how held old new s takes.verdict round takes.settles all, subst (StageChanges how.on_command) (sym takes.outside) tt)
 
     pub takes_whole : (stage : Option Held) → StageChanges how.on_command stage → Takes old new s how stage part text course stage' round → IsWholeRound round × StageChanges how.on_command stage'
-    takes_whole stage all (inl memory) = as_whole no_memory stage (λ e. cc) all memory
-    takes_whole stage all (inr found) = as_whole (use_of how.on_command part) stage (λ e. e) all found
+    takes_whole stage all (without_memory memory) = as_whole no_memory stage (λ e. cc) all memory
+    takes_whole stage all (for_its_use found) = as_whole (use_of how.on_command part) stage (λ e. e) all found

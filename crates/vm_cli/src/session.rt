@@ -17,6 +17,7 @@ ghost use Rattle.std.specs.Prelude.{◌≡◌, ◌+◌, ◌≤◌, ◌++◌, ◌
 ghost use Rattle.std.specs.Io.KnownBytes.{IsAtEnd};
 ghost use Rattle.vm_cli.specs.answers.Carried.{Begins, Gains};
 ghost use Rattle.vm_cli.specs.session.Feeds.{ServesEach};
+ghost use Rattle.vm_cli.specs.session.Known.{streams_of};
 ghost use Rattle.vm_cli.specs.lines.Lines.{IsPart};
 ghost use Rattle.vm_cli.specs.answers.Replies.{reply_text};
 ghost use Rattle.vm_cli.specs.lines.Requests.{asked_in, request_of};
@@ -131,8 +132,8 @@ pub fn serve<R: Read, W: Write, D: Disk>(
     // and the other answers always are, unless memory could not be allocated. On any disk, a query
     // is answered Device only if a device call failed in it, and Failed only by a store that had
     // already failed.
-    ensures answers { ServesEach W.contents manner result store.old store.new
-        (R.remaining reader.old) writer.old writer.new }
+    ensures answers { ServesEach manner result store.old store.new
+        (streams_of (R.remaining reader.old) (W.contents writer.old) (W.contents writer.new)) }
 
     // If commands are refused, the disk is only read: it is never written or synced, and the store
     // is left as it was.

@@ -6,6 +6,7 @@ use Rattle.vm_store.specs.declared.store.Store.{Store}
 use Rattle.vm_cli.specs.session.SessionKinds.{AnswersThen, Course, Tells, counted_result}
 use Rattle.vm_cli.specs.session.Feeds.{FeedsOn}
 use Rattle.vm_cli.specs.lines.Input.{HoldsLine}
+use Rattle.vm_cli.specs.session.Known.{Written, written_to}
 use Rattle.vm_cli.specs.session.Planners.{AreSeats, Gathering, IsAbsent, Seat, TakesWhen}
 use Rattle.vm_cli.specs.session.Rounds.{Round}
 use Rattle.vm_cli.specs.session.StreamCalls.{Scene, TellsLine}
@@ -13,6 +14,7 @@ use Rattle.vm_cli.specs.session.Streams.{Held, IsHeld, IsStage}
 use Rattle.vm_cli.specs.session.Streams.Held.{holds}
 use Rattle.vm_cli.specs.session.Waiting.{SettlesWaiting, Waiting}
 use Rattle.vm_cli.specs.declared.lines.line.Line.{Line}
+use Rattle.vm_cli.specs.declared.session.Manner.{Manner}
 use Rattle.vm_cli.specs.declared.session.ServeFault.{ServeFault}
 use Rattle.vm_cli.specs.declared.session.batch.Batch.{Batch}
 use Rattle.vm_cli.specs.declared.session.batches.BatchSession.{BatchSession}
@@ -42,13 +44,20 @@ AreWaiting [] (it ∷ waiting) = ⊥
 AreWaiting (own ∷ queue) [] = ⊥
 AreWaiting (own ∷ queue) (it ∷ waiting) = IsWaiting own it × AreWaiting queue waiting
 
+-- a batch, as it is held, has lines, and was put behind those that wait
+pub record WaitsBehind (number : ℕ) (is_begun : Bool) (queue queue' : List WaitingBatch) (held : Held) : Type 0 where
+  pub first : List ℕ
+  pub lines : List (List ℕ)
+  pub some : held ≡ holds (first ∷ lines)
+  pub waits : (waiting : List Waiting) → AreWaiting queue waiting
+      → AreWaiting queue' (waiting ++ record { number = number; is_begun = is_begun; lines = first ∷ lines } ∷ [])
+
 -- the batch of a session was put behind those that wait, as it has lines, and the session holds none
 pub record PutsBehind (number : ℕ) (queue queue' : List WaitingBatch) (old new : BatchSession) : Type 0 where
   pub manner : new.manner ≡ old.manner
   pub closed : IsStage new.batch None
   pub none : new.batch.count ≡ 0
-  pub waits : (held : Held) → IsHeld old.batch held → (first : List ℕ) × (lines : List (List ℕ)) × (held ≡ holds (first ∷ lines))
-      × ((waiting : List Waiting) → AreWaiting queue waiting → AreWaiting queue' (waiting ++ record { number = number; is_begun = old.batch.is_open; lines = first ∷ lines } ∷ []))
+  pub waits : (held : Held) → IsHeld old.batch held → WaitsBehind number old.batch.is_open queue queue' held
 
 -- what a session holds between lines
 pub record IsGathering (session : PlannersSession) (at : Gathering) : Type 0 where
@@ -70,13 +79,23 @@ pub record StaysAtRest (old new : PlannersSession) : Type 0 where
   pub closed : IsStage old.session.batch None → IsStage new.session.batch None
   pub count : (n : ℕ) → AreWithin n old.planners.items → AreWithin (n + 1) new.planners.items
 
--- those who have joined were only answered: the text, how many lines were refused, and who has joined then
-pub record AnswersSeats (IsAnswer : List Seat → List ℕ → ℕ → List Seat → Type 0) (result : Result Bool ServeFault) (old new : PlannersSession) (before after : Option (List ℕ)) : Type 0 where
+-- an answer was given to those who had joined: the text, how many lines it refuses, and who has joined then
+pub record AnswerGiven (IsAnswer : List Seat → List ℕ → ℕ → List Seat → Type 0) (how : Manner) (result : Result Bool ServeFault)
+    (planners : List Planner) (seats : List Seat) (output : Written) : Type 0 where
+  pub text : List ℕ
+  pub count : ℕ
+  pub seats' : List Seat
+  pub seated : AreSeats planners seats'
+  pub answer : IsAnswer seats text count seats'
+  pub said : AnswersThen text (counted_result how.on_refusal count) result output
+
+-- those who have joined were only answered
+pub record AnswersSeats (IsAnswer : List Seat → List ℕ → ℕ → List Seat → Type 0) (result : Result Bool ServeFault)
+    (old new : PlannersSession) (output : Written) : Type 0 where
   pub stays : StaysAtRest old new
   pub waiting : new.waiting.items ≡ old.waiting.items
   pub answered : (seats : List Seat) → AreSeats old.planners.items seats
-      → (text : List ℕ) × (count : ℕ) × (seats' : List Seat) × AreSeats new.planners.items seats' × IsAnswer seats text count seats'
-      × AnswersThen text (counted_result old.session.manner.on_refusal count) result before after
+      → AnswerGiven IsAnswer old.session.manner result new.planners.items seats output
 
 module _ {D W : Type 0} {members : Ghosts D} (contents : W → Option (List ℕ)) where
   -- a line of a planner was taken as one of its own session, or its batch was put behind those that wait
@@ -103,15 +122,26 @@ module _ {D W : Type 0} {members : Ghosts D} (contents : W → Option (List ℕ)
     pub store : (at : Gathering) → IsGathering old.session at → FeedsOn result old.store new.store
     pub taken : (s : State) (at : Gathering) → IsStage old.session.session.batch None → IsGathering old.session at
         → Tells old.session.session.manner (λ text course. (at' : Gathering) × (rounds : List Round) × IsGathering new.session at' × IsAnswer s at text course at' rounds)
-        result (contents old.writer) (contents new.writer)
+        result (written_to contents old.writer new.writer)
+
+-- none of these planners has this number
+abbrev pub AreOthers : ℕ → List Planner → Type 0
+AreOthers number planners = (seats : List Seat) → AreSeats planners seats → IsAbsent number seats
+
+-- a planner of this number stands at this place, and it is the first one
+pub record StandsAt (number : ℕ) (planners : List Planner) (place : ℕ) : Type 0 where
+  pub before : List Planner
+  pub planner : Planner
+  pub behind : List Planner
+  pub cut : planners ≡ before ++ planner ∷ behind
+  pub at : place ≡ length before
+  pub named : planner.number ≡ number
+  pub only : AreOthers number before
 
 -- where the planner of this number stands, if it has joined
 abbrev pub IsPlaceOf : ℕ → List Planner → Option ℕ → Type 0
-IsPlaceOf number planners None = (seats : List Seat) → AreSeats planners seats → IsAbsent number seats
-IsPlaceOf number planners (Some place) =
-    (before : List Planner) × (planner : Planner) × (behind : List Planner)
-    × (planners ≡ before ++ planner ∷ behind) × (place ≡ length before) × (planner.number ≡ number)
-    × ((seats : List Seat) → AreSeats before seats → IsAbsent number seats)
+IsPlaceOf number planners None = AreOthers number planners
+IsPlaceOf number planners (Some place) = StandsAt number planners place
 
 -- the batch of the session and that of the planner at this place were exchanged
 pub record Exchanges (place : ℕ) (old new : PlannersSession) : Type 0 where

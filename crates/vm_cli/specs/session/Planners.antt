@@ -1,5 +1,5 @@
 -- Many planners in one stream: who has joined, which batches wait, what each line does, and who is answered.
-use Rattle.std.specs.Prelude.{◌≡◌, ◌≢◌, ◌⊎◌, ◌||◌, ◌<◌, ◌≤◌, ℕ, zero, suc, Bool, true, false, List, [], ◌∷◌, ◌++◌, Option, None, Some, Result, length, if◌then◌else◌}
+use Rattle.std.specs.Prelude.{◌≡◌, ◌≢◌, ◌||◌, ◌<◌, ◌≤◌, ℕ, zero, suc, Bool, true, false, List, [], ◌∷◌, ◌++◌, Option, None, Some, Result, length, if◌then◌else◌}
 use Rattle.vm_types.specs.declared.refusal.Refusal.TheVariants.{Memory}
 use Rattle.vm_types.specs.State.{State}
 use Rattle.vm_disk.specs.declared.disk.Disk.{Ghosts}
@@ -172,12 +172,15 @@ pub record IsPresent (number : ℕ) (seats : List Seat) : Type 0 where
   pub behind : List Seat
   pub sits : Sits number stage before behind seats
 
--- a planner joins, or memory ran out, or it has joined before
-abbrev pub Joins : ℕ → List Seat → List ℕ → ℕ → List Seat → Type 0
-Joins number seats text count seats' =
-    IsWelcome number seats text count seats'
-    ⊎ (IsTold number (error_text Memory) seats text count seats'
-    ⊎ (IsPresent number seats × IsTold number (reply_text reply.PlannerExists) seats text count seats'))
+-- what comes of a planner who asks to join
+pub data Joins (number : ℕ) (seats : List Seat) (text : List ℕ) (count : ℕ) (seats' : List Seat) : Type 0 where
+  -- it joins
+  welcomed : IsWelcome number seats text count seats' → Joins number seats text count seats'
+  -- memory ran out
+  no_memory_for_seat : IsTold number (error_text Memory) seats text count seats' → Joins number seats text count seats'
+  -- it has joined before
+  seated_before : IsPresent number seats → IsTold number (reply_text reply.PlannerExists) seats text count seats'
+      → Joins number seats text count seats'
 
 -- there is no such planner
 pub record IsUnknown (number : ℕ) (seats : List Seat) (text : List ℕ) (count : ℕ) (seats' : List Seat) : Type 0 where
@@ -194,8 +197,12 @@ pub record Parts (number : ℕ) (seats : List Seat) (text : List ℕ) (count : �
   pub refused : count ≡ parting_count stage
   pub seated : seats' ≡ before ++ behind
 
-abbrev pub Leaves : ℕ → List Seat → List ℕ → ℕ → List Seat → Type 0
-Leaves number seats text count seats' = Parts number seats text count seats' ⊎ IsUnknown number seats text count seats'
+-- what comes of a planner who asks to leave
+pub data Leaves (number : ℕ) (seats : List Seat) (text : List ℕ) (count : ℕ) (seats' : List Seat) : Type 0 where
+  -- it leaves
+  parted : Parts number seats text count seats' → Leaves number seats text count seats'
+  -- there is no such planner
+  unknown_planner : IsUnknown number seats text count seats' → Leaves number seats text count seats'
 
 -- a line with which a batch ends: the commit of one that was begun, and a change outside of one, which is one of its own
 abbrev pub IsLastOf : LineUse → Option Held → List ℕ → Waiting → Type 0
@@ -232,12 +239,17 @@ module _ {D : Type 0} {members : _} where
     pub held : stage' ≡ stage
     pub came_so : round ≡ idle
 
-  -- for what it is, or memory ran out
-  abbrev pub TakesIts : Store D members → Store D members → State → Manner → ℕ → Option Held → List ℕ → List ℕ → Course → Option Held → Round → Type 0
-  TakesIts old new s how number stage part text course stage' round =
-      IsUnwritten old new number stage text course stage' round
-      ⊎ (TakesItFor old new s how no_memory number stage part text course stage' round
-      ⊎ TakesItFor old new s how (use_of how.on_command part) number stage part text course stage' round)
+  -- a planner's line is taken as one of its own session
+  pub data TakesIts (old new : Store D members) (s : State) (how : Manner) (number : ℕ) (stage : Option Held) (part text : List ℕ)
+      (course : Course) (stage' : Option Held) (round : Round) : Type 0 where
+    -- not at all, as its label could not be written
+    unlabelled : IsUnwritten old new number stage text course stage' round → TakesIts old new s how number stage part text course stage' round
+    -- as one for which memory ran out
+    taken_without_memory : TakesItFor old new s how no_memory number stage part text course stage' round
+        → TakesIts old new s how number stage part text course stage' round
+    -- for what it is
+    taken_for_use : TakesItFor old new s how (use_of how.on_command part) number stage part text course stage' round
+        → TakesIts old new s how number stage part text course stage' round
 
   -- the batch that ends with a line of this use is put behind those that wait
   pub record PutsOff (old new : Store D members) (used : LineUse) (number : ℕ) (stage : Option Held) (part text : List ℕ) (course : Course) (stage' : Option Held) (round : Round) (more : List Waiting) : Type 0 where
@@ -251,12 +263,28 @@ module _ {D : Type 0} {members : _} where
     pub came_so : round ≡ idle
     pub waits : more ≡ it ∷ []
 
+  -- a line is taken at once, and no batch is put behind those that wait
+  pub record TakesAtOnce (old new : Store D members) (s : State) (how : Manner) (number : ℕ) (stage : Option Held)
+      (part text : List ℕ) (course : Course) (stage' : Option Held) (round : Round) (more : List Waiting) : Type 0 where
+    pub takes : TakesIts old new s how number stage part text course stage' round
+    pub none : more ≡ []
+
+  -- a line that is said for later
+  pub data TakesLater (old new : Store D members) (s : State) (how : Manner) (number : ℕ) (stage : Option Held)
+      (part text : List ℕ) (course : Course) (stage' : Option Held) (round : Round) (more : List Waiting) : Type 0 where
+    -- is taken at once all the same
+    taken_at_once : TakesAtOnce old new s how number stage part text course stage' round more
+        → TakesLater old new s how number stage part text course stage' round more
+    -- or the batch that ends with it waits
+    put_off : PutsOff old new (use_of how.on_command part) number stage part text course stage' round more
+        → TakesLater old new s how number stage part text course stage' round more
+
   -- a line is taken at once, or a batch that ends with it waits
   abbrev pub TakesWhen : When → Store D members → Store D members → State → Manner → ℕ → Option Held → List ℕ → List ℕ → Course → Option Held → Round → List Waiting → Type 0
-  TakesWhen Now old new s how number stage part text course stage' round more = TakesIts old new s how number stage part text course stage' round × (more ≡ [])
+  TakesWhen Now old new s how number stage part text course stage' round more =
+      TakesAtOnce old new s how number stage part text course stage' round more
   TakesWhen Later old new s how number stage part text course stage' round more =
-      (TakesIts old new s how number stage part text course stage' round × (more ≡ []))
-      ⊎ PutsOff old new (use_of how.on_command part) number stage part text course stage' round more
+      TakesLater old new s how number stage part text course stage' round more
 
   -- a planner says a line
   pub record SaysIt (old new : Store D members) (s : State) (how : Manner) (when : When) (number : ℕ) (part text : List ℕ) (course : Course) (at at' : Gathering) (rounds : List Round) : Type 0 where
@@ -281,6 +309,14 @@ module _ {D : Type 0} {members : _} where
     pub goes : course ≡ proceeds (some_lines count)
     pub came_so : rounds ≡ []
 
+  -- somebody says a line
+  pub data IsSpoken (old new : Store D members) (s : State) (how : Manner) (when : When) (number : ℕ) (part text : List ℕ)
+      (course : Course) (at at' : Gathering) (rounds : List Round) : Type 0 where
+    -- who has joined
+    line_said : SaysIt old new s how when number part text course at at' rounds → IsSpoken old new s how when number part text course at at' rounds
+    -- who has not
+    not_joined : IsAnswered (IsUnknown number) old new text course at at' rounds → IsSpoken old new s how when number part text course at at' rounds
+
   -- what a line of the stream does by itself
   abbrev pub TakesAlone : Store D members → Store D members → State → Manner → Saying → List ℕ → Course → Gathering → Gathering → List Round → Type 0
   TakesAlone old new s how nothing text course at at' rounds = IsAnswered IsPassedBy old new text course at at' rounds
@@ -288,8 +324,7 @@ module _ {D : Type 0} {members : _} where
   TakesAlone old new s how releases text course at at' rounds = IsAnswered IsDone old new text course at at' rounds
   TakesAlone old new s how (joins number) text course at at' rounds = IsAnswered (Joins number) old new text course at at' rounds
   TakesAlone old new s how (leaves number) text course at at' rounds = IsAnswered (Leaves number) old new text course at at' rounds
-  TakesAlone old new s how (says when number part) text course at at' rounds =
-      SaysIt old new s how when number part text course at at' rounds ⊎ IsAnswered (IsUnknown number) old new text course at at' rounds
+  TakesAlone old new s how (says when number part) text course at at' rounds = IsSpoken old new s how when number part text course at at' rounds
 
   -- first all that waits is carried out, and then the line does what it does
   pub record SettlesFirst (old new : Store D members) (s : State) (how : Manner) (saying : Saying) (text : List ℕ) (course : Course) (at at' : Gathering) (rounds : List Round) : Type 0 where
@@ -312,21 +347,35 @@ module _ {D : Type 0} {members : _} where
     pub last : IsLast course
     pub held : at' ≡ with_none_waiting at
 
+  -- all that waits is carried out before a line
+  pub data TakesSettled (old new : Store D members) (s : State) (how : Manner) (saying : Saying) (text : List ℕ) (course : Course)
+      (at at' : Gathering) (rounds : List Round) : Type 0 where
+    -- and then the line is taken
+    settled_first : SettlesFirst old new s how saying text course at at' rounds → TakesSettled old new s how saying text course at at' rounds
+    -- or the session ends in that
+    ended_settling : EndsSettling old new s how text course at at' rounds → TakesSettled old new s how saying text course at at' rounds
+
+  -- a line is taken by itself, or behind all that waits
   abbrev pub TakesBehind : Bool → Store D members → Store D members → State → Manner → Saying → List ℕ → Course → Gathering → Gathering → List Round → Type 0
   TakesBehind false old new s how saying text course at at' rounds = TakesAlone old new s how saying text course at at' rounds
-  TakesBehind true old new s how saying text course at at' rounds =
-      SettlesFirst old new s how saying text course at at' rounds ⊎ EndsSettling old new s how text course at at' rounds
+  TakesBehind true old new s how saying text course at at' rounds = TakesSettled old new s how saying text course at at' rounds
 
   -- what a line of the stream does
   abbrev pub TakesSaying : Store D members → Store D members → State → Manner → Saying → List ℕ → Course → Gathering → Gathering → List Round → Type 0
   TakesSaying old new s how saying text course at at' rounds = TakesBehind (settles_first saying at.waiting) old new s how saying text course at at' rounds
 
-  -- a line of the stream: it is refused if it is too long, or if memory for it ran out
-  abbrev pub TakesOne : Store D members → Store D members → State → Manner → Gathering → List ℕ → List ℕ → Course → Gathering → List Round → Type 0
-  TakesOne old new s how at part text course at' rounds =
-      IsAnswered (IsTold 0 (error_text Memory)) old new text course at at' rounds
-      ⊎ (((MAX_BYTES < length part) × IsAnswered (IsTold 0 (reply_text reply.LongLine)) old new text course at at' rounds)
-      ⊎ ((length part ≤ MAX_BYTES) × TakesSaying old new s how (saying_of (without_return part)) text course at at' rounds))
+  -- a line of the stream
+  pub data TakesOne (old new : Store D members) (s : State) (how : Manner) (at : Gathering) (part text : List ℕ) (course : Course)
+      (at' : Gathering) (rounds : List Round) : Type 0 where
+    -- is refused, as memory for it ran out
+    no_memory_for_line : IsAnswered (IsTold 0 (error_text Memory)) old new text course at at' rounds
+        → TakesOne old new s how at part text course at' rounds
+    -- or as it is too long
+    line_too_long : MAX_BYTES < length part → IsAnswered (IsTold 0 (reply_text reply.LongLine)) old new text course at at' rounds
+        → TakesOne old new s how at part text course at' rounds
+    -- or else is taken for what it says
+    line_taken : length part ≤ MAX_BYTES → TakesSaying old new s how (saying_of (without_return part)) text course at at' rounds
+        → TakesOne old new s how at part text course at' rounds
 
 -- ---- the whole input
 
@@ -337,7 +386,13 @@ telling on = record { on_command = on.on_command; on_refusal = Tell; grouping = 
 module _ {D : Type 0} {members : Ghosts D} where
   -- many planners speak in one stream
   abbrev pub planners : SessionKind D members
-  planners = record { Stage = Gathering; start = gathering [] []; Takes = TakesOne; end_text = stream_end_text; end_count = stream_end_count }
+  planners = record {
+    Stage = Gathering;
+    start = gathering [] [];
+    Takes = λ old new s how at part text course at' rounds. TakesOne old new s how at part text course at' rounds;
+    end_text = stream_end_text;
+    end_count = stream_end_count;
+  }
 
   abbrev pub ServesPlanners : Store D members → Store D members → State → Manner → Result Bool ServeFault → SessionStreams → Type 0
   ServesPlanners old new s how result known = ServesStream planners old new s how result known

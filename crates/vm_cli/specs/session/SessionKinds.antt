@@ -1,5 +1,5 @@
 -- What a session promises in which lines are answered one after another: for any kind of session.
-use Rattle.std.specs.Prelude.{◌≡◌, ◌⊎◌, ◌||◌, ℕ, zero, suc, Bool, true, false, List, [], ◌∷◌, ◌++◌, Option, Result, Ok, Err, IfSome}
+use Rattle.std.specs.Prelude.{◌≡◌, ◌||◌, ℕ, zero, suc, Bool, true, false, List, [], ◌∷◌, ◌++◌, Result, Ok, Err, IfSome}
 use Rattle.std.specs.Io.KnownBytes.{Appends}
 use Rattle.vm_types.specs.State.{State}
 use Rattle.vm_disk.specs.declared.disk.Disk.{Ghosts}
@@ -203,24 +203,53 @@ abbrev pub counted_result : OnRefusal → ℕ → Result Bool ServeFault
 counted_result on_refusal zero = Ok false
 counted_result on_refusal (suc n) = refused_result on_refusal
 
--- an answer was written whole, and the session goes on or ends with it; or a beginning of it, if the writer failed
-abbrev pub Tells : Manner → (List ℕ → Course → Type 0) → Result Bool ServeFault → Option (List ℕ) → Option (List ℕ) → Type 0
-Tells how IsAnswer (Ok refused) before after =
-    (text : List ℕ) × IsAnswer text (proceeds refused) × (how.on_refusal ≡ Stop → refused ≡ false) × Appends before after text
-Tells how IsAnswer (Err fault.Read) before after = ⊥
-Tells how IsAnswer (Err fault.Store) before after = (text : List ℕ) × IsAnswer text over × Appends before after text
-Tells how IsAnswer (Err fault.Unsure) before after = (text : List ℕ) × IsAnswer text over × Appends before after text
-Tells how IsAnswer (Err fault.Refused) before after = (text : List ℕ) × IsAnswer text (proceeds true) × (how.on_refusal ≡ Stop) × Appends before after text
-Tells how IsAnswer (Err fault.Write) before after = (text : List ℕ) × (course : Course) × IsAnswer text course × WritesStart before after text
+-- an answer was written whole, and the session goes on: this says whether a line was refused
+pub record TellsOn (how : Manner) (IsAnswer : List ℕ → Course → Type 0) (refused : Bool) (output : Written) : Type 0 where
+  pub text : List ℕ
+  pub says : IsAnswer text (proceeds refused)
+  pub goes_on : how.on_refusal ≡ Stop → refused ≡ false
+  pub written : Appends output.before output.after text
+
+-- an answer was written whole, with which the session is over
+pub record TellsLast (IsAnswer : List ℕ → Course → Type 0) (output : Written) : Type 0 where
+  pub text : List ℕ
+  pub says : IsAnswer text over
+  pub written : Appends output.before output.after text
+
+-- an answer was written whole, that a line was refused, which is to end the session
+pub record TellsRefusal (how : Manner) (IsAnswer : List ℕ → Course → Type 0) (output : Written) : Type 0 where
+  pub text : List ℕ
+  pub says : IsAnswer text (proceeds true)
+  pub stop : how.on_refusal ≡ Stop
+  pub written : Appends output.before output.after text
+
+-- the writer failed after the beginning of an answer
+pub record TellsStart (IsAnswer : List ℕ → Course → Type 0) (output : Written) : Type 0 where
+  pub text : List ℕ
+  pub course : Course
+  pub says : IsAnswer text course
+  pub begun : WritesStart output.before output.after text
+
+-- what a call that answers wrote, by its result
+abbrev pub Tells : Manner → (List ℕ → Course → Type 0) → Result Bool ServeFault → Written → Type 0
+Tells how IsAnswer (Ok refused) output = TellsOn how IsAnswer refused output
+Tells how IsAnswer (Err fault.Read) output = ⊥
+Tells how IsAnswer (Err fault.Store) output = TellsLast IsAnswer output
+Tells how IsAnswer (Err fault.Unsure) output = TellsLast IsAnswer output
+Tells how IsAnswer (Err fault.Refused) output = TellsRefusal how IsAnswer output
+Tells how IsAnswer (Err fault.Write) output = TellsStart IsAnswer output
 
 -- so far a text was written, or a beginning of it
-abbrev pub Puts : {T : Type 0} → List ℕ → Result T ServeFault → Option (List ℕ) → Option (List ℕ) → Type 0
-Puts text (Ok u) before after = Appends before after text
-Puts text (Err why) before after = (why ≡ fault.Write) × WritesStart before after text
+abbrev pub Puts : {T : Type 0} → List ℕ → Result T ServeFault → Written → Type 0
+Puts text (Ok u) output = Appends output.before output.after text
+Puts text (Err why) output = (why ≡ fault.Write) × WritesStart output.before output.after text
 
--- a text was written whole, and this was the result; or a beginning of it
-abbrev pub AnswersThen : List ℕ → Result Bool ServeFault → Result Bool ServeFault → Option (List ℕ) → Option (List ℕ) → Type 0
-AnswersThen text then result before after = ((result ≡ then) × Appends before after text) ⊎ ((result ≡ Err fault.Write) × WritesStart before after text)
+-- a text was to be written, and `then` to be the result
+pub data AnswersThen {T : Type 0} (text : List ℕ) (then result : Result T ServeFault) (output : Written) : Type 0 where
+  -- so it was
+  answered_so : result ≡ then → Appends output.before output.after text → AnswersThen text then result output
+  -- or the writer failed, and a beginning was written
+  answer_cut : result ≡ Err fault.Write → WritesStart output.before output.after text → AnswersThen text then result output
 
 -- all lines of an input were taken
 pub record RunsStream {D : Type 0} {members : Ghosts D} (kind : SessionKind D members) (how : Manner) (result : Result Bool ServeFault) (old new : Store D members) (known : SessionStreams) : Type 0 where

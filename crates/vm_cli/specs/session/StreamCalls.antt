@@ -4,6 +4,7 @@ use Rattle.vm_types.specs.State.{State}
 use Rattle.vm_disk.specs.declared.disk.Disk.{Ghosts}
 use Rattle.vm_cli.specs.session.SessionKinds.{AnswersThen, Course, TakesTo, Tells}
 use Rattle.vm_cli.specs.session.Feeds.{Stays, FeedsOn, Writes}
+use Rattle.vm_cli.specs.session.Known.{Written, written_to}
 use Rattle.vm_cli.specs.lines.Input.{HoldsLine}
 use Rattle.vm_cli.specs.session.Rounds.{Round}
 use Rattle.vm_cli.specs.session.Streams.{CarriesLines, Held, HoldsLines, IsHeld, IsStage, SettlesHeld, TakesInside, TakesOutside, Verdict, batches, count_of, settled_text, tried_result, trying, verdict_result}
@@ -25,7 +26,7 @@ pub record KeepsSession (old new : BatchSession) : Type 0 where
 
 -- a text was written, and this was to be the result
 abbrev pub SaysThen : {W : Type 0} → (W → Option (List ℕ)) → List ℕ → Result Bool ServeFault → Result Bool ServeFault → W → W → Type 0
-SaysThen contents text then result old new = AnswersThen text then result (contents old) (contents new)
+SaysThen contents text then result old new = AnswersThen text then result (written_to contents old new)
 
 -- a session with its store and where its answers go, before a call or after it
 pub record Scene (D W : Type 0) (members : Ghosts D) : Type 0 where
@@ -39,7 +40,15 @@ scene session store writer = record { session = session; store = store; writer =
 module _ {D W : Type 0} {members : Ghosts D} (contents : W → Option (List ℕ)) where
   -- what a line is answered
   abbrev pub TellsLine : (List ℕ → Course → Type 0) → Result Bool ServeFault → Scene D W members → Scene D W members → Type 0
-  TellsLine IsAnswer result old new = Tells old.session.manner IsAnswer result (contents old.writer) (contents new.writer)
+  TellsLine IsAnswer result old new = Tells old.session.manner IsAnswer result (written_to contents old.writer new.writer)
+
+  -- a batch, as it is held, came out so, and was answered so
+  pub record SettlesSo (is_begun : Bool) (result : Result Bool ServeFault) (old new : Scene D W members) (s : State) (held : Held) : Type 0 where
+    pub verdict : Verdict
+    pub round : Round
+    pub settles : SettlesHeld old.store new.store s old.session.manner held verdict round
+    pub said : SaysThen contents (settled_text is_begun (count_of held) verdict) (verdict_result old.session.manner verdict) result
+        old.writer new.writer
 
   -- the batch was carried out, and answered
   pub record SettlesBatch (is_begun : Bool) (result : Result Bool ServeFault) (old new : Scene D W members) : Type 0 where
@@ -47,9 +56,7 @@ module _ {D W : Type 0} {members : Ghosts D} (contents : W → Option (List ℕ)
     pub store : FeedsOn result old.store new.store
     pub closed : IsStage new.session.batch None
     pub none : new.session.batch.count ≡ 0
-    pub settled : (s : State) (held : Held) → IsHeld old.session.batch held
-        → (verdict : Verdict) × (round : Round) × SettlesHeld old.store new.store s old.session.manner held verdict round
-        × SaysThen contents (settled_text is_begun (count_of held) verdict) (verdict_result old.session.manner verdict) result old.writer new.writer
+    pub settled : (s : State) (held : Held) → IsHeld old.session.batch held → SettlesSo is_begun result old new s held
 
   -- a line was taken outside of a batch
   pub record TakesLineOutside (used : LineUse) (line : Line) (result : Result Bool ServeFault) (old new : Scene D W members) : Type 0 where
@@ -77,10 +84,11 @@ module _ {D W : Type 0} {members : Ghosts D} (contents : W → Option (List ℕ)
     pub taken : (s : State) (stage : Option Held) (part : List ℕ) → IsStage old.session.batch stage → HoldsLine line part
         → TellsLine (TakesTo batches (IsStage new.session.batch) old.store new.store s old.session.manner stage part) result old new
 
-  -- a line was answered by itself
-  pub record AnswersAlone (on : Manner) (line : Line) (result : Result Bool ServeFault) (old new : Store D members) (writer writer' : W) : Type 0 where
-    pub store : FeedsOn result old new
-    pub answer : (s : State) (part : List ℕ) → HoldsLine line part → Writes on (HandlesLine old new s on part) result (contents writer) (contents writer')
+-- a line was answered by itself
+pub record AnswersAlone {D : Type 0} {members : Ghosts D} (on : Manner) (line : Line) (result : Result Bool ServeFault)
+    (old new : Store D members) (output : Written) : Type 0 where
+  pub store : FeedsOn result old new
+  pub answer : (s : State) (part : List ℕ) → HoldsLine line part → Writes on (HandlesLine old new s on part) result output
 
 -- lines were answered one after another, up to the first that was refused, and the answers are kept
 pub record CarriesEach {D A T : Type 0} {members : _} (lines : List Line) (result : Result T LastLine) (old new : Session (Vec ℕ A) D members) : Type 0 where

@@ -58,11 +58,18 @@ losing answer (lost place first count) = lost place first (count + 1)
 abbrev pub IsTooLarge : List (List ℕ) → List ℕ → Type 0
 IsTooLarge parts part = (MAX_LINES ≤ length parts) ⊎ (MAX_BATCH_BYTES < sum_by length parts + length part)
 
--- a change is added to a batch, or lost since the batch is too large, or since memory ran out
+-- what is held once a change came to these lines
+pub data AddsTo (part : List ℕ) (parts : List (List ℕ)) (held : Held) : Type 0 where
+  -- it is the last of them
+  line_added : held ≡ holds (parts ++ part ∷ []) → AddsTo part parts held
+  -- it is lost, as memory ran out
+  no_memory_for_change : held ≡ losing (error_text Memory) (holds parts) → AddsTo part parts held
+  -- it is lost, as the batch is too large
+  batch_too_large : held ≡ losing (reply_text reply.TooLarge) (holds parts) → IsTooLarge parts part → AddsTo part parts held
+
+-- a change comes to a batch: if a line of that is lost, it is only counted
 abbrev pub Adds : List ℕ → Held → Held → Type 0
-Adds part (holds parts) held =
-    (held ≡ holds (parts ++ part ∷ []))
-    ⊎ ((held ≡ losing (error_text Memory) (holds parts)) ⊎ ((held ≡ losing (reply_text reply.TooLarge) (holds parts)) × IsTooLarge parts part))
+Adds part (holds parts) held = AddsTo part parts held
 Adds part (lost place answer count) held = held ≡ losing [] (lost place answer count)
 
 -- lines as they are held
@@ -160,6 +167,15 @@ result_of (fails place answer GoOn) = Ok true
 result_of (fails place answer AsFailed) = Err fault.Store
 result_of (fails place answer AsUnsure) = Err fault.Unsure
 
+-- how a line is answered at which a batch stops: `said` is what the store answered, and `ends` whether it failed in that
+pub data IsStopped (said : List ℕ) (ends : Bool) (text : List ℕ) : Type 0 where
+  -- the line was refused
+  refused_so : text ≡ said → is_error said ≡ true → IsStopped said ends text
+  -- the store failed in it
+  failed_so : text ≡ said → ends ≡ true → IsStopped said ends text
+  -- memory for its answer ran out
+  no_memory_for_answer : text ≡ error_text Memory → IsStopped said ends text
+
 module _ {D : Type 0} {members : _} where
   -- a command was carried out, or the store had failed before
   pub record Applies (old new : Store D members) (command : Command) (answer : Result Answer Refusal) : Type 0 where
@@ -198,7 +214,7 @@ module _ {D : Type 0} {members : _} where
     pub at : place ≡ length before
     pub carried : HasAnswered old mid s (trying on) before earlier
     pub handled : HandlesLine mid new (after s carried.commands carried.answers) (trying on) line said ends
-    pub says : ((text ≡ said) × ((is_error said ≡ true) ⊎ (ends ≡ true))) ⊎ (text ≡ error_text Memory)
+    pub says : IsStopped said ends text
 
   -- what was carried out by then
   abbrev pub carried_by : {old new : Store D members} {s : State} {on : Manner} {lines : List (List ℕ)} {place : ℕ} {text : List ℕ}
@@ -233,8 +249,13 @@ module _ {D : Type 0} {members : _} where
   SettlesHeld old new s on (lost place answer count) verdict round = (new ≡ old) × (verdict ≡ fails place answer GoOn) × (round ≡ idle)
 
   -- a line is only answered so, and this is held then
-  abbrev pub IsSaid : Store D members → Store D members → List ℕ → Bool → List ℕ → Course → Option Held → Option Held → Round → Type 0
-  IsSaid old new said refused text course stage stage' round = (new ≡ old) × (text ≡ said) × (course ≡ proceeds refused) × (stage' ≡ stage) × (round ≡ idle)
+  pub record IsSaid (old new : Store D members) (said : List ℕ) (refused : Bool) (text : List ℕ) (course : Course)
+      (stage stage' : Option Held) (round : Round) : Type 0 where
+    pub same : new ≡ old
+    pub says : text ≡ said
+    pub goes : course ≡ proceeds refused
+    pub held : stage' ≡ stage
+    pub came_so : round ≡ idle
 
   -- a change outside of a batch is a batch of its own
   pub record MakesChange (old new : Store D members) (s : State) (how : Manner) (part text : List ℕ) (course : Course) (stage : Option Held) (round : Round) : Type 0 where
@@ -255,9 +276,20 @@ module _ {D : Type 0} {members : _} where
     pub outside : stage ≡ None
 
   -- a query is answered by the store
-  abbrev pub IsAsked : Store D members → Store D members → State → Manner → List ℕ → List ℕ → Course → Option Held → Round → Type 0
-  IsAsked old new s how part text course stage round =
-      (ends : Bool) × HandlesLine old new s how part text ends × (course ≡ course_of ends text) × (stage ≡ None) × (round ≡ idle)
+  pub record IsAsked (old new : Store D members) (s : State) (how : Manner) (part text : List ℕ) (course : Course)
+      (stage : Option Held) (round : Round) : Type 0 where
+    pub ends : Bool
+    pub handled : HandlesLine old new s how part text ends
+    pub goes : course ≡ course_of ends text
+    pub outside : stage ≡ None
+    pub came_so : round ≡ idle
+
+  -- a change comes to a batch, and is not answered yet
+  pub record HoldsChange (old new : Store D members) (held : Held) (part text : List ℕ) (course : Course) (stage : Option Held)
+      (round : Round) : Type 0 where
+    pub held' : Held
+    pub adds : Adds part held held'
+    pub said : IsSaid old new [] false text course (Some held') stage round
 
   -- a line outside of a batch
   abbrev pub TakesOutside : Store D members → Store D members → State → Manner → LineUse → List ℕ → List ℕ → Course → Option Held → Round → Type 0
@@ -275,7 +307,7 @@ module _ {D : Type 0} {members : _} where
   TakesInside old new s how line.Begin held part text course stage round = IsSaid old new [] false text course (Some (losing (reply_text reply.NotInBatch) held)) stage round
   TakesInside old new s how line.Query held part text course stage round = IsSaid old new [] false text course (Some (losing (reply_text reply.NotInBatch) held)) stage round
   TakesInside old new s how (line.Refused said) held part text course stage round = IsSaid old new [] false text course (Some (losing (reply_text said) held)) stage round
-  TakesInside old new s how line.Change held part text course stage round = (held' : Held) × Adds part held held' × IsSaid old new [] false text course (Some held') stage round
+  TakesInside old new s how line.Change held part text course stage round = HoldsChange old new held part text course stage round
   TakesInside old new s how line.Abort held part text course stage round =
       IsSaid old new (forgotten_text (count_of held) ++ ok_text) (some_lines (count_of held)) text course None stage round
   TakesInside old new s how line.Commit held part text course stage round = EndsBatch old new s how held text course stage round
@@ -285,10 +317,14 @@ module _ {D : Type 0} {members : _} where
   TakesAs old new s how used None part text course stage' round = TakesOutside old new s how used part text course stage' round
   TakesAs old new s how used (Some held) part text course stage' round = TakesInside old new s how used held part text course stage' round
 
-  -- a line is taken for what it is, or memory ran out
-  abbrev pub Takes : Store D members → Store D members → State → Manner → Option Held → List ℕ → List ℕ → Course → Option Held → Round → Type 0
-  Takes old new s how stage part text course stage' round =
-      TakesAs old new s how no_memory stage part text course stage' round ⊎ TakesAs old new s how (use_of how.on_command part) stage part text course stage' round
+  -- a line is taken
+  pub data Takes (old new : Store D members) (s : State) (how : Manner) (stage : Option Held) (part text : List ℕ)
+      (course : Course) (stage' : Option Held) (round : Round) : Type 0 where
+    -- as one for which memory ran out
+    without_memory : TakesAs old new s how no_memory stage part text course stage' round → Takes old new s how stage part text course stage' round
+    -- for what it is
+    for_its_use : TakesAs old new s how (use_of how.on_command part) stage part text course stage' round
+        → Takes old new s how stage part text course stage' round
 
 -- ---- the whole input
 

@@ -1,5 +1,5 @@
 -- Batches that wait, and how they are carried out together.
-use Rattle.std.specs.Prelude.{◌≡◌, ◌≢◌, ◌⊎◌, ◌+◌, ◌==◌, ◌||◌, ℕ, Bool, true, false, List, [], ◌∷◌, ◌++◌, Ok, Err, length}
+use Rattle.std.specs.Prelude.{◌≡◌, ◌≢◌, ◌+◌, ◌==◌, ◌||◌, ℕ, Bool, true, false, List, [], ◌∷◌, ◌++◌, Ok, Err, length}
 use Rattle.std.specs.Fmt.{decimal}
 use Rattle.vm_types.specs.declared.answer.Answer.{Answer}
 use Rattle.vm_types.specs.declared.command.Command.TheVariants.{Commit}
@@ -78,14 +78,38 @@ then_course refused (proceeds again) = proceeds (refused || again)
 then_course refused over = over
 then_course refused unwritten = unwritten
 
+-- why no further round comes, and how the session goes on then
+pub data HasNoRound (waiting : List Waiting) (course : Course) : Type 0 where
+  -- no batch waits any more
+  none_left : waiting ≡ [] → course ≡ proceeds false → HasNoRound waiting course
+  -- the writer failed in an answer
+  writer_failed : course ≡ unwritten → HasNoRound waiting course
+
 module _ {D : Type 0} {members : _} where
+  -- no batch was carried out
+  pub record CarriesNone (old new : Store D members) (answers : List (List ℕ)) (batch : Commanded) : Type 0 where
+    pub same : new ≡ old
+    pub silent : answers ≡ []
+    pub nothing : batch ≡ record { commands = []; answers = [] }
+
+  -- the lines of a batch were carried out, and none of them was refused; then other batches were, by the store that it left, as `AreOthers`
+  -- tells: the answers to the lines of each, and what was done
+  pub record CarriesNext (AreOthers : Store D members → State → List (List ℕ) → Commanded → Type 0)
+      (old : Store D members) (s : State) (how : Manner) (it : Waiting) (answers : List (List ℕ)) (batch : Commanded) : Type 0 where
+    pub mid : Store D members
+    pub first : List ℕ
+    pub others : List (List ℕ)
+    pub later : Commanded
+    pub carried : HasAnswered old mid s (trying how) it.lines first
+    pub texts : answers ≡ first ∷ others
+    pub came : batch ≡ both (record { commands = carried.commands; answers = carried.answers }) later
+    pub more : AreOthers mid (after s carried.commands carried.answers) others later
+
   -- the lines of each were carried out, batch by batch, and none was refused: the answers to those of each, and what was done
   abbrev pub CarriesAll : Store D members → Store D members → State → Manner → List Waiting → List (List ℕ) → Commanded → Type 0
-  CarriesAll old new s how [] answers batch = (new ≡ old) × (answers ≡ []) × (batch ≡ record { commands = []; answers = [] })
+  CarriesAll old new s how [] answers batch = CarriesNone old new answers batch
   CarriesAll old new s how (it ∷ group) answers batch =
-      (mid : Store D members) × (first : List ℕ) × (others : List (List ℕ)) × (later : Commanded) × (carried : HasAnswered old mid s (trying how) it.lines first)
-      × (answers ≡ first ∷ others) × (batch ≡ both (record { commands = carried.commands; answers = carried.answers }) later)
-      × CarriesAll mid new (after s carried.commands carried.answers) how group others later
+      CarriesNext (λ mid t others later. CarriesAll mid new t how group others later) old s how it answers batch
 
   -- they were carried out, and committed together
   pub record CommitsAll (old new : Store D members) (s : State) (how : Manner) (group : List Waiting) (text : List ℕ) (round : Round) : Type 0 where
@@ -152,10 +176,14 @@ module _ {D : Type 0} {members : _} where
     pub refuses : refused ≡ false
 
   -- one round of those that wait
-  abbrev pub TakesRound : Store D members → Store D members → State → Manner → List Waiting → List Waiting → List ℕ → Bool → Round → Type 0
-  TakesRound old new s how waiting rest text refused round =
-      TakesFirst old new s how waiting rest text refused round
-      ⊎ (RefusesFirst old new s how waiting rest text refused round ⊎ TriesAgain old new s how waiting rest text refused round)
+  pub data TakesRound (old new : Store D members) (s : State) (how : Manner) (waiting rest : List Waiting) (text : List ℕ)
+      (refused : Bool) (round : Round) : Type 0 where
+    -- the first of them were committed together
+    group_committed : TakesFirst old new s how waiting rest text refused round → TakesRound old new s how waiting rest text refused round
+    -- the very first was refused by itself
+    alone_refused : RefusesFirst old new s how waiting rest text refused round → TakesRound old new s how waiting rest text refused round
+    -- a later one was refused, and all is undone
+    group_undone : TriesAgain old new s how waiting rest text refused round → TakesRound old new s how waiting rest text refused round
 
   -- the commit of the first of them was not acknowledged
   pub record EndsUnsure (old new : Store D members) (s : State) (how : Manner) (waiting : List Waiting) (text : List ℕ) (round : Round) : Type 0 where
@@ -174,15 +202,49 @@ module _ {D : Type 0} {members : _} where
     pub stops : RefusesOne old new s how before it text AsFailed round
 
   -- the round with which the session ends
-  abbrev pub EndsInRound : Store D members → Store D members → State → Manner → List Waiting → List ℕ → Round → Type 0
-  EndsInRound old new s how waiting text round = EndsUnsure old new s how waiting text round ⊎ EndsFailed old new s how waiting text round
+  pub data EndsInRound (old new : Store D members) (s : State) (how : Manner) (waiting : List Waiting) (text : List ℕ) (round : Round) : Type 0 where
+    -- its commit was not acknowledged
+    commit_unsure : EndsUnsure old new s how waiting text round → EndsInRound old new s how waiting text round
+    -- the store failed in it
+    store_failed : EndsFailed old new s how waiting text round → EndsInRound old new s how waiting text round
+
+  -- no further round comes
+  pub record SettlesNone (old new : Store D members) (waiting : List Waiting) (text : List ℕ) (course : Course) : Type 0 where
+    pub same : new ≡ old
+    pub silent : text ≡ []
+    pub since : HasNoRound waiting course
+
+  -- the session ends in a round, and no further one comes
+  pub record SettlesLast (old new : Store D members) (s : State) (how : Manner) (waiting : List Waiting) (text : List ℕ)
+      (course : Course) (round : Round) (rounds : List Round) : Type 0 where
+    pub ends : EndsInRound old new s how waiting text round
+    pub last : rounds ≡ []
+    pub goes : course ≡ over
+
+  -- a round was taken, and then those that wait on were settled, by the store that it left, as `AreOthers` tells: the texts joined
+  pub record SettlesNext (AreOthers : Store D members → List Waiting → List ℕ → Course → Type 0)
+      (old : Store D members) (s : State) (how : Manner) (waiting : List Waiting) (text : List ℕ) (course : Course) (round : Round) : Type 0 where
+    pub mid : Store D members
+    pub rest : List Waiting
+    pub said : List ℕ
+    pub more : List ℕ
+    pub refused : Bool
+    pub next : Course
+    pub takes : TakesRound old mid s how waiting rest said refused round
+    pub texts : text ≡ said ++ more
+    pub goes : course ≡ then_course refused next
+    pub others : AreOthers mid rest more next
+
+  -- a round comes: it is the last, with which the session ends, or there may be further ones
+  pub data SettlesSome (AreOthers : Store D members → List Waiting → List ℕ → Course → Type 0) (old new : Store D members) (s : State) (how : Manner)
+      (waiting : List Waiting) (text : List ℕ) (course : Course) (round : Round) (rounds : List Round) : Type 0 where
+    last_round : SettlesLast old new s how waiting text course round rounds → SettlesSome AreOthers old new s how waiting text course round rounds
+    further_rounds : SettlesNext AreOthers old s how waiting text course round → SettlesSome AreOthers old new s how waiting text course round rounds
 
   -- all that waits is carried out, round by round, until none is left; or the session ends in one of them; or the writer failed in an answer,
   -- and no further round came
   abbrev pub SettlesWaiting : Store D members → Store D members → State → Manner → List Waiting → List ℕ → Course → List Round → Type 0
-  SettlesWaiting old new s how waiting text course [] = (new ≡ old) × (text ≡ []) × (((waiting ≡ []) × (course ≡ proceeds false)) ⊎ (course ≡ unwritten))
+  SettlesWaiting old new s how waiting text course [] = SettlesNone old new waiting text course
   SettlesWaiting old new s how waiting text course (round ∷ rounds) =
-      (EndsInRound old new s how waiting text round × (rounds ≡ []) × (course ≡ over))
-      ⊎ ((mid : Store D members) × (rest : List Waiting) × (said : List ℕ) × (more : List ℕ) × (refused : Bool) × (next : Course)
-      × TakesRound old mid s how waiting rest said refused round × (text ≡ said ++ more) × (course ≡ then_course refused next)
-      × SettlesWaiting mid new (after_round s round) how rest more next rounds)
+      SettlesSome (λ mid rest more next. SettlesWaiting mid new (after_round s round) how rest more next rounds)
+      old new s how waiting text course round rounds

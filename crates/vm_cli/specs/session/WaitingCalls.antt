@@ -1,10 +1,10 @@
 -- What the calls do by which batches that wait are carried out.
-use Rattle.std.specs.Prelude.{◌≡◌, ◌⊎◌, ◌+◌, ◌<◌, ◌≤◌, ℕ, Bool, true, false, List, [], ◌∷◌, ◌++◌, Option, Result, Ok, Err, drop, length, map, slice_range}
+use Rattle.std.specs.Prelude.{◌≡◌, ◌+◌, ◌<◌, ◌≤◌, ℕ, Bool, true, false, List, [], ◌∷◌, ◌++◌, Option, Result, Ok, Err, drop, length, map, slice_range}
 use Rattle.std.specs.Io.KnownBytes.{Appends}
 use Rattle.vm_types.specs.State.{State, after}
 use Rattle.vm_disk.specs.declared.disk.Disk.{Ghosts}
 use Rattle.vm_store.specs.declared.store.Store.{Store}
-use Rattle.vm_cli.specs.answers.Carried.{WritesStart}
+use Rattle.vm_cli.specs.session.Known.{Written, written_to}
 use Rattle.vm_cli.specs.session.SessionKinds.{Puts, Tells}
 use Rattle.vm_cli.specs.session.Feeds.{FeedsOn}
 use Rattle.vm_cli.specs.session.PlannerCalls.{AreWaiting}
@@ -66,14 +66,12 @@ abbrev pub sure_result : {T : Type 0} → Result T LastLine → Result T ServeFa
 sure_result (Ok u) = Ok u
 sure_result (Err stop) = Err fault.Unsure
 
--- a text was written whole, and this was the result; or a beginning of it
-abbrev pub WritesThen : {T : Type 0} → List ℕ → Result T ServeFault → Result T ServeFault → Option (List ℕ) → Option (List ℕ) → Type 0
-WritesThen text then result before after = ((result ≡ then) × Appends before after text) ⊎ ((result ≡ Err fault.Write) × WritesStart before after text)
-
 -- the batch at this place was answered
-pub record PutsWaiting {S T : Type 0} (at : ℕ) (settled : Result S LastLine) (result : Result T ServeFault) (queue queue' : List WaitingBatch) (before after : Option (List ℕ)) : Type 0 where
+pub record PutsWaiting {S T : Type 0} (at : ℕ) (settled : Result S LastLine) (result : Result T ServeFault)
+    (queue queue' : List WaitingBatch) (output : Written) : Type 0 where
   pub behind : drop (at + 1) queue' ≡ drop (at + 1) queue
-  pub put : (own : WaitingBatch) (others : List WaitingBatch) → drop at queue ≡ own ∷ others → Puts (own_text own (verdict_of settled own.answers.items)) result before after
+  pub put : (own : WaitingBatch) (others : List WaitingBatch) → drop at queue ≡ own ∷ others
+      → Puts (own_text own (verdict_of settled own.answers.items)) result output
 
 -- ---- what is done
 
@@ -136,15 +134,23 @@ module _ {D : Type 0} {members : Ghosts D} where
     pub store : FeedsOn (shared_result result) old new
     pub carried : (s : State) (waiting : List Waiting) → AreWaiting queue waiting → CarriesRange old new s how from to waiting result queue'
 
+  -- those in this range were tried, which was a round
+  pub record TriesOnce (old new : Store D members) (s : State) (how : Manner) (from to : ℕ) (waiting : List Waiting)
+      (tried : Tried) (output : Written) : Type 0 where
+    pub text : List ℕ
+    pub round : Round
+    pub takes : TakesRound old new s how (drop from waiting) (drop (first_left from to tried) waiting) text (is_refused tried) round
+    pub written : Appends output.before output.after text
+
   -- those in this range were tried: it was a round, or the session ends
-  abbrev pub TriesRange : Store D members → Store D members → State → Manner → ℕ → ℕ → List Waiting → Result Tried ServeFault → Option (List ℕ) → Option (List ℕ) → Type 0
-  TriesRange old new s how from to waiting (Ok tried) before after =
-      (text : List ℕ) × (round : Round) × TakesRound old new s how (drop from waiting) (drop (first_left from to tried) waiting) text (is_refused tried) round × Appends before after text
-  TriesRange old new s how from to waiting (Err why) before after =
-      Tells how (λ text course. (rounds : List Round) × SettlesWaiting old new s how (drop from waiting) text course rounds) (Err why) before after
+  abbrev pub TriesRange : Store D members → Store D members → State → Manner → ℕ → ℕ → List Waiting → Result Tried ServeFault → Written → Type 0
+  TriesRange old new s how from to waiting (Ok tried) output = TriesOnce old new s how from to waiting tried output
+  TriesRange old new s how from to waiting (Err why) output =
+      Tells how (λ text course. (rounds : List Round) × SettlesWaiting old new s how (drop from waiting) text course rounds) (Err why) output
 
 -- the batches in this range were tried together
 pub record TriesTogether {D W : Type 0} {members : Ghosts D} (contents : W → Option (List ℕ)) (from to : ℕ) (result : Result Tried ServeFault) (queue queue' : List WaitingBatch) (old new : Scene D W members) : Type 0 where
   pub keeps : KeepsWaiting queue queue' old.session new.session
   pub store : FeedsOn (round_result result) old.store new.store
-  pub tried : (s : State) (waiting : List Waiting) → AreWaiting queue waiting → TriesRange old.store new.store s old.session.manner from to waiting result (contents old.writer) (contents new.writer)
+  pub tried : (s : State) (waiting : List Waiting) → AreWaiting queue waiting
+      → TriesRange old.store new.store s old.session.manner from to waiting result (written_to contents old.writer new.writer)

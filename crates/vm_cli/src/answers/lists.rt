@@ -2,6 +2,7 @@
 ghost use Rattle.std.specs.Prelude.{◌≡◌, ◌+◌, ◌≤◌, [], length, IfOk, OnErr, OnOk};
 ghost use Rattle.vm_cli.specs.answers.Carried.{Begins, GainsBut};
 ghost use Rattle.vm_cli.specs.session.Feeds.{RepliesWithList, joined};
+ghost use Rattle.vm_cli.specs.session.Known.{written_to};
 
 use crate::answers::listing::Listing;
 use crate::answers::output::{WriteFault, put_all};
@@ -23,7 +24,7 @@ pub(crate) fn reply_with_list<L: Listing + Drop, W: Write>(
 ) -> Result<Reply, WriteFault>
     requires { text.old ≡ [] }
     ensures room { OnOk result (length text.new + 1024 ≤ Text.MAX_LEN) }
-    ensures list { RepliesWithList L.lines W.contents list result writer.old writer.new text.new }
+    ensures list { RepliesWithList L.lines list result (written_to W.contents writer.old writer.new) text.new }
 {
     match list {
         Ok(list) => write_list(&list, text, writer),

@@ -1,5 +1,6 @@
 //! Answers to many planners: each stands behind a line with the number of its planner.
 ghost use Rattle.std.specs.Prelude.{◌≡◌};
+ghost use Rattle.vm_cli.specs.session.Known.{written_to};
 ghost use Rattle.vm_cli.specs.session.Planners.{is_heard as is_heard_in, is_last_in};
 
 use crate::answers::output::put_all;
@@ -137,7 +138,7 @@ impl BatchSession {
         writer: &mut W,
     ) -> Result<(), ServeFault>
         ensures put { Puts (label number ++ reply_text reply) result
-            (W.contents writer.old) (W.contents writer.new) }
+            (written_to W.contents writer.old writer.new) }
         ensures same { KeepsSession self.old self.new }
     {
         self.put_label(number, writer)?;
@@ -151,7 +152,7 @@ impl BatchSession {
         writer: &mut W,
     ) -> Result<(), ServeFault>
         ensures put { (it : Seat) → planner.now.number ≡ it.number → IsStage planner.now.batch it.stage
-            → Puts (parting_text it) result (W.contents writer.old) (W.contents writer.new) }
+            → Puts (parting_text it) result (written_to W.contents writer.old writer.new) }
         ensures same { KeepsSession self.old self.new }
     {
         if !planner.batch.is_open {
@@ -168,7 +169,7 @@ impl BatchSession {
         writer: &mut W,
     ) -> Result<(), ServeFault>
         ensures put { (it : Waiting) → IsWaiting waiting.now it
-            → Puts (label it.number ++ forgotten_text (owed it)) result (W.contents writer.old) (W.contents writer.new) }
+            → Puts (label it.number ++ forgotten_text (owed it)) result (written_to W.contents writer.old writer.new) }
         ensures same { KeepsSession self.old self.new }
     {
         self.put_label(waiting.number, writer)?;
@@ -183,7 +184,7 @@ impl BatchSession {
         number: u32,
         writer: &mut W,
     ) -> Result<(), ServeFault>
-        ensures put { Puts (label_if heard number) result (W.contents writer.old) (W.contents writer.new) }
+        ensures put { Puts (label_if heard number) result (written_to W.contents writer.old writer.new) }
         ensures same { KeepsSession self.old self.new }
     {
         if !heard {
@@ -198,7 +199,7 @@ impl BatchSession {
         number: u32,
         writer: &mut W,
     ) -> Result<(), ServeFault>
-        ensures put { Puts (label number) result (W.contents writer.old) (W.contents writer.new) }
+        ensures put { Puts (label number) result (written_to W.contents writer.old writer.new) }
         ensures same { KeepsSession self.old self.new }
     {
         self.text.clear();

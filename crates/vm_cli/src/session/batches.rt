@@ -3,7 +3,7 @@ ghost use Rattle.std.specs.Prelude.{◌≡◌, ◌+◌, ◌<◌, ◌++◌, ℕ, 
 ghost use Rattle.vm_types.specs.State.{State};
 ghost use Rattle.vm_store.specs.Store.{GrowsOn, has_failed};
 ghost use Rattle.vm_cli.specs.session.SessionKinds.{said_result};
-ghost use Rattle.vm_cli.specs.session.Known.{streams_of};
+ghost use Rattle.vm_cli.specs.session.Known.{streams_of, written_to};
 ghost use Rattle.vm_cli.specs.session.Feeds.{FeedsOn};
 ghost use Rattle.vm_cli.specs.answers.Replies.{reply_text};
 ghost use Rattle.vm_cli.specs.session.Rounds.{AreWholeBatches, Round};
@@ -261,7 +261,7 @@ impl BatchSession {
     ) -> Result<(), ServeFault>
         requires { IfErr settled (λ stop. stop.place < usize.MAX) }
         ensures put { Puts (settled_text is_begun count (verdict_of settled self.old.answers.items)) result
-            (W.contents writer.old) (W.contents writer.new) }
+            (written_to W.contents writer.old writer.new) }
         ensures same { KeepsSession self.old self.new }
     {
         match settled {
@@ -291,7 +291,7 @@ impl BatchSession {
         requires { stop.now.place < usize.MAX }
         ensures put { let other = reply_text (Reply.NotDone (stop.now.place + 1)) in
             Puts (repeated before other ++ (why_text stop.now.why self.old.answers.items ++ repeated behind other)) result
-            (W.contents writer.old) (W.contents writer.new) }
+            (written_to W.contents writer.old writer.new) }
         ensures same { KeepsSession self.old self.new }
     {
         let other = Reply::NotDone(stop.place + 1);
@@ -350,7 +350,7 @@ impl BatchSession {
     /// Writes the answer to the line that was refused.
     fn put_why<W: Write>(&mut self, why: Why, writer: &mut W) -> Result<(), ServeFault>
         ensures put { Puts (why_text why self.old.answers.items) result
-            (W.contents writer.old) (W.contents writer.new) }
+            (written_to W.contents writer.old writer.new) }
         ensures same { KeepsSession self.old self.new }
     {
         match why {
@@ -367,7 +367,7 @@ impl BatchSession {
         writer: &mut W,
     ) -> Result<(), ServeFault>
         ensures put { Puts (repeated count (reply_text reply)) result
-            (W.contents writer.old) (W.contents writer.new) }
+            (written_to W.contents writer.old writer.new) }
         ensures same { KeepsSession self.old self.new }
     {
         said(put_repeated(reply, count, &mut self.text, writer))
@@ -410,7 +410,7 @@ fn answer_alone<W: Write, D: Disk>(
     writer: &mut W,
     store: &mut Store<D>,
 ) -> Result<bool, ServeFault>
-    ensures { AnswersAlone W.contents manner line.now result store.old store.new writer.old writer.new }
+    ensures { AnswersAlone manner line.now result store.old store.new (written_to W.contents writer.old writer.new) }
 {
     let mut session = Session {
         alloc,

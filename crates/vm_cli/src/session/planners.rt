@@ -111,7 +111,7 @@ impl PlannersSession {
     ghost use Rattle.vm_cli.specs.session.StreamCalls.{SaysThen, scene};
     ghost use Rattle.vm_cli.specs.session.Waiting.{Waiting, waits as waits_of};
     ghost use Rattle.vm_cli.specs.session.SessionKinds.{RunsStream, counted_result};
-    ghost use Rattle.vm_cli.specs.session.Known.{streams_of};
+    ghost use Rattle.vm_cli.specs.session.Known.{streams_of, written_to};
     ghost use Rattle.vm_cli.specs.session.Streams.{IsStage};
 
     /// Takes all lines of the input.
@@ -266,7 +266,7 @@ impl PlannersSession {
 
     /// A planner joins.
     fn join<W: Write>(&mut self, number: u32, writer: &mut W) -> Result<bool, ServeFault>
-        ensures { AnswersSeats (Joins number) result self.old self.new (W.contents writer.old) (W.contents writer.new) }
+        ensures { AnswersSeats (Joins number) result self.old self.new (written_to W.contents writer.old writer.new) }
     {
         if self.place_of(number).is_some() {
             return self.tell(number, Reply::PlannerExists, writer);
@@ -283,7 +283,7 @@ impl PlannersSession {
 
     /// A planner leaves. What it holds is forgotten.
     fn leave<W: Write>(&mut self, number: u32, writer: &mut W) -> Result<bool, ServeFault>
-        ensures { AnswersSeats (Leaves number) result self.old self.new (W.contents writer.old) (W.contents writer.new) }
+        ensures { AnswersSeats (Leaves number) result self.old self.new (written_to W.contents writer.old writer.new) }
     {
         let Some(place) = self.place_of(number) else {
             return self.tell(number, Reply::NoSuchPlanner, writer);
@@ -373,7 +373,7 @@ impl PlannersSession {
         reply: Reply,
         writer: &mut W,
     ) -> Result<bool, ServeFault>
-        ensures { AnswersSeats (IsTold number (reply_text reply)) result self.old self.new (W.contents writer.old) (W.contents writer.new) }
+        ensures { AnswersSeats (IsTold number (reply_text reply)) result self.old self.new (written_to W.contents writer.old writer.new) }
     {
         self.session.tell(number, reply, 1, writer)
     }

@@ -3,6 +3,7 @@
 ghost use Rattle.std.specs.Prelude.{◌≡◌, []};
 ghost use Rattle.vm_cli.specs.lines.Asking.{Request};
 ghost use Rattle.vm_cli.specs.session.Feeds.{AsksInto, QueriesBy, QueriesWith};
+ghost use Rattle.vm_cli.specs.session.Known.{written_to};
 ghost use Rattle.vm_cli.specs.lines.Requested.{list_for};
 
 use crate::answers::lists::reply_with_list;
@@ -78,8 +79,8 @@ pub(crate) fn reply_to_list<W: Write, D: Disk>(
     store: &mut Store<D>,
 ) -> Result<Reply, WriteFault>
     requires { text.old ≡ [] }
-    ensures { AsksInto W.contents (list_for query.now) result store.old store.new
-        writer.old writer.new text.new }
+    ensures { AsksInto (list_for query.now) result store.old store.new
+        (written_to W.contents writer.old writer.new) text.new }
 {
     match query {
         ListQuery::Records(at) => reply_with_list(store.list_at(alloc, at), text, writer),

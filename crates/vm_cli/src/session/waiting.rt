@@ -1,5 +1,6 @@
 //! Batches that wait, and are carried out together.
 ghost use Rattle.std.specs.Prelude.{◌≡◌};
+ghost use Rattle.vm_cli.specs.session.Known.{written_to};
 ghost use Rattle.vm_cli.specs.session.WaitingCalls.{placed_behind};
 
 use crate::session::batch::Batch;
@@ -44,7 +45,8 @@ impl BatchSession {
     ghost use Rattle.std.specs.Prelude.{◌≡◌, ◌<◌, ◌≤◌, IfErr, IfOk, slice_range, vec_len};
     ghost use Rattle.vm_cli.specs.session.PlannerCalls.{SettlesQueue};
     ghost use Rattle.vm_cli.specs.session.StreamCalls.{scene};
-    ghost use Rattle.vm_cli.specs.session.WaitingCalls.{CarriesShared, IsAmong, IsFewer, KeepsWaiting, PutsWaiting, TriesTogether, WritesThen, shared_texts, sure_result};
+    ghost use Rattle.vm_cli.specs.session.SessionKinds.{AnswersThen};
+    ghost use Rattle.vm_cli.specs.session.WaitingCalls.{CarriesShared, IsAmong, IsFewer, KeepsWaiting, PutsWaiting, TriesTogether, shared_texts, sure_result};
 
     /// Carries out all that waits, and answers it. As many batches as can be are committed
     /// together. One that is refused beside others is tried by itself, behind those before it.
@@ -159,8 +161,8 @@ impl BatchSession {
         requires order { from ≤ to }
         requires within { to ≤ vec_len waiting.old }
         ensures keeps { KeepsWaiting waiting.old.items waiting.new.items self.old self.new }
-        ensures answered { WritesThen (shared_texts committed (slice_range waiting.old.items from to)) (sure_result committed) result
-            (W.contents writer.old) (W.contents writer.new) }
+        ensures answered { AnswersThen (shared_texts committed (slice_range waiting.old.items from to)) (sure_result committed) result
+            (written_to W.contents writer.old writer.new) }
     {
         for at in from..to {
             let settled = beside(committed, waiting[at].batch.lines.len());
@@ -184,7 +186,7 @@ impl BatchSession {
         requires place { IfErr settled (λ stop. stop.place < usize.MAX) }
         ensures keeps { KeepsWaiting waiting.old.items waiting.new.items self.old self.new }
         ensures puts { PutsWaiting at settled result waiting.old.items waiting.new.items
-            (W.contents writer.old) (W.contents writer.new) }
+            (written_to W.contents writer.old writer.new) }
     {
         let own = &mut waiting[at];
         mem::swap(&mut self.answers, &mut own.answers);

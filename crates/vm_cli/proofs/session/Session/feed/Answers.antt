@@ -1,5 +1,5 @@
 use Rattle.std.proofs.Common.{◌||◌, ◌++◌, [], false, Err, Ok, arith, refl, rules, subst, sym, take, drop, ◌+◌}
-use Rattle.vm_cli.specs.session.Feeds.{Fed}
+use Rattle.vm_cli.specs.session.Feeds.{Fed, chunk}
 use Rattle.vm_cli.specs.session.Known.{between}
 use Rattle.vm_cli.specs.lines.Lines.{lines_of}
 use Rattle.vm_cli.specs.session.Session.{ServesLines}
@@ -13,9 +13,9 @@ pub loop-end-init : goal.loop-end-init
 loop-end-init g c = record {
   done = [];
   split = refl;
-  same = (refl, refl, refl);
+  same = record { store = refl; writer = refl; manner = refl };
   store = feeds_none c.args.self.now.store.now false;
-  fed = λ s from h. (from, h, fed-nothing c.args.self.now.store.now s c.args.self.now.manner from _);
+  fed = λ s from h. record { to = from; held = h; fed = fed-nothing c.args.self.now.store.now s c.args.self.now.manner from _ };
 }
 
 pub feed_line-requires : goal.feed_line-requires
@@ -32,7 +32,7 @@ returns-in_err-refused g c =
     let mid = c.loop-end.self.store.now in
     let new = c.feed_line.new.self.store.now in
     let so_far = c.loop-end.invariant in
-    let said = feeds_as g.W.Write.contents c.loop-end.self.manner c.args.self.now.manner so_far.same.2 c.in_err-refused.ensures in
+    let said = feeds_as g.W.Write.contents c.loop-end.self.manner c.args.self.now.manner so_far.same.manner c.in_err-refused.ensures in
     rw (passed_on _ c.from_residual.ensures.1)
     (record {
       same = stays_then c.args.self.now c.loop-end.self c.feed_line.new.self so_far.same said.same;
@@ -44,10 +44,10 @@ returns-in_err-refused g c =
           let first = c.in-Some.ensures in
           let p = so_far.fed s from h in
           let rest = drop (c.in-Some.end + 1) c.loop-end.rest.now ++ more in
-          let q = said.ended _ p.0 p.1 rest in
+          let q = said.ended _ p.to p.held rest in
           let bytes = sym (line_split c.args.bytes.now so_far.done c.loop-end.rest.now more c.in-Some.end so_far.split first.0.high first.1) in
           subst (λ bs. ServesLines old new s c.args.self.now.manner (Err c.in_err-refused.field-0.0) (between before now) (lines_of (from ++ bs))) bytes
-          (ended-join old mid new s c.args.self.now.manner _ _ _ from p.0 before _ now p.2 c.in_err-refused.field-0.0 rest q);
+          (ended-join old mid new s c.args.self.now.manner _ _ _ from p.to before _ now p.fed c.in_err-refused.field-0.0 rest q);
     })
 
 pub loop-end-preserved : goal.loop-end-preserved
@@ -59,7 +59,7 @@ loop-end-preserved g c =
     let now = g.W.Write.contents c.feed_line.new.self.writer.now in
     let so_far = c.loop-end.invariant in
     let first = c.in-Some.ensures in
-    let said = feeds_as g.W.Write.contents c.loop-end.self.manner c.args.self.now.manner so_far.same.2 c.in_ok-refused.ensures in
+    let said = feeds_as g.W.Write.contents c.loop-end.self.manner c.args.self.now.manner so_far.same.manner c.in_ok-refused.ensures in
     let line = line_is c.loop-end.rest.now c.in-Some.end first.0.high first.1 in
     record {
       done = so_far.done ++ take (c.in-Some.end + 1) c.loop-end.rest.now;
@@ -68,12 +68,13 @@ loop-end-preserved g c =
       store = feeds_then old mid new c.loop-end.refused so_far.store (Ok c.in_ok-refused.field-0) said.store;
       fed = λ s from h.
           let p = so_far.fed s from h in
-          let q = said.fed _ p.0 p.1 in (
-            q.0,
-            q.1,
-            subst (λ bs. Fed old new s c.args.self.now.manner (c.loop-end.refused || c.in_ok-refused.field-0) (so_far.done ++ bs) from q.0 before now) (sym line)
-                (fed-join old mid new s c.args.self.now.manner _ _ _ from p.0 before _ now p.2 _ q.0 q.2),
-          );
+          let q = said.fed _ p.to p.held in
+          record {
+            to = q.to;
+            held = q.held;
+            fed = subst (λ bs. Fed old new s c.args.self.now.manner (c.loop-end.refused || c.in_ok-refused.field-0) (chunk from (so_far.done ++ bs) q.to) (between before now)) (sym line)
+                (fed-join old mid new s c.args.self.now.manner _ _ _ from p.to before _ now p.fed _ q.to q.fed);
+          };
     }
 
 pub returns : goal.returns
@@ -86,12 +87,13 @@ returns g c =
           let before = g.W.Write.contents c.args.self.now.writer.now in
           let now = g.W.Write.contents c.loop-end.self.writer.now in
           let rest = c.loop-end.rest.now in
-          let p = so_far.fed s from h in (
-            p.0 ++ rest,
-            c.extend.ensures p.0 p.1,
-            subst (λ b. Fed c.args.self.now.store.now c.loop-end.self.store.now s c.args.self.now.manner b c.args.bytes.now from (p.0 ++ rest) before now) (or-false c.loop-end.refused)
-                (subst (λ bs. Fed c.args.self.now.store.now c.loop-end.self.store.now s c.args.self.now.manner (c.loop-end.refused || false) bs from (p.0 ++ rest) before now) (sym so_far.split)
-                (fed-join c.args.self.now.store.now c.loop-end.self.store.now c.loop-end.self.store.now s c.args.self.now.manner _ _ _ from p.0 before _ now p.2 false (p.0 ++ rest) (fed-part c.loop-end.self.store.now _ c.args.self.now.manner p.0 rest now))),
-          );
+          let p = so_far.fed s from h in
+          record {
+            to = p.to ++ rest;
+            held = c.extend.ensures p.to p.held;
+            fed = subst (λ b. Fed c.args.self.now.store.now c.loop-end.self.store.now s c.args.self.now.manner b (chunk from c.args.bytes.now (p.to ++ rest)) (between before now)) (or-false c.loop-end.refused)
+                (subst (λ bs. Fed c.args.self.now.store.now c.loop-end.self.store.now s c.args.self.now.manner (c.loop-end.refused || false) (chunk from bs (p.to ++ rest)) (between before now)) (sym so_far.split)
+                (fed-join c.args.self.now.store.now c.loop-end.self.store.now c.loop-end.self.store.now s c.args.self.now.manner _ _ _ from p.to before _ now p.fed false (p.to ++ rest) (fed-part c.loop-end.self.store.now _ c.args.self.now.manner p.to rest now)));
+          };
       ended = λ s from h more. tt;
     }

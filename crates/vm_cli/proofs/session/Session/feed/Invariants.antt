@@ -1,6 +1,6 @@
 use Rattle.std.proofs.Common.{◌≡◌, ◌++◌, ℕ, List, Ok, length}
 use Rattle.vm_types.specs.State.{State}
-use Rattle.vm_cli.specs.session.Feeds.{Fed, Stays, FeedsOn}
+use Rattle.vm_cli.specs.session.Feeds.{FedUpTo, Stays, FeedsOn, written_in}
 use Rattle.vm_cli.specs.lines.Input.{HoldsLine}
 use Rattle.vm_cli.proofs.session.Session.feed.Given as goal
 
@@ -12,7 +12,7 @@ invariant-loop-end g l = record {
   same : Stays l.fn.self l.self;
   store : FeedsOn (Ok l.refused) l.fn.self.store.now l.self.store.now;
   fed : (s : State) → (from : List ℕ) → HoldsLine l.fn.line from
-      → (to : List ℕ) × HoldsLine l.line to × Fed l.fn.self.store.now l.self.store.now s l.fn.self.manner l.refused done from to (g.W.Write.contents l.fn.self.writer.now) (g.W.Write.contents l.self.writer.now);
+      → FedUpTo l.line l.fn.self.store.now l.self.store.now s l.fn.self.manner l.refused from done (written_in g.W.Write.contents l.fn.self l.self);
 }
 
 abbrev pub decreases-loop-end : goal.decreases-loop-end

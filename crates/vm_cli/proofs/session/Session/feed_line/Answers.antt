@@ -1,5 +1,6 @@
 use Rattle.std.proofs.Common.{◌++◌, [], ◌∷◌}
-use Rattle.vm_cli.specs.session.Feeds.{Fed}
+use Rattle.vm_cli.specs.session.Feeds.{Fed, chunk}
+use Rattle.vm_cli.specs.session.Known.{between}
 use Rattle.vm_cli.proofs.CarriedLemmas.{passed_on}
 use Rattle.vm_cli.proofs.FeedLemmas.{ended-line, fed-line}
 use Rattle.vm_cli.proofs.session.Session.feed_line.Goals as goal
@@ -29,8 +30,8 @@ returns g c =
           let before = g.W.Write.contents c.args.self.now.writer.now in
           let after = g.W.Write.contents c.answer.new.self.writer.now in
           let held = c.extend.ensures from h in
-          let fed : Fed c.args.self.now.store.now c.answer.new.self.store.now s c.args.self.now.manner c.in_ok-refused.refused (c.args.bytes.now ++ 10 ∷ []) from [] before after =
+          let fed : Fed c.args.self.now.store.now c.answer.new.self.store.now s c.args.self.now.manner c.in_ok-refused.refused (chunk from (c.args.bytes.now ++ 10 ∷ []) []) (between before after) =
           fed-line c.args.self.now.store.now c.answer.new.self.store.now s c.args.self.now.manner from c.args.bytes.now held.unbroken before after c.in_ok-refused.refused (said.answer s (from ++ c.args.bytes.now) held) in
-          ([], c.clear.ensures, fed);
+          record { to = []; held = c.clear.ensures; fed = fed };
       ended = λ s from h more. tt;
     }

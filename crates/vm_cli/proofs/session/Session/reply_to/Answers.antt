@@ -11,7 +11,7 @@ returns-in-Long g c =
     let store = c.args.self.now.store.now in
     let none : length c.args.self.now.text ≡ 0 = rw c.requires refl in
     record {
-      same = (refl, refl, refl);
+      same = record { store = refl; writer = refl; manner = refl };
       room = omega (arith, none);
       store = nothing_asked store reply.LongLine refl;
       answer = λ s part h.
@@ -23,7 +23,7 @@ returns-in-NoMemory g c =
     let store = c.args.self.now.store.now in
     let none : length c.args.self.now.text ≡ 0 = rw c.requires refl in
     record {
-      same = (refl, refl, refl);
+      same = record { store = refl; writer = refl; manner = refl };
       room = omega (arith, none);
       store = nothing_asked store (reply.Refused Memory) refl;
       answer = λ s part h.
@@ -39,5 +39,5 @@ returns-in-Kept g c =
       store = said.asks.store;
       answer = λ s part h.
           kept_handled c.args.self.now.store.now c.reply_to_words.new.self.store.now s c.args.self.now.manner c.args.line.now part h c.in-Kept.is c.text.result.now c.text.ensures
-          c.reply_to_words.result _ _ c.reply_to_words.new.self.text (said.asks.answers s);
+          c.reply_to_words.result _ c.reply_to_words.new.self.text (said.asks.answers s);
     }

@@ -8,11 +8,11 @@ use Rattle.vm_cli.proofs.session.Session.run.Goals as goal
 
 pub loop-init : goal.loop-init
 loop-init g c = record {
-  same = (refl, refl, refl);
+  same = record { store = refl; writer = refl; manner = refl };
   store = feeds_none c.args.self.now.store.now false;
   bytes = [];
   read = Consumes-nil (g.R.Read.remaining c.args.reader.now);
-  fed = λ s. ([], c.new-line.ensures, fed-nothing c.args.self.now.store.now s c.args.self.now.manner [] (g.W.Write.contents c.args.self.now.writer.now));
+  fed = λ s. record { to = []; held = c.new-line.ensures; fed = fed-nothing c.args.self.now.store.now s c.args.self.now.manner [] (g.W.Write.contents c.args.self.now.writer.now) };
 }
 
 pub returns-then-line : goal.returns-then-line
@@ -29,8 +29,8 @@ returns-then-line g c =
           let p = so_far.fed s in
           let before = g.W.Write.contents c.args.self.now.writer.now in
           let now = g.W.Write.contents c.loop.self.writer.now in
-          serves-all c.args.self.now.store.now c.loop.self.store.now s c.args.self.now.manner c.loop.refused so_far.bytes p.0 before now p.2 _
-          (read-all _ _ _ so_far.bytes _ c.in-Ok-eq0.field-0 so_far.read more.0 none at_end) (sym p.1.empty ∙ c.if-line.true);
+          serves-all c.args.self.now.store.now c.loop.self.store.now s c.args.self.now.manner c.loop.refused so_far.bytes p.to before now p.fed _
+          (read-all _ _ _ so_far.bytes _ c.in-Ok-eq0.field-0 so_far.read more.0 none at_end) (sym p.held.empty ∙ c.if-line.true);
     }
 
 pub returns-in-Ok-eq0 : goal.returns-in-Ok-eq0
@@ -42,7 +42,7 @@ returns-in-Ok-eq0 g c =
     let more = c.in-Ok-eq0.ensures.bytes in
     let none : c.in-Ok-eq0.field-0 ≡ 0 = omega (arith, c.in-Ok-eq0.field-0-test) in
     let at_end = more.1 none (search rules) in
-    let said = answers_as g.W.Write.contents c.loop.self.manner c.args.self.now.manner so_far.same.2 c.in_ok-last-in-Ok-eq0.ensures in
+    let said = answers_as g.W.Write.contents c.loop.self.manner c.args.self.now.manner so_far.same.manner c.in_ok-last-in-Ok-eq0.ensures in
     let last = c.in_ok-last-in-Ok-eq0.last in
     record {
       same = stays_then c.args.self.now c.loop.self c.answer.new.self so_far.same said.same;
@@ -52,8 +52,8 @@ returns-in-Ok-eq0 g c =
           let p = so_far.fed s in
           let before = g.W.Write.contents c.args.self.now.writer.now in
           let now = g.W.Write.contents c.answer.new.self.writer.now in
-          serves-last old mid s c.args.self.now.manner c.loop.refused so_far.bytes p.0 before _ p.2 new now _ (Ok last)
-          (read-all _ _ _ so_far.bytes _ c.in-Ok-eq0.field-0 so_far.read more.0 none at_end) p.1.unbroken (sym p.1.empty ∙ c.if-line.false) (said.answer _ p.0 p.1);
+          serves-last old mid s c.args.self.now.manner c.loop.refused so_far.bytes p.to before _ p.fed new now _ (Ok last)
+          (read-all _ _ _ so_far.bytes _ c.in-Ok-eq0.field-0 so_far.read more.0 none at_end) p.held.unbroken (sym p.held.empty ∙ c.if-line.false) (said.answer _ p.to p.held);
     }
 
 pub returns-in_err-last-in-Ok-eq0 : goal.returns-in_err-last-in-Ok-eq0
@@ -62,7 +62,7 @@ returns-in_err-last-in-Ok-eq0 g c =
     let mid = c.loop.self.store.now in
     let new = c.answer.new.self.store.now in
     let so_far = c.loop.invariant in
-    let said = answers_as g.W.Write.contents c.loop.self.manner c.args.self.now.manner so_far.same.2 c.in_err-last-in-Ok-eq0.ensures in
+    let said = answers_as g.W.Write.contents c.loop.self.manner c.args.self.now.manner so_far.same.manner c.in_err-last-in-Ok-eq0.ensures in
     let why = c.in_err-last-in-Ok-eq0.field-0.0 in
     rw (passed_on _ c.from_residual.ensures.1)
     (record {
@@ -75,8 +75,8 @@ returns-in_err-last-in-Ok-eq0 g c =
           let none : c.in-Ok-eq0.field-0 ≡ 0 = omega (arith, c.in-Ok-eq0.field-0-test) in
           let before = g.W.Write.contents c.args.self.now.writer.now in
           let now = g.W.Write.contents c.answer.new.self.writer.now in
-          serves-last old mid s c.args.self.now.manner c.loop.refused so_far.bytes p.0 before _ p.2 new now _ (Err why)
-          (read-all _ _ _ so_far.bytes _ c.in-Ok-eq0.field-0 so_far.read more.0 none (more.1 none (search rules))) p.1.unbroken (sym p.1.empty ∙ c.if-line.false) (said.answer _ p.0 p.1);
+          serves-last old mid s c.args.self.now.manner c.loop.refused so_far.bytes p.to before _ p.fed new now _ (Err why)
+          (read-all _ _ _ so_far.bytes _ c.in-Ok-eq0.field-0 so_far.read more.0 none (more.1 none (search rules))) p.held.unbroken (sym p.held.empty ∙ c.if-line.false) (said.answer _ p.to p.held);
     })
 
 pub returns-in_err-refused-in-Ok : goal.returns-in_err-refused-in-Ok
@@ -85,7 +85,7 @@ returns-in_err-refused-in-Ok g c =
     let mid = c.loop.self.store.now in
     let new = c.feed.new.self.store.now in
     let so_far = c.loop.invariant in
-    let said = feeds_as g.W.Write.contents c.loop.self.manner c.args.self.now.manner so_far.same.2 c.in_err-refused-in-Ok.ensures in
+    let said = feeds_as g.W.Write.contents c.loop.self.manner c.args.self.now.manner so_far.same.manner c.in_err-refused-in-Ok.ensures in
     let why = c.in_err-refused-in-Ok.field-0.0 in
     rw (passed_on _ c.from_residual-in_err-refused-in-Ok.ensures.1)
     (record {
@@ -96,10 +96,10 @@ returns-in_err-refused-in-Ok g c =
           let p = so_far.fed s in
           let before = g.W.Write.contents c.args.self.now.writer.now in
           let now = g.W.Write.contents c.feed.new.self.writer.now in
-          let q = said.ended _ p.0 p.1 in
+          let q = said.ended _ p.to p.held in
           serves-some old new s c.args.self.now.manner (Err why) before now (g.R.Read.remaining c.args.reader.now) (g.R.Read.remaining c.read.new.self) _
           (Consumes-trans _ _ _ so_far.bytes _ so_far.read c.in-Ok.ensures.bytes.0)
-          (λ more. ended-join old mid new s c.args.self.now.manner _ so_far.bytes _ [] p.0 before _ now p.2 why more (q more));
+          (λ more. ended-join old mid new s c.args.self.now.manner _ so_far.bytes _ [] p.to before _ now p.fed why more (q more));
     })
 
 pub returns-in-Err : goal.returns-in-Err
@@ -111,7 +111,7 @@ returns-in-Err g c =
       store = serves_unread c.args.self.now.store.now c.loop.self.store.now c.loop.refused so_far.store;
       answers = λ s.
           let p = so_far.fed s in
-          serves-read c.args.self.now.store.now c.loop.self.store.now s c.args.self.now.manner c.loop.refused so_far.bytes p.0 (g.W.Write.contents c.args.self.now.writer.now) (g.W.Write.contents c.loop.self.writer.now) p.2
+          serves-read c.args.self.now.store.now c.loop.self.store.now s c.args.self.now.manner c.loop.refused so_far.bytes p.to (g.W.Write.contents c.args.self.now.writer.now) (g.W.Write.contents c.loop.self.writer.now) p.fed
           (g.R.Read.remaining c.args.reader.now) (g.R.Read.remaining c.loop.reader) so_far.read;
     }
 
@@ -124,7 +124,7 @@ returns g c =
       store = serves_unread c.args.self.now.store.now c.loop.self.store.now c.loop.refused so_far.store;
       answers = λ s.
           let p = so_far.fed s in
-          serves-read c.args.self.now.store.now c.loop.self.store.now s c.args.self.now.manner c.loop.refused so_far.bytes p.0 (g.W.Write.contents c.args.self.now.writer.now) (g.W.Write.contents c.loop.self.writer.now) p.2
+          serves-read c.args.self.now.store.now c.loop.self.store.now s c.args.self.now.manner c.loop.refused so_far.bytes p.to (g.W.Write.contents c.args.self.now.writer.now) (g.W.Write.contents c.loop.self.writer.now) p.fed
           (g.R.Read.remaining c.args.reader.now) (g.R.Read.remaining c.loop.reader) so_far.read;
     }
 
@@ -134,7 +134,7 @@ loop-preserved g c =
     let mid = c.loop.self.store.now in
     let new = c.feed.new.self.store.now in
     let so_far = c.loop.invariant in
-    let said = feeds_as g.W.Write.contents c.loop.self.manner c.args.self.now.manner so_far.same.2 c.in_ok-refused-in-Ok.ensures in
+    let said = feeds_as g.W.Write.contents c.loop.self.manner c.args.self.now.manner so_far.same.manner c.in_ok-refused-in-Ok.ensures in
     let before = g.W.Write.contents c.args.self.now.writer.now in
     let now = g.W.Write.contents c.feed.new.self.writer.now in
     record {
@@ -144,6 +144,6 @@ loop-preserved g c =
       read = Consumes-trans _ _ _ so_far.bytes _ so_far.read c.in-Ok.ensures.bytes.0;
       fed = λ s.
           let p = so_far.fed s in
-          let q = said.fed _ p.0 p.1 in
-          (q.0, q.1, fed-join old mid new s c.args.self.now.manner _ so_far.bytes _ [] p.0 before _ now p.2 _ q.0 q.2);
+          let q = said.fed _ p.to p.held in
+          record { to = q.to; held = q.held; fed = fed-join old mid new s c.args.self.now.manner _ so_far.bytes _ [] p.to before _ now p.fed _ q.to q.fed };
     }

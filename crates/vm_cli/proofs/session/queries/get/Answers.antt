@@ -3,7 +3,7 @@ use Rattle.vm_types.specs.declared.refusal.Refusal.TheVariants.{Device, Failed}
 use Rattle.vm_store.specs.Store.{has_failed}
 use Rattle.vm_cli.specs.session.Feeds.{HandlesRequest}
 use Rattle.vm_cli.specs.lines.Asking.{Request}
-use Rattle.vm_cli.proofs.HandledLemmas.{refusal_handled, told, with_nothing}
+use Rattle.vm_cli.proofs.HandledLemmas.{refusal_handled, tells_nothing, told, with_nothing}
 use Rattle.vm_cli.proofs.PassLemmas.{goes_any, passes_reads}
 use Rattle.vm_cli.proofs.SessionLemmas.{found_alone, found_plain, was_sound}
 use Rattle.vm_cli.proofs.session.queries.get.Goals as goal
@@ -26,22 +26,21 @@ returns-in-Ok g c =
         last = λ sound. refl;
         left = said.no_calls;
       };
-      answers = λ s. (
-        told old new s (Request.Get c.args.at.now c.args.key) (passes_reads old new (goes_any _ _ _ said.any) said.reads said.unchanged) said.failed said.no_calls (λ stood. said.state stood.honest s stood.holds)
-            (text ++ []) sound (
-              refl,
-              said.failed ∙ sound,
-              record {
-                answer = Ok found;
-                says = alone;
-                device = λ is. absurd cc;
-                only_then = λ is. cc;
-                due = λ stood. said.value stood.honest sound s stood.holds;
-              },
-              tt,
-            ),
-        found_plain (text ++ []) found alone,
-      );
+      answers = λ s.
+          told old new s (Request.Get c.args.at.now c.args.key) (passes_reads old new (goes_any _ _ _ said.any) said.reads said.unchanged) said.failed said.no_calls (λ stood. said.state stood.honest s stood.holds)
+          (text ++ []) sound (
+            refl,
+            said.failed ∙ sound,
+            record {
+              answer = Ok found;
+              says = alone;
+              device = λ is. absurd cc;
+              only_then = λ is. cc;
+              due = λ stood. said.value stood.honest sound s stood.holds;
+            },
+            tt,
+          );
+      tells = found_plain (text ++ []) found alone;
     }
 
 pub returns-in-Err : goal.returns-in-Err
@@ -76,4 +75,5 @@ returns-in-Err g c =
             },
             tt,
           )));
+      tells = tells_nothing c.from_refusal.result c.args.text.now c.requires;
     }

@@ -1,8 +1,9 @@
-use Rattle.std.proofs.Common.{◌+◌, ◌<◌, ◌∙◌, inr, ℕ, Err, ap, refl, sym, subst, arith, length}
+use Rattle.std.proofs.Common.{◌+◌, ◌<◌, ◌∙◌, ℕ, Err, ap, refl, sym, subst, arith, length}
 use Rattle.std.specs.Io.KnownBytes.{Appends}
 use Rattle.std.specs.Prelude.{slice_range}
 use Rattle.vm_cli.specs.answers.Carried.{WritesStart}
 use Rattle.vm_cli.specs.session.WaitingCalls.{own_text, shared_texts}
+use Rattle.vm_cli.specs.session.SessionKinds.AnswersThen.{answer_cut}
 use Rattle.vm_cli.proofs.CarriedLemmas.{begins-more, begins-then, passed_on}
 use Rattle.vm_cli.proofs.Known.{Appends-then}
 use Rattle.vm_cli.proofs.WaitingLemmas.{ComesOut, comes_out, keeps_both, next_behind, shared_cut, shared_more}
@@ -44,4 +45,4 @@ returns-in_err-put_waiting-clause-answered g c =
     subst (WritesStart before after) (sym more) (begins-then before between after _ _ (record { sent = texts c.args.from c.loop-at.at; split = refl; written = so_far.written }) begun) in
     let cut = shared_cut c.args.committed queue c.args.from (c.loop-at.at + 1) c.args.to (omega (arith, c.loop-at.auto.at)) (omega (arith, c.loop-at-test.true)) in
     rw (passed_on _ c.from_residual.ensures.1)
-    (inr (ap Err put.0, subst (WritesStart before after) (sym cut) (begins-more before after (texts c.args.from (c.loop-at.at + 1)) (texts (c.loop-at.at + 1) c.args.to) so_written)))
+    (answer_cut (ap Err put.0) (subst (WritesStart before after) (sym cut) (begins-more before after (texts c.args.from (c.loop-at.at + 1)) (texts (c.loop-at.at + 1) c.args.to) so_written)))

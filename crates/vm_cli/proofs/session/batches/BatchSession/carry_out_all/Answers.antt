@@ -23,7 +23,7 @@ loop-at-init g c =
       carried = λ s waiting are. (
         none,
         subst (λ ws. CarriesAll old old s c.args.self.now.manner ws (kept_answers (slice_range c.args.waiting.now.items c.args.from c.args.from)) none) (sym (range_none waiting c.args.from))
-            (refl, ap kept_answers (range_none c.args.waiting.now.items c.args.from), refl),
+            (record { same = refl; silent = ap kept_answers (range_none c.args.waiting.now.items c.args.from); nothing = refl }),
       );
     }
 

@@ -1,5 +1,6 @@
 use Rattle.std.proofs.Common.{◌++◌, Err, refl, sym, subst}
 use Rattle.std.specs.Int.{from_bool}
+use Rattle.vm_cli.specs.session.Known.{between}
 use Rattle.vm_cli.specs.session.SessionKinds.{Puts}
 use Rattle.vm_cli.specs.answers.Replies.{reply_text}
 use Rattle.vm_cli.specs.session.Streams.{repeated}
@@ -31,6 +32,6 @@ returns-clause-put g c = λ it is.
     let first = repeated own.batch.count (reply_text reply.Aborted) in
     let before = g.W.Write.contents c.args.writer.now in
     let after = g.W.Write.contents c.put_repeated-2.new.writer in
-    subst (λ t. Puts t c.put_repeated-2.result before after) (waiting_text own it is c.from.result c.from.ensures)
+    subst (λ t. Puts t c.put_repeated-2.result (between before after)) (waiting_text own it is c.from.result c.from.ensures)
     (puts_behind before (g.W.Write.contents c.put_label.new.writer) after (label own.number) (first ++ repeated c.from.result (reply_text reply.Aborted)) c.put_repeated-2.result c.in_ok-put_label.ensures.put
     (puts_behind (g.W.Write.contents c.put_label.new.writer) (g.W.Write.contents c.put_repeated.new.writer) after first (repeated c.from.result (reply_text reply.Aborted)) c.put_repeated-2.result c.in_ok-put_repeated.ensures.put c.put_repeated-2.ensures.put))

@@ -1,4 +1,5 @@
 use Rattle.std.proofs.Common.{subst}
+use Rattle.vm_cli.specs.session.Known.{between}
 use Rattle.vm_cli.specs.session.SessionKinds.{Puts}
 use Rattle.vm_cli.specs.answers.Replies.{reply_text}
 use Rattle.vm_cli.specs.session.Waiting.{label}
@@ -14,7 +15,7 @@ returns-in_err-put_label-clause-put g c =
 
 pub returns-clause-put : goal.returns-clause-put
 returns-clause-put g c =
-    let between = g.W.Write.contents c.put_label.new.writer in
+    let middle = g.W.Write.contents c.put_label.new.writer in
     let after = g.W.Write.contents c.put_repeated.new.writer in
-    puts_behind _ between after (label c.args.number) (reply_text c.args.reply) c.put_repeated.result c.in_ok-put_label.ensures.put
-    (subst (λ t. Puts t c.put_repeated.result between after) (repeated-one (reply_text c.args.reply)) c.put_repeated.ensures.put)
+    puts_behind _ middle after (label c.args.number) (reply_text c.args.reply) c.put_repeated.result c.in_ok-put_label.ensures.put
+    (subst (λ t. Puts t c.put_repeated.result (between middle after)) (repeated-one (reply_text c.args.reply)) c.put_repeated.ensures.put)

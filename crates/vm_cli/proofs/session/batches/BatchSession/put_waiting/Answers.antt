@@ -1,6 +1,7 @@
 use Rattle.std.proofs.Common.{◌≡◌, ◌+◌, ◌<◌, ◌∙◌, ℕ, Vec, subst, arith}
 use Rattle.std.proofs.lemmas.List.{drop-set-lt, length-set}
 use Rattle.vm_cli.specs.answers.Carried.{WritesStart}
+use Rattle.vm_cli.specs.session.Known.{between}
 use Rattle.vm_cli.specs.session.SessionKinds.{Puts}
 use Rattle.vm_cli.specs.session.Streams.{settled_text, verdict_of}
 use Rattle.vm_cli.specs.session.Waiting.{label}
@@ -53,7 +54,7 @@ pub returns-clause-puts : goal.returns-clause-puts
 returns-clause-puts g c =
     let own = c.index_mut-own.result.now in
     let before = g.W.Write.contents c.args.writer.now in
-    let between = g.W.Write.contents c.put_label.new.writer in
+    let middle = g.W.Write.contents c.put_label.new.writer in
     let after = g.W.Write.contents c.put_settled.new.writer in
     let place : c.args.at < c.args.at + 1 = omega arith in
     record {
@@ -61,7 +62,7 @@ returns-clause-puts g c =
       put = λ first others e.
           let same : own ≡ first = c.index_mut-own.ensures.value ∙ first_behind c.args.waiting.now.items c.args.at first own others e in
           let answers : c.put_label.new.self.answers ≡ own.answers = c.put_label.ensures.same.answers ∙ c.swap.ensures.x_after in
-          let settled = subst (λ (v : Vec ℕ _). Puts (settled_text own.batch.is_open own.batch.count (verdict_of c.args.settled v.items)) c.put_settled.result between after) answers c.put_settled.ensures.put in
-          subst (λ (o : WaitingBatch). Puts (own_text o (verdict_of c.args.settled o.answers.items)) c.put_settled.result before after) same
-          (puts_behind before between after (label own.number) (settled_text own.batch.is_open own.batch.count (verdict_of c.args.settled own.answers.items)) c.put_settled.result c.in_ok-put_label.ensures.put settled);
+          let settled = subst (λ (v : Vec ℕ _). Puts (settled_text own.batch.is_open own.batch.count (verdict_of c.args.settled v.items)) c.put_settled.result (between middle after)) answers c.put_settled.ensures.put in
+          subst (λ (o : WaitingBatch). Puts (own_text o (verdict_of c.args.settled o.answers.items)) c.put_settled.result (between before after)) same
+          (puts_behind before middle after (label own.number) (settled_text own.batch.is_open own.batch.count (verdict_of c.args.settled own.answers.items)) c.put_settled.result c.in_ok-put_label.ensures.put settled);
     }

@@ -1,7 +1,8 @@
-use Rattle.std.proofs.Common.{◌≡◌, ◌∙◌, inl, ℕ, Bool, List, Option, None, Result, ap, sym, subst}
+use Rattle.std.proofs.Common.{◌≡◌, ◌∙◌, ℕ, Bool, List, Option, None, Result, ap, sym, subst}
 use Rattle.vm_types.specs.State.{State}
 use Rattle.vm_disk.specs.declared.disk.Disk.{Ghosts}
 use Rattle.vm_cli.specs.session.Feeds.{FeedsOn}
+use Rattle.vm_cli.specs.session.SessionKinds.AnswersThen.{answered_so}
 use Rattle.vm_cli.specs.session.Rounds.{Round}
 use Rattle.vm_cli.specs.session.StreamCalls.{SaysThen, Scene, SettlesBatch, scene}
 use Rattle.vm_cli.specs.session.Streams.{Held, IsHeld, IsStage, SettlesHeld, Verdict, result_of, settled_text, verdict_of, verdict_result}
@@ -24,12 +25,13 @@ module _ {D W : Type 0} {members : Ghosts D} (contents : W → Option (List ℕ)
     closed = closed;
     none = none;
     settled = λ s held is.
-        let round = settles s held is in (
-          verdict,
-          round.0,
-          round.1,
-          subst (λ n. SaysThen contents (settled_text is_begun n verdict) (verdict_result old.session.manner verdict) result old.writer new.writer) (held_count _ _ _ _ held is) said,
-        );
+        let round = settles s held is in
+        record {
+          verdict = verdict;
+          round = round.0;
+          settles = round.1;
+          said = subst (λ n. SaysThen contents (settled_text is_begun n verdict) (verdict_result old.session.manner verdict) result old.writer new.writer) (held_count _ _ _ _ held is) said;
+        };
   }
 
 pub returns-in_err-put_settled : goal.returns-in_err-put_settled
@@ -48,4 +50,4 @@ returns g c =
     let kept = c.put_settled.ensures.same in
     settles_so g.W.Write.contents c.args.is_begun (scene c.args.self.now c.args.store.now c.args.writer.now) (scene c.put_settled.new.self c.settle_batch-settled.new.store c.put_settled.new.writer) _ verdict
     kept.manner (subst (λ b. IsStage b None) (sym kept.batch) c.clear.ensures.stage) (ap (λ (b : Batch). b.count) kept.batch ∙ c.clear.ensures.none) c.settle_batch-settled.ensures.store c.settle_batch-settled.ensures.settled
-    (inl (c.go_on_after.ensures answers ∙ ap (λ m. verdict_result m verdict) kept.manner, c.in_ok-put_settled.ensures.put))
+    (answered_so (c.go_on_after.ensures answers ∙ ap (λ m. verdict_result m verdict) kept.manner) c.in_ok-put_settled.ensures.put)

@@ -1,5 +1,6 @@
 use Rattle.std.proofs.Common.{◌≡◌, ◌≤◌, ◌<◌, ◌∙◌, List, Ok, Err, false, true, refl, sym, subst, arith, drop, length}
 use Rattle.std.proofs.lemmas.List.{drop_all}
+use Rattle.vm_cli.specs.session.Known.{between}
 use Rattle.vm_cli.specs.session.SessionKinds.{Tells}
 use Rattle.vm_cli.specs.session.Rounds.{Round, after_rounds}
 use Rattle.vm_cli.specs.session.Waiting.{SettlesWaiting}
@@ -106,7 +107,7 @@ returns-in_err-try_together g c =
       settled = λ s waiting are.
           let before = so_far.settled s waiting are in
           let t = after_rounds s before.rounds in
-          let told = subst (λ m. Tells m (λ text course. (rounds : List Round) × SettlesWaiting now new t m (drop c.loop-from.from waiting) text course rounds) (Err why) b d) so_far.keeps.manner (tries.tried t waiting (so_far.keeps.waits waiting are)) in
+          let told = subst (λ m. Tells m (λ text course. (rounds : List Round) × SettlesWaiting now new t m (drop c.loop-from.from waiting) text course rounds) (Err why) (between b d)) so_far.keeps.manner (tries.tried t waiting (so_far.keeps.waits waiting are)) in
           settles_last c.args.store.now s how waiting now (drop c.loop-from.from waiting) c.loop-from.refused a b before new why d told;
     })
 

@@ -20,7 +20,7 @@ returns-in-Nothing g c =
       manner = refl;
       store = feeds_none c.args.store.now false;
       count = omega arith;
-      taken = λ s held part is holds. ([], (Some held, idle, is, (refl, refl, refl, refl, refl)), (λ stop. refl), Appends-nil (g.W.Write.contents c.args.writer.now));
+      taken = λ s held part is holds. record { text = []; says = (Some held, idle, is, record { same = refl; says = refl; goes = refl; held = refl; came_so = refl }); goes_on = λ stop. refl; written = Appends-nil (g.W.Write.contents c.args.writer.now) };
     })
 
 pub returns-in-Begin : goal.returns-in-Begin
@@ -30,12 +30,12 @@ returns-in-Begin g c =
       manner = refl;
       store = feeds_none c.args.store.now false;
       count = omega (arith, c.lose.ensures.more);
-      taken = λ s held part is holds. (
-        [],
-        (Some (losing (reply_text NotInBatch) held), idle, (c.lose.ensures.open ∙ is.0, c.lose.ensures.held held is.1), (refl, refl, refl, refl, refl)),
-        (λ stop. refl),
-        Appends-nil (g.W.Write.contents c.args.writer.now),
-      );
+      taken = λ s held part is holds. record {
+        text = [];
+        says = (Some (losing (reply_text NotInBatch) held), idle, (c.lose.ensures.open ∙ is.0, c.lose.ensures.held held is.1), record { same = refl; says = refl; goes = refl; held = refl; came_so = refl });
+        goes_on = λ stop. refl;
+        written = Appends-nil (g.W.Write.contents c.args.writer.now);
+      };
     })
 
 pub returns-in-Query : goal.returns-in-Query
@@ -45,12 +45,12 @@ returns-in-Query g c =
       manner = refl;
       store = feeds_none c.args.store.now false;
       count = omega (arith, c.lose-in-Query.ensures.more);
-      taken = λ s held part is holds. (
-        [],
-        (Some (losing (reply_text NotInBatch) held), idle, (c.lose-in-Query.ensures.open ∙ is.0, c.lose-in-Query.ensures.held held is.1), (refl, refl, refl, refl, refl)),
-        (λ stop. refl),
-        Appends-nil (g.W.Write.contents c.args.writer.now),
-      );
+      taken = λ s held part is holds. record {
+        text = [];
+        says = (Some (losing (reply_text NotInBatch) held), idle, (c.lose-in-Query.ensures.open ∙ is.0, c.lose-in-Query.ensures.held held is.1), record { same = refl; says = refl; goes = refl; held = refl; came_so = refl });
+        goes_on = λ stop. refl;
+        written = Appends-nil (g.W.Write.contents c.args.writer.now);
+      };
     })
 
 pub returns-in-Refused : goal.returns-in-Refused
@@ -60,12 +60,12 @@ returns-in-Refused g c =
       manner = refl;
       store = feeds_none c.args.store.now false;
       count = omega (arith, c.lose-in-Refused.ensures.more);
-      taken = λ s held part is holds. (
-        [],
-        (Some (losing (reply_text c.in-Refused.reply) held), idle, (c.lose-in-Refused.ensures.open ∙ is.0, c.lose-in-Refused.ensures.held held is.1), (refl, refl, refl, refl, refl)),
-        (λ stop. refl),
-        Appends-nil (g.W.Write.contents c.args.writer.now),
-      );
+      taken = λ s held part is holds. record {
+        text = [];
+        says = (Some (losing (reply_text c.in-Refused.reply) held), idle, (c.lose-in-Refused.ensures.open ∙ is.0, c.lose-in-Refused.ensures.held held is.1), record { same = refl; says = refl; goes = refl; held = refl; came_so = refl });
+        goes_on = λ stop. refl;
+        written = Appends-nil (g.W.Write.contents c.args.writer.now);
+      };
     })
 
 pub returns-in-Change : goal.returns-in-Change
@@ -76,12 +76,13 @@ returns-in-Change g c =
       store = feeds_none c.args.store.now false;
       count = omega (arith, c.hold.ensures.more);
       taken = λ s held part is holds.
-          let added = c.hold.ensures.held held part is.1 holds in (
-            [],
-            (Some added.0, idle, (c.hold.ensures.open ∙ is.0, added.1), (added.0, added.2, (refl, refl, refl, refl, refl))),
-            (λ stop. refl),
-            Appends-nil (g.W.Write.contents c.args.writer.now),
-          );
+          let added = c.hold.ensures.held held part is.1 holds in
+          record {
+            text = [];
+            says = (Some added.0, idle, (c.hold.ensures.open ∙ is.0, added.1), record { held' = added.0; adds = added.2; said = record { same = refl; says = refl; goes = refl; held = refl; came_so = refl } });
+            goes_on = λ stop. refl;
+            written = Appends-nil (g.W.Write.contents c.args.writer.now);
+          };
     })
 
 pub returns-in-Abort : goal.returns-in-Abort
@@ -99,7 +100,7 @@ returns-in-Abort g c =
           tells_counted how
           (λ text course. (stage : Option Held) × (round : Round) × IsStage c.forget.new.self.batch stage × TakesInside old old s how line.Abort held part text course stage round)
           (forgotten_text count ++ ok_text) _ _ count c.forget.result
-          (None, idle, c.forget.ensures.closed, (refl, ap (λ n. forgotten_text n ++ ok_text) all, ap (λ n. proceeds (some_lines n)) all, refl, refl)) c.forget.ensures.said;
+          (None, idle, c.forget.ensures.closed, record { same = refl; says = ap (λ n. forgotten_text n ++ ok_text) all; goes = ap (λ n. proceeds (some_lines n)) all; held = refl; came_so = refl }) c.forget.ensures.said;
     })
 
 pub returns-in-Commit : goal.returns-in-Commit
@@ -115,6 +116,6 @@ returns-in-Commit g c =
           let p = done.settled s held is.1 in
           tells_verdict how
           (λ text course. (stage : Option Held) × (round : Round) × IsStage c.settle.new.self.batch stage × TakesInside c.args.store.now c.settle.new.store s how line.Commit held part text course stage round)
-          (batch_text (count_of held) p.0) _ _ p.0 c.settle.result
-          (None, p.1, done.closed, record { verdict = p.0; settles = p.2; says = refl; goes = refl; outside = refl }) p.3;
+          (batch_text (count_of held) p.verdict) _ _ p.verdict c.settle.result
+          (None, p.round, done.closed, record { verdict = p.verdict; settles = p.settles; says = refl; goes = refl; outside = refl }) p.said;
     })

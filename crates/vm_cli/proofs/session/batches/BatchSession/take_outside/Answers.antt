@@ -23,7 +23,7 @@ returns-in-Query g c =
       taken = λ s part is held.
           tells_writes how (HandlesLine old new s how part)
           (λ text course. (stage : Option Held) × (round : Round) × IsStage c.args.self.now.batch stage × TakesOutside old new s how line.Query part text course stage round)
-          (λ text ends handled. (None, idle, is, (ends, handled, refl, refl, refl))) _ _ _ (c.answer_alone.ensures.answer s part held);
+          (λ text ends handled. (None, idle, is, record { ends = ends; handled = handled; goes = refl; outside = refl; came_so = refl })) _ _ _ (c.answer_alone.ensures.answer s part held);
     })
 
 pub returns-in-Change : goal.returns-in-Change
@@ -40,8 +40,8 @@ returns-in-Change g c =
           let p = done.settled s added.0 added.1 in
           tells_verdict how
           (λ text course. (stage : Option Held) × (round : Round) × IsStage c.settle.new.self.batch stage × TakesOutside c.args.store.now c.settle.new.store s how line.Change part text course stage round)
-          (change_text p.0) _ _ p.0 c.settle.result
-          (None, p.1, done.closed, record { held = added.0; adds = added.2; verdict = p.0; settles = p.2; says = refl; goes = refl; outside = refl }) p.3;
+          (change_text p.verdict) _ _ p.verdict c.settle.result
+          (None, p.round, done.closed, record { held = added.0; adds = added.2; verdict = p.verdict; settles = p.settles; says = refl; goes = refl; outside = refl }) p.said;
     })
 
 pub returns-in-Begin : goal.returns-in-Begin
@@ -58,7 +58,7 @@ returns-in-Begin g c =
           tells_counted how
           (λ text course. (stage : Option Held) × (round : Round) × IsStage c.say.new.self.batch stage × TakesOutside old old s how line.Begin part text course stage round)
           (repeated 1 ok_text) _ _ 0 c.say.result
-          ((Some (holds [])), idle, subst (λ b. IsStage b (Some (holds []))) (sym kept.batch) (c.begin.ensures.stage is), (refl, repeated-one ok_text, refl, refl, refl)) c.say.ensures.said;
+          ((Some (holds [])), idle, subst (λ b. IsStage b (Some (holds []))) (sym kept.batch) (c.begin.ensures.stage is), record { same = refl; says = repeated-one ok_text; goes = refl; held = refl; came_so = refl }) c.say.ensures.said;
     })
 
 pub returns-in-Commit : goal.returns-in-Commit
@@ -75,7 +75,7 @@ returns-in-Commit g c =
           tells_counted how
           (λ text course. (stage : Option Held) × (round : Round) × IsStage c.say-in-Commit.new.self.batch stage × TakesOutside old old s how line.Commit part text course stage round)
           (repeated 1 ok_text) _ _ 0 c.say-in-Commit.result
-          (None, idle, subst (λ b. IsStage b None) (sym kept.batch) is, (refl, repeated-one ok_text, refl, refl, refl)) c.say-in-Commit.ensures.said;
+          (None, idle, subst (λ b. IsStage b None) (sym kept.batch) is, record { same = refl; says = repeated-one ok_text; goes = refl; held = refl; came_so = refl }) c.say-in-Commit.ensures.said;
     })
 
 pub returns-in-Abort : goal.returns-in-Abort
@@ -92,7 +92,7 @@ returns-in-Abort g c =
           tells_counted how
           (λ text course. (stage : Option Held) × (round : Round) × IsStage c.say-in-Abort.new.self.batch stage × TakesOutside old old s how line.Abort part text course stage round)
           (repeated 1 ok_text) _ _ 0 c.say-in-Abort.result
-          (None, idle, subst (λ b. IsStage b None) (sym kept.batch) is, (refl, repeated-one ok_text, refl, refl, refl)) c.say-in-Abort.ensures.said;
+          (None, idle, subst (λ b. IsStage b None) (sym kept.batch) is, record { same = refl; says = repeated-one ok_text; goes = refl; held = refl; came_so = refl }) c.say-in-Abort.ensures.said;
     })
 
 pub returns-in-Refused : goal.returns-in-Refused
@@ -109,5 +109,5 @@ returns-in-Refused g c =
           tells_counted how
           (λ text course. (stage : Option Held) × (round : Round) × IsStage c.say-in-Refused.new.self.batch stage × TakesOutside old old s how (line.Refused c.in-Refused.reply) part text course stage round)
           (repeated 1 (reply_text c.in-Refused.reply)) _ _ 1 c.say-in-Refused.result
-          (None, idle, subst (λ b. IsStage b None) (sym kept.batch) is, (refl, repeated-one (reply_text c.in-Refused.reply), refl, refl, refl)) c.say-in-Refused.ensures.said;
+          (None, idle, subst (λ b. IsStage b None) (sym kept.batch) is, record { same = refl; says = repeated-one (reply_text c.in-Refused.reply); goes = refl; held = refl; came_so = refl }) c.say-in-Refused.ensures.said;
     })

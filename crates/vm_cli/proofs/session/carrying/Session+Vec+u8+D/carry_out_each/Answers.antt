@@ -9,7 +9,7 @@ use Rattle.vm_cli.proofs.session.carrying.Session+Vec+u8+D.carry_out_each.Goals 
 
 pub loop-place-init : goal.loop-place-init
 loop-place-init g c = record {
-  same = (refl, refl, refl);
+  same = record { store = refl; writer = refl; manner = refl };
   store = feeds_none c.args.self.now.store.now false;
   answered = λ s how parts tries empty held. subst (HasAnswered c.args.self.now.store.now c.args.self.now.store.now s (trying how) []) (sym empty) (answered-none c.args.self.now.store.now s (trying how));
 }
@@ -21,7 +21,7 @@ returns-in-Err-clause-carries g c =
       same = stays_then c.args.self.now c.loop-place.self c.answer.new.self so_far.same c.in-Err.ensures.same;
       store = feeds_refused _ _ _ (feeds_then _ _ _ false so_far.store (Err c.in-Err.fault) c.in-Err.ensures.store);
       carried = λ s how parts tries empty held.
-          let said = answers_as _ c.loop-place.self.manner (trying how) (so_far.same.2 ∙ tries) c.in-Err.ensures in
+          let said = answers_as _ c.loop-place.self.manner (trying how) (so_far.same.manner ∙ tries) c.in-Err.ensures in
           let at = held_at c.args.lines.now parts c.loop-place.place c.index-lines-place.result held (omega (arith, c.loop-place-test.true)) (sym c.index-lines-place.is) in
           let answered = so_far.answered s how parts tries empty held in
           subst (λ w. StopsIn c.args.self.now.store.now c.answer.new.self.store.now s how parts c.loop-place.place (why_text w c.answer.new.self.writer.now.items)) (sym c.answer_of.ensures)
@@ -35,7 +35,7 @@ loop-place-preserved g c =
       same = stays_then c.args.self.now c.loop-place.self c.answer.new.self so_far.same c.in-Ok.ensures.same;
       store = feeds_fine _ _ _ (feeds_then _ _ _ false so_far.store (Ok c.in-Ok.field-0) c.in-Ok.ensures.store) false;
       answered = λ s how parts tries empty held.
-          let said = answers_as _ c.loop-place.self.manner (trying how) (so_far.same.2 ∙ tries) c.in-Ok.ensures in
+          let said = answers_as _ c.loop-place.self.manner (trying how) (so_far.same.manner ∙ tries) c.in-Ok.ensures in
           let at = held_at c.args.lines.now parts c.loop-place.place c.index-lines-place.result held (omega (arith, c.loop-place-test.true)) (sym c.index-lines-place.is) in
           let answered = so_far.answered s how parts tries empty held in
           lines_more _ _ _ s how parts c.loop-place.place c.index-lines-place.result _ answered at _ _ (said.answer _ at.part at.holds);

@@ -27,12 +27,13 @@ pub returns-then-index-number : goal.returns-then-index-number
 returns-then-index-number c =
     let planners = c.args.self.now.planners in
     let place = c.loop-place.place in
-    let within : place < length planners.items = omega (arith, planners.ok.0) in (
-      take place planners.items,
-      get_or planners.items place c.index.result.now,
-      drop (place + 1) planners.items,
-      parted_at planners.items place c.index.result.now within,
-      sym (length-take-le place planners.items (omega arith)),
-      sym (ap (λ planner. planner.number) c.index.ensures) ∙ c.if-index-number.true,
-      c.loop-place.invariant,
-    )
+    let within : place < length planners.items = omega (arith, planners.ok.0) in
+    record {
+      before = take place planners.items;
+      planner = get_or planners.items place c.index.result.now;
+      behind = drop (place + 1) planners.items;
+      cut = parted_at planners.items place c.index.result.now within;
+      at = sym (length-take-le place planners.items (omega arith));
+      named = sym (ap (λ planner. planner.number) c.index.ensures) ∙ c.if-index-number.true;
+      only = c.loop-place.invariant;
+    }
