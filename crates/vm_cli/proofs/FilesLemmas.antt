@@ -1,5 +1,5 @@
 -- What a run of the program does to the files of its place, from what its parts did.
-use Rattle.std.proofs.Common.{◌≡◌, ◌≢◌, ◌⊎◌, ◌≤◌, ℕ, Bool, true, false, List, [], Option, Some, refl, sym, ◌∙◌, subst, inl, inr, arith}
+use Rattle.std.proofs.Common.{◌≡◌, ◌≢◌, ◌≤◌, ℕ, Bool, true, false, List, [], Option, Some, refl, sym, ◌∙◌, subst, inl, inr, arith}
 use Rattle.std.proofs.lemmas.Bool.{cases_lt}
 use Rattle.std.proofs.lemmas.Slice.Eq.{bytes_eq-Decides}
 use Rattle.std.specs.Str.{bytes_eq}
@@ -17,15 +17,20 @@ use Rattle.vm_disk.proofs.MomentLemmas.{at_end}
 use Rattle.vm_store.specs.NewStore.{IsBadSize}
 use Rattle.vm_store.specs.Refused.{IsAtMostSynced}
 use Rattle.vm_store.specs.Shown.{Shows}
-use Rattle.vm_cli.specs.program.CachedLines.{buffer_for, IsNotServed, IsServed, answers_told, commands_told}
+use Rattle.vm_cli.specs.program.CachedLines.{Disks, buffer_for, IsNotServed, IsServed, answers_told, commands_told}
 use Rattle.vm_cli.specs.program.DelayedLines.{IsRefusedLate, IsServedLate, answers_late, commands_late}
-use Rattle.vm_cli.specs.program.Exits.{IsJob, Tells}
+use Rattle.vm_cli.specs.program.CachedLines.IsNotServed.{refused_over_cache, refused_over_disk}
+use Rattle.vm_cli.specs.program.CachedLines.IsServed.{served_over_cache, served_over_disk}
+use Rattle.vm_cli.specs.program.DelayedLines.IsRefusedLate.{refused_itself, refused_late}
+use Rattle.vm_cli.specs.program.DelayedLines.IsServedLate.{served_itself, served_late}
+use Rattle.vm_cli.specs.program.Exits.{IsJob, Report, Tells}
 use Rattle.vm_cli.specs.session.Keeps.{Keeps}
-use Rattle.vm_cli.specs.session.Known.{ProgramStreams, SessionStreams, between, session_of, with_lines}
+use Rattle.vm_cli.specs.session.Known.{SessionStreams, between}
 use Rattle.vm_cli.specs.session.Served.{answers_by, commands_by}
-use Rattle.vm_cli.specs.program.Files.{Answers, Counts, Draws, Declines, Does, Duplicates, FindsFault, KeepsAll, Makes}
-use Rattle.vm_cli.specs.program.Places.{KeepsOthers, PlaceState}
-use Rattle.vm_cli.specs.program.Runs.{AsksToWrite, Disks, IsLook, LooksOnly, ServesIn, ServesWords}
+use Rattle.vm_cli.specs.program.Files.{AnswersOrDeclines, AsksToWrite, Checks, CopiesOrDeclines, Does, DrawsOrDeclines, KeepsAll, Makes, OpensFor}
+use Rattle.vm_cli.specs.program.Files.DoneOrStopped.{done, stopped}
+use Rattle.vm_cli.specs.program.Places.{IsUnused, KeepsOthers, OpensNone, OpensOne, PlaceState, PlaceUse}
+use Rattle.vm_cli.specs.program.Runs.{IsLook, LooksOnly, ServesIn, ServesWords}
 use Rattle.vm_cli.specs.program.Openings.{HasRefused}
 use Rattle.vm_cli.specs.declared.program.opening.NoStore.{NoStore}
 use Rattle.vm_cli.specs.program.Words.{Wanted, altctl}
@@ -37,7 +42,7 @@ use Rattle.vm_cli.specs.declared.session.Manner.{Manner}
 use Rattle.vm_cli.specs.declared.session.OnCommand.{OnCommand}
 use Rattle.vm_cli.specs.declared.session.OnCommand.TheVariants.{Refuse}
 use Rattle.vm_cli.proofs.CachingLemmas.{keeps_below, refused_below, refused_there}
-use Rattle.vm_cli.proofs.DelayingLemmas.{keeps_late, refused_late}
+use Rattle.vm_cli.proofs.DelayingLemmas.{keeps_late, refused_late as delayed_refused}
 use Rattle.vm_cli.proofs.DiskUseLemmas.{clean_leaves}
 
 -- a disk that was at most synced holds what it held
@@ -75,12 +80,12 @@ pub one_job : (words : List Text) (job other : Wanted) → IsJob words job → I
 one_job words job other is also = let same : Some other ≡ Some job = sym also.1 ∙ is.1 in cc
 
 -- words ask for this job, and where it only looks at a file none was asked for to be written
-pub looks_for : {P : Type 0} (to_write : P → ℕ) (place place' : P) (words : List Text) (job : Wanted) → IsJob words job
-    → (IsLook job → to_write place' ≡ to_write place) → LooksOnly to_write place place' words
-looks_for to_write place place' words job asked reads = (
-  (λ other is looks. reads (subst IsLook (one_job words job other asked is) looks)),
-  (λ no. absurd (no job asked)),
-)
+pub looks_for : {P : Type 0} (place : PlaceUse P) (words : List Text) (job : Wanted) → IsJob words job
+    → (IsLook job → OpensNone place) → LooksOnly place words
+looks_for place words job asked reads = record {
+  looks = λ other is looks. reads (subst IsLook (one_job words job other asked is) looks);
+  none = λ no. absurd (no job asked);
+}
 
 -- no file was asked for to be written where commands are refused
 pub looks_with : (on : OnCommand) (asked asked' : ℕ) → AsksToWrite on asked asked' → on ≡ Refuse → asked' ≡ asked
@@ -103,8 +108,8 @@ module _ {D : Type 0} (members : Ghosts D) (late : Ghosts (DelayedDisk D members
   was_honest_late = go served
     where
       go : IsServedLate members late buffer on found back exit known → (members.state found).honest ≡ true
-      go (inl served) = served.found.earlier (served.goes.earlier honest)
-      go (inr over) =
+      go (served_itself served) = served.found.earlier (served.goes.earlier honest)
+      go (served_late over) =
           let first : (late.state over.first).honest ≡ true = over.done.found.earlier (over.done.goes.earlier (honest_above over.last over.given_back)) in
           let under : (members.state (below over.first)).honest ≡ true = rw (same over.first) at first in
           subst (λ (d : D). (members.state d).honest ≡ true) over.idle.inner under
@@ -116,8 +121,8 @@ module _ {D : Type 0} (members : Ghosts D) (late : Ghosts (DelayedDisk D members
     where
       go : (served : IsServedLate members late buffer on found back exit known)
           → Keeps (members.state found) (members.state back) (opened seen) (commands_late members late served (opened seen)) (answers_late members late served (opened seen))
-      go (inl served) = served.kept honest seen (clean_leaves (λ x. Shows x seen) (members.state found).now clean shows)
-      go (inr over) =
+      go (served_itself served) = served.kept honest seen (clean_leaves (λ x. Shows x seen) (members.state found).now clean shows)
+      go (served_late over) =
           let commands = commands_by on.grouping over.done.first over.done.last (opened seen) on over.done.served known (over.done.serves (opened seen)) in
           let answers = answers_by on.grouping over.done.first over.done.last (opened seen) on over.done.served known (over.done.serves (opened seen)) in
           let there = honest_above over.last over.given_back in
@@ -138,8 +143,8 @@ module _ {D : Type 0} (members : Ghosts D) (late : Ghosts (DelayedDisk D members
 pub refused_told_late : {D : Type 0} (members : Ghosts D) (late : Ghosts (DelayedDisk D members)) → ((disk : DelayedDisk D members) → late.state disk ≡ delayed_state members.state disk)
     → (buffer : ℕ) (found back : D) (why : NoStore) → (members.state found).past ≡ [] → ((members.state found).honest ≡ true → IsClean (members.state found).now)
     → IsRefusedLate members late buffer found back why → HasRefused (members.state found) (members.state back) why
-refused_told_late members late same_late buffer found back why fresh clean (inl refused) = refused
-refused_told_late {D} members late same_late buffer found back why fresh clean (inr over) =
+refused_told_late members late same_late buffer found back why fresh clean (refused_itself refused) = refused
+refused_told_late {D} members late same_late buffer found back why fresh clean (refused_late over) =
     let idle : IsIdleOver members.state (below over.first) buffer over.first = subst (λ (d : D). IsIdleOver members.state d buffer over.first) (sym over.idle.inner) over.idle in
     let new : (members.state (below over.first)).past ≡ [] = subst (λ (d : D). (members.state d).past ≡ []) (sym over.idle.inner) fresh in
     let was : (members.state (below over.first)).honest ≡ true → IsClean (members.state (below over.first)).now =
@@ -148,7 +153,7 @@ refused_told_late {D} members late same_late buffer found back why fresh clean (
     subst (λ (t : DiskState). HasRefused (delayed_state members.state over.first) t why) (same_late over.last)
     (subst (λ (t : DiskState). HasRefused t (late.state over.last) why) (same_late over.first) over.done) in
     refused_there members found back (below over.first) (below over.last) why over.idle.inner over.given_back
-    (refused_late members over.first over.last buffer idle new over.follows why was refused)
+    (delayed_refused members over.first over.last buffer idle new over.follows why was refused)
 
 -- a disk of which a cache was made, and the cache: its state is that of the disk but for its reads
 module _ {D : Type 0} (members : Ghosts D) (cached : Ghosts (CachedDisk D members)) (same : (disk : CachedDisk D members) → cached.state disk ≡ cached_state members.state disk)
@@ -183,8 +188,8 @@ module _ {D : Type 0} (members : Ghosts D) (cached : Ghosts (CachedDisk D member
     was_honest = go served
       where
         go : IsServed members cached late late_cached in_memory on found back exit known → (members.state found).honest ≡ true
-        go (inl served) = was_honest_late members late same_late (buffer_for in_memory.buffer (members.state found).blocks) on found back exit known served honest
-        go (inr over) =
+        go (served_over_disk served) = was_honest_late members late same_late (buffer_for in_memory.buffer (members.state found).blocks) on found back exit known served honest
+        go (served_over_cache over) =
             honest_below members cached same found over.first over.empty.inner
             (was_honest_late cached late_cached same_above (buffer_for in_memory.buffer (members.state found).blocks) on over.first over.last exit known over.done (cache_honest over.last over.given_back))
 
@@ -195,8 +200,8 @@ module _ {D : Type 0} (members : Ghosts D) (cached : Ghosts (CachedDisk D member
       where
         go : (served : IsServed members cached late late_cached in_memory on found back exit known)
             → Keeps (members.state found) (members.state back) (opened seen) (commands_told members cached late late_cached in_memory served (opened seen)) (answers_told members cached late late_cached in_memory served (opened seen))
-        go (inl served) = kept_told_late members late same_late (buffer_for in_memory.buffer (members.state found).blocks) on found back exit known served honest fresh clean seen shows
-        go (inr over) =
+        go (served_over_disk served) = kept_told_late members late same_late (buffer_for in_memory.buffer (members.state found).blocks) on found back exit known served honest fresh clean seen shows
+        go (served_over_cache over) =
             let commands = commands_late cached late_cached over.done (opened seen) in
             let answers = answers_late cached late_cached over.done (opened seen) in
             let above : Keeps (cached.state over.first) (cached.state over.last) (opened seen) commands answers =
@@ -213,8 +218,8 @@ module _ {D : Type 0} (members : Ghosts D) (cached : Ghosts (CachedDisk D member
   -- a disk that was refused, with something over it or without, was so itself
   pub refused_told : (why : NoStore) → (members.state found).past ≡ [] → ((members.state found).honest ≡ true → IsClean (members.state found).now)
       → IsNotServed members cached late late_cached in_memory found back why → HasRefused (members.state found) (members.state back) why
-  refused_told why fresh clean (inl refused) = refused_told_late members late same_late (buffer_for in_memory.buffer (members.state found).blocks) found back why fresh clean refused
-  refused_told why fresh clean (inr over) =
+  refused_told why fresh clean (refused_over_disk refused) = refused_told_late members late same_late (buffer_for in_memory.buffer (members.state found).blocks) found back why fresh clean refused
+  refused_told why fresh clean (refused_over_cache over) =
       let above : HasRefused (cached.state over.first) (cached.state over.last) why =
       refused_told_late cached late_cached same_above (buffer_for in_memory.buffer (members.state found).blocks) over.first over.last why (fresh_above members cached same found over.first over.empty.inner fresh)
       (λ honest. clean_above members cached same found over.first over.empty.inner (clean (honest_below members cached same found over.first over.empty.inner honest))) over.done in
@@ -224,20 +229,18 @@ module _ {D : Type 0} (members : Ghosts D) (cached : Ghosts (CachedDisk D member
       refused_there members found back (inner_of over.first) (inner_of over.last) why over.empty.inner over.given_back
       (refused_below members over.first over.last why shown)
 
-module _ {D : Type 0} (members : Ghosts D) (cached : Ghosts (CachedDisk D members)) (late : Ghosts (DelayedDisk D members))
-    (late_cached : Ghosts (DelayedDisk (CachedDisk D members) cached)) (Untouched Reads Opens : Type 0) (OpensFor : OnCommand → Type 0) (Denied : Text → Type 0) (words : List Text) (exit : Exit)
-    (old new : PlaceState) (known : ProgramStreams) where
+module _ {P D : Type 0} (over : Disks D) (place : PlaceUse P) (report : Report) (words : List Text) (input : Option (List ℕ)) where
   -- what was done
   abbrev Did : Type 0
-  Did = Does members cached late late_cached Untouched Reads Opens OpensFor Denied words exit old new known
+  Did = Does over place report words input
 
   -- a store was to be made
-  pub did_create : (name : Text) (blocks : ℕ) → IsJob words (create name blocks) → Opens → Makes members (Denied name) name blocks exit old new known.output known.errors → Did
+  pub did_create : (name : Text) (blocks : ℕ) → IsJob words (create name blocks) → OpensOne place → Makes over.own place report name blocks → Did
   did_create name blocks job opens makes = record {
     creates = λ other size asked. let same : create other size ≡ create name blocks = one_job words (create name blocks) (create other size) job asked in
         let name_is : other ≡ name = cc in
         let size_is : size ≡ blocks = cc in
-        inl (opens, rw (name_is, size_is) makes);
+        done (opens, rw (name_is, size_is) makes);
     runs = λ other in_memory on asked. let same : run other in_memory on ≡ create name blocks = one_job words (create name blocks) (run other in_memory on) job asked in absurd (cc);
     does = λ other lines in_memory on asked. let same : do_lines other lines in_memory on ≡ create name blocks = one_job words (create name blocks) (do_lines other lines in_memory on) job asked in absurd (cc);
     checks = λ other asked. let same : check other ≡ create name blocks = one_job words (create name blocks) (check other) job asked in absurd (cc);
@@ -247,15 +250,15 @@ module _ {D : Type 0} (members : Ghosts D) (cached : Ghosts (CachedDisk D member
   }
 
   -- lines were to be answered
-  pub did_run : (name : Text) (in_memory : InMemory) (on : Manner) → IsJob words (run name in_memory on) → OpensFor on.on_command
-      → Answers members cached late late_cached name in_memory on exit old new (session_of known) ⊎ Declines members (Denied name) name exit old new known.errors → Did
-  did_run name in_memory on job opens answers = record {
+  pub did_run : (name : Text) (in_memory : InMemory) (on : Manner) → IsJob words (run name in_memory on) → OpensFor place on.on_command
+      → AnswersOrDeclines over place report name in_memory on input → Did
+  did_run name in_memory on job opens answered = record {
     creates = λ other size asked. let same : create other size ≡ run name in_memory on = one_job words (run name in_memory on) (create other size) job asked in absurd (cc);
     runs = λ other size refusal asked. let same : run other size refusal ≡ run name in_memory on = one_job words (run name in_memory on) (run other size refusal) job asked in
         let name_is : other ≡ name = cc in
         let size_is : size ≡ in_memory = cc in
         let on_is : refusal ≡ on = cc in
-        inl (rw on_is opens, rw (name_is, size_is, on_is) answers);
+        done (rw on_is opens, rw (name_is, size_is, on_is) answered);
     does = λ other lines size refusal asked. let same : do_lines other lines size refusal ≡ run name in_memory on = one_job words (run name in_memory on) (do_lines other lines size refusal) job asked in absurd (cc);
     checks = λ other asked. let same : check other ≡ run name in_memory on = one_job words (run name in_memory on) (check other) job asked in absurd (cc);
     draws = λ other asked. let same : draw other ≡ run name in_memory on = one_job words (run name in_memory on) (draw other) job asked in absurd (cc);
@@ -264,9 +267,9 @@ module _ {D : Type 0} (members : Ghosts D) (cached : Ghosts (CachedDisk D member
   }
 
   -- lines that were given were to be answered
-  pub did_lines : (name : Text) (lines : List ℕ) (in_memory : InMemory) (on : Manner) → IsJob words (do_lines name lines in_memory on) → OpensFor on.on_command
-      → Answers members cached late late_cached name in_memory on exit old new (session_of (with_lines lines known)) ⊎ Declines members (Denied name) name exit old new known.errors → Did
-  did_lines name lines in_memory on job opens answers = record {
+  pub did_lines : (name : Text) (lines : List ℕ) (in_memory : InMemory) (on : Manner) → IsJob words (do_lines name lines in_memory on) → OpensFor place on.on_command
+      → AnswersOrDeclines over place report name in_memory on (Some lines) → Did
+  did_lines name lines in_memory on job opens answered = record {
     creates = λ other size asked. let same : create other size ≡ do_lines name lines in_memory on = one_job words (do_lines name lines in_memory on) (create other size) job asked in absurd (cc);
     runs = λ other size refusal asked. let same : run other size refusal ≡ do_lines name lines in_memory on = one_job words (do_lines name lines in_memory on) (run other size refusal) job asked in absurd (cc);
     does = λ other given size refusal asked. let same : do_lines other given size refusal ≡ do_lines name lines in_memory on = one_job words (do_lines name lines in_memory on) (do_lines other given size refusal) job asked in
@@ -274,7 +277,7 @@ module _ {D : Type 0} (members : Ghosts D) (cached : Ghosts (CachedDisk D member
         let lines_are : given ≡ lines = cc in
         let size_is : size ≡ in_memory = cc in
         let on_is : refusal ≡ on = cc in
-        inl (rw on_is opens, rw (name_is, lines_are, size_is, on_is) answers);
+        done (rw on_is opens, rw (name_is, lines_are, size_is, on_is) answered);
     checks = λ other asked. let same : check other ≡ do_lines name lines in_memory on = one_job words (do_lines name lines in_memory on) (check other) job asked in absurd (cc);
     draws = λ other asked. let same : draw other ≡ do_lines name lines in_memory on = one_job words (do_lines name lines in_memory on) (draw other) job asked in absurd (cc);
     copies = λ other to asked wanted. let same : copy other to asked ≡ do_lines name lines in_memory on = one_job words (do_lines name lines in_memory on) (copy other to asked) job wanted in absurd (cc);
@@ -282,48 +285,36 @@ module _ {D : Type 0} (members : Ghosts D) (cached : Ghosts (CachedDisk D member
   }
 
   -- a store was to be checked
-  pub did_check : (name : Text) → IsJob words (check name) → Reads
-      → Counts members name exit old new known.output ⊎ FindsFault members (Denied name) name exit old new known.errors → Did
-  did_check name job reads counts = record {
+  pub did_check : (name : Text) → IsJob words (check name) → OpensNone place → Checks over.own place report name → Did
+  did_check name job reads checked = record {
     creates = λ other size asked. let same : create other size ≡ check name = one_job words (check name) (create other size) job asked in absurd (cc);
     runs = λ other in_memory on asked. let same : run other in_memory on ≡ check name = one_job words (check name) (run other in_memory on) job asked in absurd (cc);
     does = λ other lines in_memory on asked. let same : do_lines other lines in_memory on ≡ check name = one_job words (check name) (do_lines other lines in_memory on) job asked in absurd (cc);
     checks = λ other asked. let same : check other ≡ check name = one_job words (check name) (check other) job asked in
         let name_is : other ≡ name = cc in
-        rw name_is (reads, told counts);
+        done (reads, rw name_is checked);
     draws = λ other asked. let same : draw other ≡ check name = one_job words (check name) (draw other) job asked in absurd (cc);
     copies = λ other to asked wanted. let same : copy other to asked ≡ check name = one_job words (check name) (copy other to asked) job wanted in absurd (cc);
     none = λ no. absurd (no (check name) job);
   }
-    where
-      told : Counts members name exit old new known.output ⊎ FindsFault members (Denied name) name exit old new known.errors
-          → Counts members name exit old new known.output ⊎ (FindsFault members (Denied name) name exit old new known.errors ⊎ ((exit ≡ Stopped) × Untouched))
-      told (inl counts) = inl counts
-      told (inr declines) = inr (inl declines)
 
   -- a tree was to be drawn
-  pub did_draw : (name : Text) → IsJob words (draw name) → Reads
-      → Draws members name exit old new known.output ⊎ Declines members (Denied name) name exit old new known.errors → Did
+  pub did_draw : (name : Text) → IsJob words (draw name) → OpensNone place → DrawsOrDeclines over.own place report name → Did
   did_draw name job reads drawn = record {
     creates = λ other size asked. let same : create other size ≡ draw name = one_job words (draw name) (create other size) job asked in absurd (cc);
     runs = λ other in_memory on asked. let same : run other in_memory on ≡ draw name = one_job words (draw name) (run other in_memory on) job asked in absurd (cc);
     does = λ other lines in_memory on asked. let same : do_lines other lines in_memory on ≡ draw name = one_job words (draw name) (do_lines other lines in_memory on) job asked in absurd (cc);
     draws = λ other asked. let same : draw other ≡ draw name = one_job words (draw name) (draw other) job asked in
         let name_is : other ≡ name = cc in
-        rw name_is (reads, told drawn);
+        done (reads, rw name_is drawn);
     checks = λ other asked. let same : check other ≡ draw name = one_job words (draw name) (check other) job asked in absurd (cc);
     copies = λ other to asked wanted. let same : copy other to asked ≡ draw name = one_job words (draw name) (copy other to asked) job wanted in absurd (cc);
     none = λ no. absurd (no (draw name) job);
   }
-    where
-      told : Draws members name exit old new known.output ⊎ Declines members (Denied name) name exit old new known.errors
-          → Draws members name exit old new known.output ⊎ (Declines members (Denied name) name exit old new known.errors ⊎ ((exit ≡ Stopped) × Untouched))
-      told (inl drawn) = inl drawn
-      told (inr declines) = inr (inl declines)
 
   -- a store was to be copied
   pub did_copy : (name to : Text) (blocks : Option ℕ) → IsJob words (copy name to blocks)
-      → Duplicates members Reads Opens Denied name to blocks exit old new known.output known.errors ⊎ (Reads × Declines members (Denied name) name exit old new known.errors) → Did
+      → CopiesOrDeclines over.own place report name to blocks → Did
   did_copy name to blocks job copied = record {
     creates = λ other size asked. let same : create other size ≡ copy name to blocks = one_job words (copy name to blocks) (create other size) job asked in absurd (cc);
     runs = λ other in_memory on asked. let same : run other in_memory on ≡ copy name to blocks = one_job words (copy name to blocks) (run other in_memory on) job asked in absurd (cc);
@@ -334,45 +325,40 @@ module _ {D : Type 0} (members : Ghosts D) (cached : Ghosts (CachedDisk D member
         let name_is : other ≡ name = cc in
         let to_is : aim ≡ to = cc in
         let size_is : size ≡ blocks = cc in
-        rw (name_is, to_is, size_is) (told copied);
+        done (rw (name_is, to_is, size_is) copied);
     none = λ no. absurd (no (copy name to blocks) job);
   }
-    where
-      told : Duplicates members Reads Opens Denied name to blocks exit old new known.output known.errors ⊎ (Reads × Declines members (Denied name) name exit old new known.errors)
-          → Duplicates members Reads Opens Denied name to blocks exit old new known.output known.errors ⊎ ((Reads × Declines members (Denied name) name exit old new known.errors) ⊎ ((exit ≡ Stopped) × Untouched))
-      told (inl copied) = inl copied
-      told (inr declines) = inr (inl declines)
 
   -- no call of the place was made, and it stopped, where the words ask for something
-  pub did_nothing : Untouched → Reads → ((job : Wanted) → IsJob words job → exit ≡ Stopped) → Did
-  did_nothing untouched reads stopped = record {
-    creates = λ name blocks asked. inr (stopped (create name blocks) asked, untouched);
-    runs = λ name in_memory on asked. inr (stopped (run name in_memory on) asked, untouched);
-    does = λ name lines in_memory on asked. inr (stopped (do_lines name lines in_memory on) asked, untouched);
-    checks = λ name asked. (reads, inr (inr (stopped (check name) asked, untouched)));
-    draws = λ name asked. (reads, inr (inr (stopped (draw name) asked, untouched)));
-    copies = λ name to asked wanted. inr (inr (stopped (copy name to asked) wanted, untouched));
-    none = λ no. untouched;
+  pub did_nothing : IsUnused place → ((job : Wanted) → IsJob words job → report.exit ≡ Stopped) → Did
+  did_nothing unused stops = record {
+    creates = λ name blocks asked. stopped (stops (create name blocks) asked) unused;
+    runs = λ name in_memory on asked. stopped (stops (run name in_memory on) asked) unused;
+    does = λ name lines in_memory on asked. stopped (stops (do_lines name lines in_memory on) asked) unused;
+    checks = λ name asked. stopped (stops (check name) asked) unused;
+    draws = λ name asked. stopped (stops (draw name) asked) unused;
+    copies = λ name to asked wanted. stopped (stops (copy name to asked) wanted) unused;
+    none = λ no. unused;
   }
 
 -- what holds on any place, by the job that the words ask for
-module _ {P D : Type 0} (over : Disks D) (denied : P → List Text) (place place' : P) (words : List Text) (exit : Exit) (known : ProgramStreams) where
+module _ {P D : Type 0} (over : Disks D) (place : PlaceUse P) (report : Report) (words : List Text) (input : Option (List ℕ)) where
   -- lines were to be answered
   pub served_run : (name : Text) (in_memory : InMemory) (on : Manner) → IsJob words (run name in_memory on)
-      → ServesIn over denied place place' name in_memory on exit known → ServesWords over denied place place' words exit known
+      → ServesIn over place report name in_memory on input → ServesWords over place report words input
   served_run name in_memory on job so = record {
     runs = λ other size refusal asked.
         let same : run other size refusal ≡ run name in_memory on = one_job words (run name in_memory on) (run other size refusal) job asked in
         let name_is : other ≡ name = cc in
         let size_is : size ≡ in_memory = cc in
         let on_is : refusal ≡ on = cc in
-        inl (rw (name_is, size_is, on_is) so);
+        done (rw (name_is, size_is, on_is) so);
     does = λ other lines size refusal asked. let same : do_lines other lines size refusal ≡ run name in_memory on = one_job words (run name in_memory on) (do_lines other lines size refusal) job asked in absurd (cc);
   }
 
   -- lines that were given were
   pub served_lines : (name : Text) (lines : List ℕ) (in_memory : InMemory) (on : Manner) → IsJob words (do_lines name lines in_memory on)
-      → ServesIn over denied place place' name in_memory on exit (with_lines lines known) → ServesWords over denied place place' words exit known
+      → ServesIn over place report name in_memory on (Some lines) → ServesWords over place report words input
   served_lines name lines in_memory on job so = record {
     runs = λ other size refusal asked. let same : run other size refusal ≡ do_lines name lines in_memory on = one_job words (do_lines name lines in_memory on) (run other size refusal) job asked in absurd (cc);
     does = λ other given size refusal asked.
@@ -381,22 +367,22 @@ module _ {P D : Type 0} (over : Disks D) (denied : P → List Text) (place place
         let lines_are : given ≡ lines = cc in
         let size_is : size ≡ in_memory = cc in
         let on_is : refusal ≡ on = cc in
-        inl (rw (name_is, lines_are, size_is, on_is) so);
+        done (rw (name_is, lines_are, size_is, on_is) so);
   }
 
   -- no lines were to be answered, or the program stopped before
-  pub served_none : ((name : Text) (in_memory : InMemory) (on : Manner) → IsJob words (run name in_memory on) → (exit ≡ Stopped) × (place' ≡ place))
-      → ((name : Text) (lines : List ℕ) (in_memory : InMemory) (on : Manner) → IsJob words (do_lines name lines in_memory on) → (exit ≡ Stopped) × (place' ≡ place))
-      → ServesWords over denied place place' words exit known
+  pub served_none : ((name : Text) (in_memory : InMemory) (on : Manner) → IsJob words (run name in_memory on) → (report.exit ≡ Stopped) × IsUnused place)
+      → ((name : Text) (lines : List ℕ) (in_memory : InMemory) (on : Manner) → IsJob words (do_lines name lines in_memory on) → (report.exit ≡ Stopped) × IsUnused place)
+      → ServesWords over place report words input
   served_none runs does = record {
-    runs = λ name in_memory on asked. inr (runs name in_memory on asked);
-    does = λ name lines in_memory on asked. inr (does name lines in_memory on asked);
+    runs = λ name in_memory on asked. let so = runs name in_memory on asked in stopped so.0 so.1;
+    does = λ name lines in_memory on asked. let so = does name lines in_memory on asked in stopped so.0 so.1;
   }
 
   -- words that ask for something else
   pub served_other : (job : Wanted) → IsJob words job → ((name : Text) (in_memory : InMemory) (on : Manner) → run name in_memory on ≡ job → ⊥)
       → ((name : Text) (lines : List ℕ) (in_memory : InMemory) (on : Manner) → do_lines name lines in_memory on ≡ job → ⊥)
-      → ServesWords over denied place place' words exit known
+      → ServesWords over place report words input
   served_other job asked no_run no_lines = served_none
       (λ name in_memory on other. absurd (no_run name in_memory on (one_job words job (run name in_memory on) asked other)))
       (λ name lines in_memory on other. absurd (no_lines name lines in_memory on (one_job words job (do_lines name lines in_memory on) asked other)))

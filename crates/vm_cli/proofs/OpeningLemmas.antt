@@ -8,6 +8,7 @@ use Rattle.vm_block.specs.Header.{IsEarlierHeader, header_bytes_of}
 use Rattle.vm_store.specs.Recovery.{AllDamaged, TellsAll}
 use Rattle.vm_store.specs.Refused.{IsRefused, IsSynced}
 use Rattle.vm_cli.specs.program.Openings.{KeepsRefusal, LacksSum, NamesAll, TellsEarlier, refusal_of}
+use Rattle.vm_cli.specs.program.Openings.NamesDamaged.{of_slot, of_trees}
 use Rattle.vm_cli.specs.declared.program.opening.NoStore.{NoStore}
 use Rattle.vm_cli.specs.declared.program.opening.NoStore.TheVariants.{Refused}
 
@@ -65,8 +66,8 @@ device_untold x refusal device = record { header = λ is. cc (is, device); sums 
 pub names_all : (old mid new : DiskState) {damaged damaged' : Option (List Bool)} (refusal : Refusal) (why : NoStore) → damaged ≡ None → (new.honest ≡ true → mid.honest ≡ true) → KeepsRefusal refusal why → TellsAll old mid damaged damaged' refusal → NamesAll old new why damaged'
 names_all old mid new {damaged} {damaged'} refusal why none earlier (inl same) tells = record {
   all = λ n is. elim (tells.all n (sym same ∙ is)) [
-    | inl slot ↦ inl (slot.0 ∙ none, λ honest. slot.1 (earlier honest))
-    | inr marks ↦ inr (marks_then damaged' n marks)
+    | inl slot ↦ of_slot (slot.0 ∙ none) (λ honest. slot.1 (earlier honest))
+    | inr marks ↦ of_trees (marks_then damaged' n marks)
   ];
   none = λ other device. tells.none (λ n is. other n (same ∙ is)) ∙ none;
 }
@@ -78,4 +79,4 @@ names_all old mid new refusal why none earlier (inr failed) tells = record { all
 
 -- no block is named for want of memory
 pub memory_unnamed : (old new : DiskState) (refusal : Refusal) → (new.honest ≡ true → refusal ≡ Memory) → NamesAll old new (Refused refusal) None
-memory_unnamed old new refusal memory = record { all = λ n is. inl (refl, λ honest. cc (is, memory honest)); none = λ other device. refl }
+memory_unnamed old new refusal memory = record { all = λ n is. of_slot refl (λ honest. cc (is, memory honest)); none = λ other device. refl }

@@ -83,10 +83,12 @@ ghost use Rattle.vm_cli.specs.answers.Carried.{Begins, Gains};
 ghost use Rattle.vm_types.specs.declared.refusal.Refusal.{Refusal as RefusalValue};
 ghost use Rattle.vm_disk.specs.Between.{IfHonest};
 ghost use Rattle.vm_cli.specs.program.Told.{AnswersOver, FormatsOnly, MakesStore, TellsCount, TellsDamage, TellsRefusal};
-ghost use Rattle.vm_cli.specs.session.Known.{program_streams, streams_of, writer, writers, written_to};
-ghost use Rattle.vm_cli.specs.program.Places.{FindsIn, IsAsked};
-ghost use Rattle.vm_cli.specs.program.Runs.{AnswersIn, AsksToWrite, CountsIn, DoesIn, LooksOnly, MakesIn, RunsIn, ServesIn, ServesRun, ServesWords, disks};
-ghost use Rattle.vm_cli.specs.program.Exits.{Blames, CheckEnds, Ends, EndsSaying, Helps, IsDone, IsLineRefused, IsRefused, IsStopped, IsWrong, JobEnds, RefusesLock, RefusesWords, SessionEnds, StopsUnsaid, Tells, counts_text, created_text, file_text, named_text, refused_text, status_of, stopped_text};
+ghost use Rattle.vm_cli.specs.session.Known.{streams_of, writer, writers, written_to};
+ghost use Rattle.vm_cli.specs.program.Places.{FindsIn, IsAsked, place_use};
+ghost use Rattle.vm_cli.specs.program.CachedLines.{disks};
+ghost use Rattle.vm_cli.specs.program.Files.{AsksToWrite, Does};
+ghost use Rattle.vm_cli.specs.program.Runs.{AnswersIn, ChecksIn, LooksOnly, MakesIn, RunsIn, ServesIn, ServesRun, ServesWords};
+ghost use Rattle.vm_cli.specs.program.Exits.{Blames, CheckEnds, Ends, EndsSaying, Helps, IsDone, IsLineRefused, IsRefused, IsStopped, IsWrong, JobEnds, RefusesLock, RefusesWords, SessionEnds, StopsUnsaid, Tells, counts_text, created_text, file_text, named_text, refused_text, reported, status_of, stopped_text};
 ghost use Rattle.vm_cli.specs.program.Words.Wanted.{check as check_wanted, create as create_wanted, run as run_wanted};
 
 /// Does what the words say, and returns the exit status. The first word is the program's name. Each
@@ -111,17 +113,17 @@ pub fn run_words<P: Place, R: Read, W: Write, F: Write>(
     ensures line_refused { result ≡ 4
         → IsLineRefused (map string_bytes words.now)
         (writers (writer W.contents output.old output.new) (writer F.contents errors.old errors.new)) }
-    ensures looks { LooksOnly P.to_write place.old place.new (map string_bytes words.now) }
+    ensures looks { LooksOnly (place_use P.state P.denied P.to_write place.old place.new) (map string_bytes words.now) }
     // As long as the place and its disks have kept their rules, the files are what the job makes of
     // them. If the program stopped, the errors say so or begin to, after what the job said.
     ensures files { RunsIn (disks P.D.Disk ⟦<CachedDisk<P::D> as Disk>⟧ ⟦<DelayedDisk<P::D> as Disk>⟧ ⟦<DelayedDisk<CachedDisk<P::D>> as Disk>⟧)
-        P.state P.denied place.old place.new P.to_write (map string_bytes words.now) result
+        (place_use P.state P.denied P.to_write place.old place.new) (map string_bytes words.now) result
         (R.remaining input.old) (written_to W.contents output.old output.new) (writer F.contents errors.old errors.new) }
     // On any place, whether its disks keep their rules or not, lines are answered as `serve`
     // promises for any disk; or the errors say, or begin to say, why its disk was refused, or that
     // the place gave none for that file.
     ensures served { ServesRun (disks P.D.Disk ⟦<CachedDisk<P::D> as Disk>⟧ ⟦<DelayedDisk<P::D> as Disk>⟧ ⟦<DelayedDisk<CachedDisk<P::D>> as Disk>⟧)
-        P.denied place.old place.new (map string_bytes words.now) result
+        (place_use P.state P.denied P.to_write place.old place.new) (map string_bytes words.now) result
         (R.remaining input.old) (written_to W.contents output.old output.new) (writer F.contents errors.old errors.new) }
 {
     match do_job(alloc, words, place, input, output, errors) {
@@ -184,14 +186,16 @@ fn do_job<P: Place, R: Read, W: Write, F: Write>(
     errors: &mut F,
 ) -> Exit
     ensures ends { Ends result (map string_bytes words.now) (writers (writer W.contents output.old output.new) (writer F.contents errors.old errors.new)) }
-    ensures looks { LooksOnly P.to_write place.old place.new (map string_bytes words.now) }
+    ensures looks { LooksOnly (place_use P.state P.denied P.to_write place.old place.new) (map string_bytes words.now) }
     ensures files { (P.state place.new).honest ≡ true
-        → DoesIn (disks P.D.Disk ⟦<CachedDisk<P::D> as Disk>⟧ ⟦<DelayedDisk<P::D> as Disk>⟧ ⟦<DelayedDisk<CachedDisk<P::D>> as Disk>⟧)
-        P.state P.denied place.old place.new P.to_write (map string_bytes words.now) result
-        (program_streams (R.remaining input.old) (written_to W.contents output.old output.new) (written_to F.contents errors.old errors.new)) }
+        → Does (disks P.D.Disk ⟦<CachedDisk<P::D> as Disk>⟧ ⟦<DelayedDisk<P::D> as Disk>⟧ ⟦<DelayedDisk<CachedDisk<P::D>> as Disk>⟧)
+        (place_use P.state P.denied P.to_write place.old place.new)
+        (reported result (written_to W.contents output.old output.new) (written_to F.contents errors.old errors.new))
+        (map string_bytes words.now) (R.remaining input.old) }
     ensures served { ServesWords (disks P.D.Disk ⟦<CachedDisk<P::D> as Disk>⟧ ⟦<DelayedDisk<P::D> as Disk>⟧ ⟦<DelayedDisk<CachedDisk<P::D>> as Disk>⟧)
-        P.denied place.old place.new (map string_bytes words.now) result
-        (program_streams (R.remaining input.old) (written_to W.contents output.old output.new) (written_to F.contents errors.old errors.new)) }
+        (place_use P.state P.denied P.to_write place.old place.new)
+        (reported result (written_to W.contents output.old output.new) (written_to F.contents errors.old errors.new))
+        (map string_bytes words.now) (R.remaining input.old) }
 {
     match job(alloc, words) {
         Ok(Job::Create { file, blocks }) => create(file, blocks, place, output, errors),
@@ -233,8 +237,9 @@ fn create<P: Place, W: Write, F: Write>(
     ensures says { JobEnds (create_wanted file.now blocks) result
         (writers (writer W.contents output.old output.new) (writer F.contents errors.old errors.new)) }
     ensures writes { P.to_write place.new ≡ P.to_write place.old + 1 }
-    ensures files { MakesIn P.D.Disk P.state P.denied place.old place.new file.now blocks result
-        (written_to W.contents output.old output.new) (written_to F.contents errors.old errors.new) }
+    ensures files { MakesIn P.D.Disk (place_use P.state P.denied P.to_write place.old place.new)
+        (reported result (written_to W.contents output.old output.new) (written_to F.contents errors.old errors.new))
+        file.now blocks }
 {
     let Some(disk) = place.create(file, blocks) else {
         return no_file(b"altctl: cannot create ", file, errors);
@@ -279,11 +284,13 @@ fn run<P: Place, R: Read, W: Write, F: Write>(
         (writers (writer W.contents output.old output.new) (writer F.contents errors.old errors.new)) }
     ensures writes { AsksToWrite manner.on_command (P.to_write place.old) (P.to_write place.new) }
     ensures files { AnswersIn (disks P.D.Disk ⟦<CachedDisk<P::D> as Disk>⟧ ⟦<DelayedDisk<P::D> as Disk>⟧ ⟦<DelayedDisk<CachedDisk<P::D>> as Disk>⟧)
-        P.state P.denied place.old place.new file.now in_memory manner result
-        (program_streams (R.remaining input.old) (written_to W.contents output.old output.new) (written_to F.contents errors.old errors.new)) }
+        (place_use P.state P.denied P.to_write place.old place.new)
+        (reported result (written_to W.contents output.old output.new) (written_to F.contents errors.old errors.new))
+        file.now in_memory manner (R.remaining input.old) }
     ensures served { ServesIn (disks P.D.Disk ⟦<CachedDisk<P::D> as Disk>⟧ ⟦<DelayedDisk<P::D> as Disk>⟧ ⟦<DelayedDisk<CachedDisk<P::D>> as Disk>⟧)
-        P.denied place.old place.new file.now in_memory manner result
-        (program_streams (R.remaining input.old) (written_to W.contents output.old output.new) (written_to F.contents errors.old errors.new)) }
+        (place_use P.state P.denied P.to_write place.old place.new)
+        (reported result (written_to W.contents output.old output.new) (written_to F.contents errors.old errors.new))
+        file.now in_memory manner (R.remaining input.old) }
 {
     let Some(disk) = opened(file, manner.on_command, place) else {
         return no_file(b"altctl: cannot open ", file, errors);
@@ -345,8 +352,9 @@ fn check<P: Place, W: Write, F: Write>(
     ensures says { JobEnds (check_wanted file.now) result
         (writers (writer W.contents output.old output.new) (writer F.contents errors.old errors.new)) }
     ensures reads { P.to_write place.new ≡ P.to_write place.old }
-    ensures files { CountsIn P.D.Disk P.state P.denied place.old place.new file.now result
-        (written_to W.contents output.old output.new) (written_to F.contents errors.old errors.new) }
+    ensures files { ChecksIn P.D.Disk (place_use P.state P.denied P.to_write place.old place.new)
+        (reported result (written_to W.contents output.old output.new) (written_to F.contents errors.old errors.new))
+        file.now }
 {
     let Some(disk) = place.look(file) else {
         return no_file(b"altctl: cannot open ", file, errors);

@@ -1,6 +1,5 @@
 -- What becomes of a disk while written blocks of it wait in memory.
-use Rattle.std.specs.Prelude.{◌≡◌, ◌⊎◌, ◌<◌, ℕ, true, List, Result}
-use Rattle.std.proofs.Common.{inl, inr}
+use Rattle.std.specs.Prelude.{◌≡◌, ◌<◌, ℕ, true, List, Result}
 use Rattle.vm_types.specs.declared.answer.Answer.{Answer}
 use Rattle.vm_types.specs.declared.command.Command.{Command}
 use Rattle.vm_types.specs.declared.refusal.Refusal.{Refusal}
@@ -28,27 +27,30 @@ module _ {D : Type 0} (members : Ghosts D) where
     pub follows : (delayed_state members.state last).honest ≡ true → FollowsBelow members.state last
 
 module _ {D : Type 0} (members : Ghosts D) (late : Ghosts (DelayedDisk D members)) where
-  -- a disk was refused, itself or with a delayed disk over it
-  abbrev pub IsRefusedLate : ℕ → D → D → NoStore → Type 0
-  IsRefusedLate buffer old new why =
-      HasRefused (members.state old) (members.state new) why
-      ⊎ IsDoneLate members buffer (λ first last. HasRefused (late.state first) (late.state last) why) old new
+  -- a disk was refused
+  pub data IsRefusedLate (buffer : ℕ) (old new : D) (why : NoStore) : Type 0 where
+    -- itself
+    refused_itself : HasRefused (members.state old) (members.state new) why → IsRefusedLate buffer old new why
+    -- with a delayed disk over it
+    refused_late : IsDoneLate members buffer (λ first last. HasRefused (late.state first) (late.state last) why) old new
+        → IsRefusedLate buffer old new why
 
-module _ {D : Type 0} (members : Ghosts D) (late : Ghosts (DelayedDisk D members)) where
-  -- lines were answered over a disk itself, or over a delayed disk over it
-  abbrev pub IsServedLate : ℕ → Manner → D → D → Exit → SessionStreams → Type 0
-  IsServedLate buffer on old new exit known =
-      HasServed members on old new exit known
-      ⊎ IsDoneLate members buffer (λ first last. HasServed late on first last exit known) old new
+  -- lines were answered
+  pub data IsServedLate (buffer : ℕ) (on : Manner) (old new : D) (exit : Exit) (known : SessionStreams) : Type 0 where
+    -- over a disk itself
+    served_itself : HasServed members on old new exit known → IsServedLate buffer on old new exit known
+    -- over a delayed disk over it
+    served_late : IsDoneLate members buffer (λ first last. HasServed late on first last exit known) old new
+        → IsServedLate buffer on old new exit known
 
   -- the commands among these lines, if the store stood for this state at first
   abbrev pub commands_late : {buffer : ℕ} {on : Manner} {old new : D} {exit : Exit} {known : SessionStreams}
       → IsServedLate buffer on old new exit known → State → List Command
-  commands_late {on = on} {known = known} (inl served) s = commands_by on.grouping served.first served.last s on served.served known (served.serves s)
-  commands_late {on = on} {known = known} (inr over) s = commands_by on.grouping over.done.first over.done.last s on over.done.served known (over.done.serves s)
+  commands_late {on = on} {known = known} (served_itself served) s = commands_by on.grouping served.first served.last s on served.served known (served.serves s)
+  commands_late {on = on} {known = known} (served_late over) s = commands_by on.grouping over.done.first over.done.last s on over.done.served known (over.done.serves s)
 
   -- the answers to them
   abbrev pub answers_late : {buffer : ℕ} {on : Manner} {old new : D} {exit : Exit} {known : SessionStreams}
       → IsServedLate buffer on old new exit known → State → List (Result Answer Refusal)
-  answers_late {on = on} {known = known} (inl served) s = answers_by on.grouping served.first served.last s on served.served known (served.serves s)
-  answers_late {on = on} {known = known} (inr over) s = answers_by on.grouping over.done.first over.done.last s on over.done.served known (over.done.serves s)
+  answers_late {on = on} {known = known} (served_itself served) s = answers_by on.grouping served.first served.last s on served.served known (served.serves s)
+  answers_late {on = on} {known = known} (served_late over) s = answers_by on.grouping over.done.first over.done.last s on over.done.served known (over.done.serves s)

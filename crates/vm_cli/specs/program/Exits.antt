@@ -14,7 +14,7 @@ use Rattle.vm_alloc.specs.Marks.{is_marked}
 use Rattle.vm_store.specs.NewStore.{IsOfFormat}
 use Rattle.vm_cli.specs.answers.Carried.{Begins, Gains, WritesStart}
 use Rattle.vm_cli.specs.program.Branches.{Branch, drawing}
-use Rattle.vm_cli.specs.session.Known.{IsUntouched, Writer, Writers, Written, until, written}
+use Rattle.vm_cli.specs.session.Known.{IsUntouched, SessionStreams, Writer, Writers, Written, until, written}
 use Rattle.vm_cli.specs.program.Openings.{told_of}
 use Rattle.vm_cli.specs.program.Words.{Wanted, altctl, asked_of}
 use Rattle.vm_cli.specs.program.Words.Wanted.{check, copy, create, do_lines, draw, run}
@@ -216,6 +216,19 @@ pub data MayEnd (on : OnRefusal) (exit : Exit) : Type 0 where
   with_refusal : exit ≡ LineRefused → on ≢ Ignore → MayEnd on exit
 
 -- ---- what a writer is told
+
+-- what a job, or a part of one, told: its end, and what was written to the output and to the errors
+pub record Report : Type 0 where
+  pub exit : Exit
+  pub output : Written
+  pub errors : Written
+
+abbrev pub reported : Exit → Written → Written → Report
+reported exit output errors = record { exit = exit; output = output; errors = errors }
+
+-- what is known of a session that reads this input and writes to that output
+abbrev pub session_from : Option (List ℕ) → Report → SessionStreams
+session_from input report = record { input = input; output = report.output }
 
 -- a text was meant for a writer, with this end: it was written whole, or begun when the program stopped
 abbrev pub Tells : Exit → Exit → Written → List ℕ → Type 0

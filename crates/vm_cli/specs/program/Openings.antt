@@ -75,9 +75,15 @@ module _ {D : Type 0} (members : _) where
     pub opened : IfOk result (HasOpened Opens (members.state disk))
     pub refused : IfErr result (λ e. HasRefused (members.state disk) (members.state e.0) e.1)
 
+-- which damaged blocks are named with a refusal that tells of this one
+pub data NamesDamaged (old new : DiskState) (first : ℕ) (damaged : Option (List Bool)) : Type 0 where
+  -- none, if it is one of the slot
+  of_slot : damaged ≡ None → (new.honest ≡ true → HasNoSlot old.now.contents) → NamesDamaged old new first damaged
+  -- each damaged block of the trees, if it is one of them
+  of_trees : IsSomeAnd damaged (λ marks. new.honest ≡ true → AllDamaged old.now.contents first marks) → NamesDamaged old new first damaged
+
 -- with a refusal as damaged each damaged block of the trees is named, unless it tells of the slot; with another none is, except that those
 -- found by then may be if the device failed
 pub record NamesAll (old new : DiskState) (why : NoStore) (damaged : Option (List Bool)) : Type 0 where
-  pub all : (first : ℕ) → refusal_of why ≡ Damaged first
-      → ((damaged ≡ None) × (new.honest ≡ true → HasNoSlot old.now.contents)) ⊎ IsSomeAnd damaged (λ marks. new.honest ≡ true → AllDamaged old.now.contents first marks)
+  pub all : (first : ℕ) → refusal_of why ≡ Damaged first → NamesDamaged old new first damaged
   pub none : ((first : ℕ) → refusal_of why ≢ Damaged first) → refusal_of why ≢ Device → damaged ≡ None

@@ -146,6 +146,54 @@ module _ {P : Type 0} (state : P → PlaceState) (denied : P → List (List ℕ)
     pub writes : Writes (to_write old) (to_write new)
     pub earlier : WasHonest (state old) (state new)
 
+-- ---- the use of a place
+
+-- a place before and after a job, or a part of one, and what is known of a place
+pub record PlaceUse (P : Type 0) : Type 0 where
+  pub state : P → PlaceState
+  -- the names that it has denied, the newest first: it gave no disk of them, or said that they are taken
+  pub denied : P → List (List ℕ)
+  -- how often it was asked for a disk that may be written
+  pub to_write : P → ℕ
+  pub old : P
+  pub new : P
+
+abbrev pub place_use : {P : Type 0} → (P → PlaceState) → (P → List (List ℕ)) → (P → ℕ) → P → P → PlaceUse P
+place_use state denied to_write old new = record { state = state; denied = denied; to_write = to_write; old = old; new = new }
+
+module _ {P : Type 0} (place : PlaceUse P) where
+  -- what was known of it before
+  abbrev pub state_before : PlaceState
+  state_before = place.state place.old
+
+  -- what is known of it after
+  abbrev pub state_after : PlaceState
+  state_after = place.state place.new
+
+  -- it is honest after it
+  abbrev pub IsHonestAfter : Type 0
+  IsHonestAfter = state_after.honest ≡ true
+
+  -- no call of it was made
+  abbrev pub IsUnused : Type 0
+  IsUnused = place.new ≡ place.old
+
+  -- it was asked for no disk that may be written
+  abbrev pub OpensNone : Type 0
+  OpensNone = AsksNever (place.to_write place.old) (place.to_write place.new)
+
+  -- it was asked for exactly one
+  abbrev pub OpensOne : Type 0
+  OpensOne = AsksOnce (place.to_write place.old) (place.to_write place.new)
+
+  -- it denied this name, and no other
+  abbrev pub Denies : List ℕ → Type 0
+  Denies name = place.denied place.new ≡ name ∷ place.denied place.old
+
+  -- the file of this name is as it was
+  abbrev pub KeepsFile : List ℕ → Type 0
+  KeepsFile name = state_after.files name ≡ state_before.files name
+
 -- a call of a place whose disks are these, with what it was given and what it gave back
 pub data PlaceCall (D : Type 0) : Type 0 where
   -- a disk of this name, of this many blocks

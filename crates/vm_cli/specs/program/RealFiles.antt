@@ -1,5 +1,5 @@
 -- What the files of the system hold, by what was done with them.
-use Rattle.std.specs.Prelude.{◌≡◌, ◌⊎◌, ℕ, ◌+◌, ◌-◌, ◌/◌, ◌^◌, ◌&&◌, min, Bool, true, false, List, [], ◌∷◌, Option, Some, None, if◌then◌else◌, length, reverse, bytes_eq, option_map}
+use Rattle.std.specs.Prelude.{◌≡◌, ℕ, ◌+◌, ◌-◌, ◌/◌, ◌^◌, ◌&&◌, min, Bool, true, false, List, [], ◌∷◌, Option, Some, None, if◌then◌else◌, length, reverse, bytes_eq, option_map}
 use Rattle.vm_types.specs.declared.sizes.TheConstants.{BLOCK_SIZE}
 use Rattle.std.specs.declared.snapshot.Snapshot.{Snapshot}
 use Rattle.vm_disk.specs.Disk.{Contents, DiskState}
@@ -71,63 +71,101 @@ asked_to_write place = writes_after (noted place.events)
 abbrev pub names_denied : {R W : Type 0} → RealFiles R W → List (List ℕ)
 names_denied place = names_in place.denied
 
--- the next file was opened, under this name
-abbrev pub IsNext : {R W : Type 0} → RealFiles R W → List ℕ → SystemFile W → Type 0
-IsNext place name file = (name_of file ≡ name) × (opening_of file ≡ length (noted place.opened))
+-- a file is the next one that was opened, under this name
+pub record IsNext {R W : Type 0} (place : RealFiles R W) (name : List ℕ) (file : SystemFile W) : Type 0 where
+  pub named : name_of file ≡ name
+  pub opening : opening_of file ≡ length (noted place.opened)
 
--- all that was done is that a writable one was asked for and was missing; or that a file of this name was made, as the next one
+-- all that was done since the files were as they are here, by the events that are noted now, the newest first
+module _ {R W : Type 0} (old : RealFiles R W) (events : List (Event W)) where
+  -- a writable file of this name was asked for, to be made
+  pub data MadeOrMissed (name : List ℕ) : Type 0 where
+    -- it was missing
+    not_made : events ≡ Missed ∷ noted old.events → MadeOrMissed name
+    -- it was made, as the next one
+    file_made : (file : Snapshot (SystemFile W)) → events ≡ Made file ∷ noted old.events → IsNext old name file.value → MadeOrMissed name
+
+  -- a writable file of this name was asked for, to be found
+  pub data FoundOrMissed (name : List ℕ) : Type 0 where
+    -- it was missing
+    not_found : events ≡ Missed ∷ noted old.events → FoundOrMissed name
+    -- it was found, as the next one
+    file_found : (file : Snapshot (SystemFile W)) → events ≡ Found file ∷ noted old.events → IsNext old name file.value → FoundOrMissed name
+
+  -- a file of this name was asked for, to be read
+  pub data FoundOrNothing (name : List ℕ) : Type 0 where
+    -- nothing was done
+    nothing : events ≡ noted old.events → FoundOrNothing name
+    -- it was found, as the next one
+    found_to_read : (file : Snapshot (SystemFile W)) → events ≡ Found file ∷ noted old.events → IsNext old name file.value → FoundOrNothing name
+
+-- all that was done is that a file of this name was asked for, to be made
 abbrev pub NotesMade : {R W : Type 0} → List ℕ → RealFiles R W → RealFiles R W → Type 0
-NotesMade {W = W} name old new =
-    (noted new.events ≡ Missed ∷ noted old.events)
-    ⊎ ((file : Snapshot (SystemFile W)) × (noted new.events ≡ Made file ∷ noted old.events) × IsNext old name file.value)
+NotesMade name old new = MadeOrMissed old (noted new.events) name
 
--- the same, if a file of this name was found
+-- the same, to be found
 abbrev pub NotesFound : {R W : Type 0} → List ℕ → RealFiles R W → RealFiles R W → Type 0
-NotesFound {W = W} name old new =
-    (noted new.events ≡ Missed ∷ noted old.events)
-    ⊎ ((file : Snapshot (SystemFile W)) × (noted new.events ≡ Found file ∷ noted old.events) × IsNext old name file.value)
+NotesFound name old new = FoundOrMissed old (noted new.events) name
 
--- nothing was done, or all that was is that a file of this name was found
+-- the same, to be read
 abbrev pub NotesLooked : {R W : Type 0} → List ℕ → RealFiles R W → RealFiles R W → Type 0
-NotesLooked {W = W} name old new =
-    (noted new.events ≡ noted old.events)
-    ⊎ ((file : Snapshot (SystemFile W)) × (noted new.events ≡ Found file ∷ noted old.events) × IsNext old name file.value)
+NotesLooked name old new = FoundOrNothing old (noted new.events) name
 
 -- all that was done is that this disk came back under this name
-abbrev pub NotesGiven : {R W : Type 0} → List ℕ → RealDisk W → RealFiles R W → RealFiles R W → Type 0
-NotesGiven {W = W} name disk old new =
-    (given : History ℕ) × (kept : Snapshot (RealDisk W)) × (noted new.events ≡ Given given kept ∷ noted old.events)
-    × (reverse (noted given) ≡ name) × (kept.value ≡ disk)
+pub record NotesGiven {R W : Type 0} (name : List ℕ) (disk : RealDisk W) (old new : RealFiles R W) : Type 0 where
+  pub given : History ℕ
+  pub kept : Snapshot (RealDisk W)
+  pub last : noted new.events ≡ Given given kept ∷ noted old.events
+  pub named : reverse (noted given) ≡ name
+  pub is : kept.value ≡ disk
 
 -- all that was done is that a file got another name
-abbrev pub NotesLink : {R W : Type 0} → List ℕ → List ℕ → RealFiles R W → RealFiles R W → Type 0
-NotesLink from to old new =
-    (one : History ℕ) × (two : History ℕ) × (noted new.events ≡ Linked one two ∷ noted old.events) × (reverse (noted one) ≡ from) × (reverse (noted two) ≡ to)
+pub record NotesLink {R W : Type 0} (from to : List ℕ) (old new : RealFiles R W) : Type 0 where
+  pub one : History ℕ
+  pub two : History ℕ
+  pub last : noted new.events ≡ Linked one two ∷ noted old.events
+  pub named_from : reverse (noted one) ≡ from
+  pub named_to : reverse (noted two) ≡ to
 
 -- all that was done is that a file lost its name
-abbrev pub NotesRemoval : {R W : Type 0} → List ℕ → RealFiles R W → RealFiles R W → Type 0
-NotesRemoval name old new =
-    (gone : History ℕ) × (noted new.events ≡ Removed gone ∷ noted old.events) × (reverse (noted gone) ≡ name)
+pub record NotesRemoval {R W : Type 0} (name : List ℕ) (old new : RealFiles R W) : Type 0 where
+  pub gone : History ℕ
+  pub last : noted new.events ≡ Removed gone ∷ noted old.events
+  pub named : reverse (noted gone) ≡ name
 
--- all that was done, if the answer is yes, is that nothing was found to have this name; or else nothing was done
-abbrev pub NotesLacking : {R W : Type 0} → List ℕ → Bool → RealFiles R W → RealFiles R W → Type 0
-NotesLacking name lacks old new =
-    ((lacks ≡ false) × (noted new.events ≡ noted old.events))
-    ⊎ ((lacks ≡ true) × ((lacked : History ℕ) × (noted new.events ≡ Lacking lacked ∷ noted old.events) × (reverse (noted lacked) ≡ name)))
+-- all that was done is that a file got another name, and lost its first one then
+pub record NotesRename {R W : Type 0} (from to : List ℕ) (old new : RealFiles R W) : Type 0 where
+  pub one : History ℕ
+  pub two : History ℕ
+  pub gone : History ℕ
+  pub last : noted new.events ≡ Removed gone ∷ (Linked one two ∷ noted old.events)
+  pub named_from : reverse (noted one) ≡ from
+  pub named_to : reverse (noted two) ≡ to
+  pub named_gone : reverse (noted gone) ≡ from
 
--- all that was done, if the answer is yes, is that the file of the first name got the second, and then may have lost the first; or else
--- nothing was done
-abbrev pub NotesLinked : {R W : Type 0} → List ℕ → List ℕ → Bool → RealFiles R W → RealFiles R W → Type 0
-NotesLinked from to linked old new =
-    ((linked ≡ false) × (noted new.events ≡ noted old.events))
-    ⊎ (((linked ≡ true) × NotesLink from to old new)
-    ⊎ ((linked ≡ true) × ((one : History ℕ) × (two : History ℕ) × (gone : History ℕ)
-    × (noted new.events ≡ Removed gone ∷ (Linked one two ∷ noted old.events))
-    × (reverse (noted one) ≡ from) × (reverse (noted two) ≡ to) × (reverse (noted gone) ≡ from))))
+-- all that was done if it was asked whether there is nothing of this name, by the answer
+pub data NotesLacking {R W : Type 0} (name : List ℕ) (lacks : Bool) (old new : RealFiles R W) : Type 0 where
+  -- no: nothing
+  not_lacking : lacks ≡ false → noted new.events ≡ noted old.events → NotesLacking name lacks old new
+  -- yes: nothing was found to have it
+  lacking : lacks ≡ true → (lacked : History ℕ) → noted new.events ≡ Lacking lacked ∷ noted old.events → reverse (noted lacked) ≡ name
+      → NotesLacking name lacks old new
 
--- nothing was done, or all that was is that the file of this name lost it
-abbrev pub NotesRemoved : {R W : Type 0} → List ℕ → RealFiles R W → RealFiles R W → Type 0
-NotesRemoved name old new = (noted new.events ≡ noted old.events) ⊎ NotesRemoval name old new
+-- all that was done if the file of the first name was to get the second, by the answer
+pub data NotesLinked {R W : Type 0} (from to : List ℕ) (linked : Bool) (old new : RealFiles R W) : Type 0 where
+  -- no: nothing
+  not_linked : linked ≡ false → noted new.events ≡ noted old.events → NotesLinked from to linked old new
+  -- yes: it got it, and may have kept the first
+  has_both : linked ≡ true → NotesLink from to old new → NotesLinked from to linked old new
+  -- yes: it got it, and lost the first
+  was_renamed : linked ≡ true → NotesRename from to old new → NotesLinked from to linked old new
+
+-- all that was done if the file of this name was to lose it
+pub data NotesRemoved {R W : Type 0} (name : List ℕ) (old new : RealFiles R W) : Type 0 where
+  -- nothing
+  not_removed : noted new.events ≡ noted old.events → NotesRemoved name old new
+  -- it lost it
+  was_removed : NotesRemoval name old new → NotesRemoved name old new
 
 -- no file was asked for so far: each holds what the world says, and no disk came back
 abbrev pub untouched : (ℕ → List ℕ → Option (List ℕ)) → PlaceState

@@ -1,15 +1,13 @@
 -- What a job does to a place that is honest after it, by what is known of the place, and what lines are answered on any place.
-use Rattle.std.specs.Prelude.{◌≡◌, ◌≢◌, ◌⊎◌, ◌+◌, ◌∷◌, ℕ, true, List, Option, codes}
+use Rattle.std.specs.Prelude.{◌≡◌, ◌≢◌, ℕ, List, Option, Some, codes}
 use Rattle.clap.specs.Words.{Text}
-use Rattle.vm_disk.specs.declared.cached.CachedDisk.{CachedDisk}
-use Rattle.vm_disk.specs.declared.delayed.DelayedDisk.{DelayedDisk}
 use Rattle.vm_disk.specs.declared.disk.Disk.{Ghosts}
-use Rattle.vm_cli.specs.program.CachedLines.{IsNotServed, IsServed}
+use Rattle.vm_cli.specs.program.CachedLines.{Disks, IsNotServed, IsServed}
 use Rattle.vm_cli.specs.answers.Carried.{Begins}
-use Rattle.vm_cli.specs.program.Exits.{IsJob, Tells, file_text, no_store_text, status_of, stopped_text}
-use Rattle.vm_cli.specs.program.Files.{Answers, Counts, Declines, Does, Draws, Duplicates, FindsFault, Makes}
-use Rattle.vm_cli.specs.session.Known.{ProgramStreams, SessionStreams, Writer, Written, program_streams, session_of, with_lines, written_to}
-use Rattle.vm_cli.specs.program.Places.{PlaceState}
+use Rattle.vm_cli.specs.program.Exits.{IsJob, Report, Tells, file_text, no_store_text, reported, session_from, status_of, stopped_text}
+use Rattle.vm_cli.specs.program.Files.{AnswersOrDeclines, Checks, CopiesOrDeclines, Does, DoneOrStopped, DrawsOrDeclines, Makes}
+use Rattle.vm_cli.specs.session.Known.{SessionStreams, Writer, Written, written_to}
+use Rattle.vm_cli.specs.program.Places.{Denies, IsHonestAfter, IsUnused, OpensNone, PlaceUse}
 use Rattle.vm_cli.specs.program.Words.{Wanted}
 use Rattle.vm_cli.specs.program.Words.Wanted.{check, copy, create, do_lines, draw, run}
 use Rattle.vm_cli.specs.declared.program.Exit.{Exit}
@@ -17,22 +15,9 @@ use Rattle.vm_cli.specs.declared.program.Exit.TheVariants.{Refused, Stopped}
 use Rattle.vm_cli.specs.declared.program.opening.NoStore.{NoStore}
 use Rattle.vm_cli.specs.declared.program.task.InMemory.{InMemory}
 use Rattle.vm_cli.specs.declared.session.Manner.{Manner}
-use Rattle.vm_cli.specs.declared.session.OnCommand.{OnCommand}
 use Rattle.vm_cli.specs.declared.session.OnCommand.TheVariants.{Refuse}
 
--- the disks over which lines may be answered: a file's own, one with blocks of it in memory, one of which written blocks wait, and one
--- with both
-pub record Disks (D : Type 0) : Type 1 where
-  pub own : Ghosts D
-  pub cached : Ghosts (CachedDisk D own)
-  pub late : Ghosts (DelayedDisk D own)
-  pub late_cached : Ghosts (DelayedDisk (CachedDisk D own) cached)
-
--- these four
-abbrev pub disks : {D : Type 0} → (own : Ghosts D) → (cached : Ghosts (CachedDisk D own)) → Ghosts (DelayedDisk D own) → Ghosts (DelayedDisk (CachedDisk D own) cached) → Disks D
-disks own cached late late_cached = record { own = own; cached = cached; late = late; late_cached = late_cached }
-
--- the job was to answer lines over one of them, and the disk came back with this end
+-- the job was to answer lines over one of these disks, and the disk came back with this end
 module _ {D : Type 0} (over : Disks D) (old : D) (result : Exit × D) (in_memory : InMemory) where
   -- they were
   abbrev pub AnswersInMemory : Manner → SessionStreams → Type 0
@@ -44,36 +29,23 @@ module _ {D : Type 0} (over : Disks D) (old : D) (result : Exit × D) (in_memory
     pub refused : IsNotServed over.own over.cached over.late over.late_cached in_memory old result.1 why
     pub told : Tells Refused result.0 errors (no_store_text why)
 
-module _ {P D : Type 0} (own : Ghosts D) (state : P → PlaceState) (denied : P → List Text) (place place' : P) where
+-- each of a place that is honest after it
+module _ {P D : Type 0} (own : Ghosts D) (place : PlaceUse P) (report : Report) where
   -- the job was to make a file with a new store
-  abbrev pub MakesIn : Text → ℕ → Exit → Written → Written → Type 0
-  MakesIn name blocks exit output errors =
-      (state place').honest ≡ true
-      → Makes own (denied place' ≡ name ∷ denied place) name blocks exit (state place) (state place') output errors
-
-  -- no file changed, and it is told why
-  abbrev pub DeclinesIn : Text → Exit → Written → Type 0
-  DeclinesIn name exit errors = Declines own (denied place' ≡ name ∷ denied place) name exit (state place) (state place') errors
+  abbrev pub MakesIn : Text → ℕ → Type 0
+  MakesIn name blocks = IsHonestAfter place → Makes own place report name blocks
 
   -- the job was to count the store in a file
-  abbrev pub CountsIn : Text → Exit → Written → Written → Type 0
-  CountsIn name exit output errors =
-      (state place').honest ≡ true
-      → Counts own name exit (state place) (state place') output
-      ⊎ FindsFault own (denied place' ≡ name ∷ denied place) name exit (state place) (state place') errors
+  abbrev pub ChecksIn : Text → Type 0
+  ChecksIn name = IsHonestAfter place → Checks own place report name
 
   -- the job was to draw the tree that a file showed
-  abbrev pub DrawsIn : Text → Exit → Written → Written → Type 0
-  DrawsIn name exit output errors =
-      (state place').honest ≡ true
-      → Draws own name exit (state place) (state place') output ⊎ DeclinesIn name exit errors
+  abbrev pub DrawsIn : Text → Type 0
+  DrawsIn name = IsHonestAfter place → DrawsOrDeclines own place report name
 
   -- the job was to copy the store in a file to another
-  abbrev pub DuplicatesIn : (P → ℕ) → Text → Text → Option ℕ → Exit → Written → Written → Type 0
-  DuplicatesIn to_write name to asked exit output errors =
-      (state place').honest ≡ true
-      → Duplicates own (to_write place' ≡ to_write place) (to_write place' ≡ to_write place + 1) (λ name. denied place' ≡ name ∷ denied place) name to asked exit (state place) (state place') output errors
-      ⊎ ((to_write place' ≡ to_write place) × DeclinesIn name exit errors)
+  abbrev pub DuplicatesIn : Text → Text → Option ℕ → Type 0
+  DuplicatesIn name to asked = IsHonestAfter place → CopiesOrDeclines own place report name to asked
 
 -- this status is that of an end, of which this holds, and of the errors as they were then
 pub record EndsAs {F : Type 0} (status : ℕ) (errors : Writer F) (IsEnd : Exit → F → Type 0) : Type 0 where
@@ -85,11 +57,6 @@ pub record EndsAs {F : Type 0} (status : ℕ) (errors : Writer F) (IsEnd : Exit 
   pub last : exit ≢ Stopped → said ≡ errors.new
   pub stopped : exit ≡ Stopped → Begins errors.contents stopped_text said errors.new
 
--- the job is to answer lines, with this done with commands: a place is asked for one disk that may be written, or, if they are refused, for none
-abbrev pub AsksToWrite : OnCommand → ℕ → ℕ → Type 0
-AsksToWrite Refuse asked asked' = asked' ≡ asked
-AsksToWrite on asked asked' = asked' ≡ asked + 1
-
 -- a job that only looks at a file
 abbrev pub IsLook : Wanted → Type 0
 IsLook (create file blocks) = ⊥
@@ -99,60 +66,49 @@ IsLook (check file) = Unit {0}
 IsLook (draw file) = Unit {0}
 IsLook (copy file to blocks) = ⊥
 
-module _ {P D : Type 0} (over : Disks D) (state : P → PlaceState) (denied : P → List Text) (place place' : P) where
-  -- the job was to answer lines over a file
-  abbrev pub AnswersIn : Text → InMemory → Manner → Exit → ProgramStreams → Type 0
-  AnswersIn name in_memory on exit known =
-      (state place').honest ≡ true
-      → Answers over.own over.cached over.late over.late_cached name in_memory on exit (state place) (state place') (session_of known)
-      ⊎ DeclinesIn over.own state denied place place' name exit known.errors
+module _ {P D : Type 0} (over : Disks D) (place : PlaceUse P) where
+  -- the job was to answer the lines of this input over a file, at a place that is honest after it
+  abbrev pub AnswersIn : Report → Text → InMemory → Manner → Option (List ℕ) → Type 0
+  AnswersIn report name in_memory on input = IsHonestAfter place → AnswersOrDeclines over place report name in_memory on input
 
-  -- a run of the program with these words came to this end, before it is said that the program stopped
-  abbrev pub DoesIn : (P → ℕ) → List Text → Exit → ProgramStreams → Type 0
-  DoesIn to_write words exit known =
-      Does over.own over.cached over.late over.late_cached (place' ≡ place) (to_write place' ≡ to_write place) (to_write place' ≡ to_write place + 1) (λ on. AsksToWrite on (to_write place) (to_write place'))
-      (λ name. denied place' ≡ name ∷ denied place) words exit (state place) (state place') known
-
-  -- a run of the program with these words gave this status
-  abbrev pub RunsIn : {F : Type 0} → (P → ℕ) → List Text → ℕ → Option (List ℕ) → Written → Writer F → Type 0
-  RunsIn to_write words status input output errors =
-      (state place').honest ≡ true
-      → EndsAs status errors (λ exit said. DoesIn to_write words exit (program_streams input output (written_to errors.contents errors.old said)))
+  -- a run of the program with these words and this input gave this status, and left a place that is honest after it
+  abbrev pub RunsIn : {F : Type 0} → List Text → ℕ → Option (List ℕ) → Written → Writer F → Type 0
+  RunsIn words status input output errors =
+      IsHonestAfter place
+      → EndsAs status errors (λ exit said. Does over place (reported exit output (written_to errors.contents errors.old said)) words input)
 
 -- on any place, whether it and its disks kept their rules or not
-module _ {P D : Type 0} (over : Disks D) (denied : P → List Text) (place place' : P) where
-  -- the job was to answer lines over a file
-  pub data ServesIn (name : Text) (in_memory : InMemory) (on : Manner) (exit : Exit) (known : ProgramStreams) : Type 0 where
+module _ {P D : Type 0} (over : Disks D) (place : PlaceUse P) (report : Report) where
+  -- the job was to answer the lines of this input over a file
+  pub data ServesIn (name : Text) (in_memory : InMemory) (on : Manner) (input : Option (List ℕ)) : Type 0 where
     -- they were, over a disk that came back
-    serves : (found back : D) → IsServed over.own over.cached over.late over.late_cached in_memory on found back exit (session_of known)
-        → ServesIn name in_memory on exit known
+    serves : (found back : D)
+        → IsServed over.own over.cached over.late over.late_cached in_memory on found back report.exit (session_from input report)
+        → ServesIn name in_memory on input
     -- its disk was refused, and it is told why
     refuses : (found back : D) (why : NoStore) → IsNotServed over.own over.cached over.late over.late_cached in_memory found back why
-        → Tells Refused exit known.errors (no_store_text why) → ServesIn name in_memory on exit known
+        → Tells Refused report.exit report.errors (no_store_text why) → ServesIn name in_memory on input
     -- it is told that the place gave no disk of it
-    denies : denied place' ≡ name ∷ denied place → Tells Refused exit known.errors (file_text (codes "altctl: cannot open ") name)
-        → ServesIn name in_memory on exit known
+    denies : Denies place name → Tells Refused report.exit report.errors (file_text (codes "altctl: cannot open ") name)
+        → ServesIn name in_memory on input
 
-  -- they were answered or refused; or the program stopped, and no call of the place was made
-  abbrev pub ServesOrStops : Text → InMemory → Manner → Exit → ProgramStreams → Type 0
-  ServesOrStops name in_memory on exit known = ServesIn name in_memory on exit known ⊎ ((exit ≡ Stopped) × (place' ≡ place))
-
-  -- words that ask for that have it so
-  pub record ServesWords (words : List Text) (exit : Exit) (known : ProgramStreams) : Type 0 where
-    -- of the input
-    pub runs : (name : Text) (in_memory : InMemory) (on : Manner) → IsJob words (run name in_memory on) → ServesOrStops name in_memory on exit known
-    -- or of their own lines
+  -- what a run of the program with this input does, by what its words ask for
+  pub record ServesWords (words : List Text) (input : Option (List ℕ)) : Type 0 where
+    -- that the lines of the input are answered: they are, or refused
+    pub runs : (name : Text) (in_memory : InMemory) (on : Manner) → IsJob words (run name in_memory on)
+        → DoneOrStopped place report.exit (ServesIn name in_memory on input)
+    -- that those are which they give
     pub does : (name : Text) (lines : List ℕ) (in_memory : InMemory) (on : Manner) → IsJob words (do_lines name lines in_memory on)
-        → ServesOrStops name in_memory on exit (with_lines lines known)
+        → DoneOrStopped place report.exit (ServesIn name in_memory on (Some lines))
 
-  -- a run of the program with these words gave this status
-  abbrev pub ServesRun : {F : Type 0} → List Text → ℕ → Option (List ℕ) → Written → Writer F → Type 0
-  ServesRun words status input output errors =
-      EndsAs status errors (λ exit said. ServesWords words exit (program_streams input output (written_to errors.contents errors.old said)))
+-- a run of the program with these words and this input gave this status
+abbrev pub ServesRun : {P D F : Type 0} → Disks D → PlaceUse P → List Text → ℕ → Option (List ℕ) → Written → Writer F → Type 0
+ServesRun over place words status input output errors =
+    EndsAs status errors (λ exit said. ServesWords over place (reported exit output (written_to errors.contents errors.old said)) words input)
 
--- on any place: if the words ask for a check or a drawing, or for lines that are answered with commands refused, it is asked for no disk
--- that may be written, and if they ask for no job, for none at all
-abbrev pub LooksOnly : {P : Type 0} → (P → ℕ) → P → P → List Text → Type 0
-LooksOnly to_write place place' words =
-    ((job : Wanted) → IsJob words job → IsLook job → to_write place' ≡ to_write place)
-    × (((job : Wanted) → IsJob words job → ⊥) → place' ≡ place)
+-- on any place, what a run of the program with these words asks it for at most
+pub record LooksOnly {P : Type 0} (place : PlaceUse P) (words : List Text) : Type 0 where
+  -- if they ask for a check or a drawing, or for lines that are answered with commands refused: for no disk that may be written
+  pub looks : (job : Wanted) → IsJob words job → IsLook job → OpensNone place
+  -- if they ask for no job: for nothing
+  pub none : ((job : Wanted) → IsJob words job → ⊥) → IsUnused place

@@ -1,7 +1,8 @@
 //! Answering lines over a disk with a block cache in memory, and a write-back buffer on top of it.
 ghost use Rattle.std.specs.Prelude.{◌≡◌, ◌⊎◌};
 ghost use Rattle.vm_types.specs.declared.refusal.Refusal.{Refusal as RefusalValue};
-ghost use Rattle.vm_cli.specs.program.Runs.{AnswersInMemory, TellsRefusalInMemory, disks};
+ghost use Rattle.vm_cli.specs.program.CachedLines.{disks};
+ghost use Rattle.vm_cli.specs.program.Runs.{AnswersInMemory, TellsRefusalInMemory};
 ghost use Rattle.vm_cli.specs.program.Exits.{SessionEnds};
 ghost use Rattle.vm_cli.specs.session.Known.{streams_of, writer, writers, written_to};
 

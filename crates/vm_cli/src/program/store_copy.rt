@@ -3,10 +3,10 @@
 ghost use Rattle.std.specs.Prelude.{◌≡◌, true, false, IfOk};
 ghost use Rattle.std.specs.String.{string_bytes};
 ghost use Rattle.vm_store.specs.Store.{GoesOn, IsHonest, ReadsAlone, disk_of, has_failed};
-ghost use Rattle.vm_cli.specs.program.Copies.{CopiesIn, CopiesTo, DropsIn, NamesIn, Sizes, TakesCopy};
-ghost use Rattle.vm_cli.specs.program.Exits.{CopyEnds, DropEnds, JobEnds, Tells, copied_text, part_of};
+ghost use Rattle.vm_cli.specs.program.Copies.{CopiesIn, CopiesTo, DropsIn, NamesIn, Sizes, TakesCopyIn};
+ghost use Rattle.vm_cli.specs.program.Exits.{CopyEnds, DropEnds, JobEnds, Tells, copied_text, part_of, reported};
 ghost use Rattle.vm_cli.specs.session.Known.{writer, writers, written_to};
-ghost use Rattle.vm_cli.specs.program.Places.{WasHonest};
+ghost use Rattle.vm_cli.specs.program.Places.{WasHonest, place_use};
 ghost use Rattle.vm_cli.specs.program.Runs.{DuplicatesIn};
 ghost use Rattle.vm_cli.specs.program.Words.Wanted.{copy as copy_wanted};
 
@@ -40,8 +40,9 @@ pub(crate) fn copy<P: Place, W: Write, F: Write>(
 ) -> Exit
     ensures says { JobEnds (copy_wanted file.now to.now blocks) result
         (writers (writer W.contents output.old output.new) (writer F.contents errors.old errors.new)) }
-    ensures files { DuplicatesIn P.D.Disk P.state P.denied place.old place.new P.to_write file.now to.now blocks result
-        (written_to W.contents output.old output.new) (written_to F.contents errors.old errors.new) }
+    ensures files { DuplicatesIn P.D.Disk (place_use P.state P.denied P.to_write place.old place.new)
+        (reported result (written_to W.contents output.old output.new) (written_to F.contents errors.old errors.new))
+        file.now to.now blocks }
 {
     let Some(disk) = place.look(file) else {
         return no_file(b"altctl: cannot open ", file, errors);
@@ -63,8 +64,9 @@ fn copy_disk<P: Place, W: Write, F: Write>(
 ) -> (Exit, P::D)
     ensures ends { CopyEnds to.now result.0 (writers (writer W.contents output.old output.new) (writer F.contents errors.old errors.new)) }
     ensures earlier { WasHonest (P.state place.old) (P.state place.new) }
-    ensures copied { TakesCopy P.D.Disk P.state P.denied P.to_write place.old place.new disk result to.now blocks
-        (written_to W.contents output.old output.new) (written_to F.contents errors.old errors.new) }
+    ensures copied { TakesCopyIn P.D.Disk (place_use P.state P.denied P.to_write place.old place.new)
+        (reported result.0 (written_to W.contents output.old output.new) (written_to F.contents errors.old errors.new))
+        disk result.1 to.now blocks }
 {
     match open_whole_store(alloc, disk) {
         Ok(mut store) => {
@@ -90,8 +92,9 @@ fn copy_store<S: Disk, P: Place, W: Write, F: Write>(
     ensures any { GoesOn ⊥ store.old store.new }
     ensures reads { IsHonest store.new → ReadsAlone store.old store.new }
     ensures earlier { WasHonest (P.state place.old) (P.state place.new) }
-    ensures files { CopiesIn P.state P.denied P.to_write place.old place.new to.now blocks store.old store.new result
-        (written_to W.contents output.old output.new) (written_to F.contents errors.old errors.new) }
+    ensures files { CopiesIn (place_use P.state P.denied P.to_write place.old place.new)
+        (reported result (written_to W.contents output.old output.new) (written_to F.contents errors.old errors.new))
+        to.now blocks store.old store.new }
 {
     let size = match size_for(store, blocks) {
         Ok(size) => size,
@@ -150,8 +153,9 @@ fn copy_onto<S: Disk, P: Place, W: Write, F: Write>(
     ensures reads { IsHonest store.new → ReadsAlone store.old store.new }
     ensures writes { P.to_write place.new ≡ P.to_write place.old }
     ensures earlier { WasHonest (P.state place.old) (P.state place.new) }
-    ensures told { CopiesTo P.state P.denied place.old place.new part.now to.now store.old store.new size (P.D.Disk.state disk) result
-        (written_to W.contents output.old output.new) (written_to F.contents errors.old errors.new) }
+    ensures told { CopiesTo (place_use P.state P.denied P.to_write place.old place.new)
+        (reported result (written_to W.contents output.old output.new) (written_to F.contents errors.old errors.new))
+        part.now to.now store.old store.new size (P.D.Disk.state disk) }
 {
     match vm_store::copy(store, disk, size.blocks) {
         Ok(copy) => name_copy(copy, size, part, to, place, output, errors),
@@ -173,8 +177,9 @@ fn name_copy<P: Place, W: Write, F: Write>(
     ensures ends { CopyEnds to.now result (writers (writer W.contents output.old output.new) (writer F.contents errors.old errors.new)) }
     ensures writes { P.to_write place.new ≡ P.to_write place.old }
     ensures earlier { WasHonest (P.state place.old) (P.state place.new) }
-    ensures named { NamesIn P.state P.D.Disk.state P.denied place.old place.new copy size part.now to.now result
-        (written_to W.contents output.old output.new) (written_to F.contents errors.old errors.new) }
+    ensures named { NamesIn P.D.Disk.state (place_use P.state P.denied P.to_write place.old place.new)
+        copy size part.now to.now
+        (reported result (written_to W.contents output.old output.new) (written_to F.contents errors.old errors.new)) }
 {
     place.give_back(part, copy);
     let is_named = place.link(part, to);
@@ -198,8 +203,8 @@ fn drop_copy<P: Place, F: Write>(
     ensures ends { DropEnds refusal.now result (writer F.contents errors.old errors.new) }
     ensures writes { P.to_write place.new ≡ P.to_write place.old }
     ensures earlier { WasHonest (P.state place.old) (P.state place.new) }
-    ensures dropped { DropsIn P.state P.D.Disk.state place.old place.new disk part.now refusal.now result
-        (written_to F.contents errors.old errors.new) }
+    ensures dropped { DropsIn P.D.Disk.state (place_use P.state P.denied P.to_write place.old place.new)
+        disk part.now refusal.now result (written_to F.contents errors.old errors.new) }
 {
     place.give_back(part, disk);
     place.remove(part);

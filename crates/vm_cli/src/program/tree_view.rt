@@ -2,8 +2,9 @@
 ghost use Rattle.std.specs.Prelude.{◌≡◌, ◌⊎◌, List, None, true, IfErr, IfOk};
 ghost use Rattle.vm_store.specs.Store.{FromState, GoesOn};
 ghost use Rattle.vm_cli.specs.program.Branches.{Branch, drawing};
-ghost use Rattle.vm_cli.specs.program.Exits.{DrawEnds, JobEnds, Tells};
+ghost use Rattle.vm_cli.specs.program.Exits.{DrawEnds, JobEnds, Tells, reported};
 ghost use Rattle.vm_cli.specs.session.Known.{writer, writers, written_to};
+ghost use Rattle.vm_cli.specs.program.Places.{place_use};
 ghost use Rattle.vm_cli.specs.program.Runs.{DrawsIn};
 ghost use Rattle.vm_cli.specs.program.Told.{TellsRefusal, TellsTree};
 ghost use Rattle.vm_cli.specs.session.Standing.{GivesTree, IsDeviceOrMemory};
@@ -32,8 +33,9 @@ pub(crate) fn tree<P: Place, W: Write, F: Write>(
     ensures says { JobEnds (draw_wanted file.now) result
         (writers (writer W.contents output.old output.new) (writer F.contents errors.old errors.new)) }
     ensures reads { P.to_write place.new ≡ P.to_write place.old }
-    ensures files { DrawsIn P.D.Disk P.state P.denied place.old place.new file.now result
-        (written_to W.contents output.old output.new) (written_to F.contents errors.old errors.new) }
+    ensures files { DrawsIn P.D.Disk (place_use P.state P.denied P.to_write place.old place.new)
+        (reported result (written_to W.contents output.old output.new) (written_to F.contents errors.old errors.new))
+        file.now }
 {
     let Some(disk) = place.look(file) else {
         return no_file(b"altctl: cannot open ", file, errors);

@@ -1,5 +1,7 @@
 use Rattle.std.proofs.Common.{◌∙◌, ap, inl, inr, is_some, refl, sym, Some}
 use Rattle.vm_cli.specs.program.Exits.{survey_text}
+use Rattle.vm_cli.specs.program.Files.Checks.{counts, finds_fault}
+use Rattle.vm_cli.specs.program.Files.DeniedOr.{is_denied, is_refused}
 use Rattle.vm_cli.specs.program.Places.{KeepsOthers, WasLent}
 use Rattle.vm_cli.proofs.FilesLemmas.{keeps_all, synced_alone}
 use Rattle.vm_cli.proofs.program.check.Goals as goal
@@ -16,7 +18,7 @@ returns-clause-files g c honest =
       | inl counted ↦
           let held = found.held (counted.counted.goes.earlier back.honest) in
           let same = back.holds ∙ ap Some (synced_alone _ _ (counted.counted.moments back.honest)) ∙ sym held.0 in
-          inl (record {
+          counts (record {
             same = keeps_all c.args.file.now before after others same;
             found = c.in-Some.disk;
             back = c.check_disk-exit.result.1;
@@ -31,9 +33,9 @@ returns-clause-files g c honest =
       | inr refused ↦
           let held = found.held (refused.refused.goes.earlier back.honest) in
           let same = back.holds ∙ ap Some (synced_alone _ _ (refused.refused.moments back.honest)) ∙ sym held.0 in
-          inr (record {
+          finds_fault (record {
             same = keeps_all c.args.file.now before after others same;
-            told = inr (record {
+            told = is_refused (record {
               found = c.in-Some.disk;
               back = c.check_disk-exit.result.1;
               held = held.0;
@@ -48,7 +50,7 @@ returns-clause-files g c honest =
     ]
 
 pub returns-in_default-clause-files : goal.returns-in_default-clause-files
-returns-in_default-clause-files g c honest = inr (record { same = (c.look.ensures.honest honest).same; told = inl (c.look.ensures.asked.none (ap is_some c.in_default.is), (c.look.ensures.honest honest).same_came, c.no_file.ensures) })
+returns-in_default-clause-files g c honest = finds_fault (record { same = (c.look.ensures.honest honest).same; told = is_denied (record { denied = c.look.ensures.asked.none (ap is_some c.in_default.is); same_came = (c.look.ensures.honest honest).same_came; told = c.no_file.ensures }) })
 
 pub returns-clause-says : goal.returns-clause-says
 returns-clause-says g c = elim c.check_disk-exit.ensures.ends [

@@ -1,4 +1,6 @@
 use Rattle.std.proofs.Common.{◌≡◌, ◌∙◌, ap, inl, inr, is_some, option_map, sym, true, Some, None}
+use Rattle.vm_cli.specs.program.Files.ToldOfFile.{laid_out, not_made}
+use Rattle.vm_cli.specs.program.Files.ToldOfStore.{store_made, store_refused}
 use Rattle.vm_cli.proofs.FilesLemmas.{not_done}
 use Rattle.vm_cli.proofs.program.create.Goals as goal
 
@@ -14,23 +16,20 @@ returns-clause-files g c honest =
     let blank = made.blank was in
     record {
       made = λ done. elim c.make_store-exit.ensures.made [
-        | inl shown ↦ (made.absent, ((g.P.D.Disk.state c.make_store-exit.result.1).now, back.holds, shown.made.shown back.honest))
+        | inl shown ↦ record { absent = made.absent; medium = (g.P.D.Disk.state c.make_store-exit.result.1).now; holds = back.holds; formatted = shown.made.shown back.honest }
         | inr none ↦ absurd (not_done _ _ _ _ none.told done)
       ];
-      lays = inl (
-        made.absent,
-        record {
-          start = c.in-Some.disk;
-          end = c.make_store-exit.result.1;
-          blank = blank.1;
-          lent = record { fresh = made.fresh; honest = back.honest; holds = back.holds; came = back.came };
-          moments = c.make_store-exit.ensures.moments back.honest;
-          told = elim c.make_store-exit.ensures.made [
-            | inl shown ↦ inl (shown.made, shown.told)
-            | inr none ↦ inr (none.refusal, none.of_format, none.none, none.told)
-          ];
-        },
-      );
+      lays = laid_out made.absent (record {
+        start = c.in-Some.disk;
+        end = c.make_store-exit.result.1;
+        blank = blank.1;
+        lent = record { fresh = made.fresh; honest = back.honest; holds = back.holds; came = back.came };
+        moments = c.make_store-exit.ensures.moments back.honest;
+        told = elim c.make_store-exit.ensures.made [
+          | inl shown ↦ store_made shown.made shown.told
+          | inr none ↦ store_refused none.refusal none.of_format none.none none.told
+        ];
+      });
       stays = λ contents there. let no : None ≡ Some contents = sym made.absent ∙ there in absurd cc;
       others = λ other apart. back.others other apart ∙ made.others other apart;
     }
@@ -40,7 +39,7 @@ returns-in_default-clause-files g c honest =
     let denied = c.create.ensures.honest honest in
     record {
       made = λ done. absurd (not_done _ _ _ _ c.no_file.ensures done);
-      lays = inr (c.create.ensures.asked.none (ap is_some c.in_default.is), denied.none_came (ap (option_map g.P.D.Disk.state) c.in_default.is), c.no_file.ensures);
+      lays = not_made (c.create.ensures.asked.none (ap is_some c.in_default.is)) (denied.none_came (ap (option_map g.P.D.Disk.state) c.in_default.is)) c.no_file.ensures;
       stays = denied.stays;
       others = denied.others;
     }

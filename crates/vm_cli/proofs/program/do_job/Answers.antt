@@ -66,14 +66,14 @@ returns-in-Ok-Create-clause-files g c honest =
     let words = map string_bytes c.args.words.now in
     let e = rw c.in-Ok-Create.field-0-is at c.in-Ok-Create.ensures in
     let job : IsJob words (create c.in-Ok-Create.file.now c.in-Ok-Create.blocks) = (e.faults, e.ok) in
-    did_create g.P.D.Disk _ _ _ _ _ _ _ _ words _ _ _ _ _ _ job c.create.ensures.writes (c.create.ensures.files honest)
+    did_create _ _ _ words _ _ _ job c.create.ensures.writes (c.create.ensures.files honest)
 
 pub returns-in-Ok-Run-clause-files : goal.returns-in-Ok-Run-clause-files
 returns-in-Ok-Run-clause-files g c honest =
     let words = map string_bytes c.args.words.now in
     let e = rw c.in-Ok-Run.field-0-is at c.in-Ok-Run.ensures in
     let job : IsJob words (run c.in-Ok-Run.file.now c.in-Ok-Run.in_memory c.in-Ok-Run.manner) = (e.faults, e.ok) in
-    did_run g.P.D.Disk _ _ _ _ _ _ _ _ words _ _ _ _ c.in-Ok-Run.file.now c.in-Ok-Run.in_memory c.in-Ok-Run.manner job c.run.ensures.writes (c.run.ensures.files honest)
+    did_run _ _ _ words _ c.in-Ok-Run.file.now c.in-Ok-Run.in_memory c.in-Ok-Run.manner job c.run.ensures.writes (c.run.ensures.files honest)
 
 pub returns-in-Ok-Do-clause-files : goal.returns-in-Ok-Do-clause-files
 returns-in-Ok-Do-clause-files g c honest =
@@ -81,33 +81,33 @@ returns-in-Ok-Do-clause-files g c honest =
     let e = rw c.in-Ok-Do.field-0-is at c.in-Ok-Do.ensures in
     let job : IsJob words (do_lines c.in-Ok-Do.file.now c.in-Ok-Do.input.items c.in-Ok-Do.in_memory c.in-Ok-Do.manner) = (e.faults, e.ok) in
     let files = rw c.as_slice-lines.ensures.value at (c.run-in-Ok-Do.ensures.files honest) in
-    did_lines g.P.D.Disk _ _ _ _ _ _ _ _ words _ _ _ _ c.in-Ok-Do.file.now c.in-Ok-Do.input.items c.in-Ok-Do.in_memory c.in-Ok-Do.manner job c.run-in-Ok-Do.ensures.writes files
+    did_lines _ _ _ words _ c.in-Ok-Do.file.now c.in-Ok-Do.input.items c.in-Ok-Do.in_memory c.in-Ok-Do.manner job c.run-in-Ok-Do.ensures.writes files
 
 pub returns-in-Ok-Check-clause-files : goal.returns-in-Ok-Check-clause-files
 returns-in-Ok-Check-clause-files g c honest =
     let words = map string_bytes c.args.words.now in
     let e = rw c.in-Ok-Check.field-0-is at c.in-Ok-Check.ensures in
     let job : IsJob words (check c.in-Ok-Check.file.now) = (e.faults, e.ok) in
-    did_check g.P.D.Disk _ _ _ _ _ _ _ _ words _ _ _ _ c.in-Ok-Check.file.now job c.check.ensures.reads (c.check.ensures.files honest)
+    did_check _ _ _ words _ c.in-Ok-Check.file.now job c.check.ensures.reads (c.check.ensures.files honest)
 
 pub returns-in-Ok-Tree-clause-files : goal.returns-in-Ok-Tree-clause-files
 returns-in-Ok-Tree-clause-files g c honest =
     let words = map string_bytes c.args.words.now in
     let e = rw c.in-Ok-Tree.field-0-is at c.in-Ok-Tree.ensures in
     let job : IsJob words (draw c.in-Ok-Tree.file.now) = (e.faults, e.ok) in
-    did_draw g.P.D.Disk _ _ _ _ _ _ _ _ words _ _ _ _ c.in-Ok-Tree.file.now job c.tree.ensures.reads (c.tree.ensures.files honest)
+    did_draw _ _ _ words _ c.in-Ok-Tree.file.now job c.tree.ensures.reads (c.tree.ensures.files honest)
 
 pub returns-in-Ok-Copy-clause-files : goal.returns-in-Ok-Copy-clause-files
 returns-in-Ok-Copy-clause-files g c honest =
     let words = map string_bytes c.args.words.now in
     let e = rw c.in-Ok-Copy.field-0-is at c.in-Ok-Copy.ensures in
     let job : IsJob words (copy c.in-Ok-Copy.file.now c.in-Ok-Copy.to.now c.in-Ok-Copy.blocks) = (e.faults, e.ok) in
-    did_copy g.P.D.Disk _ _ _ _ _ _ _ _ words _ _ _ _ c.in-Ok-Copy.file.now c.in-Ok-Copy.to.now c.in-Ok-Copy.blocks job (c.copy.ensures.files honest)
+    did_copy _ _ _ words _ c.in-Ok-Copy.file.now c.in-Ok-Copy.to.now c.in-Ok-Copy.blocks job (c.copy.ensures.files honest)
 
 pub returns-in-Err-clause-files : goal.returns-in-Err-clause-files
 returns-in-Err-clause-files g c honest =
     let words = map string_bytes c.args.words.now in
-    did_nothing g.P.D.Disk _ _ _ _ _ _ _ _ words _ _ _ _ refl refl (λ job asked. elim c.in-Err.ensures.faults [
+    did_nothing _ _ _ words _ refl (λ job asked. elim c.in-Err.ensures.faults [
       | inl memory ↦ (c.explain.ensures.memory memory).0
       | inr among ↦ absurd (no_fault (kind_of c.in-Err.error) words job asked among)
     ])
@@ -117,80 +117,80 @@ returns-in-Ok-Create-clause-looks g c =
     let words = map string_bytes c.args.words.now in
     let e = rw c.in-Ok-Create.field-0-is at c.in-Ok-Create.ensures in
     let job : IsJob words (create c.in-Ok-Create.file.now c.in-Ok-Create.blocks) = (e.faults, e.ok) in
-    looks_for g.P.Place.to_write _ _ words (create c.in-Ok-Create.file.now c.in-Ok-Create.blocks) job (λ looks. absurd looks)
+    looks_for _ words (create c.in-Ok-Create.file.now c.in-Ok-Create.blocks) job (λ looks. absurd looks)
 
 pub returns-in-Ok-Run-clause-looks : goal.returns-in-Ok-Run-clause-looks
 returns-in-Ok-Run-clause-looks g c =
     let words = map string_bytes c.args.words.now in
     let e = rw c.in-Ok-Run.field-0-is at c.in-Ok-Run.ensures in
     let job : IsJob words (run c.in-Ok-Run.file.now c.in-Ok-Run.in_memory c.in-Ok-Run.manner) = (e.faults, e.ok) in
-    looks_for g.P.Place.to_write _ _ words (run c.in-Ok-Run.file.now c.in-Ok-Run.in_memory c.in-Ok-Run.manner) job (λ looks. looks_with c.in-Ok-Run.manner.on_command _ _ c.run.ensures.writes looks)
+    looks_for _ words (run c.in-Ok-Run.file.now c.in-Ok-Run.in_memory c.in-Ok-Run.manner) job (λ looks. looks_with c.in-Ok-Run.manner.on_command _ _ c.run.ensures.writes looks)
 
 pub returns-in-Ok-Do-clause-looks : goal.returns-in-Ok-Do-clause-looks
 returns-in-Ok-Do-clause-looks g c =
     let words = map string_bytes c.args.words.now in
     let e = rw c.in-Ok-Do.field-0-is at c.in-Ok-Do.ensures in
     let job : IsJob words (do_lines c.in-Ok-Do.file.now c.in-Ok-Do.input.items c.in-Ok-Do.in_memory c.in-Ok-Do.manner) = (e.faults, e.ok) in
-    looks_for g.P.Place.to_write _ _ words (do_lines c.in-Ok-Do.file.now c.in-Ok-Do.input.items c.in-Ok-Do.in_memory c.in-Ok-Do.manner) job (λ looks. looks_with c.in-Ok-Do.manner.on_command _ _ c.run-in-Ok-Do.ensures.writes looks)
+    looks_for _ words (do_lines c.in-Ok-Do.file.now c.in-Ok-Do.input.items c.in-Ok-Do.in_memory c.in-Ok-Do.manner) job (λ looks. looks_with c.in-Ok-Do.manner.on_command _ _ c.run-in-Ok-Do.ensures.writes looks)
 
 pub returns-in-Ok-Check-clause-looks : goal.returns-in-Ok-Check-clause-looks
 returns-in-Ok-Check-clause-looks g c =
     let words = map string_bytes c.args.words.now in
     let e = rw c.in-Ok-Check.field-0-is at c.in-Ok-Check.ensures in
     let job : IsJob words (check c.in-Ok-Check.file.now) = (e.faults, e.ok) in
-    looks_for g.P.Place.to_write _ _ words (check c.in-Ok-Check.file.now) job (λ looks. c.check.ensures.reads)
+    looks_for _ words (check c.in-Ok-Check.file.now) job (λ looks. c.check.ensures.reads)
 
 pub returns-in-Ok-Tree-clause-looks : goal.returns-in-Ok-Tree-clause-looks
 returns-in-Ok-Tree-clause-looks g c =
     let words = map string_bytes c.args.words.now in
     let e = rw c.in-Ok-Tree.field-0-is at c.in-Ok-Tree.ensures in
     let job : IsJob words (draw c.in-Ok-Tree.file.now) = (e.faults, e.ok) in
-    looks_for g.P.Place.to_write _ _ words (draw c.in-Ok-Tree.file.now) job (λ looks. c.tree.ensures.reads)
+    looks_for _ words (draw c.in-Ok-Tree.file.now) job (λ looks. c.tree.ensures.reads)
 
 pub returns-in-Ok-Copy-clause-looks : goal.returns-in-Ok-Copy-clause-looks
 returns-in-Ok-Copy-clause-looks g c =
     let words = map string_bytes c.args.words.now in
     let e = rw c.in-Ok-Copy.field-0-is at c.in-Ok-Copy.ensures in
     let job : IsJob words (copy c.in-Ok-Copy.file.now c.in-Ok-Copy.to.now c.in-Ok-Copy.blocks) = (e.faults, e.ok) in
-    looks_for g.P.Place.to_write _ _ words (copy c.in-Ok-Copy.file.now c.in-Ok-Copy.to.now c.in-Ok-Copy.blocks) job (λ looks. absurd looks)
+    looks_for _ words (copy c.in-Ok-Copy.file.now c.in-Ok-Copy.to.now c.in-Ok-Copy.blocks) job (λ looks. absurd looks)
 
 pub returns-in-Err-clause-looks : goal.returns-in-Err-clause-looks
-returns-in-Err-clause-looks g c = ((λ job is looks. refl), (λ no. refl))
+returns-in-Err-clause-looks g c = record { looks = λ job is looks. refl; none = λ no. refl }
 
 pub returns-in-Ok-Create-clause-served : goal.returns-in-Ok-Create-clause-served
 returns-in-Ok-Create-clause-served g c =
     let words = map string_bytes c.args.words.now in
     let e = rw c.in-Ok-Create.field-0-is at c.in-Ok-Create.ensures in
     let job : IsJob words (create c.in-Ok-Create.file.now c.in-Ok-Create.blocks) = (e.faults, e.ok) in
-    served_other _ g.P.Place.denied _ _ words _ _ (create c.in-Ok-Create.file.now c.in-Ok-Create.blocks) job (λ name in_memory on same. cc) (λ name lines in_memory on same. cc)
+    served_other _ _ _ words _ (create c.in-Ok-Create.file.now c.in-Ok-Create.blocks) job (λ name in_memory on same. cc) (λ name lines in_memory on same. cc)
 
 pub returns-in-Ok-Check-clause-served : goal.returns-in-Ok-Check-clause-served
 returns-in-Ok-Check-clause-served g c =
     let words = map string_bytes c.args.words.now in
     let e = rw c.in-Ok-Check.field-0-is at c.in-Ok-Check.ensures in
     let job : IsJob words (check c.in-Ok-Check.file.now) = (e.faults, e.ok) in
-    served_other _ g.P.Place.denied _ _ words _ _ (check c.in-Ok-Check.file.now) job (λ name in_memory on same. cc) (λ name lines in_memory on same. cc)
+    served_other _ _ _ words _ (check c.in-Ok-Check.file.now) job (λ name in_memory on same. cc) (λ name lines in_memory on same. cc)
 
 pub returns-in-Ok-Tree-clause-served : goal.returns-in-Ok-Tree-clause-served
 returns-in-Ok-Tree-clause-served g c =
     let words = map string_bytes c.args.words.now in
     let e = rw c.in-Ok-Tree.field-0-is at c.in-Ok-Tree.ensures in
     let job : IsJob words (draw c.in-Ok-Tree.file.now) = (e.faults, e.ok) in
-    served_other _ g.P.Place.denied _ _ words _ _ (draw c.in-Ok-Tree.file.now) job (λ name in_memory on same. cc) (λ name lines in_memory on same. cc)
+    served_other _ _ _ words _ (draw c.in-Ok-Tree.file.now) job (λ name in_memory on same. cc) (λ name lines in_memory on same. cc)
 
 pub returns-in-Ok-Copy-clause-served : goal.returns-in-Ok-Copy-clause-served
 returns-in-Ok-Copy-clause-served g c =
     let words = map string_bytes c.args.words.now in
     let e = rw c.in-Ok-Copy.field-0-is at c.in-Ok-Copy.ensures in
     let job : IsJob words (copy c.in-Ok-Copy.file.now c.in-Ok-Copy.to.now c.in-Ok-Copy.blocks) = (e.faults, e.ok) in
-    served_other _ g.P.Place.denied _ _ words _ _ (copy c.in-Ok-Copy.file.now c.in-Ok-Copy.to.now c.in-Ok-Copy.blocks) job (λ name in_memory on same. cc) (λ name lines in_memory on same. cc)
+    served_other _ _ _ words _ (copy c.in-Ok-Copy.file.now c.in-Ok-Copy.to.now c.in-Ok-Copy.blocks) job (λ name in_memory on same. cc) (λ name lines in_memory on same. cc)
 
 pub returns-in-Ok-Run-clause-served : goal.returns-in-Ok-Run-clause-served
 returns-in-Ok-Run-clause-served g c =
     let words = map string_bytes c.args.words.now in
     let e = rw c.in-Ok-Run.field-0-is at c.in-Ok-Run.ensures in
     let job : IsJob words (run c.in-Ok-Run.file.now c.in-Ok-Run.in_memory c.in-Ok-Run.manner) = (e.faults, e.ok) in
-    served_run _ g.P.Place.denied _ _ words _ _ c.in-Ok-Run.file.now c.in-Ok-Run.in_memory c.in-Ok-Run.manner job c.run.ensures.served
+    served_run _ _ _ words _ c.in-Ok-Run.file.now c.in-Ok-Run.in_memory c.in-Ok-Run.manner job c.run.ensures.served
 
 pub returns-in-Ok-Do-clause-served : goal.returns-in-Ok-Do-clause-served
 returns-in-Ok-Do-clause-served g c =
@@ -198,12 +198,12 @@ returns-in-Ok-Do-clause-served g c =
     let e = rw c.in-Ok-Do.field-0-is at c.in-Ok-Do.ensures in
     let job : IsJob words (do_lines c.in-Ok-Do.file.now c.in-Ok-Do.input.items c.in-Ok-Do.in_memory c.in-Ok-Do.manner) = (e.faults, e.ok) in
     let serves = rw c.as_slice-lines.ensures.value at c.run-in-Ok-Do.ensures.served in
-    served_lines _ g.P.Place.denied _ _ words _ _ c.in-Ok-Do.file.now c.in-Ok-Do.input.items c.in-Ok-Do.in_memory c.in-Ok-Do.manner job serves
+    served_lines _ _ _ words _ c.in-Ok-Do.file.now c.in-Ok-Do.input.items c.in-Ok-Do.in_memory c.in-Ok-Do.manner job serves
 
 pub returns-in-Err-clause-served : goal.returns-in-Err-clause-served
 returns-in-Err-clause-served g c =
     let words = map string_bytes c.args.words.now in
-    served_none _ g.P.Place.denied _ _ words _ _
+    served_none _ _ _ words _
     (λ name in_memory on asked. elim c.in-Err.ensures.faults [
       | inl memory ↦ ((c.explain.ensures.memory memory).0, refl)
       | inr among ↦ absurd (no_fault (kind_of c.in-Err.error) words (run name in_memory on) asked among)

@@ -5,6 +5,8 @@ use Rattle.vm_disk.specs.declared.cached.CachedDisk.{CachedDisk}
 use Rattle.vm_disk.specs.declared.delayed.DelayedDisk.{DelayedDisk}
 use Rattle.vm_disk.specs.declared.disk.Disk.{Ghosts}
 use Rattle.vm_cli.specs.program.Places.{KeepsOthers, WasLent}
+use Rattle.vm_cli.specs.program.Files.AnswersOrDeclines.{answers, answers_none}
+use Rattle.vm_cli.specs.program.Files.DeniedOr.{is_denied, is_refused}
 use Rattle.vm_cli.specs.program.Runs.ServesIn.{denies, refuses, serves}
 use Rattle.vm_cli.proofs.FilesLemmas.{keeps_all, kept_told, refused_told, synced_alone, was_honest}
 use Rattle.vm_cli.proofs.program.run.Goals as goal
@@ -20,7 +22,7 @@ returns-clause-files g c honest =
     elim c.answer_lines_in_memory-exit.ensures.served [
       | inl served ↦
           let held = found.held (was_honest g.P.D.Disk _ _ _ (λ disk. refl) (λ disk. refl) (λ disk. refl) c.args.in_memory _ _ _ _ _ served back.honest) in
-          inl (record {
+          answers (record {
             found = c.in-Some.disk;
             back = c.answer_lines_in_memory-exit.result.1;
             served = served;
@@ -37,9 +39,9 @@ returns-clause-files g c honest =
           let itself = refused_told g.P.D.Disk cached late late_cached (λ disk. refl) (λ disk. refl) (λ disk. refl) c.args.in_memory _ _ refused.why found.fresh (λ there. (found.held there).1) refused.refused in
           let held = found.held (itself.goes.earlier back.honest) in
           let same = back.holds ∙ ap Some (synced_alone _ _ (itself.moments back.honest)) ∙ sym held.0 in
-          inr (record {
+          answers_none (record {
             same = keeps_all c.args.file.now before after others same;
-            told = inr (record {
+            told = is_refused (record {
               found = c.in-Some.disk;
               back = c.answer_lines_in_memory-exit.result.1;
               held = held.0;
@@ -52,7 +54,7 @@ returns-clause-files g c honest =
     ]
 
 pub returns-in_default-clause-files : goal.returns-in_default-clause-files
-returns-in_default-clause-files g c honest = inr (record { same = (c.opened.ensures.honest honest).same; told = inl (c.opened.ensures.asked.none (ap is_some c.in_default.is), (c.opened.ensures.honest honest).same_came, c.no_file.ensures) })
+returns-in_default-clause-files g c honest = answers_none (record { same = (c.opened.ensures.honest honest).same; told = is_denied (record { denied = c.opened.ensures.asked.none (ap is_some c.in_default.is); same_came = (c.opened.ensures.honest honest).same_came; told = c.no_file.ensures }) })
 
 pub returns-clause-served : goal.returns-clause-served
 returns-clause-served g c = elim c.answer_lines_in_memory-exit.ensures.served [

@@ -1,5 +1,8 @@
 use Rattle.std.proofs.Common.{◌≡◌, ◌≢◌, ◌∙◌, ap, inl, inr, arith, length, refl, sym}
 use Rattle.vm_types.specs.declared.refusal.Refusal.TheVariants.{AlreadyAStore, BadSize, Device}
+use Rattle.vm_cli.specs.program.Copies.ToldOfCopy.{copied, failed, refused, unnamed}
+use Rattle.vm_cli.specs.program.Copies.ToldOfDrop.{stops, tells_refusal}
+use Rattle.vm_cli.specs.program.Copies.ToldOfName.{name_denied, name_given}
 use Rattle.vm_cli.proofs.CopyingLemmas.{why_none}
 use Rattle.vm_cli.proofs.FilesLemmas.{enough_blocks}
 use Rattle.vm_cli.specs.program.Exits.SaysNoCopy.{copy_refused}
@@ -10,15 +13,15 @@ pub returns-in-Ok-clause-told : goal.returns-in-Ok-clause-told
 returns-in-Ok-clause-told g c enough apart place honest well s holds =
     let named = c.name_copy.ensures.named apart place in
     let back = named.back.honest in
-    let copied = c.in-Ok.ensures.copied honest s holds back in
+    let is_copy = c.in-Ok.ensures.copied honest s holds back in
     record {
       end = g.P.D.Disk.state c.in-Ok.copy;
       was = c.in-Ok.ensures.both.target.earlier back;
       back = named.back;
       moments = c.in-Ok.ensures.moments honest s holds back;
       told = elim named.told [
-        | inl (absent, name, told) ↦ inl (copied, absent, name, told)
-        | inr (kept, denied, told) ↦ inr (kept, inl (copied, denied, told))
+        | name_given absent name told ↦ copied is_copy absent name told
+        | name_denied kept denies told ↦ unnamed kept is_copy denies told
       ];
     }
 
@@ -37,6 +40,7 @@ returns-in-Err-clause-told g c enough apart place honest well s holds =
       header = said.spares.already dropped.honest is;
     })
     device (λ is. let lacks = said.full honest s holds is in absurd (omega arith)) in
+    let kept = dropped.others c.args.to.now (λ is. apart (sym is)) in
     record {
       end = g.P.D.Disk.state c.in-Err.disk;
       was = said.both.target.earlier dropped.honest;
@@ -47,13 +51,10 @@ returns-in-Err-clause-told g c enough apart place honest well s holds =
         others = λ other off_part off_to. dropped.others other off_part;
       };
       moments = said.moments honest s holds dropped.honest;
-      told = inr (
-        dropped.others c.args.to.now (λ is. apart (sym is)),
-        elim dropped.told [
-          | inl (device, stopped) ↦ inr (inr (stopped, said.both.fault device))
-          | inr (device, told) ↦ inr (inl (c.in-Err.refusal, why device, told))
-        ],
-      );
+      told = elim dropped.told [
+        | stops device stopped ↦ failed kept stopped (said.both.fault device)
+        | tells_refusal device told ↦ refused kept c.in-Err.refusal (why device) told
+      ];
     }
 
 pub returns-in-Err-clause-ends : goal.returns-in-Err-clause-ends

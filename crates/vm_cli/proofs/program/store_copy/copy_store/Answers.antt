@@ -28,8 +28,8 @@ pub returns-then-not-lacks-clause-files : goal.returns-then-not-lacks-clause-fil
 returns-then-not-lacks-clause-files g c honest there well s holds =
     let size = c.in-Ok.ensures well in
     let taken : c.lacks.result ≡ false = search rules in
-    as_asked _ _ _ c.args.to.now s _ _ _ _ _ _ _ _ _ _ _ (size.0.0 ∙ ap (blocks_for c.args.blocks) holds.rests.blocks) size.0.1
-    (makes_taken _ _ _ c.args.to.now _ _ _ _ _ _ _ _ _ c.lacks.ensures.asked.writes (omega (arith, size.0.1, size.0.2))
+    as_asked c.args.to.now s _ _ _ _ _ _ _ (size.0.blocks_are ∙ ap (blocks_for c.args.blocks) holds.rests.blocks) size.0.used_are
+    (makes_taken g.P.Place.state g.P.Place.denied g.P.Place.to_write _ _ _ _ c.lacks.ensures.asked.writes (omega (arith, size.0.used_are, size.0.enough))
     (c.lacks.ensures.honest honest).same (c.lacks.ensures.asked.none taken) (search rules))
 
 pub returns-in_default-create-clause-files : goal.returns-in_default-create-clause-files
@@ -39,9 +39,9 @@ returns-in_default-create-clause-files g c honest there well s holds =
     let free : c.lacks.result ≡ true = search rules in
     let lacks = subst (λ b. Lacks c.args.to.now b (g.P.Place.state c.args.place.now) (g.P.Place.state c.lacks.new.self)) free (c.lacks.ensures.honest looked) in
     let named = c.as_str-part.ensures.value ∙ c.in-Ok-part_name.ensures in
-    as_asked _ _ _ c.args.to.now s _ _ _ _ _ _ _ _ _ _ _ (size.0.0 ∙ ap (blocks_for c.args.blocks) holds.rests.blocks) size.0.1
-    (makes_unmade _ _ _ c.args.to.now _ _ _ _ _ _ _ _ _ _ named _ lacks
-    (c.create.ensures.asked.writes ∙ ap (λ n. n + 1) c.lacks.ensures.asked.writes) (omega (arith, size.0.1, size.0.2))
+    as_asked c.args.to.now s _ _ _ _ _ _ _ (size.0.blocks_are ∙ ap (blocks_for c.args.blocks) holds.rests.blocks) size.0.used_are
+    (makes_unmade g.P.Place.state g.P.Place.denied g.P.Place.to_write _ _ _ _ _ named _ lacks
+    (c.create.ensures.asked.writes ∙ ap (λ n. n + 1) c.lacks.ensures.asked.writes) (omega (arith, size.0.used_are, size.0.enough))
     (search rules) (search rules) (search rules))
 
 pub returns-clause-files : goal.returns-clause-files
@@ -52,8 +52,8 @@ returns-clause-files g c honest there well s holds =
     let free : c.lacks.result ≡ true = search rules in
     let lacks = subst (λ b. Lacks c.args.to.now b (g.P.Place.state c.args.place.now) (g.P.Place.state c.lacks.new.self)) free (c.lacks.ensures.honest looked) in
     let named = c.as_str-part.ensures.value ∙ c.in-Ok-part_name.ensures in
-    as_asked _ _ _ c.args.to.now s _ _ _ _ _ _ _ _ _ _ _ (size.0.0 ∙ ap (blocks_for c.args.blocks) holds.rests.blocks) size.0.1
-    (makes_laid _ _ _ c.args.to.now _ _ _ _ _ _ _ _ _ _ named _ lacks _ _ _
+    as_asked c.args.to.now s _ _ _ _ _ _ _ (size.0.blocks_are ∙ ap (blocks_for c.args.blocks) holds.rests.blocks) size.0.used_are
+    (makes_laid g.P.Place.state g.P.Place.denied g.P.Place.to_write _ _ _ _ _ named _ lacks _ _
     (λ denied. denied ∙ ap (λ ns. c.args.to.now ∷ ns) (c.in-Some.ensures.asked.some refl ∙ c.lacks.ensures.asked.some free))
-    (c.copy_onto.ensures.writes ∙ c.in-Some.ensures.asked.writes ∙ ap (λ n. n + 1) c.lacks.ensures.asked.writes) (omega (arith, size.0.1, size.0.2)) (c.in-Some.ensures.honest made)
-    (c.copy_onto.ensures.told size.0.2 (λ is. part_apart c.args.to.now (sym is ∙ named)) honest there well s holds))
+    (c.copy_onto.ensures.writes ∙ c.in-Some.ensures.asked.writes ∙ ap (λ n. n + 1) c.lacks.ensures.asked.writes) (omega (arith, size.0.used_are, size.0.enough)) (c.in-Some.ensures.honest made)
+    (c.copy_onto.ensures.told size.0.enough (λ is. part_apart c.args.to.now (sym is ∙ named)) honest there well s holds))

@@ -1,5 +1,7 @@
 use Rattle.std.proofs.Common.{◌∙◌, ap, inl, inr, is_some, refl, sym, Some}
 use Rattle.vm_cli.specs.program.Exits.{no_store_text}
+use Rattle.vm_cli.specs.program.Files.DeniedOr.{is_denied, is_refused}
+use Rattle.vm_cli.specs.program.Files.DrawsOrDeclines.{draws, draws_none}
 use Rattle.vm_cli.specs.program.Places.{KeepsOthers, WasLent}
 use Rattle.vm_cli.proofs.FilesLemmas.{keeps_all, synced_alone}
 use Rattle.vm_cli.proofs.program.tree_view.tree.Goals as goal
@@ -16,7 +18,7 @@ returns-clause-files g c honest =
       | inl drawn ↦
           let held = found.held (drawn.shown.goes.earlier back.honest) in
           let same = back.holds ∙ ap Some (synced_alone _ _ drawn.shown.moments) ∙ sym held.0 in
-          inl (record {
+          draws (record {
             same = keeps_all c.args.file.now before after others same;
             found = c.in-Some.disk;
             back = c.show_disk-exit.result.1;
@@ -29,9 +31,9 @@ returns-clause-files g c honest =
       | inr refused ↦
           let held = found.held (refused.refused.goes.earlier back.honest) in
           let same = back.holds ∙ ap Some (synced_alone _ _ (refused.refused.moments back.honest)) ∙ sym held.0 in
-          inr (record {
+          draws_none (record {
             same = keeps_all c.args.file.now before after others same;
-            told = inr (record {
+            told = is_refused (record {
               found = c.in-Some.disk;
               back = c.show_disk-exit.result.1;
               held = held.0;
@@ -44,7 +46,7 @@ returns-clause-files g c honest =
     ]
 
 pub returns-in_default-clause-files : goal.returns-in_default-clause-files
-returns-in_default-clause-files g c honest = inr (record { same = (c.look.ensures.honest honest).same; told = inl (c.look.ensures.asked.none (ap is_some c.in_default.is), (c.look.ensures.honest honest).same_came, c.no_file.ensures) })
+returns-in_default-clause-files g c honest = draws_none (record { same = (c.look.ensures.honest honest).same; told = is_denied (record { denied = c.look.ensures.asked.none (ap is_some c.in_default.is); same_came = (c.look.ensures.honest honest).same_came; told = c.no_file.ensures }) })
 
 pub returns-clause-says : goal.returns-clause-says
 returns-clause-says g c = elim c.show_disk-exit.ensures.ends [

@@ -1,8 +1,9 @@
-use Rattle.std.proofs.Common.{◌≡◌, true, ap, inr, sym, subst, ◌∙◌}
+use Rattle.std.proofs.Common.{◌≡◌, true, ap, sym, subst, ◌∙◌}
 use Rattle.vm_disk.specs.System.{KeepsState, name_of, opening_of, system_state}
 use Rattle.vm_disk.specs.declared.system.SystemFile.{SystemFile}
 use Rattle.vm_cli.proofs.RealFilesLemmas.{finds}
 use Rattle.vm_cli.specs.program.Progress.{file_below}
+use Rattle.vm_cli.specs.program.RealFiles.FoundOrMissed.{file_found}
 use Rattle.vm_cli.proofs.program.place.RealFiles.found.Goals as goal
 
 pub returns-clause-honest : goal.returns-clause-honest
@@ -17,9 +18,9 @@ returns-clause-honest g c honest =
 pub returns-clause-notes : goal.returns-clause-notes
 returns-clause-notes g c =
     let file = c.in-Some in
-    inr (c.of.result, c.note-3.ensures, (ap name_of c.of.ensures ∙ file.ensures.name, ap opening_of c.of.ensures ∙ file.ensures.opening))
+    file_found c.of.result c.note-3.ensures (record { named = ap name_of c.of.ensures ∙ file.ensures.name; opening = ap opening_of c.of.ensures ∙ file.ensures.opening })
 
 pub returns-in_default-rewrite_selector-clause-notes : goal.returns-in_default-rewrite_selector-clause-notes
 returns-in_default-rewrite_selector-clause-notes g c =
     let file = c.in-Some in
-    inr (c.of.result, c.note-3.ensures, (ap name_of c.of.ensures ∙ file.ensures.name, ap opening_of c.of.ensures ∙ file.ensures.opening))
+    file_found c.of.result c.note-3.ensures (record { named = ap name_of c.of.ensures ∙ file.ensures.name; opening = ap opening_of c.of.ensures ∙ file.ensures.opening })

@@ -1,7 +1,8 @@
-use Rattle.std.proofs.Common.{ap, inr, sym, ◌∙◌}
+use Rattle.std.proofs.Common.{ap, sym, ◌∙◌}
 use Rattle.vm_disk.specs.System.{name_of, opening_of}
 use Rattle.vm_cli.proofs.RealFilesLemmas.{finds, kept_as_is}
 use Rattle.vm_cli.specs.program.Progress.{file_below}
+use Rattle.vm_cli.specs.program.RealFiles.FoundOrNothing.{found_to_read}
 use Rattle.vm_cli.proofs.program.place.RealFiles.looked.Goals as goal
 
 pub returns-clause-honest : goal.returns-clause-honest
@@ -14,4 +15,4 @@ returns-clause-honest g c honest =
 pub returns-clause-notes : goal.returns-clause-notes
 returns-clause-notes g c =
     let file = c.in_ok-found in
-    inr (c.of.result, c.note-2.ensures, (ap name_of c.of.ensures ∙ file.ensures.name, ap opening_of c.of.ensures ∙ file.ensures.opening))
+    found_to_read c.of.result c.note-2.ensures (record { named = ap name_of c.of.ensures ∙ file.ensures.name; opening = ap opening_of c.of.ensures ∙ file.ensures.opening })

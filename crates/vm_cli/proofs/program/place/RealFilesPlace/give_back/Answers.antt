@@ -8,6 +8,6 @@ returns-clause-honest g c honest =
 
 pub returns-clause-does : goal.returns-clause-does
 returns-clause-does g c = record {
-  notes = (c.noted_bytes-name.result, c.of.result, c.note.ensures, c.noted_bytes-name.ensures ∙ c.as_bytes.ensures.value, c.of.ensures);
+  notes = record { given = c.noted_bytes-name.result; kept = c.of.result; last = c.note.ensures; named = c.noted_bytes-name.ensures ∙ c.as_bytes.ensures.value; is = c.of.ensures };
   stays = λ named kept was. stays_given g.W.World.held g.W.World.torn c.args.file.now _ _ c.args.disk _ _ c.of.ensures (c.noted_bytes-name.ensures ∙ c.as_bytes.ensures.value) c.note.ensures named kept was;
 }
