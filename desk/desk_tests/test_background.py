@@ -1,10 +1,12 @@
 """Tests of the desk: a background below the features."""
 import http.server
+import importlib.util
 import json
 import os
 import subprocess
 import sys
 import threading
+import unittest
 import urllib.parse
 import urllib.request
 from pathlib import Path
@@ -74,10 +76,7 @@ class MapServer(http.server.BaseHTTPRequestHandler):
 
 class BackgroundTests(AskingTest):
     def desk(self, file=None, *options):
-        folder = tiles(os.path.join(self.folder, "pictures"))
-        subprocess.run(
-            ["gdalbuildvrt", "-q", f"{self.folder}/all.vrt", *sorted(map(str, Path(folder).iterdir()))], check=True
-        )
+        tiles(os.path.join(self.folder, "pictures"))
         self.server = http.server.ThreadingHTTPServer(("127.0.0.1", 0), MapServer)
         self.server.asked, self.server.kind, self.server.daemon_threads = [], "image/png", True
         threading.Thread(target=self.server.serve_forever, daemon=True).start()
@@ -119,29 +118,26 @@ class BackgroundTests(AskingTest):
         ):
             self.assertEqual(400, self.fault(**words)[0], words)
 
-    def test_a_folder_of_tiles_and_a_file(self):
+    def whole(self):
+        """The pictures as one."""
+        file = f"{self.folder}/all.vrt"
+        gdal.BuildVRT(file, sorted(map(str, Path(self.folder, "pictures").iterdir()))).FlushCache()
+        return file
+
+    @unittest.skipUnless(importlib.util.find_spec("osgeo_utils"), "gdal2tiles is not installed (python3-gdal)")
+    def test_a_folder_of_tiles(self):
         for profile, levels in (("raster", "0-2"), ("mercator", "12-17")):
             folder = f"{self.folder}/{profile}"
-            subprocess.run(
-                [
-                    "gdal2tiles.py",
-                    "-q",
-                    "-w",
-                    "none",
-                    f"--profile={profile}",
-                    "-z",
-                    levels,
-                    f"{self.folder}/all.vrt",
-                    folder,
-                ],
-                check=True,
-            )
+            words = ["-q", "-w", "none", f"--profile={profile}", "-z", levels, self.whole(), folder]
+            subprocess.run([sys.executable, "-m", "osgeo_utils.gdal2tiles", *words], check=True)
             self.other_desk(folder)
             self.assertEqual(
                 [RED, BLUE, GREEN], self.picture((2600000, 1200000, 2601000, 1201000), self.CORNERS)[:3], profile
             )
-        # Another coordinate system: degrees, in which the map is not.
-        gdal.Warp(f"{self.folder}/degrees.tif", f"{self.folder}/all.vrt", dstSRS=system(4326), dstAlpha=True)
+
+    def test_a_file_in_another_coordinate_system(self):
+        """In degrees, in which the map is not."""
+        gdal.Warp(f"{self.folder}/degrees.tif", self.whole(), dstSRS=system(4326), dstAlpha=True).FlushCache()
         self.other_desk(f"{self.folder}/degrees.tif")
         self.assertEqual([RED, BLUE, GREEN], self.picture((2600000, 1200000, 2601000, 1201000), self.CORNERS)[:3])
 
