@@ -12,8 +12,8 @@ planners, who flood the service. With `--slow` each sync of all three takes that
 
 Each commit changes one record of 10,000, or two or ten in a batch, and is durable before it is answered: in PostgreSQL
 by an UPDATE of one row, or ten in a transaction that is sent at once, with fsync on, in SQLite by one in WAL mode with
-synchronous=FULL. What is not installed is skipped,
-with a line that says so."""
+synchronous=FULL. What is not installed is skipped, and so is SQLite for more than 64 planners, with a line that says
+so."""
 import argparse
 import contextlib
 import json
@@ -42,8 +42,8 @@ RECORDS = 10_000
 POSTGRES = sorted(Path("/usr/lib/postgresql").glob("*/bin"))[-1:]
 # How many processes act as planners.
 LOADERS = 2
-# The connections that PostgreSQL takes.
-MOST = 500
+# The connections that PostgreSQL takes, and so many processes at most write to SQLite.
+MOST, MOST_OF_SQLITE = 500, 64
 # What planners flood the service with.
 FLOODS = {
     "single lines": b"put top 8 1 a\n" * 500,
@@ -398,8 +398,10 @@ def measured(said, planners):
             measures.update({f"PostgreSQL: {what}": measure for what, measure in kinds.items()})
         else:
             print("PostgreSQL is not installed (postgresql), and skipped")
-        if planners[-1] <= 64:
+        if max(planners) <= MOST_OF_SQLITE:
             measures["SQLite: commits"] = sqlite(folder, variables)
+        else:
+            print(f"SQLite is skipped: more than {MOST_OF_SQLITE} processes would wait for its lock")
         found = {what: {count: [] for count in planners} for what in measures}
         syncs, loads = [], []
         # In turns, so that other work on the machine hits all of them alike.
