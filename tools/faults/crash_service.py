@@ -34,7 +34,7 @@ from typing import NamedTuple
 
 sys.dont_write_bytecode = True
 import kill
-from crashes import BLOCK, MEMORY, SELECTOR, torn
+from crashes import BLOCK, MEMORY, SELECTOR, ZERO, blocks_of, left_of
 from kill import Failure
 from kill_service import OWN, PLANNERS, Connection, Journal, Planner, Service, arguments, compare, compare_own
 from kill_service import look_at_seen, parsed, replayed, same, shared_out, short, tag_of
@@ -50,7 +50,6 @@ WRITE, LENGTH, BEGIN_SYNC, SYNC, MADE, RENAMED, REMOVED, SENT = range(8)
 HEAD = struct.Struct("=5Q")
 # What stands in the pages that were not synced: in all of them the same, or in each something else.
 KINDS = ["old", "written", "torn"]
-ZERO = bytes(BLOCK)
 
 
 class Call(NamedTuple):
@@ -73,17 +72,12 @@ def recorded(path):
     return calls
 
 
-def paged(text):
-    """The pages of a file, the last one filled up by zeros."""
-    return {at // BLOCK: text[at : at + BLOCK].ljust(BLOCK, b"\0") for at in range(0, len(text), BLOCK)}
-
-
 class File:
     """A file as it was synced, with all that each of its pages held since, and all its lengths."""
 
     def __init__(self, text, is_store):
         self.is_store = is_store
-        self.synced = paged(text)
+        self.synced = dict(enumerate(blocks_of(text)))
         # Each with the number of the call that made it.
         self.held, self.lengths = {}, [(-1, len(text))]
 
@@ -145,19 +139,9 @@ class File:
         pages = [self.synced.get(page, ZERO) for page in range(-(-length // BLOCK))]
         for page, held in self.held.items():
             if page < len(pages):
-                texts = [it for _, it in held]
-                pages[page] = self.left_of(chance, chance.choice(kinds) if kind == "any" else kind, texts)
+                its, texts = kind if kind != "any" else chance.choice(kinds), [it for _, it in held]
+                pages[page] = left_of(chance, its, texts, lambda: self.synced.get(chance.randrange(BLOCKS), ZERO))
         return b"".join(pages)[:length]
-
-    def left_of(self, chance, kind, held):
-        """What a loss leaves of a page that held this since it was synced."""
-        if kind == "old":
-            return held[0]
-        if kind == "written":
-            return held[-1] if chance.random() < 0.7 else chance.choice(held)
-        if kind == "torn":
-            return torn(chance, held[-1], chance.choice(held))
-        return chance.choice([ZERO, chance.randbytes(BLOCK), self.synced.get(chance.randrange(BLOCKS), ZERO)])
 
 
 class Renaming(NamedTuple):

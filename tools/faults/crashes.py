@@ -56,6 +56,7 @@ class Call(NamedTuple):
 WRITE, LENGTH, SYNC = range(3)
 # The block that names the slot in use.
 SELECTOR = 1
+ZERO = bytes(BLOCK)
 
 
 def recorded(file):
@@ -84,7 +85,7 @@ class Disk:
         self.broken, self.syncs, self.before = broken, 0, {}
 
     def lasting(self, block):
-        return self.synced[block] if block < len(self.synced) else bytes(BLOCK)
+        return self.synced[block] if block < len(self.synced) else ZERO
 
     def apply(self, call):
         if call.kind == SYNC:
@@ -136,21 +137,24 @@ class Disk:
         blocks = [self.lasting(block) for block in range(-(-length // BLOCK))]
         for block in sorted(self.held):
             if block < len(blocks):
-                blocks[block] = self.left(chance, kind if kind != "any" else chance.choice(KINDS), self.held[block])
+                its = kind if kind != "any" else chance.choice(KINDS)
+                blocks[block] = left_of(chance, its, self.held[block], lambda: chance.choice(self.synced or [ZERO]))
         if self.broken == "block" and self.before:
             forgotten = chance.choice(sorted(self.before))
             blocks[forgotten] = self.before[forgotten]
         return b"".join(blocks)[:length]
 
-    def left(self, chance, kind, held):
-        """What a crash leaves of a block that held this since the last sync."""
-        if kind == "old":
-            return held[0]
-        if kind == "written":
-            return held[-1] if chance.random() < 0.7 else chance.choice(held)
-        if kind == "torn":
-            return torn(chance, held[-1], chance.choice(held))
-        return chance.choice([bytes(BLOCK), chance.randbytes(BLOCK), chance.choice(self.synced or [bytes(BLOCK)])])
+
+def left_of(chance, kind, held, synced):
+    """What a crash leaves of a block that held this since the last sync. SYNCED gives any block as it was synced, which
+    is junk in the place of this one."""
+    if kind == "old":
+        return held[0]
+    if kind == "written":
+        return held[-1] if chance.random() < 0.7 else chance.choice(held)
+    if kind == "torn":
+        return torn(chance, held[-1], chance.choice(held))
+    return chance.choice([ZERO, chance.randbytes(BLOCK), synced()])
 
 
 def torn(chance, one, other):
