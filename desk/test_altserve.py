@@ -16,6 +16,7 @@ from service_tests.test_changed import ChangedTests, LastChangesTests
 from service_tests.test_crashes import CrashTests, VolumeTests
 from service_tests.test_devices import DeviceTests, SyncTests
 from service_tests.test_disk_room import DiskRoomTests, OpenedTests, UsesTests
+from service_tests.test_durable import DurableTests, NameTests
 from service_tests.test_fairness import BoundTests, FairnessTests, LeavingTests
 from service_tests.test_hostile import HostileTests
 from service_tests.test_journal import JournalTests

@@ -11,8 +11,9 @@ import re
 from typing import Callable, Iterator, NamedTuple, Optional
 
 from service.backups import NAME
+from service.durable import NameUnsure, give_name
 from service.entries import remembered
-from service.journal import PART, Broken, Journal, now, sync_folder
+from service.journal import PART, Broken, Journal, now
 from service.journal_log import Log
 from service.limits import refusal
 
@@ -102,12 +103,10 @@ class Target:
 
     def place(self) -> None:
         """Gives it its name. Raises Broken if that may not be durable."""
-        os.fsync(self.file)
-        os.rename(self.part, self.name)
         try:
-            sync_folder(self.name)
-        except OSError as fault:
-            raise Broken(f"the folder of {self.name} could not be synced: {fault}") from None
+            give_name(self.part, self.name, self.file)
+        except NameUnsure as fault:
+            raise Broken(fault.strerror) from None
 
     def close(self) -> None:
         """Closes it, and removes it unless it has its name."""

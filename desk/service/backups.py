@@ -13,7 +13,7 @@ from typing import Callable, Iterable, List, Tuple
 from service import pacing
 from service.batch import Batch
 from service.disk_room import BLOCK, LEFT, MARGIN
-from service.journal import sync_folder
+from service.durable import give_name
 from service.limits import SMALL_LINES, refusal
 from service.program import Ended
 from service.store import Store
@@ -229,8 +229,7 @@ class Copy:
         """Gives the copy its name."""
         earlier = pacing.held(self.name)
         try:
-            os.replace(self.part, self.name)
-            sync_folder(self.part)
+            give_name(self.part, self.name)
         finally:
             pacing.let_go(earlier)
 

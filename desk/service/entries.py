@@ -1,10 +1,10 @@
 """Alternatives and checkpoints: the parent of each alternative, and which planner made each of them."""
 import json
-import os
 from collections import Counter
 from typing import Dict, List, NamedTuple, Optional, Set, Tuple
 
 from service.batch import Batch
+from service.durable import give_name
 from service.journal_log import Filter, Log
 from service.last_changes import changed_by
 from service.limits import refusal
@@ -134,14 +134,16 @@ class Entries:
         """Writes who made what as of a batch. After a crash the journal has the rest."""
         with open(f"{path}.new", "w") as file:
             json.dump({"batch": batch, "makers": self.makers}, file)
-        os.replace(f"{path}.new", path)
+            file.flush()
+            give_name(f"{path}.new", path, file.fileno())
 
 
 def remembered(path: str, log: Log, kept: int) -> Entries:
-    """Who made what, as of a batch: from the file that was written last, and the journal since."""
+    """Who made what, as of a batch: from the file that was written last, and the journal since; from the whole journal
+    if there is no such file yet."""
     number, makers = saved(path)
     entries = Entries({}, makers)
-    for text in log.entries(Filter(after=number, is_in_full=True), kept) if number else ():
+    for text in log.entries(Filter(after=number, is_in_full=True), kept):
         for line in text.splitlines():
             if line.startswith(b"entry "):
                 _, _, _, who, verb, *words = line.split(b" ", 7)

@@ -15,6 +15,7 @@ from typing import Callable, Dict, Iterable, Iterator, NamedTuple, Optional, Tup
 from service import pacing
 from service.batch import Batch
 from service.disk_room import UNABLE, held
+from service.durable import sync_folder
 from service.lines import printable
 from service.locking import lock_on_volume
 from service.renewals import author
@@ -82,13 +83,13 @@ class Journal:
         """Cuts off what is behind the last whole line. It goes into a file of its own."""
         if whole == self.end:
             return
-        count = self.end - whole
-        with open(f"{self.path}.cut", "ab") as cut:
+        count, cut = self.end - whole, f"{self.path}.cut"
+        with open(cut, "ab") as file:
             for at in range(whole, self.end, PART):
-                cut.write(os.pread(self.file, min(PART, self.end - at), at))
-            cut.flush()
-            os.fsync(cut.fileno())
-        cut = f"{self.path}.cut"
+                file.write(os.pread(self.file, min(PART, self.end - at), at))
+            file.flush()
+            os.fsync(file.fileno())
+        sync_folder(cut)
         self.say(f"{self.path}: its last {count} bytes are not whole lines, and are cut off. They are in {cut}")
         os.ftruncate(self.file, whole)
         self.end = whole
@@ -242,15 +243,6 @@ def parts_of(number: int, head: str, records: int, batch: Batch) -> Iterator[byt
         yield (text + ("," if place else "") + ",".join(lines)).encode("ascii")
         text = ""
     yield TAIL.encode("ascii")
-
-
-def sync_folder(path: str) -> None:
-    """Makes the name of a file durable by syncing its folder."""
-    folder = os.open(os.path.dirname(os.path.abspath(path)), os.O_RDONLY | os.O_DIRECTORY)
-    try:
-        os.fsync(folder)
-    finally:
-        os.close(folder)
 
 
 # --- its end --------------------------------------------------------------------------------------

@@ -6,7 +6,8 @@ from typing import Callable, Iterator, List, Sequence, Tuple
 
 from service.archives import dropped_from, is_after, is_moment
 from service.batch import refused_place
-from service.journal import last_number, sync_folder
+from service.durable import give_name
+from service.journal import last_number
 from service.journal_log import Filter, Log
 from service.locking import locked
 from service.recent import stamp_of
@@ -115,11 +116,9 @@ def restored(
         lock = locked(part)
         try:
             number, count = carried_out(Store(part, altctl, ["--grow"], lock, say), past, until)
-            os.fsync(lock)
+            give_name(part, new, lock)
         finally:
             os.close(lock)
-        os.rename(part, new)
-        sync_folder(new)
         return number, count
     finally:
         past.close()

@@ -12,9 +12,9 @@ began.
 
 The service is started over these files. Then each batch that was acknowledged has to be in store and journal whole,
 each other one whole or not at all; store and journal have to agree by the model of `kill.py`; numbers must have no
-gaps; `log` has to list the batches, and two more have to be carried out. The next run of planners begins over one of
-these files, so losses also come while the service mends what an earlier one left. After ROUNDS runs it begins with a
-new store; `--jobs N` does so in N processes at once.
+gaps; `log` has to list the batches, and two more have to be carried out; and it has to be known who made alternatives
+and checkpoints. The next run of planners begins over one of these files, so losses also come while the service mends
+what an earlier one left. After ROUNDS runs it begins with a new store; `--jobs N` does so in N processes at once.
 
 With `--broken .alt` or `--broken .journal` every second sync of such files is taken for none, so that it has to fail.
 It needs a C compiler, and a program that is linked against glibc. It stands beside the gate."""
@@ -398,6 +398,7 @@ class Trial:
         finally:
             connection.close()
         self.service.end()
+        compare_makers(file, self.states[-1])
         self.look_alone(file, journal)
 
     def journal(self, file):
@@ -454,6 +455,16 @@ class Trial:
         checks = subprocess.run(words, capture_output=True, text=True).stdout.splitlines()
         changes = subprocess.run([*words[:-1], f"changes {OWN}"], capture_output=True, text=True).stdout.splitlines()
         compare_own(checks, changes, journal)
+
+
+def compare_makers(file, state):
+    """Whether a service that ended knew of each alternative and checkpoint that somebody made it, as all were made by
+    planners."""
+    makers = json.loads(Path(f"{file}.owners").read_text())["makers"]
+    due = {(name, it) for name, made in state.tree.items() for it in ["", *made.checkpoints]} - {("top", "")}
+    known = {(name, it) for name, made in makers.items() for it in made}
+    if known != due:
+        raise Failure(f"who made {sorted(due - known)} is not known, but of {sorted(known - due)}, which are not there")
 
 
 def takewhile_same(one, other):
