@@ -101,7 +101,7 @@ changes x => end 0
 conflicts x => end 0
 alts => end 2
 checks x => end 0
-free => free 40
+free => free 41
 END
 
 fail() {
