@@ -40,10 +40,10 @@ class PostgisTests(AltgisCase):
     @classmethod
     def run_program(cls, name, *words):
         """A program of PostgreSQL. None of them runs as root."""
-        words = [str(PROGRAMS[-1].parent / name), *words]
+        words, user = [str(PROGRAMS[-1].parent / name), *words], {}
         if os.getuid() == 0:
-            words = ["runuser", "-u", "postgres", "--", *words]
-        subprocess.run(words, check=True, stdout=subprocess.DEVNULL, cwd="/")
+            user = {"user": "postgres", "group": "postgres", "extra_groups": []}
+        subprocess.run(words, check=True, stdout=subprocess.DEVNULL, cwd="/", **user)
 
     @classmethod
     def sql(cls, *lines):

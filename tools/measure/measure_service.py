@@ -277,14 +277,14 @@ def postgres(folder, variables):
     """A server of PostgreSQL. Gives what measures commits and transactions of ten changes, by pgbench."""
     data = f"{folder}/postgres"
     os.makedirs(data)
-    as_user = []
+    user = {}
     if os.geteuid() == 0:
         shutil.chown(data, "postgres", "postgres")
         os.chmod(folder, 0o711)
-        as_user = ["runuser", "-u", "postgres", "--"]
+        user = {"user": "postgres", "group": "postgres", "extra_groups": []}
 
     def run(*words, **how):
-        ran = subprocess.run([*as_user, *words], stdout=subprocess.PIPE, stderr=subprocess.PIPE, cwd=data, **how)
+        ran = subprocess.run(words, stdout=subprocess.PIPE, stderr=subprocess.PIPE, cwd=data, **user, **how)
         if ran.returncode:
             raise RuntimeError(f"{words}: {ran.stderr.decode()}")
         return ran.stdout.decode()
