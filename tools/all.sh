@@ -93,7 +93,7 @@ else
     try 600 faults/failing_device.py
     try 600 faults/failed_sync.py
     if has_rt faults/refuse_allocations.sh; then try 1800 faults/refuse_allocations.sh; fi
-    try 600 ../desk/test_altserve.py
+    try 1800 ../desk/test_altserve.py
     try 1800 ../desk/test_altgis.py
     try 1200 ../desk/test_altdesk.py
     try 900 ../desk/test_altqgis.py
